@@ -1,0 +1,39 @@
+-- The sixteen bytes of a code that was just copied.
+use Rattle.std.proofs.Common.{◌≡◌, ◌++◌, ◌∷◌, [], ◌-◌, ◌≤◌, ◌<◌, ℕ, zero, suc, get_or, lit<, Bool, true, false, ◌&&◌, nat_le, IsTrue, List, length, take, drop, sym, subst, ap, ◌∙◌, arith, length-append, length-drop}
+use Rattle.std.specs.Prelude.{replicate, refl}
+use Rattle.std.proofs.Math.Seq.{take-append_seam, drop-append_seam}
+use Rattle.std.proofs.lemmas.List.{length-replicate, drop-replicate}
+use Rattle.std.proofs.lemmas.Grind.{common_steps}
+use Rattle.std.proofs.lemmas.Bool.Decides.{nat_tests}
+use Rattle.std.specs.List.{list_all}
+use Rattle.std.specs.Str.{IsUtf8}
+use Rattle.std.proofs.lemmas.Str.{IsUtf8-from_ascii}
+use Rattle.cut_measure.specs.Codes.{is_code, is_code_byte}
+
+module _ (text : List ℕ) (short : length text ≤ 16) where
+  pub all_kept : length (text ++ drop (length text) (replicate 16 0)) ≡ 16
+  all_kept = omega (arith, length-append text (drop (length text) (replicate 16 0)), length-drop {A = ℕ} (length text) (replicate 16 0), length-replicate {A = ℕ} 16 0)
+
+  pub zeros_after : drop (length text) (text ++ drop (length text) (replicate 16 0)) ≡ replicate (16 - length text) 0
+  zeros_after = drop-append_seam text _ ∙ drop-replicate (length text) 16 0
+
+  pub text_before : take (length text) (text ++ drop (length text) (replicate 16 0)) ≡ text
+  text_before = take-append_seam text _
+
+both : (a b : Bool) → (a && b) ≡ true → (a ≡ true) × (b ≡ true)
+both true b e = (refl, e)
+both false b e = (cc, cc)
+
+pub code_short : (text : List ℕ) → is_code text ≡ true → length text ≤ 16
+code_short text e = let t : nat_le (length text) 16 ≡ true = (both (nat_le 1 (length text)) _ (both _ _ e).0).1 in grind (arith, nat_tests)
+
+small_byte : (b : ℕ) → is_code_byte b ≡ true → b < 128
+small_byte b e = grind (arith, nat_tests)
+
+all_small : (text : List ℕ) → list_all is_code_byte text ≡ true → (i : ℕ) → get_or text i 0 < 128
+all_small [] e i = lit< tt
+all_small (b ∷ bs) e zero = small_byte b (both _ _ e).0
+all_small (b ∷ bs) e (suc i) = all_small bs (both (is_code_byte b) _ e).1 i
+
+pub code_utf8 : (text : List ℕ) → is_code text ≡ true → IsUtf8 text
+code_utf8 text e = IsUtf8-from_ascii text (all_small text (both _ (list_all is_code_byte text) e).1)

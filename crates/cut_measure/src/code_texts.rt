@@ -1,0 +1,105 @@
+ghost use Rattle.std.specs.Prelude.{◌≡◌, ◌++◌, IsTrue, ◌↔◌, OnOk, OnErr, string_bytes};
+ghost use Rattle.std.specs.List.{list_all};
+ghost use Rattle.cut_measure.specs.Codes.{code_of, code_cmp, is_code, is_code_byte};
+
+use std::alloc::AllocError;
+use std::cmp::Ordering;
+use std::marker::Model;
+
+/// A code: 1 to 16 characters of `A-Z0-9-`.
+#[derive(Clone, Copy, Debug)]
+pub struct Code {
+    text: [u8; 16],
+    len: usize,
+}
+
+impl Model for Code {
+    ghost use Rattle.std.specs.Prelude.{◌≡◌, ◌-◌, ◌++◌, ◌≤◌, List, ℕ, length, take, drop, replicate};
+    ghost use Rattle.cut_measure.specs.Codes.{is_code};
+    ghost use Rattle.std.specs.Prelude.{IsTrue};
+
+    ghost Value = { List ℕ };
+
+    ghost use Rattle.cut_measure.specs.CodeTexts.{fields_back};
+
+    ghost view = { λ c. take c.len c.text };
+
+    ghost invariant = { λ c. (length c.text ≡ 16) × (c.len ≤ 16) × (drop c.len c.text ≡ replicate (16 - c.len) 0) × IsTrue (is_code (take c.len c.text)) };
+
+    ghost inverse = { λ text. record { text = text ++ replicate (16 - length text) 0; len = length text } };
+
+    ghost inverse_ok = { λ a h. fields_back a h.0 h.1 h.2 };
+}
+
+fn is_code_char(b: u8) -> bool
+    ensures { result ≡ is_code_byte b }
+{
+    b.is_ascii_uppercase() || b.is_ascii_digit() || b == b'-'
+}
+
+// Whether each byte is one of a code.
+fn has_code_bytes(bytes: &[u8]) -> bool
+    ensures { result ≡ list_all is_code_byte bytes.now }
+{
+    bytes.iter().all(|b| is_code_char(*b))
+}
+
+// Whether a text is a code.
+fn is_code_text(text: &str) -> bool
+    ensures { result ≡ is_code text.now }
+{
+    let bytes = text.as_bytes();
+    let len = bytes.len();
+    if len < 1 || len > 16 {
+        return false;
+    }
+    has_code_bytes(bytes)
+}
+
+impl Code {
+    /// The code that a text is.
+    pub fn read(text: &str) -> Option<Code>
+        ensures { result ≡ code_of text.now }
+    {
+        if !is_code_text(text) {
+            return None;
+        }
+        let bytes = text.as_bytes();
+        let len = bytes.len();
+        let mut text = [0u8; 16];
+        text[..len].copy_from_slice(bytes);
+        Some(Code { text, len })
+    }
+
+    /// Its text.
+    pub fn as_str(&self) -> &str
+        ensures { result.now ≡ self.now }
+    {
+        match str::from_utf8(&self.text[..self.len]) {
+            Ok(text) => text,
+            Err(_) => unreachable!(),
+        }
+    }
+
+    /// Whether two codes are one.
+    pub fn is(&self, other: &Code) -> bool
+        ensures { IsTrue result ↔ (self.now ≡ other.now) }
+    {
+        self.text[..self.len] == other.text[..other.len]
+    }
+
+    /// The order of two codes, by their bytes.
+    pub fn order(&self, other: &Code) -> Ordering
+        ensures { result ≡ code_cmp self.now other.now }
+    {
+        self.text[..self.len].cmp(&other.text[..other.len])
+    }
+
+    /// Appends its text.
+    pub fn write(&self, text: &mut String) -> Result<(), AllocError>
+        ensures ok { OnOk result (string_bytes text.new ≡ string_bytes text.old ++ self.now) }
+        ensures err { OnErr result (string_bytes text.new ≡ string_bytes text.old) }
+    {
+        text.push_str(self.as_str())
+    }
+}

@@ -1,0 +1,73 @@
+ghost use Rattle.std.specs.Prelude.{◌≡◌};
+ghost use Rattle.cut_measure.specs.Measures.{rule_of, is_kept};
+
+use crate::sizes::{Kind, Size};
+use std::marker::Model;
+
+/// How wide the saw cuts a material, and from which sides on a rest is kept.
+#[derive(Clone, Copy, Debug, PartialEq, Eq)]
+pub struct Limits {
+    kerf: u32,
+    min_long: u32,
+    min_short: u32,
+}
+
+impl Model for Limits {
+    ghost use Rattle.std.specs.Prelude.{◌≤◌};
+    ghost use Rattle.cut_measure.specs.Measures.{Rule};
+
+    ghost Value = { Rule };
+
+    ghost view = { λ l. record { kerf = l.kerf; min_long = l.min_long; min_short = l.min_short } };
+
+    ghost invariant = { λ l. (l.kerf ≤ 200) × (1 ≤ l.min_short) × (l.min_short ≤ l.min_long) × (l.min_long ≤ 200000) };
+
+    ghost inverse = { λ r. record { kerf = r.kerf; min_long = r.min_long; min_short = r.min_short } };
+}
+
+impl Limits {
+    pub fn new(kind: Kind, kerf: u32, min_long: u32, min_short: u32) -> Option<Limits>
+        ensures { result ≡ rule_of kind kerf min_long min_short }
+    {
+        let fits = match kind {
+            Kind::Bar => min_short == 1,
+            Kind::Sheet => 1 <= min_short,
+        };
+        if kerf <= 200 && fits && min_short <= min_long && min_long <= 200000 {
+            Some(Limits {
+                kerf,
+                min_long,
+                min_short,
+            })
+        } else {
+            None
+        }
+    }
+
+    pub fn kerf(&self) -> u32
+        ensures { result ≡ self.now.kerf }
+    {
+        self.kerf
+    }
+
+    pub fn min_long(&self) -> u32
+        ensures { result ≡ self.now.min_long }
+    {
+        self.min_long
+    }
+
+    pub fn min_short(&self) -> u32
+        ensures { result ≡ self.now.min_short }
+    {
+        self.min_short
+    }
+
+    /// Whether a rest of this size is a remnant.
+    pub fn keeps(&self, size: Size) -> bool
+        ensures { result ≡ is_kept self.now size }
+    {
+        let w = size.w();
+        let h = size.h();
+        self.min_long <= w.max(h) && self.min_short <= w.min(h)
+    }
+}
