@@ -1,0 +1,94 @@
+-- What a book contains, as finite maps, and what a change makes of it.
+use Rattle.std.specs.Prelude.{◌≡◌, ℕ, ◌+◌, ◌*◌, ◌&&◌, List, [], ◌∷◌, Bool, if◌then◌else◌, Option, Some, None, sum_by}
+use Rattle.std.specs.declared.cmp.Ordering.{Ordering}
+use Rattle.std.specs.Ordering.{nat_cmp, is_eq, ordering_then}
+use Rattle.std.specs.FinMap as map
+use Rattle.cut_measure.specs.Codes.{code_cmp}
+use Rattle.cut_measure.specs.Names.{Name, name_cmp}
+use Rattle.shop_machine.specs.declared.records.Material.{Material}
+use Rattle.shop_machine.specs.declared.records.Part.{Part}
+use Rattle.shop_machine.specs.declared.records.Totals.{Totals}
+use Rattle.shop_machine.specs.declared.records.Column.{Column}
+use Rattle.shop_machine.specs.declared.records.Column.TheVariants.{Received, Stock, Rack, Pieces, Kerf, Scrap}
+use Rattle.shop_machine.specs.declared.kept_texts.Pair.{Pair}
+use Rattle.shop_machine.specs.declared.kept_texts.Kept.{Kept}
+use Rattle.shop_machine.specs.declared.kept_texts.KeptMessage.{KeptMessage}
+use Rattle.shop_machine.specs.declared.changes.Change.{Change}
+use Rattle.shop_machine.specs.Columns.{is_counted}
+
+-- by terminal, and then by number
+abbrev pub pair_cmp : Pair → Pair → Ordering
+pair_cmp a b = ordering_then (nat_cmp a.terminal b.terminal) (nat_cmp a.number b.number)
+
+-- the materials by their codes, the parts by their names, the accepted messages by their pairs, and the last act's number
+pub record Content : Type 0 where
+  pub materials : map.FinMap code_cmp Material
+  pub parts : map.FinMap name_cmp Part
+  pub kept : map.FinMap pair_cmp Kept
+  pub last_act : ℕ
+
+-- nothing was done yet
+abbrev pub fresh : Content
+fresh = record { materials = map.empty; parts = map.empty; kept = map.empty; last_act = 0 }
+
+abbrev pub material_at : Content → List ℕ → Option Material
+material_at content code = map.get content.materials code
+
+abbrev pub part_at : Content → Name → Option Part
+part_at content name = map.get content.parts name
+
+abbrev pub kept_at : Content → Pair → Option Kept
+kept_at content pair = map.get content.kept pair
+
+-- ---- totals
+
+-- whether the cells of a part are counted in a column of a material
+abbrev pub counts_for : Column → List ℕ → Part → Bool
+counts_for column code part = is_eq (code_cmp part.material code) && is_counted column part
+
+-- the cells of the parts of a material that a column counts
+abbrev pub cells_in : Column → List ℕ → List Part → ℕ
+cells_in column code parts = sum_by (λ part. if counts_for column code part then part.size.w * part.size.h else 0) parts
+
+abbrev pub totals_in : List ℕ → List Part → Totals
+totals_in code parts =
+    record {
+      received = cells_in Received code parts;
+      stock = cells_in Stock code parts;
+      rack = cells_in Rack code parts;
+      pieces = cells_in Pieces code parts;
+      kerf = cells_in Kerf code parts;
+      scrap = cells_in Scrap code parts;
+    }
+
+abbrev pub totals_of : Content → List ℕ → Totals
+totals_of content code = totals_in code (map.values content.parts)
+
+-- ---- changes
+
+abbrev pub with_material : Option Material → map.FinMap code_cmp Material → map.FinMap code_cmp Material
+with_material None materials = materials
+with_material (Some material) materials = map.insert materials material.code material
+
+-- the rows are put one after another
+abbrev pub with_parts : List Part → map.FinMap name_cmp Part → map.FinMap name_cmp Part
+with_parts [] parts = parts
+with_parts (part ∷ more) parts = with_parts more (map.insert parts part.name part)
+
+abbrev pub with_kept : Option KeptMessage → map.FinMap pair_cmp Kept → map.FinMap pair_cmp Kept
+with_kept None messages = messages
+with_kept (Some message) messages = map.insert messages message.pair message.kept
+
+abbrev pub with_act : Option ℕ → ℕ → ℕ
+with_act None last = last
+with_act (Some act) last = act
+
+-- the content with the rows of a change
+abbrev pub changed : Content → Change → Content
+changed content change =
+    record {
+      materials = with_material change.material content.materials;
+      parts = with_parts change.parts content.parts;
+      kept = with_kept change.kept content.kept;
+      last_act = with_act change.act content.last_act;
+    }

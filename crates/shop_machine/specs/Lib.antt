@@ -1,0 +1,7 @@
+pub mod Columns
+pub mod Refusals
+pub mod Messages
+pub mod Content
+pub mod Machine
+pub mod History
+pub mod Soundness

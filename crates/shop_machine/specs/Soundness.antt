@@ -1,0 +1,53 @@
+-- What holds of every content that a history gives, and what a change has to fit so that each book can make it.
+use Rattle.std.specs.Prelude.{◌≡◌, ℕ, ◌<◌, ◌≤◌, List, All, AllPairs, IsSome, IfSome, Option, Some, None}
+use Rattle.std.specs.declared.cmp.Ordering.TheVariants.{Less}
+use Rattle.std.specs.FinMap as map
+use Rattle.cut_measure.specs.Names.{Name, name_cmp}
+use Rattle.shop_machine.specs.declared.records.Totals.{Totals}
+use Rattle.shop_machine.specs.declared.kept_texts.Pair.{Pair}
+use Rattle.shop_machine.specs.declared.kept_texts.Kept.{Kept}
+use Rattle.shop_machine.specs.declared.messages.Message.{Message}
+use Rattle.shop_machine.specs.declared.messages.Reply.{Reply}
+use Rattle.shop_machine.specs.declared.changes.Change.{Change}
+use Rattle.shop_machine.specs.Messages.{Texts, IsMessage, IsMade, pair_of}
+use Rattle.shop_machine.specs.Content.{Content, material_at, part_at, kept_at, totals_of}
+use Rattle.shop_machine.specs.Machine.{Keeps, most_received, most_acts}
+
+-- each of the totals is at most this
+pub record AreWithin (most : ℕ) (totals : Totals) : Type 0 where
+  pub received : totals.received ≤ most
+  pub stock : totals.stock ≤ most
+  pub rack : totals.rack ≤ most
+  pub pieces : totals.pieces ≤ most
+  pub kerf : totals.kerf ≤ most
+  pub scrap : totals.scrap ≤ most
+
+-- the acts that parts are named after were numbered, the numbers aren't spent, and no total is out of range
+pub record IsInRange (content : Content) : Type 0 where
+  pub acts : All (λ name. name.act ≤ content.last_act) (map.keys content.parts)
+  pub last : content.last_act ≤ most_acts
+  pub sums : (code : List ℕ) → AreWithin most_received (totals_of content code)
+
+-- a row keeps an accepted message of the pair and its reply
+pub record IsKept (texts : Texts) (pair : Pair) (row : Kept) : Type 0 where
+  pub message : Message
+  pub answer : Reply
+  pub is_message : IsMessage message
+  pub made : IsMade answer
+  pub of_pair : pair_of message ≡ pair
+  pub keeps : Keeps texts row message answer
+
+-- a content as histories give it
+pub record IsSound (texts : Texts) (content : Content) : Type 0 where
+  pub in_range : IsInRange content
+  pub kept : (pair : Pair) (row : Kept) → kept_at content pair ≡ Some row → IsKept texts pair row
+
+-- The change's rows are new: a material of a new code, parts of known materials whose names rise and are new, an act's
+-- number above the last one, and a message of a new pair.
+pub record Fits (content : Content) (change : Change) : Type 0 where
+  pub material : IfSome change.material (λ row. material_at content row.code ≡ None)
+  pub parts : All (λ part. part_at content part.name ≡ None) change.parts
+  pub known : All (λ part. IsSome (material_at content part.material)) change.parts
+  pub rising : AllPairs (λ a b. name_cmp a.name b.name ≡ Less) change.parts
+  pub act : IfSome change.act (λ act. (content.last_act < act) × (act ≤ most_acts))
+  pub kept : IfSome change.kept (λ row. kept_at content row.pair ≡ None)

@@ -1,0 +1,78 @@
+use std::alloc::{AllocError, Global};
+use std::marker::Model;
+
+/// A text that grows at its end.
+#[derive(Debug, Drop)]
+pub struct Text {
+    string: String,
+}
+
+impl Model for Text {
+    ghost use Rattle.std.specs.Prelude.{List, ℕ, string_bytes};
+
+    ghost Value = { List ℕ };
+
+    ghost view = { λ t. string_bytes t.string };
+}
+
+impl Text {
+    ghost use Rattle.std.specs.Prelude.{◌≡◌, ◌++◌, [], OnOk, OnErr, IfOk, string_bytes};
+
+    pub fn new(alloc: Global) -> Text
+        ensures { result ≡ [] }
+    {
+        Text {
+            string: String::new(alloc),
+        }
+    }
+
+    /// The text that a string is.
+    pub fn of(string: String) -> Text
+        ensures { result ≡ string_bytes string }
+    {
+        Text { string }
+    }
+
+    /// Appends, or changes nothing.
+    pub fn push(&mut self, more: &str) -> Result<(), AllocError>
+        ensures ok { OnOk result (self.new ≡ self.old ++ more.now) }
+        ensures err { OnErr result (self.new ≡ self.old) }
+    {
+        self.string.push_str(more)?;
+        Ok(())
+    }
+
+    pub fn as_str(&self) -> &str
+        ensures { result.now ≡ self.now }
+    {
+        self.string.as_str()
+    }
+
+    pub fn copy(&self, alloc: Global) -> Result<Text, AllocError>
+        ensures { IfOk result (λ copy. copy ≡ self.now) }
+    {
+        let string = String::from_str(alloc, self.string.as_str())?;
+        Ok(Text { string })
+    }
+}
+
+/// What a message is known by: its terminal and its number.
+#[derive(Clone, Copy, Debug, PartialEq, Eq, PartialOrd, Ord)]
+pub struct Pair {
+    pub terminal: u32,
+    pub number: u32,
+}
+
+/// What is kept of an accepted message: its canonical text, and the text of its reply.
+#[derive(Debug, Drop)]
+pub struct Kept {
+    pub command: Text,
+    pub reply: Text,
+}
+
+/// An accepted message, as it is kept under its pair.
+#[derive(Debug, Drop)]
+pub struct KeptMessage {
+    pub pair: Pair,
+    pub kept: Kept,
+}

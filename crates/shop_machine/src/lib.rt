@@ -1,0 +1,16 @@
+//! The shop as a machine: its records and messages, and what it decides on each.
+#![tactic(auto)]
+
+mod changes;
+mod decisions;
+mod kept_texts;
+mod messages;
+mod records;
+mod refusals;
+
+pub use changes::{Change, PartList};
+pub use decisions::{decide_material, decide_receive};
+pub use kept_texts::{Kept, KeptMessage, Pair, Text};
+pub use messages::{Command, Message, Query, Reply};
+pub use records::{Column, Material, Part, State, Totals};
+pub use refusals::Refusal;
