@@ -64,6 +64,10 @@ totals_in code parts =
 abbrev pub totals_of : Content → List ℕ → Totals
 totals_of content code = totals_in code (map.values content.parts)
 
+-- every cell that was received stands in stock or on the rack, or is a piece's, the saw's or scrap
+abbrev pub AddsUp : Totals → Type 0
+AddsUp t = t.received ≡ t.stock + t.rack + t.pieces + t.kerf + t.scrap
+
 -- ---- changes
 
 abbrev pub with_material : Option Material → map.FinMap code_cmp Material → map.FinMap code_cmp Material

@@ -20,7 +20,7 @@ use Rattle.shop_machine.specs.declared.messages.Reply.{Reply}
 use Rattle.shop_machine.specs.declared.messages.Reply.TheVariants as reply
 use Rattle.shop_machine.specs.Columns.{same_name, is_there, is_piece, is_kerf, is_scrap}
 use Rattle.shop_machine.specs.Messages.{Texts, IsMessage, pair_of}
-use Rattle.shop_machine.specs.Content.{Content, fresh, kept_at, totals_of}
+use Rattle.shop_machine.specs.Content.{Content, fresh, kept_at, totals_of, AddsUp}
 use Rattle.shop_machine.specs.Machine.{Accepts}
 
 -- These messages, the newest first, were each accepted in turn from the start, none of them a repeat, and give this content.
@@ -187,14 +187,9 @@ TotalsAreCounts history content = (code : List ℕ) →
       scrap = count_of Scrap history code;
     }
 
--- every cell that was received stands in stock or on the rack, or is a piece's, the saw's or scrap
-abbrev pub TotalsAddUp : Content → Type 0
-TotalsAddUp content = (code : List ℕ) →
-    let t = totals_of content code in t.received ≡ t.stock + t.rack + t.pieces + t.kerf + t.scrap
-
 -- the whole account of a history and the content that it gives
 pub record IsAccountOf (texts : Texts) (history : List Message) (content : Content) : Type 0 where
   pub given : Gives texts history content
   pub owners : EachCellIsOwned history content
   pub totals : TotalsAreCounts history content
-  pub adds_up : TotalsAddUp content
+  pub adds_up : (code : List ℕ) → AddsUp (totals_of content code)

@@ -1,32 +1,24 @@
 -- What holds of every content that a history gives, and what a change has to fit so that each book can make it.
 use Rattle.std.specs.Prelude.{◌≡◌, ℕ, ◌<◌, ◌≤◌, List, All, AllPairs, IsSome, IfSome, Option, Some, None}
 use Rattle.std.specs.declared.cmp.Ordering.TheVariants.{Less}
-use Rattle.std.specs.FinMap as map
 use Rattle.cut_measure.specs.Names.{Name, name_cmp}
-use Rattle.shop_machine.specs.declared.records.Totals.{Totals}
+use Rattle.shop_machine.specs.declared.records.Part.{Part}
 use Rattle.shop_machine.specs.declared.kept_texts.Pair.{Pair}
 use Rattle.shop_machine.specs.declared.kept_texts.Kept.{Kept}
 use Rattle.shop_machine.specs.declared.messages.Message.{Message}
 use Rattle.shop_machine.specs.declared.messages.Reply.{Reply}
 use Rattle.shop_machine.specs.declared.changes.Change.{Change}
 use Rattle.shop_machine.specs.Messages.{Texts, IsMessage, IsMade, pair_of}
-use Rattle.shop_machine.specs.Content.{Content, material_at, part_at, kept_at, totals_of}
+use Rattle.shop_machine.specs.Content.{Content, material_at, part_at, kept_at, totals_of, AddsUp}
 use Rattle.shop_machine.specs.Machine.{Keeps, most_received, most_acts}
 
--- each of the totals is at most this
-pub record AreWithin (most : ℕ) (totals : Totals) : Type 0 where
-  pub received : totals.received ≤ most
-  pub stock : totals.stock ≤ most
-  pub rack : totals.rack ≤ most
-  pub pieces : totals.pieces ≤ most
-  pub kerf : totals.kerf ≤ most
-  pub scrap : totals.scrap ≤ most
-
--- the acts that parts are named after were numbered, the numbers aren't spent, and no total is out of range
+-- Each part is named after an act so far, the act numbers aren't spent, and of each material no more was received than
+-- may be, all of which is accounted for.
 pub record IsInRange (content : Content) : Type 0 where
-  pub acts : All (λ name. name.act ≤ content.last_act) (map.keys content.parts)
+  pub acts : (name : Name) (part : Part) → part_at content name ≡ Some part → name.act ≤ content.last_act
   pub last : content.last_act ≤ most_acts
-  pub sums : (code : List ℕ) → AreWithin most_received (totals_of content code)
+  pub received : (code : List ℕ) → (totals_of content code).received ≤ most_received
+  pub adds_up : (code : List ℕ) → AddsUp (totals_of content code)
 
 -- a row keeps an accepted message of the pair and its reply
 pub record IsKept (texts : Texts) (pair : Pair) (row : Kept) : Type 0 where

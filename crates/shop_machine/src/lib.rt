@@ -4,6 +4,7 @@
 mod changes;
 mod decisions;
 mod kept_texts;
+mod laws;
 mod messages;
 mod records;
 mod refusals;
@@ -11,6 +12,7 @@ mod refusals;
 pub use changes::{Change, PartList};
 pub use decisions::{decide_material, decide_receive};
 pub use kept_texts::{Kept, KeptMessage, Pair, Text};
+pub use laws::{accepted_changes_fit, histories_have_accounts};
 pub use messages::{Command, Message, Query, Reply};
 pub use records::{Column, Material, Part, State, Totals};
 pub use refusals::Refusal;
