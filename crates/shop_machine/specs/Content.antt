@@ -1,5 +1,5 @@
 -- What a book contains, as finite maps, and what a change makes of it.
-use Rattle.std.specs.Prelude.{◌≡◌, ℕ, ◌+◌, ◌*◌, ◌&&◌, List, [], ◌∷◌, Bool, if◌then◌else◌, Option, Some, None, sum_by}
+use Rattle.std.specs.Prelude.{filter, ◌≡◌, ℕ, ◌+◌, ◌*◌, ◌&&◌, List, [], ◌∷◌, Bool, if◌then◌else◌, Option, Some, None, sum_by}
 use Rattle.std.specs.declared.cmp.Ordering.{Ordering}
 use Rattle.std.specs.Ordering.{nat_cmp, is_eq, ordering_then}
 use Rattle.std.specs.FinMap as map
@@ -14,7 +14,7 @@ use Rattle.shop_machine.specs.declared.kept_texts.Pair.{Pair}
 use Rattle.shop_machine.specs.declared.kept_texts.Kept.{Kept}
 use Rattle.shop_machine.specs.declared.kept_texts.KeptMessage.{KeptMessage}
 use Rattle.shop_machine.specs.declared.changes.Change.{Change}
-use Rattle.shop_machine.specs.Columns.{is_counted}
+use Rattle.shop_machine.specs.Columns.{is_counted, is_there}
 
 -- by terminal, and then by number
 abbrev pub pair_cmp : Pair → Pair → Ordering
@@ -67,6 +67,16 @@ totals_of content code = totals_in code (map.values content.parts)
 -- every cell that was received stands in stock or on the rack, or is a piece's, the saw's or scrap
 abbrev pub AddsUp : Totals → Type 0
 AddsUp t = t.received ≡ t.stock + t.rack + t.pieces + t.kerf + t.scrap
+
+-- ---- what lies in the shop
+
+-- a part of the material that stands, reserved or not
+abbrev pub is_listed : List ℕ → Part → Bool
+is_listed code part = is_eq (code_cmp part.material code) && is_there part.state
+
+-- the parts of a material that stand, by rising act and then node
+abbrev pub parts_of : Content → List ℕ → List Part
+parts_of content code = filter (is_listed code) (map.values content.parts)
 
 -- ---- changes
 

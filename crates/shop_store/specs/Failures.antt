@@ -1,0 +1,17 @@
+-- How failures of a store are counted.
+use Rattle.std.specs.Prelude.{◌≡◌, ℕ, ◌+◌, nat_lt, if◌then◌else◌, Result, Ok, Err}
+use Rattle.shop_store.specs.declared.books.BookFault.{BookFault}
+use Rattle.shop_store.specs.declared.books.BookFault.TheVariants.{NoMemory, Store}
+
+abbrev pub most_failures : ℕ
+most_failures = 18446744073709551615
+
+-- one more, and at the greatest count the same
+abbrev pub one_more_failure : ℕ → ℕ
+one_more_failure n = if nat_lt n most_failures then n + 1 else most_failures
+
+-- a failed store raises the count, and nothing else does
+abbrev pub CountsFailure : {T : Type 0} → ℕ → Result T BookFault → ℕ → Type 0
+CountsFailure before (Ok x) after = after ≡ before
+CountsFailure before (Err NoMemory) after = after ≡ before
+CountsFailure before (Err Store) after = after ≡ one_more_failure before

@@ -1,0 +1,107 @@
+ghost use Rattle.std.specs.Prelude.{◌≡◌, ◌+◌, ◌≤◌, ◌⊎◌, ℕ, IfOk, OnOk, OnErr};
+ghost use Rattle.shop_machine.specs.Content.{Content, material_at, part_at, kept_at, totals_of, parts_of as listed_parts, changed};
+ghost use Rattle.shop_machine.specs.Soundness.{Fits};
+ghost use Rattle.shop_store.specs.Failures.{CountsFailure};
+
+use cut_measure::{Code, PartName};
+use shop_machine::{Change, Kept, Material, Part, PartList, Totals};
+use std::alloc::Global;
+
+/// Why a book has no answer.
+#[derive(Clone, Copy, Debug, PartialEq, Eq)]
+pub enum BookFault {
+    /// Memory was wanting.
+    NoMemory,
+    /// The store failed; the book counts it.
+    Store,
+}
+
+/// What the shop contains, wherever it is kept.
+///
+/// A reading answers the content's row and changes nothing. `commit` makes a change as a whole, or not at all. What is
+/// promised of the content stands under the premise that the store gave back what was put into it; that failures are
+/// counted, and the ranges that a decision rests on, stand without it.
+pub trait Book {
+    /// What a crash may leave, as a later open finds it.
+    ghost Left: { Type 0 };
+
+    /// What was left stands for this content.
+    ghost stands: { Left → Content → Type 0 };
+
+    /// A crash at this moment may leave this.
+    ghost may_leave: { Self → Left → Type 0 };
+
+    /// The book holds this content.
+    ghost holds: { Self → Content → Type 0 };
+
+    /// So far the store gave back what was put into it.
+    ghost is_honest: { Self → Type 0 };
+
+    /// How often the store failed, up to the greatest number that is counted.
+    ghost failed: { Self → ℕ };
+
+    /// The material of a code.
+    fn material(&mut self, code: Code) -> Result<Option<Material>, BookFault>
+        ensures row { is_honest self.new → (m : Content) → holds self.old m → IfOk result (λ row. row ≡ material_at m code) }
+        ensures stays { is_honest self.new → (m : Content) → holds self.old m → holds self.new m }
+        ensures crash { is_honest self.new → (m : Content) → holds self.old m → (left : Left) → may_leave self.new left → may_leave self.old left }
+        ensures honest { is_honest self.new → is_honest self.old }
+        ensures failures { CountsFailure (failed self.old) result (failed self.new) };
+
+    /// The part of a name.
+    fn part(&mut self, name: PartName) -> Result<Option<Part>, BookFault>
+        ensures row { is_honest self.new → (m : Content) → holds self.old m → IfOk result (λ row. row ≡ part_at m name) }
+        ensures stays { is_honest self.new → (m : Content) → holds self.old m → holds self.new m }
+        ensures crash { is_honest self.new → (m : Content) → holds self.old m → (left : Left) → may_leave self.new left → may_leave self.old left }
+        ensures honest { is_honest self.new → is_honest self.old }
+        ensures failures { CountsFailure (failed self.old) result (failed self.new) };
+
+    /// What is kept of the accepted message with this pair.
+    fn kept(&mut self, alloc: Global, terminal: u32, number: u32) -> Result<Option<Kept>, BookFault>
+        ensures row { is_honest self.new → (m : Content) → holds self.old m
+            → IfOk result (λ row. row ≡ kept_at m (record { terminal = terminal; number = number })) }
+        ensures stays { is_honest self.new → (m : Content) → holds self.old m → holds self.new m }
+        ensures crash { is_honest self.new → (m : Content) → holds self.old m → (left : Left) → may_leave self.new left → may_leave self.old left }
+        ensures honest { is_honest self.new → is_honest self.old }
+        ensures failures { CountsFailure (failed self.old) result (failed self.new) };
+
+    /// The number of the next act, 1 on a fresh book.
+    fn next_act(&mut self) -> Result<u32, BookFault>
+        ensures number { is_honest self.new → (m : Content) → holds self.old m → IfOk result (λ act. act ≡ m.last_act + 1) }
+        ensures least { IfOk result (λ act. 1 ≤ act) }
+        ensures stays { is_honest self.new → (m : Content) → holds self.old m → holds self.new m }
+        ensures crash { is_honest self.new → (m : Content) → holds self.old m → (left : Left) → may_leave self.new left → may_leave self.old left }
+        ensures honest { is_honest self.new → is_honest self.old }
+        ensures failures { CountsFailure (failed self.old) result (failed self.new) };
+
+    /// The cells of a material, received and by what became of them.
+    fn totals(&mut self, material: Code) -> Result<Totals, BookFault>
+        ensures sums { is_honest self.new → (m : Content) → holds self.old m → IfOk result (λ totals. totals ≡ totals_of m material) }
+        ensures stays { is_honest self.new → (m : Content) → holds self.old m → holds self.new m }
+        ensures crash { is_honest self.new → (m : Content) → holds self.old m → (left : Left) → may_leave self.new left → may_leave self.old left }
+        ensures honest { is_honest self.new → is_honest self.old }
+        ensures failures { CountsFailure (failed self.old) result (failed self.new) };
+
+    /// The standing and the reserved parts of a material, by rising act and then node.
+    fn parts_of(&mut self, alloc: Global, material: Code) -> Result<PartList, BookFault>
+        ensures rows { is_honest self.new → (m : Content) → holds self.old m → IfOk result (λ rows. rows ≡ listed_parts m material) }
+        ensures stays { is_honest self.new → (m : Content) → holds self.old m → holds self.new m }
+        ensures crash { is_honest self.new → (m : Content) → holds self.old m → (left : Left) → may_leave self.new left → may_leave self.old left }
+        ensures honest { is_honest self.new → is_honest self.old }
+        ensures failures { CountsFailure (failed self.old) result (failed self.new) };
+
+    /// Makes a change that fits the content as a whole, or not at all.
+    fn commit(&mut self, change: Change) -> Result<(), BookFault>
+        ensures ok { is_honest self.new → (m : Content) → holds self.old m → Fits m change → OnOk result (holds self.new (changed m change)) }
+        ensures err { is_honest self.new → (m : Content) → holds self.old m → Fits m change → OnErr result (holds self.new m) }
+        ensures crash { is_honest self.new → (m : Content) → holds self.old m → Fits m change
+            → (left : Left) → may_leave self.new left → may_leave self.old left ⊎ stands left (changed m change) }
+        ensures lasts { is_honest self.new → (m : Content) → holds self.old m → Fits m change
+            → OnOk result ((left : Left) → may_leave self.new left → stands left (changed m change)) }
+        ensures honest { is_honest self.new → is_honest self.old }
+        ensures failures { CountsFailure (failed self.old) result (failed self.new) };
+
+    /// How often the store failed, up to 18446744073709551615.
+    fn failures(&self) -> u64
+        ensures { result ≡ failed self.now };
+}
