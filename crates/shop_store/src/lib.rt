@@ -2,5 +2,6 @@
 #![tactic(auto)]
 
 mod books;
+mod rows;
 
 pub use books::{Book, BookFault};

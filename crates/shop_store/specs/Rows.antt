@@ -1,0 +1,23 @@
+-- Rows in the order of their keys, as entries of a map.
+use Rattle.std.specs.Prelude.{◌≡◌, List, map, Bool, Option, Some, None, ℕ}
+use Rattle.std.specs.declared.cmp.Ordering.{Ordering}
+use Rattle.std.specs.FinMap.{is_sorted, find, put}
+
+module _ {X K : Type 0} (key_of : X → K) (cmp : K → K → Ordering) where
+  abbrev pub entry_of : X → K × X
+  entry_of row = (key_of row, row)
+
+  abbrev pub entries_of : List X → List (K × X)
+  entries_of rows = map entry_of rows
+
+  -- whether the rows rise strictly by their keys
+  abbrev pub rise : List X → Bool
+  rise rows = is_sorted cmp (entries_of rows)
+
+  -- the row of a key
+  abbrev pub row_at : K → List X → Option X
+  row_at key rows = find cmp key (entries_of rows)
+
+  -- The new rows are the old ones with this row in its place, instead of the one with its key.
+  abbrev pub IsPut : X → List X → List X → Type 0
+  IsPut row old new = entries_of new ≡ put cmp (key_of row) row (entries_of old)

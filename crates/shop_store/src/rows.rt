@@ -1,0 +1,74 @@
+ghost use Rattle.std.specs.declared.cmp.Ordering.{Ordering};
+ghost use Rattle.std.specs.Prelude.{◌≡◌, ◌+◌, ◌<◌, ◌≤◌, IsTrue, length, vec_len, vec_capacity};
+ghost use Rattle.std.specs.List.Sorted.{IsBinarySearchResult, IsSearchInRange};
+ghost use Rattle.shop_store.specs.Rows.{rise, row_at, IsPut};
+
+use std::cmp::Ordering;
+
+/// Rows that are kept in the order of their keys.
+pub trait Row: Copy {
+    ghost use Rattle.std.specs.Cmp.{IsTotalOrder};
+    ghost use Rattle.std.specs.FinMap.{IsAntisymmetric};
+
+    type Key: Copy;
+
+    ghost key_of: { Self → Self.Key };
+
+    ghost cmp: { Self.Key → Self.Key → Ordering };
+
+    /// The order of the row's key and another.
+    fn compare(&self, key: Self::Key) -> Ordering
+        ensures { result ≡ cmp (key_of self.now) key };
+
+    fn key(&self) -> Self::Key
+        ensures { result ≡ key_of self.now };
+
+    ghost total: { IsTotalOrder cmp };
+
+    ghost exact: { IsAntisymmetric cmp };
+}
+
+/// Where the row of a key stands, or where it would.
+fn place<R: Row>(rows: &[R], key: R::Key) -> Result<usize, usize>
+    ensures range { IsSearchInRange result (length rows.now) }
+    ensures position { IsBinarySearchResult (λ row. R.cmp (R.key_of row) key) rows.now result }
+{
+    rows.binary_search_by(|row| row.compare(key))
+}
+
+/// The row of a key.
+pub fn find<R: Row>(rows: &[R], key: R::Key) -> Option<R>
+    requires { IsTrue (rise R.key_of R.cmp rows.now) }
+    ensures { result ≡ row_at R.key_of R.cmp key rows.now }
+{
+    match place(rows, key) {
+        Ok(i) => Some(rows[i]),
+        Err(_) => None,
+    }
+}
+
+/// Puts a row in its place, and gives the one that it replaced.
+pub fn put<R: Row>(rows: &mut Vec<R>, row: R) -> Option<R>
+    requires rising { IsTrue (rise R.key_of R.cmp rows.old.items) }
+    requires room { vec_len rows.old < vec_capacity rows.old }
+    ensures put { IsPut R.key_of R.cmp row rows.old.items rows.new.items }
+    ensures replaced { result ≡ row_at R.key_of R.cmp (R.key_of row) rows.old.items }
+    ensures rising { IsTrue (rise R.key_of R.cmp rows.new.items) }
+    ensures len { vec_len rows.new ≤ vec_len rows.old + 1 }
+    ensures capacity { vec_capacity rows.old ≤ vec_capacity rows.new }
+{
+    match place(rows, row.key()) {
+        Ok(i) => {
+            let old = rows[i];
+            rows[i] = row;
+            Some(old)
+        }
+        Err(i) => {
+            match rows.insert(i, row) {
+                Ok(()) => (),
+                Err(_) => unreachable!(),
+            }
+            None
+        }
+    }
+}
