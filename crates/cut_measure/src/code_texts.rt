@@ -73,7 +73,8 @@ impl Code {
 
     /// Its text.
     pub fn as_str(&self) -> &str
-        ensures { result.now ≡ self.now }
+        ensures value { result.now ≡ self.now }
+        ensures code { IsTrue (is_code self.now) }
     {
         match str::from_utf8(&self.text[..self.len]) {
             Ok(text) => text,

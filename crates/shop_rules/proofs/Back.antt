@@ -1,0 +1,154 @@
+-- What is printed is read back.
+use Rattle.std.proofs.Common.{◌≡◌, ℕ, ◌<◌, ◌≤◌, ◌^◌, List, [], append-nil, Bool, true, false, Option, Some, None, refl, sym, ap, ◌∙◌, arith, le-leb, codes}
+use Rattle.std.specs.Prelude.{IsTrue, option_map, option_and_then, if◌then◌else◌, is_some}
+use Rattle.cut_measure.specs.declared.sizes.Kind.{Kind}
+use Rattle.cut_measure.specs.Codes.{is_code}
+use Rattle.shop_machine.specs.declared.messages.Command.{Command}
+use Rattle.shop_machine.specs.declared.messages.Command.TheVariants.{AddMaterial, Receive}
+use Rattle.shop_machine.specs.declared.messages.Message.{Message}
+use Rattle.shop_machine.specs.declared.messages.Query.{Query}
+use Rattle.shop_machine.specs.declared.messages.Reply.{Reply}
+use Rattle.shop_machine.specs.declared.messages.Reply.TheVariants as reply
+use Rattle.shop_machine.specs.Messages.{IsMessage, IsCommand, IsMade, IsNumber}
+use Rattle.json.proofs.Printed.Decimals.{IsNumber-decimal}
+use Rattle.json.proofs.Printed.Tokens.{tokens-print}
+use Rattle.json.proofs.Printed.Trees.{value-json_tokens, ArePrintable-json_tokens}
+use Rattle.json.specs.Json as json
+use Rattle.json.specs.Lex.{tokens}
+use Rattle.json.specs.Tree.{HasNumbers, depth, json_tokens}
+use Rattle.serde_json.specs.Data.{Data, object, number, string, unsigned}
+use Rattle.serde_json.specs.Find.{get, as_str}
+use Rattle.serde_json.specs.Read.{read, of_json, max_depth}
+use Rattle.serde_json.specs.Written.{compact_text, outline}
+use Rattle.serde_json.proofs.Numbers.{number_of-decimal}
+use Rattle.json.specs.Token.{Token}
+use Rattle.serde_json.proofs.Texts.{print-outline}
+use Rattle.shop_rules.specs.Forms.{message_of, sent_of, from_one, command_of, material_command, receive_command, query_of, asked_of, reply_of, made_of, message_data, reply_data, json_texts, kept_reply_of, word_of}
+use Rattle.shop_rules.proofs.Fields.{number_there, code_there, kind_there, text_there}
+
+-- ---- values
+
+read_material : (d : Data) (material : List ℕ) (kind : Kind) (kerf min_long min_short : ℕ)
+    → get (codes "material") d ≡ Some (string material) → get (codes "kind") d ≡ Some (string (word_of kind)) → get (codes "kerf") d ≡ Some (number (unsigned kerf))
+    → get (codes "min_long") d ≡ Some (number (unsigned min_long)) → get (codes "min_short") d ≡ Some (number (unsigned min_short))
+    → IsCommand (AddMaterial material kind kerf min_long min_short) → material_command d ≡ Some (AddMaterial material kind kerf min_long min_short)
+read_material d material kind kerf min_long min_short p q r s t h =
+    rw (code_there (codes "material") d material p h.0, kind_there (codes "kind") d kind q, number_there (codes "kerf") d kerf r h.1, number_there (codes "min_long") d min_long s h.2, number_there (codes "min_short") d min_short t h.3) refl
+
+read_receive : (d : Data) (material batch : List ℕ) (w h count : ℕ)
+    → get (codes "material") d ≡ Some (string material) → get (codes "batch") d ≡ Some (string batch) → get (codes "w") d ≡ Some (number (unsigned w))
+    → get (codes "h") d ≡ Some (number (unsigned h)) → get (codes "count") d ≡ Some (number (unsigned count))
+    → IsCommand (Receive material batch w h count) → receive_command d ≡ Some (Receive material batch w h count)
+read_receive d material batch w h count p q r s t c =
+    rw (code_there (codes "material") d material p c.0, code_there (codes "batch") d batch q c.1, number_there (codes "w") d w r c.2, number_there (codes "h") d h s c.3, number_there (codes "count") d count t c.4) refl
+
+read_sent : (d : Data) (word : List ℕ) (terminal n : ℕ) (command : Command)
+    → get (codes "ask") d ≡ None → get (codes "do") d ≡ Some (string word) → get (codes "terminal") d ≡ Some (number (unsigned terminal)) → get (codes "number") d ≡ Some (number (unsigned n))
+    → IsNumber terminal → IsNumber n → command_of word d ≡ Some command → sent_of d ≡ Some (record { terminal = terminal; number = n; command = command })
+read_sent d word terminal n command none p q r small_terminal small_number is =
+    rw (none, text_there (codes "do") d word p, number_there (codes "terminal") d terminal q small_terminal, number_there (codes "number") d n r small_number, is) refl
+
+sent_back_by : (terminal n : ℕ) (command : Command) → IsNumber terminal → IsNumber n → IsCommand command
+    → sent_of (message_data (record { terminal = terminal; number = n; command = command })) ≡ Some (record { terminal = terminal; number = n; command = command })
+sent_back_by terminal n (AddMaterial material kind kerf min_long min_short) p q h =
+    let d = message_data (record { terminal = terminal; number = n; command = AddMaterial material kind kerf min_long min_short }) in
+    read_sent d (codes "material") terminal n (AddMaterial material kind kerf min_long min_short) refl refl refl refl p q
+        (read_material d material kind kerf min_long min_short refl refl refl refl refl h)
+sent_back_by terminal n (Receive material batch w h count) p q c =
+    let d = message_data (record { terminal = terminal; number = n; command = Receive material batch w h count }) in
+    read_sent d (codes "receive") terminal n (Receive material batch w h count) refl refl refl refl p q
+        (read_receive d material batch w h count refl refl refl refl refl c)
+
+pub sent_back : (message : Message) → IsMessage message → sent_of (message_data message) ≡ Some message
+sent_back message h = sent_back_by message.terminal message.number message.command h.terminal h.number h.command
+
+pub message_back : (message : Message) → IsMessage message → 1 ≤ message.terminal → message_of (message_data message) ≡ Some message
+message_back message h from =
+    ap (option_and_then from_one) (sent_back message h) ∙ ap (λ (b : Bool). if b then Some message else None) (le-leb 1 message.terminal from)
+
+read_receipt : (d : Data) (act count : ℕ) → get (codes "ok") d ≡ Some (string (codes "receive")) → get (codes "act") d ≡ Some (number (unsigned act)) → get (codes "count") d ≡ Some (number (unsigned count))
+    → made_of (codes "receive") d ≡ Some (reply.Receive act count) → reply_of d ≡ Some (reply.Receive act count)
+read_receipt d act count p q r is = rw (text_there (codes "ok") d (codes "receive") p) is
+
+pub reply_back : (answer : Reply) → IsMade answer → reply_of (reply_data answer) ≡ Some answer
+reply_back (reply.AddMaterial material) h =
+    ap (option_map reply.AddMaterial) (code_there (codes "material") (reply_data (reply.AddMaterial material)) material refl h)
+reply_back (reply.Receive act count) h =
+    let d = reply_data (reply.Receive act count) in
+    rw (number_there (codes "act") d act refl h.0, number_there (codes "count") d count refl h.1) refl
+reply_back (reply.Totals material received stock rack pieces kerf scrap) h = absurd h
+reply_back (reply.Refused refusal) h = absurd h
+
+-- ---- texts
+
+-- the text of a value whose numbers are read back is read as the value
+read-compact : (d : Data) → HasNumbers (outline d) → depth (outline d) ≤ max_depth → of_json (outline d) ≡ Some d → read (compact_text d) ≡ Some d
+read-compact d numbers shallow back =
+    let j = outline d in
+    let same : tokens (compact_text d) ≡ json_tokens j = ap tokens (sym (print-outline d)) ∙ tokens-print (json_tokens j) (ArePrintable-json_tokens j numbers) in
+    ap (λ (read : Option (json.Json × List Token)). option_and_then of_json (option_and_then (λ p. json.if_last p.0 p.1) read)) (ap (json.value max_depth) (same ∙ sym (append-nil (json_tokens j))) ∙ value-json_tokens j max_depth [] shallow) ∙ back
+
+wide : (n : ℕ) → n < 2 ^ 32 → n < 2 ^ 64
+wide n h = omega arith
+
+text_read_by : (terminal n : ℕ) (command : Command) → IsNumber terminal → IsNumber n → IsCommand command
+    → let d = message_data (record { terminal = terminal; number = n; command = command }) in read (compact_text d) ≡ Some d
+text_read_by terminal n (AddMaterial material kind kerf min_long min_short) p q h =
+    let d = message_data (record { terminal = terminal; number = n; command = AddMaterial material kind kerf min_long min_short }) in
+    read-compact d
+        (tt, (IsNumber-decimal kerf (wide kerf h.1), (tt, (tt, (IsNumber-decimal min_long (wide min_long h.2), (IsNumber-decimal min_short (wide min_short h.3),
+        (IsNumber-decimal n (wide n q), (IsNumber-decimal terminal (wide terminal p), tt)))))))) (omega arith)
+        (rw (number_of-decimal kerf (wide kerf h.1), number_of-decimal min_long (wide min_long h.2), number_of-decimal min_short (wide min_short h.3), number_of-decimal n (wide n q), number_of-decimal terminal (wide terminal p)) refl)
+text_read_by terminal n (Receive material batch w h count) p q c =
+    let d = message_data (record { terminal = terminal; number = n; command = Receive material batch w h count }) in
+    read-compact d
+        (tt, (IsNumber-decimal count (wide count c.4), (tt, (IsNumber-decimal h (wide h c.3), (tt, (IsNumber-decimal n (wide n q), (IsNumber-decimal terminal (wide terminal p), (IsNumber-decimal w (wide w c.2), tt)))))))) (omega arith)
+        (rw (number_of-decimal count (wide count c.4), number_of-decimal h (wide h c.3), number_of-decimal n (wide n q), number_of-decimal terminal (wide terminal p), number_of-decimal w (wide w c.2)) refl)
+
+pub message_text_read : (message : Message) → IsMessage message → read (json_texts.of_message message) ≡ Some (message_data message)
+message_text_read message h = text_read_by message.terminal message.number message.command h.terminal h.number h.command
+
+pub reply_text_read : (answer : Reply) → IsMade answer → read (json_texts.of_reply answer) ≡ Some (reply_data answer)
+reply_text_read (reply.AddMaterial material) h = read-compact (reply_data (reply.AddMaterial material)) (tt, (tt, tt)) (omega arith) refl
+reply_text_read (reply.Receive act count) h =
+    read-compact (reply_data (reply.Receive act count)) (IsNumber-decimal act (wide act h.0), (IsNumber-decimal count (wide count h.1), (tt, tt))) (omega arith)
+        (rw (number_of-decimal act (wide act h.0), number_of-decimal count (wide count h.1)) refl)
+reply_text_read (reply.Totals material received stock rack pieces kerf scrap) h = absurd h
+reply_text_read (reply.Refused refusal) h = absurd h
+
+same_some : {A : Type 0} (a b : A) → Some a ≡ Some b → a ≡ b
+same_some a b e = cc
+
+pub one_message : (m n : Message) → IsMessage m → IsMessage n → json_texts.of_message m ≡ json_texts.of_message n → m ≡ n
+one_message m n p q same =
+    let read_m = message_text_read m p in
+    let data_same : message_data m ≡ message_data n = same_some _ _ (sym read_m ∙ ap read same ∙ message_text_read n q) in
+    same_some m n (sym (sent_back m p) ∙ ap sent_of data_same ∙ sent_back n q)
+
+pub one_reply : (a b : Reply) → IsMade a → IsMade b → json_texts.of_reply a ≡ json_texts.of_reply b → a ≡ b
+one_reply a b p q same =
+    let data_same : reply_data a ≡ reply_data b = same_some _ _ (sym (reply_text_read a p) ∙ ap read same ∙ reply_text_read b q) in
+    same_some a b (sym (reply_back a p) ∙ ap reply_of data_same ∙ reply_back b q)
+
+pub kept_back : (answer : Reply) → IsMade answer → kept_reply_of (json_texts.of_reply answer) ≡ Some answer
+kept_back answer h = ap (option_and_then reply_of) (reply_text_read answer h) ∙ reply_back answer h
+
+-- ---- no value is both
+
+some_under : {A B : Type 0} (f : A → Option B) (o : Option A) (b : B) → option_and_then f o ≡ Some b → (a : A) × (o ≡ Some a) × (f a ≡ Some b)
+some_under f None b e = absurd (cc e)
+some_under f (Some a) b e = (a, refl, e)
+
+one_word : (done asked : Option Data) (w v : List ℕ)
+    → (if is_some asked then None else option_and_then as_str done) ≡ Some w → (if is_some done then None else option_and_then as_str asked) ≡ Some v → ⊥
+one_word None None w v p q = cc p
+one_word (Some a) None w v p q = cc q
+one_word None (Some b) w v p q = cc p
+one_word (Some a) (Some b) w v p q = cc p
+
+pub never_both : (d : Data) (message : Message) (query : Query) → message_of d ≡ Some message → query_of d ≡ Some query → ⊥
+never_both d message query p q =
+    let sent = some_under from_one (sent_of d) message p in
+    let done = some_under _ _ sent.0 sent.1 in
+    let asked = some_under (λ word. asked_of word d) _ query q in
+    one_word (get (codes "do") d) (get (codes "ask") d) done.0 asked.0 done.1 asked.1

@@ -1,0 +1,10 @@
+pub mod Forms
+pub use Rattle.cut_measure.specs.Codes
+pub use Rattle.cut_measure.specs.Measures
+pub use Rattle.cut_measure.specs.Names
+pub use Rattle.shop_machine.specs.Messages
+pub use Rattle.shop_machine.specs.Refusals
+pub use Rattle.shop_machine.specs.Content
+pub use Rattle.shop_machine.specs.Machine
+pub use Rattle.shop_machine.specs.History
+pub use Rattle.shop_machine.specs.Soundness

@@ -1,0 +1,10 @@
+-- How failures of a source or a sink are counted.
+use Rattle.std.specs.Prelude.{◌≡◌, ℕ, ◌+◌, nat_lt, if◌then◌else◌, Result, Ok, Err}
+use Rattle.shop_text.specs.declared.streams.Failed.{Failed}
+
+abbrev pub most_failures : ℕ
+most_failures = 18446744073709551615
+
+abbrev pub CountsFailure : {T : Type 0} → ℕ → Result T Failed → ℕ → Type 0
+CountsFailure before (Ok x) after = after ≡ before
+CountsFailure before (Err e) after = after ≡ (if nat_lt before most_failures then before + 1 else before)

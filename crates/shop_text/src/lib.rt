@@ -1,0 +1,8 @@
+//! Where bytes come from and where they go, with their failures counted.
+#![tactic(auto)]
+
+mod counted;
+mod streams;
+
+pub use counted::Counted;
+pub use streams::{Failed, Sink, Source};
