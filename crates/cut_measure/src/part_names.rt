@@ -1,3 +1,5 @@
+use crate::numbers::read_number;
+use std::alloc::AllocError;
 use std::cmp::Ordering;
 use std::marker::Model;
 
@@ -22,8 +24,8 @@ impl Model for PartName {
 }
 
 impl PartName {
-    ghost use Rattle.std.specs.Prelude.{◌≡◌, ◌≤◌};
-    ghost use Rattle.cut_measure.specs.Names.{name_cmp};
+    ghost use Rattle.std.specs.Prelude.{◌≡◌, ◌≤◌, ◌++◌, OnOk, OnErr, string_bytes};
+    ghost use Rattle.cut_measure.specs.Names.{name_cmp, name_text, IsNameOf};
 
     pub fn new(act: u32, node: u32) -> PartName
         requires least { 1 ≤ act }
@@ -31,6 +33,29 @@ impl PartName {
         ensures { result ≡ record { act = act; node = node } }
     {
         PartName { act, node }
+    }
+
+    /// The part that a text names: its act and its node, joined by a slash.
+    pub fn read(text: &str) -> Option<PartName>
+        ensures { IsNameOf result text.now }
+    {
+        let (act, node) = text.split_once('/')?;
+        let act = read_number(act.as_bytes())?;
+        let node = read_number(node.as_bytes())?;
+        if act < 1 || act > 2147483647 {
+            return None;
+        }
+        Some(PartName { act, node })
+    }
+
+    /// Appends its text, or leaves the string as it was.
+    pub fn write(&self, text: &mut String) -> Result<(), AllocError>
+        ensures ok { OnOk result (string_bytes text.new ≡ string_bytes text.old ++ name_text self.now) }
+        ensures err { OnErr result (string_bytes text.new ≡ string_bytes text.old) }
+    {
+        let alloc = *text.allocator();
+        let name = format!(in alloc; "{}/{}", self.act, self.node)?;
+        text.push_str(name.as_str())
     }
 
     pub fn act(&self) -> u32
