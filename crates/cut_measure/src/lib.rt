@@ -16,3 +16,6 @@ pub use lengths::{read_mm, write_mm};
 pub use numbers::read_number;
 pub use part_names::PartName;
 pub use sizes::{Axis, Kind, Size};
+
+#[cfg(test)]
+mod tests;

@@ -3,7 +3,7 @@ use std::alloc::AllocError;
 use std::cmp::Ordering;
 use std::marker::Model;
 
-/// What a part is called: the number of the act that made it, and its node in that act.
+/// What a part is called: the number of the act that made it, 1 to 2147483647, and its node in that act.
 #[derive(Clone, Copy, Debug, PartialEq, Eq)]
 pub struct PartName {
     act: u32,
@@ -27,6 +27,7 @@ impl PartName {
     ghost use Rattle.std.specs.Prelude.{◌≡◌, ◌≤◌, ◌++◌, OnOk, OnErr, string_bytes};
     ghost use Rattle.cut_measure.specs.Names.{name_cmp, name_text, IsNameOf};
 
+    /// The name of a node of an act.
     pub fn new(act: u32, node: u32) -> PartName
         requires least { 1 ≤ act }
         requires most { act ≤ 2147483647 }
@@ -35,7 +36,7 @@ impl PartName {
         PartName { act, node }
     }
 
-    /// The part that a text names: its act and its node, joined by a slash.
+    /// The part that a text names: its act and its node in decimal digits without leading zeros, joined by a slash.
     pub fn read(text: &str) -> Option<PartName>
         ensures { IsNameOf result text.now }
     {
@@ -58,6 +59,7 @@ impl PartName {
         text.push_str(name.as_str())
     }
 
+    /// The number of the act that made it.
     pub fn act(&self) -> u32
         ensures value { result ≡ self.now.act }
         ensures least { 1 ≤ result }
@@ -73,6 +75,7 @@ impl PartName {
         self.act.cmp(&other.act).then(self.node.cmp(&other.node))
     }
 
+    /// Its node in that act.
     pub fn node(&self) -> u32
         ensures { result ≡ self.now.node }
     {
