@@ -14,16 +14,17 @@ use Rattle.shop_machine.specs.declared.messages.Reply.TheVariants.{AddMaterial, 
 use Rattle.shop_machine.specs.Messages.{Texts, IsMessage, IsMade, pair_of}
 use Rattle.shop_machine.specs.Content.{Content, kept_at, changed}
 use Rattle.shop_machine.specs.Machine.{Accepts, StepNew, StepAgain, Step, Run, refusal_of, change_of, keeping}
+use Rattle.shop_machine.specs.History.{is_accepted}
 use Rattle.shop_machine.specs.Soundness.{IsSound, Fits}
 use Rattle.shop_machine.proofs.Sound.{made_by, sound_after, fits_accepted}
 use Rattle.shop_desk.specs.Faults.{CountsReply, CountsOrContradicts, StoreFailed}
 use Rattle.shop_desk.specs.Handled.{LeftByNew, LeftBy, IsHandled, Leads}
 
-pub counts_made : (before after : ℕ) (answer : Reply) → IsMade answer → after ≡ before → CountsReply before answer after
-counts_made before after (Refused refusal) made same = absurd made
+pub counts_made : (before after : ℕ) (answer : Reply) → is_accepted answer ≡ true → after ≡ before → CountsReply before answer after
+counts_made before after (Refused refusal) made same = cc
 counts_made before after (AddMaterial material) made same = same
 counts_made before after (Receive act count) made same = same
-counts_made before after (Totals material received stock rack pieces kerf scrap) made same = absurd made
+counts_made before after (Totals material received stock rack pieces kerf scrap) made same = same
 
 rose : (before after : ℕ) (below : Bool) → after ≡ (if below then before + 1 else most_failures) → StoreFailed before after
 rose before after true e = inl (omega arith)
@@ -60,6 +61,14 @@ module _ (texts : Texts) where
   pub is_fault : (refusal : Refusal) (fault : BookFault) → refusal ≡ refusal_for fault → (refusal ≢ NoMemory) → (refusal ≢ StoreFault) → ⊥
   is_fault refusal fault.NoMemory e n s = n e
   is_fault refusal fault.Store e n s = s e
+
+  -- the change that is committed fits, whatever reply and texts it holds
+  pub fits_committed : (m : Content) (message : Message) (made : Change) (text told : List ℕ) (answer : Reply)
+      → kept_at m (pair_of message) ≡ None → IsSound texts m → refusal_of m message.command ≡ None → made ≡ change_of m message.command
+      → Fits m (record made { kept = Some (record { pair = pair_of message; kept = record { command = text; reply = told } }); reply = answer })
+  fits_committed m message made text told answer none sound allowed is =
+      let fits : Fits m (keeping texts message made) = subst (λ (c : Change). Fits m (keeping texts message c)) (sym is) (fits_accepted texts m message sound none allowed) in
+      record { material = fits.material; parts = fits.parts; known = fits.known; rising = fits.rising; act = fits.act; kept = fits.kept }
 
   module _ {Left : Type 0} (stands : Left → Content → Type 0) where
     left_made : (before : Left → Type 0) (old : Content) (message : Message) (answer : Reply) (next : Content) (left : Left) → IsMade answer → stands left next

@@ -1,13 +1,12 @@
-ghost use Rattle.std.specs.Prelude.{◌≡◌, Some};
+ghost use Rattle.std.specs.Prelude.{◌≡◌, IfOk, IsTrue, Some};
+ghost use Rattle.shop_machine.specs.History.{is_accepted};
 ghost use Rattle.shop_machine.specs.Content.{Content};
 ghost use Rattle.shop_machine.specs.Machine.{DecidesOrFails, refusal_of, change_of};
 ghost use Rattle.shop_machine.specs.declared.messages.Reply.TheVariants.{Refused};
 ghost use Rattle.shop_machine.specs.declared.refusals.Refusal.TheVariants.{BadMessage};
 ghost use Rattle.shop_desk.specs.Faults.{CountsDecision};
 
-use shop_rules::{
-    Change, Command, KeptMessage, Refusal, Reply, decide_material, decide_receive,
-};
+use shop_rules::{Change, Command, KeptMessage, Refusal, Reply, decide_material, decide_receive};
 use shop_store::Book;
 use std::alloc::Global;
 
@@ -19,6 +18,7 @@ pub fn decide<B: Book>(alloc: Global, book: &mut B, command: &Command) -> Result
     ensures stays { B.is_honest book.new → (m : Content) → B.holds book.old m → B.holds book.new m }
     ensures crash { B.is_honest book.new → (m : Content) → B.holds book.old m → (left : B.Left) → B.may_leave book.new left → B.may_leave book.old left }
     ensures honest { B.is_honest book.new → B.is_honest book.old }
+    ensures told { IfOk result (λ change. IsTrue (is_accepted change.reply)) }
     ensures failures { CountsDecision (B.failed book.old) result (B.failed book.new) }
 {
     match command {
