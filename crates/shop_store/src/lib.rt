@@ -3,5 +3,6 @@
 
 mod books;
 mod rows;
+mod sums;
 
 pub use books::{Book, BookFault};

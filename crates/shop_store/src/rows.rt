@@ -1,5 +1,5 @@
 ghost use Rattle.std.specs.declared.cmp.Ordering.{Ordering};
-ghost use Rattle.std.specs.Prelude.{◌≡◌, ◌+◌, ◌<◌, ◌≤◌, IsTrue, length, vec_len, vec_capacity};
+ghost use Rattle.std.specs.Prelude.{◌≡◌, ◌+◌, ◌<◌, ◌≤◌, IfSome, IsTrue, length, vec_len, vec_capacity};
 ghost use Rattle.std.specs.List.Sorted.{IsBinarySearchResult, IsSearchInRange};
 ghost use Rattle.shop_store.specs.Rows.{rise, row_at, IsPut};
 
@@ -39,7 +39,8 @@ fn place<R: Row>(rows: &[R], key: R::Key) -> Result<usize, usize>
 /// The row of a key.
 pub fn find<R: Row>(rows: &[R], key: R::Key) -> Option<R>
     requires { IsTrue (rise R.key_of R.cmp rows.now) }
-    ensures { result ≡ row_at R.key_of R.cmp key rows.now }
+    ensures row { result ≡ row_at R.key_of R.cmp key rows.now }
+    ensures key { IfSome result (λ row. R.key_of row ≡ key) }
 {
     match place(rows, key) {
         Ok(i) => Some(rows[i]),
