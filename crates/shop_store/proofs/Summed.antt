@@ -5,7 +5,7 @@ use Rattle.std.specs.List.{list_all}
 use Rattle.std.specs.declared.cmp.Ordering.{Ordering}
 use Rattle.std.specs.declared.cmp.Ordering.TheVariants.{Less, Equal, Greater}
 use Rattle.std.specs.Ordering.{is_eq, eq_by_cmp, ordering_reverse, nat_cmp}
-use Rattle.std.specs.Cmp.{IsTotalOrder}
+use Rattle.std.specs.Cmp.{IsTotalOrder, tied_itself}
 use Rattle.std.specs.Cmp.Lexicographic.{nat_list_cmp_total}
 use Rattle.std.specs.FinMap.{put, find, slice_cmp-IsAntisymmetric, nat_cmp-IsAntisymmetric}
 use Rattle.std.specs.FinMap.Entries.{find-put, by_order}
@@ -16,8 +16,8 @@ use Rattle.cut_measure.specs.Names.{Name, name_cmp}
 use Rattle.shop_machine.specs.declared.records.Part.{Part}
 use Rattle.shop_machine.specs.declared.records.Column.{Column}
 use Rattle.shop_machine.specs.Columns.{is_counted}
-use Rattle.shop_machine.specs.Content.{counts_for, cells_in}
-use Rattle.shop_machine.proofs.Sums.{sum-put, of_found}
+use Rattle.shop_machine.specs.Content.{of_found, counts_for, cells_in}
+use Rattle.shop_machine.proofs.Sums.{sum-put}
 use Rattle.shop_machine.proofs.Accounts.{names_total}
 use Rattle.shop_store.specs.declared.sums.Sums.{Sums}
 use Rattle.shop_store.specs.Rows.{entries_of, rise, row_at, IsPut}
@@ -112,3 +112,47 @@ cells_bounded column code [] e = omega arith
 cells_bounded column code (p ∷ ps) e =
     let t = both (nat_le (p.size.w * p.size.h) most_cells) (all_small ps) e in
     omega (arith, sum_by-cons (cells_for column code) p ps, cells_le (counts_for column code p) (p.size.w * p.size.h), small_le (p.size.w * p.size.h) t.0, cells_bounded column code ps t.1)
+
+-- ---- a part that is replaced was counted
+
+own_code : (code : List ℕ) → is_eq (code_cmp code code) ≡ true
+own_code code = ap is_eq (tied_itself nat_list_cmp_total code)
+
+counted_own : (column : Column) (part : Part) → cells_for column part.material part ≡ counted_cells column part
+counted_own column part = ap (λ b. if b && is_counted column part then part.size.w * part.size.h else 0) (own_code part.material)
+
+found_in : (column : Column) (code : List ℕ) (p q : Part) (ps : List Part) (b : Bool) (found : Option Part) → cond b (Some q) found ≡ Some p
+    → (found ≡ Some p → cells_for column code p ≤ cells_in column code ps) → cells_for column code p ≤ cells_in column code (q ∷ ps)
+found_in column code p q ps true found e later =
+    let same : q ≡ p = cc in omega (arith, sum_by-cons (cells_for column code) q ps, ap (cells_for column code) same)
+found_in column code p q ps false found e later = omega (arith, sum_by-cons (cells_for column code) q ps, later e)
+
+found_cells : (column : Column) (code : List ℕ) (name : Name) (p : Part) (parts : List Part) → row_at part_key name_cmp name parts ≡ Some p → cells_for column code p ≤ cells_in column code parts
+found_cells column code name p [] e = cc
+found_cells column code name p (q ∷ ps) e =
+    found_in column code p q ps (is_eq (name_cmp name q.name)) (row_at part_key name_cmp name ps) e (found_cells column code name p ps)
+
+pub replaced_counted : (column : Column) (name : Name) (p : Part) (parts : List Part) (rows : List Sums) → AreSumsOf parts rows → row_at part_key name_cmp name parts ≡ Some p
+    → counted_cells column p ≤ sum_at column p.material rows
+replaced_counted column name p parts rows sums e = omega (arith, counted_own column p, found_cells column p.material name p parts e, sums column p.material)
+
+-- ---- small parts
+
+small_entries : (part : Part) (es : List (Name × Part)) → nat_le (part.size.w * part.size.h) most_cells ≡ true → all_small (map (λ (e : Name × Part). e.1) es) ≡ true
+    → all_small (map (λ (e : Name × Part). e.1) (put name_cmp part.name part es)) ≡ true
+small_entries part [] own old = ap (λ b. b && true) own
+small_entries part (e ∷ es) own old =
+    let t = both (nat_le (e.1.size.w * e.1.size.h) most_cells) (all_small (map (λ (e : Name × Part). e.1) es)) old in
+    elim (name_cmp part.name e.0) as (λ r. all_small (map (λ (e : Name × Part). e.1) (by_order r ((part.name, part) ∷ e ∷ es) ((e.0, part) ∷ es) (e ∷ put name_cmp part.name part es))) ≡ true) [
+      | Less ↦ ap (λ b. b && all_small (map (λ (e : Name × Part). e.1) (e ∷ es))) own ∙ old
+      | Equal ↦ ap (λ b. b && all_small (map (λ (e : Name × Part). e.1) es)) own ∙ t.1
+      | Greater ↦ ap (λ b. b && all_small (map (λ (e : Name × Part). e.1) (put name_cmp part.name part es))) t.0 ∙ small_entries part es own t.1
+    ]
+
+small_test : (n : ℕ) → n ≤ most_cells → nat_le n most_cells ≡ true
+small_test n h = grind (arith, nat_tests)
+
+pub small-put : (part : Part) (old new : List Part) → part.size.w * part.size.h ≤ most_cells → all_small old ≡ true → IsPut part_key name_cmp part old new → all_small new ≡ true
+small-put part old new own small is_put =
+    ap all_small (sym (seconds part_key name_cmp new) ∙ ap (map (λ (e : Name × Part). e.1)) is_put)
+    ∙ small_entries part (entries_of part_key name_cmp old) (small_test (part.size.w * part.size.h) own) (ap all_small (seconds part_key name_cmp old) ∙ small)

@@ -2,3 +2,4 @@ pub mod Failures
 pub mod Rows
 pub mod Sums
 pub mod Memory
+pub mod MemBooks

@@ -6,6 +6,7 @@ use Rattle.cut_measure.specs.Codes.{code_cmp}
 use Rattle.shop_machine.specs.declared.records.Part.{Part}
 use Rattle.shop_machine.specs.declared.records.Column.{Column}
 use Rattle.shop_machine.specs.declared.records.Column.TheVariants.{Received, Stock, Rack, Pieces, Kerf, Scrap}
+use Rattle.shop_machine.specs.declared.records.Totals.{Totals}
 use Rattle.shop_machine.specs.Columns.{is_counted}
 use Rattle.shop_machine.specs.Content.{counts_for, cells_in}
 use Rattle.shop_store.specs.declared.sums.Sums.{Sums}
@@ -49,3 +50,15 @@ most_cells = 12000000000
 -- whether no part has more
 abbrev pub all_small : List Part → Bool
 all_small parts = list_all (λ part. nat_le (part.size.w * part.size.h) most_cells) parts
+
+-- the totals of a material by its sums
+abbrev pub totals_from : List ℕ → List Sums → Totals
+totals_from code rows =
+    record {
+      received = sum_at Received code rows;
+      stock = sum_at Stock code rows;
+      rack = sum_at Rack code rows;
+      pieces = sum_at Pieces code rows;
+      kerf = sum_at Kerf code rows;
+      scrap = sum_at Scrap code rows;
+    }

@@ -1,8 +1,10 @@
-ghost use Rattle.std.specs.Prelude.{◌≡◌, ◌+◌, ◌*◌, ◌<◌, ◌≤◌, ◌^◌, ℕ, List, IsTrue, IfSome, IfNone, vec_len, vec_capacity, slice_index};
+ghost use Rattle.std.specs.Prelude.{◌≡◌, ◌+◌, ◌*◌, ◌<◌, ◌≤◌, ◌^◌, ℕ, List, IsTrue, IfSome, IfNone, IsSome, vec_len, vec_capacity, slice_index};
 ghost use Rattle.cut_measure.specs.Codes.{code_cmp};
 ghost use Rattle.shop_machine.specs.declared.records.Column.{Column as ColumnOf};
 ghost use Rattle.shop_store.specs.Rows.{rise};
-ghost use Rattle.shop_store.specs.Sums.{sum_in, sums_key, sum_at, counted_cells, cells_for};
+ghost use Rattle.std.specs.Option.{ForSome};
+ghost use Rattle.shop_machine.specs.Content.{of_found};
+ghost use Rattle.shop_store.specs.Sums.{totals_from, sum_in, sums_key, sum_at, counted_cells, cells_for};
 
 use crate::rows::{Row, find, put};
 use cut_measure::Code;
@@ -147,19 +149,34 @@ pub fn add_part(rows: &mut Vec<Sums>, part: &Part)
     let _ = put(rows, sums);
 }
 
-/// Takes a part's cells from the sums of its material.
-pub fn take_part(rows: &mut Vec<Sums>, part: &Part)
+// Takes a part's cells from the sums of its material.
+fn take_part(rows: &mut Vec<Sums>, part: &Part)
     requires rising { IsTrue (rise sums_key code_cmp rows.old.items) }
     requires room { vec_len rows.old < vec_capacity rows.old }
     requires held { (column : ColumnOf) → counted_cells column part.now ≤ sum_at column part.now.material rows.old.items }
     ensures takes { (column : ColumnOf) (code : List ℕ) → sum_at column code rows.new.items + cells_for column code part.now ≡ sum_at column code rows.old.items }
     ensures rising { IsTrue (rise sums_key code_cmp rows.new.items) }
-    ensures len { vec_len rows.new ≤ vec_len rows.old + 1 }
+    ensures len { vec_len rows.new ≡ vec_len rows.old }
     ensures capacity { vec_capacity rows.old ≤ vec_capacity rows.new }
 {
     if let Some(sums) = find(rows, part.material) {
         let sums = without_part(sums, part);
         let _ = put(rows, sums);
+    }
+}
+
+/// Takes the cells of a part that was replaced, if there is one.
+pub fn take_replaced(rows: &mut Vec<Sums>, replaced: Option<Part>)
+    requires rising { IsTrue (rise sums_key code_cmp rows.old.items) }
+    requires room { vec_len rows.old < vec_capacity rows.old }
+    requires held { ForSome replaced (λ part. (column : ColumnOf) → counted_cells column part ≤ sum_at column part.material rows.old.items) }
+    ensures takes { (column : ColumnOf) (code : List ℕ) → sum_at column code rows.new.items + of_found (cells_for column code) replaced ≡ sum_at column code rows.old.items }
+    ensures rising { IsTrue (rise sums_key code_cmp rows.new.items) }
+    ensures len { vec_len rows.new ≡ vec_len rows.old }
+    ensures capacity { vec_capacity rows.old ≤ vec_capacity rows.new }
+{
+    if let Some(part) = replaced {
+        take_part(rows, &part);
     }
 }
 
@@ -172,4 +189,21 @@ fn narrow(sum: u128) -> Option<u64>
     } else {
         None
     }
+}
+
+/// The totals of a material, where 64 bits hold each of them.
+pub fn totals_in(rows: &[Sums], material: Code) -> Option<Totals>
+    requires { IsTrue (rise sums_key code_cmp rows.now) }
+    ensures value { IfSome result (λ totals. totals ≡ totals_from material rows.now) }
+    ensures sure { ((column : ColumnOf) → sum_at column material rows.now < 2 ^ 64) → IsSome result }
+{
+    let sums = sums_of(rows, material);
+    Some(Totals {
+        received: narrow(sums.received)?,
+        stock: narrow(sums.stock)?,
+        rack: narrow(sums.rack)?,
+        pieces: narrow(sums.pieces)?,
+        kerf: narrow(sums.kerf)?,
+        scrap: narrow(sums.scrap)?,
+    })
 }
