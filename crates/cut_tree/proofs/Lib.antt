@@ -9,3 +9,5 @@ pub mod Rows
 pub mod Texts
 pub mod Exactly
 pub mod Only
+pub mod StepPlaces
+pub mod BarTrees
