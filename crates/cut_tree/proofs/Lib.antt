@@ -11,3 +11,4 @@ pub mod Exactly
 pub mod Only
 pub mod StepPlaces
 pub mod BarTrees
+pub mod FirstWords
