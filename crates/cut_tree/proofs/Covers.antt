@@ -301,6 +301,7 @@ by_cases Spoiled made spot x y w h n m wp hp nm c =
 
 -- The rows of a tree share its rectangle out.
 pub covers : (t : Tree) (x y w h k : ℕ) (outcome : ℕ → Outcome) (n c : ℕ) → 0 < w → 0 < h → IsShaped t w h k → Shares t x y w h k outcome n c
+unfolding spot_of
 covers (Piece d turned) x y w h k outcome n c wp hp shaped = one x y w h n (owner.Piece d) wp hp
 covers Rest x y w h k outcome n c wp hp shaped = one x y w h n owner.Rest wp hp
 covers (Trim X a first) x y w h k outcome n c wp hp shaped =
