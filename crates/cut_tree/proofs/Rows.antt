@@ -1,16 +1,13 @@
 -- Examples: a sheet of 10 by 8 under a kerf of 1, cut by x4 y3 p1 p2 r.
-use Rattle.std.proofs.Common.{◌≡◌, ℕ, true, false, List, [], ◌∷◌, refl, arith}
+use Rattle.std.proofs.Common.{◌≡◌, true, false, [], ◌∷◌, refl, arith}
 use Rattle.cut_measure.specs.declared.sizes.Axis.TheVariants.{X, Y}
-use Rattle.cut_tree.specs.declared.lay.Owner.{Owner}
 use Rattle.cut_tree.specs.declared.lay.Owner.TheVariants as owner
-use Rattle.cut_tree.specs.declared.lay.Row.{Row}
 use Rattle.cut_tree.specs.Tree.{Tree, Piece, Rest, Trim, Cut, IsShaped}
-use Rattle.cut_tree.specs.Cells.{Spot, spot_of, all_made, made_below}
+use Rattle.cut_tree.specs.Cells.{spot_of, all_made, made_below}
 use Rattle.cut_tree.specs.Counting.{Test, cells_of_unit}
 use Rattle.cut_tree.specs.Stepping.{step_at}
 use Rattle.cut_tree.specs.Bars.{bar_tree, bar_length}
 use Rattle.cut_tree.specs.declared.token.Token.TheVariants as token
-use Rattle.cut_tree.specs.declared.steps.Step.{Step}
 
 sheet : Tree
 sheet = Cut X 4 (Cut Y 3 (Piece 1 false) (Piece 2 false)) Rest

@@ -1,6 +1,5 @@
 -- The owner of one cell of a unit: what it belongs to once the cuts are made.
-use Rattle.std.specs.Prelude.{ℕ, Bool, true, false, ◌≡◌, ◌+◌, ◌-◌, ◌≤◌, ◌<◌, nat_lt, min, if◌then◌else◌}
-use Rattle.cut_measure.specs.declared.sizes.Axis.{Axis}
+use Rattle.std.specs.Prelude.{ℕ, Bool, false, ◌+◌, ◌-◌, nat_lt, if◌then◌else◌}
 use Rattle.cut_measure.specs.declared.sizes.Axis.TheVariants.{X, Y}
 use Rattle.cut_tree.specs.declared.lay.Owner.{Owner}
 use Rattle.cut_tree.specs.declared.lay.Owner.TheVariants as owner
