@@ -13,3 +13,4 @@ pub mod StepPlaces
 pub mod BarTrees
 pub mod FirstWords
 pub mod OneFault
+pub mod ReadBack
