@@ -10,8 +10,11 @@ use Rattle.cut_tree.specs.Tree.{Tree, leaf_sum, count_of, Rest, Piece, Trim, Cut
 use Rattle.cut_measure.specs.declared.sizes.Axis.TheVariants.{X, Y}
 use Rattle.cut_table.specs.Legal.{Legal, of_demand, worth_of, IsWithinCounts, HaveOwnDemands}
 use Rattle.cut_table.specs.Best.{IsBestWithin}
-use Rattle.cut_table.specs.Counts.{AreCounts, total_of, room_of, value_of, AreBestCounts, AreBarWants}
+use Rattle.cut_table.specs.Counts.{AreCounts, total_of, room_of, value_of, AreBestCounts, AreBarWants, AreFlat, HaveLength}
 use Rattle.cut_table.proofs.Trees.{of_demand_found, Contains-head, Contains-tail, weigh, weigh-count}
+
+pub bar_wants : (wants : List Want) → HaveLength wants → AreFlat wants → AreBarWants wants
+bar_wants wants some flat = λ x has. record { some = some x has; flat = (flat x has).flat; upright = (flat x has).upright }
 
 leaf_room : (wants : List Want) (k d : ℕ) (w : ℕ) → HaveOwnDemands wants → (x : Want) → Contains wants x → x.demand ≡ d → x.size.w ≡ w → of_demand (λ x. x.size.w + k) wants d ≡ w + k
 leaf_room wants k d w own x has e side =

@@ -9,7 +9,8 @@ use Rattle.std.proofs.lemmas.Bool.{cases_lt}
 use Rattle.std.proofs.lemmas.Nat.{mul-le}
 use Rattle.std.proofs.Math.Nat.{le_refl}
 use Rattle.cut_table.specs.declared.wants.Want.{Want}
-use Rattle.cut_table.specs.Counts.{AreCounts, room_of, value_of, AreBestCounts, MeansRow, MeansRooms, MeanRows, IsModest, AreModest, IsRaised, IsTaken, IsLow}
+use Rattle.cut_table.proofs.Trees.{Contains-cases}
+use Rattle.cut_table.specs.Counts.{AreCounts, room_of, value_of, AreBestCounts, MeansRow, MeansRooms, MeanRows, IsModest, AreModest, IsRaised, IsTaken, IsLow, HaveLength}
 
 low_sum : (c r size worth v : ℕ) → r * size ≤ c → v ≤ (c - r * size) * 2 ^ 30 → worth ≤ 2 ^ 30 → 1 ≤ size → v + r * worth ≤ c * 2 ^ 30
 low_sum c r size worth v room low small one =
@@ -148,6 +149,16 @@ rooms_none k room best len zeros = (len, λ c cl. ([], record { within = tt; fit
 
 pub modest_at : (xs : List Want) (i : ℕ) (d : Want) → AreModest xs → i < length xs → IsModest (get_or xs i d)
 modest_at xs i d m lt = m (get_or xs i d) (Contains-get_or xs i d lt)
+
+pub length_more : (xs : List Want) (i j : ℕ) (d : Want) → i < length xs → i + 1 ≡ j → 1 ≤ (get_or xs i d).size.w → HaveLength (drop j xs) → HaveLength (drop i xs)
+length_more xs i j d lt next some have =
+    let parts : drop i xs ≡ get_or xs i d ∷ drop j xs = drop_more xs i d lt ∙ ap (λ n. get_or xs i d ∷ drop n xs) next in
+    rw parts (
+      λ x has. elim (Contains-cases (get_or xs i d) (drop j xs) x has) [
+        | inl e ↦ subst (λ (y : Want). 1 ≤ y.size.w) e some
+        | inr h ↦ have x h
+      ]
+    )
 
 pub rows_more : (k room i j : ℕ) (xs : List Want) (d : Want) (base best : List ℕ) (vec : Vec ℕ Global) (rows : List (Vec ℕ Global)) → i < length xs → i + 1 ≡ j
     → MeansRooms k (drop j xs) room base → MeanRows k room (drop j xs) rows

@@ -8,9 +8,7 @@ use Rattle.cut_table.specs.declared.wants.Want.{Want}
 use Rattle.cut_tree.specs.Tree.{Tree, leaf_sum, Rest, Piece, Trim, Cut}
 use Rattle.cut_measure.specs.declared.sizes.Axis.TheVariants.{X, Y}
 use Rattle.cut_table.specs.Legal.{IsPiece, Legal, of_demand, worth_of, HaveOwnDemands}
-use Rattle.cut_table.specs.Table.{IsInRange, AreInRange, AreSmall}
-use Rattle.std.proofs.Common.{get_or}
-use Rattle.std.proofs.lemmas.List.Elements.{Contains-get_or}
+use Rattle.cut_table.specs.Table.{AreWorthy, AreSmall}
 use Rattle.cut_table.specs.Best.{IsBestOf}
 use Rattle.cut_table.specs.Rounded.{steps_down, want_down, wants_down, IsStep}
 use Rattle.cut_table.proofs.Trees.{Contains-cases, Contains-head, Contains-tail}
@@ -171,12 +169,9 @@ down_own k s [] own = tt
 down_own k s (x ∷ xs) own =
     (λ y h e. let r = down_from k s xs y h in own.0 r.0 r.1 (ap (λ (z : Want). z.demand) r.2 ∙ e), down_own k s xs own.1)
 
-pub down_small : (k s : ℕ) (xs : List Want) → IsStep k s xs → AreInRange xs → AreSmall (wants_down k s xs)
+pub down_small : (k s : ℕ) (xs : List Want) → IsStep k s xs → AreWorthy xs → AreSmall (wants_down k s xs)
 down_small k s xs st range = λ y h.
     let r = down_from k s xs y h in
     let a = some_steps k s r.0.size.w st.some (st.within r.0 r.1).0 in
     let b = some_steps k s r.0.size.h st.some (st.within r.0 r.1).1 in
-    (omega (arith, a, ap (λ (z : Want). z.size.w) r.2), omega (arith, b, ap (λ (z : Want). z.size.h) r.2), omega (arith, (range r.0 r.1).worth, ap (λ (z : Want). z.worth) r.2))
-
-pub in_range_at : (xs : List Want) (i : ℕ) (d : Want) → AreInRange xs → i < length xs → IsInRange (get_or xs i d)
-in_range_at xs i d r lt = r (get_or xs i d) (Contains-get_or xs i d lt)
+    (omega (arith, a, ap (λ (z : Want). z.size.w) r.2), omega (arith, b, ap (λ (z : Want). z.size.h) r.2), omega (arith, range r.0 r.1, ap (λ (z : Want). z.worth) r.2))

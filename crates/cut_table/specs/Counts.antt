@@ -71,17 +71,26 @@ MeanRows k room [] (row ∷ rows) = ⊥
 MeanRows k room (x ∷ xs) [] = ⊥
 MeanRows k room (x ∷ xs) (row ∷ rows) = MeansRow k x xs room row.items × MeanRows k room xs rows
 
--- a size and a worth in the bounds of a bar's table
+-- a worth and a number in the bounds of a bar's table
 pub record IsModest (x : Want) : Type 0 where
-  pub some : 1 ≤ x.size.w
-  pub short : x.size.w ≤ 2 ^ 19
   pub worth : x.worth ≤ 2 ^ 30
   pub left : x.left ≤ 2 ^ 20
 
 abbrev pub AreModest : List Want → Type 0
 AreModest wants = (x : Want) → Contains wants x → IsModest x
 
--- a piece of a bar: flat, not turned, with some length
+-- each has some length
+abbrev pub HaveLength : List Want → Type 0
+HaveLength wants = (x : Want) → Contains wants x → 1 ≤ x.size.w
+
+-- a piece of a bar: flat, and not to be turned
+pub record IsFlat (x : Want) : Type 0 where
+  pub flat : x.size.h ≡ 1
+  pub upright : x.may_turn ≡ false
+
+abbrev pub AreFlat : List Want → Type 0
+AreFlat wants = (x : Want) → Contains wants x → IsFlat x
+
 pub record IsBarWant (x : Want) : Type 0 where
   pub some : 1 ≤ x.size.w
   pub flat : x.size.h ≡ 1

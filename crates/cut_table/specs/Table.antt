@@ -104,11 +104,10 @@ pub record CountsLeaves (wants : List Want) (w h : ℕ) (old new : List ℕ) : T
   pub best : IsBestOf wants 0 w h (worth_of wants tree)
   pub counts : (i : ℕ) (x : Want) → slice_get wants i ≡ Some x → slice_index new i ≡ slice_index old i + count_of tree x.demand
 
--- sides and a worth in the ranges of a sheet
-pub record IsInRange (x : Want) : Type 0 where
-  pub w : (1 ≤ x.size.w) × (x.size.w ≤ 200000)
-  pub h : (1 ≤ x.size.h) × (x.size.h ≤ 200000)
-  pub worth : x.worth ≤ 2 ^ 30
+-- a worth in the range of a sheet's table
+abbrev pub AreWorthy : List Want → Type 0
+AreWorthy wants = (x : Want) → Contains wants x → x.worth ≤ 2 ^ 30
 
-abbrev pub AreInRange : List Want → Type 0
-AreInRange wants = (x : Want) → Contains wants x → IsInRange x
+-- each side is at least 1
+abbrev pub HaveSides : List Want → Type 0
+HaveSides wants = (x : Want) → Contains wants x → (1 ≤ x.size.w) × (1 ≤ x.size.h)

@@ -1,6 +1,6 @@
 // The best counts of pieces for a bar, by a table over every room.
 ghost use Rattle.std.specs.Prelude.{◌≡◌, ℕ, ◌+◌, ◌-◌, ◌*◌, ◌/◌, ◌^◌, ◌<◌, ◌≤◌, ◌≢◌, length, slice_index, IfOk, vec_len, All, drop, [], Contains};
-ghost use Rattle.cut_table.specs.Counts.{IsRaised, IsTaken, IsLow, AreBestCounts, MeansRooms, MeanRows, IsModest, AreModest, AreBarWants, value_of};
+ghost use Rattle.cut_table.specs.Counts.{IsRaised, IsTaken, IsLow, AreBestCounts, MeansRooms, MeanRows, IsModest, AreModest, AreFlat, HaveLength, value_of};
 ghost use Rattle.cut_table.specs.Best.{IsBestWithin};
 ghost use Rattle.cut_table.specs.Legal.{HaveOwnDemands};
 
@@ -61,17 +61,13 @@ fn want_row(
     requires kerf { kerf ≤ 200 }
     requires room { length best.old ≤ 2 ^ 20 }
     requires low { IsLow best.old }
+    ensures some { 1 ≤ want.now.size.w }
     ensures len { IfOk result (λ row. length row.items ≡ length best.old) }
     ensures taken { IfOk result (λ row. IsTaken (want.now.size.w + kerf) want.now.worth want.now.left best.old best.new row.items) }
 {
+    let size = want.size.w() as usize + kerf;
     let mut row = vec![in alloc; 0u32; best.len()]?;
-    take_want(
-        best,
-        &mut row,
-        want.size.w() as usize + kerf,
-        want.worth,
-        want.left,
-    );
+    take_want(best, &mut row, size, want.worth, want.left);
     Ok(row)
 }
 
@@ -87,7 +83,8 @@ fn count_rows(
     requires room { length best.old ≤ 2 ^ 20 }
     requires kerf { kerf ≤ 200 }
     requires modest { AreModest wants.now }
-    ensures { IfOk result (λ rows. MeanRows kerf (length best.old - 1) wants.now rows.items) }
+    ensures some { IfOk result (λ _. HaveLength wants.now) }
+    ensures rows { IfOk result (λ rows. MeanRows kerf (length best.old - 1) wants.now rows.items) }
 {
     let mut rows = Vec::new(alloc);
     for i in (0..wants.len()).rev() {
@@ -128,10 +125,11 @@ pub fn best_counts(
     kerf: u32,
 ) -> Result<Vec<u32>, AllocError>
     requires own { HaveOwnDemands wants.now }
-    requires bar { AreBarWants wants.now }
+    requires bar { AreFlat wants.now }
     requires modest { AreModest wants.now }
     requires size { size ≤ 150000 }
     requires kerf { kerf ≤ 200 }
+    ensures some { IfOk result (λ _. HaveLength wants.now) }
     ensures counts { IfOk result (λ counts. AreBestCounts kerf wants.now (size + kerf) counts.items) }
     ensures best { IfOk result (λ counts. IsBestWithin wants.now kerf size 1 (value_of wants.now counts.items)) }
 {

@@ -6,14 +6,14 @@ ghost use Rattle.cut_table.specs.Legal.{HaveOwnDemands, Legal, IsWithinCounts, w
 ghost use Rattle.cut_table.specs.Best.{IsBestOf};
 ghost use Rattle.cut_table.specs.Rounded.{want_down, wants_down, steps_down, IsStep};
 ghost use Rattle.cut_table.specs.Bound.{Meets, worth_left, div_up};
-ghost use Rattle.cut_table.specs.Table.{AreInRange, IsInRange, AreSmall};
+ghost use Rattle.cut_table.specs.Table.{AreWorthy};
 
 use crate::sheet::best_table;
 use crate::wants::{Scaled, Want};
+use cut_measure::Size;
 use std::alloc::{AllocError, Global};
 
 fn down(want: &Want, kerf: u32, step: u32) -> Scaled
-    requires range { IsInRange want.now }
     requires kerf { kerf ≤ 200 }
     requires step { 1 ≤ step }
     ensures { result ≡ want_down kerf step want.now }
@@ -29,7 +29,6 @@ fn down(want: &Want, kerf: u32, step: u32) -> Scaled
 }
 
 fn all_down(alloc: Global, wants: &[Want], kerf: u32, step: u32) -> Result<Vec<Scaled>, AllocError>
-    requires range { AreInRange wants.now }
     requires kerf { kerf ≤ 200 }
     requires step { 1 ≤ step }
     ensures { IfOk result (λ down. down.items ≡ wants_down kerf step wants.now) }
@@ -46,25 +45,22 @@ fn all_down(alloc: Global, wants: &[Want], kerf: u32, step: u32) -> Result<Vec<S
 pub fn ceiling(
     alloc: Global,
     wants: &[Want],
-    w: u32,
-    h: u32,
+    size: Size,
     kerf: u32,
     step: u32,
 ) -> Result<u64, AllocError>
     requires own { HaveOwnDemands wants.now }
-    requires range { AreInRange wants.now }
+    requires worthy { AreWorthy wants.now }
     requires kerf { kerf ≤ 200 }
     requires step { IsStep kerf step wants.now }
-    requires w { w ≤ 200000 }
-    requires h { h ≤ 200000 }
-    requires wide { steps_down kerf step w ≤ 500 }
-    requires tall { steps_down kerf step h ≤ 500 }
-    ensures best { IfOk result (IsBestOf (wants_down kerf step wants.now) 0 (steps_down kerf step w) (steps_down kerf step h)) }
-    ensures most { IfOk result (λ best. (t : Tree) → Legal wants.now kerf t w h → worth_of wants.now t ≤ best) }
+    requires wide { steps_down kerf step size.w ≤ 500 }
+    requires tall { steps_down kerf step size.h ≤ 500 }
+    ensures best { IfOk result (IsBestOf (wants_down kerf step wants.now) 0 (steps_down kerf step size.w) (steps_down kerf step size.h)) }
+    ensures most { IfOk result (λ best. (t : Tree) → Legal wants.now kerf t size.w size.h → worth_of wants.now t ≤ best) }
 {
     let rounded = all_down(alloc, wants, kerf, step)?;
-    let across = ((w + kerf) / step) as usize;
-    let down = ((h + kerf) / step) as usize;
+    let across = ((size.w() + kerf) / step) as usize;
+    let down = ((size.h() + kerf) / step) as usize;
     let rows = best_table(alloc, &rounded, across, down)?;
     let best = rows[down][across];
     Ok(best)
