@@ -139,3 +139,16 @@ pub fn best_counts(
     let counts = read_counts(alloc, wants, &rows, kerf as usize, room)?;
     Ok(counts)
 }
+
+/// What the pieces of these counts are worth.
+pub fn counted_worth(wants: &[Want], counts: &[u32]) -> u64
+    requires len { length counts.now ≡ length wants.now }
+    requires small { value_of wants.now counts.now < 2 ^ 64 }
+    ensures { result ≡ value_of wants.now counts.now }
+{
+    let mut worth = 0u64;
+    for i in 0..wants.len() {
+        worth += wants[i].worth as u64 * counts[i] as u64;
+    }
+    worth
+}

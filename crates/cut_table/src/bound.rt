@@ -57,6 +57,7 @@ pub fn ceiling(
     requires tall { steps_down kerf step size.h ≤ 500 }
     ensures best { IfOk result (IsBestOf (wants_down kerf step wants.now) 0 (steps_down kerf step size.w) (steps_down kerf step size.h)) }
     ensures most { IfOk result (λ best. (t : Tree) → Legal wants.now kerf t size.w size.h → worth_of wants.now t ≤ best) }
+    ensures small { IfOk result (λ best. best < 2 ^ 62) }
 {
     let rounded = all_down(alloc, wants, kerf, step)?;
     let across = ((size.w() + kerf) / step) as usize;

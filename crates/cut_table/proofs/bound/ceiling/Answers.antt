@@ -1,8 +1,8 @@
 use Rattle.std.proofs.Common.{ℕ, ◌+◌, ◌/◌, ◌<◌, length, sym, arith}
-use Rattle.cut_table.specs.Rounded.{wants_down}
+use Rattle.cut_table.specs.Rounded.{wants_down, steps_down}
 use Rattle.cut_table.specs.Table.{IsTable}
 use Rattle.cut_table.proofs.Passage.{down_own, down_small, ceiling_holds}
-use Rattle.cut_table.proofs.Reaching.{read_best, row_len}
+use Rattle.cut_table.proofs.Reaching.{value_small, read_best, row_len}
 use Rattle.cut_table.proofs.bound.ceiling.Goals as goal
 
 pub best_table-requires-clause-own : goal.best_table-requires-clause-own
@@ -23,3 +23,11 @@ returns-clause-best c =
 
 pub returns-clause-most : goal.returns-clause-most
 returns-clause-most c = ceiling_holds c.args.wants.now c.args.kerf c.args.step c.args.size.w c.args.size.h c.index-best.result.now c.requires.step (returns-clause-best c)
+
+pub returns-clause-small : goal.returns-clause-small
+returns-clause-small c =
+    omega (
+      arith,
+      value_small (wants_down c.args.kerf c.args.step c.args.wants.now) (steps_down c.args.kerf c.args.step c.args.size.w) (steps_down c.args.kerf c.args.step c.args.size.h) c.index-best.result.now
+      (down_own _ _ _ c.requires.own) (down_small _ _ _ c.requires.step c.requires.worthy) c.requires.wide c.requires.tall (returns-clause-best c),
+    )
