@@ -6,7 +6,7 @@ use std::alloc::AllocError;
 use std::cmp::Ordering;
 use std::marker::Model;
 
-/// A code: 1 to 16 characters of `A-Z0-9-`.
+/// The code of a material, a batch or an order: 1 to 16 characters of `A-Z0-9-`.
 #[derive(Clone, Copy, Debug)]
 pub struct Code {
     text: [u8; 16],
@@ -95,7 +95,7 @@ impl Code {
         self.text[..self.len].cmp(&other.text[..other.len])
     }
 
-    /// Appends its text.
+    /// Appends its text, or leaves the string as it was.
     pub fn write(&self, text: &mut String) -> Result<(), AllocError>
         ensures ok { OnOk result (string_bytes text.new ≡ string_bytes text.old ++ self.now) }
         ensures err { OnErr result (string_bytes text.new ≡ string_bytes text.old) }

@@ -4,7 +4,7 @@ ghost use Rattle.cut_measure.specs.Measures.{rule_of, is_kept};
 use crate::sizes::{Kind, Size};
 use std::marker::Model;
 
-/// How wide the saw cuts a material, and from which sides on a rest is kept.
+/// How wide the saw cuts a material, and from which sides on a rest is kept, all in tenths of a millimetre.
 #[derive(Clone, Copy, Debug, PartialEq, Eq)]
 pub struct Limits {
     kerf: u32,
@@ -26,6 +26,8 @@ impl Model for Limits {
 }
 
 impl Limits {
+    /// These limits, where a material of the kind may have them: a kerf of at most 200, a longer side of at most
+    /// 200000, and a shorter side of at least 1 and at most the longer one, which for a bar is 1.
     pub fn new(kind: Kind, kerf: u32, min_long: u32, min_short: u32) -> Option<Limits>
         ensures { result ≡ rule_of kind kerf min_long min_short }
     {
@@ -44,25 +46,28 @@ impl Limits {
         }
     }
 
+    /// How wide the saw cuts: 0 to 200.
     pub fn kerf(&self) -> u32
         ensures { result ≡ self.now.kerf }
     {
         self.kerf
     }
 
+    /// The least longer side of a rest that is kept.
     pub fn min_long(&self) -> u32
         ensures { result ≡ self.now.min_long }
     {
         self.min_long
     }
 
+    /// The least shorter side of a rest that is kept.
     pub fn min_short(&self) -> u32
         ensures { result ≡ self.now.min_short }
     {
         self.min_short
     }
 
-    /// Whether a rest of this size is a remnant.
+    /// Whether a rest of this size is a remnant: its sides, turned as fits, are at least the limits'.
     pub fn keeps(&self, size: Size) -> bool
         ensures { result ≡ is_kept self.now size }
     {

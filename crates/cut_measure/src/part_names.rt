@@ -1,7 +1,9 @@
+use crate::numbers::read_number;
+use std::alloc::AllocError;
 use std::cmp::Ordering;
 use std::marker::Model;
 
-/// What a part is called: the number of the act that made it, and its node in that act.
+/// What a part is called: the number of the act that made it, 1 to 2147483647, and its node in that act.
 #[derive(Clone, Copy, Debug, PartialEq, Eq)]
 pub struct PartName {
     act: u32,
@@ -22,9 +24,10 @@ impl Model for PartName {
 }
 
 impl PartName {
-    ghost use Rattle.std.specs.Prelude.{◌≡◌, ◌≤◌};
-    ghost use Rattle.cut_measure.specs.Names.{name_cmp};
+    ghost use Rattle.std.specs.Prelude.{◌≡◌, ◌≤◌, ◌++◌, OnOk, OnErr, string_bytes};
+    ghost use Rattle.cut_measure.specs.Names.{name_cmp, name_text, IsNameOf};
 
+    /// The name of a node of an act.
     pub fn new(act: u32, node: u32) -> PartName
         requires least { 1 ≤ act }
         requires most { act ≤ 2147483647 }
@@ -33,6 +36,30 @@ impl PartName {
         PartName { act, node }
     }
 
+    /// The part that a text names: its act and its node in decimal digits without leading zeros, joined by a slash.
+    pub fn read(text: &str) -> Option<PartName>
+        ensures { IsNameOf result text.now }
+    {
+        let (act, node) = text.split_once('/')?;
+        let act = read_number(act.as_bytes())?;
+        let node = read_number(node.as_bytes())?;
+        if act < 1 || act > 2147483647 {
+            return None;
+        }
+        Some(PartName { act, node })
+    }
+
+    /// Appends its text, or leaves the string as it was.
+    pub fn write(&self, text: &mut String) -> Result<(), AllocError>
+        ensures ok { OnOk result (string_bytes text.new ≡ string_bytes text.old ++ name_text self.now) }
+        ensures err { OnErr result (string_bytes text.new ≡ string_bytes text.old) }
+    {
+        let alloc = *text.allocator();
+        let name = format!(in alloc; "{}/{}", self.act, self.node)?;
+        text.push_str(name.as_str())
+    }
+
+    /// The number of the act that made it.
     pub fn act(&self) -> u32
         ensures value { result ≡ self.now.act }
         ensures least { 1 ≤ result }
@@ -48,6 +75,7 @@ impl PartName {
         self.act.cmp(&other.act).then(self.node.cmp(&other.node))
     }
 
+    /// Its node in that act.
     pub fn node(&self) -> u32
         ensures { result ≡ self.now.node }
     {

@@ -6,18 +6,22 @@ use std::marker::Model;
 /// What a material comes as.
 #[derive(Clone, Copy, Debug, PartialEq, Eq)]
 pub enum Kind {
+    /// One cell high: only its length is cut.
     Bar,
+    /// Glass, boards and the like, cut along both sides.
     Sheet,
 }
 
 /// The direction along which a cut divides: `X` parts columns, `Y` parts rows.
 #[derive(Clone, Copy, Debug, PartialEq, Eq)]
 pub enum Axis {
+    /// Along the width.
     X,
+    /// Along the height.
     Y,
 }
 
-/// The sides of a unit or a part, in tenths of a millimetre.
+/// The sides of a unit or a part, in tenths of a millimetre: a width of 1 to 200000 and a height of 1 to 60000.
 #[derive(Clone, Copy, Debug, PartialEq, Eq)]
 pub struct Size {
     w: u32,
@@ -38,7 +42,8 @@ impl Model for Size {
 }
 
 impl Size {
-    /// The size of these sides, where a unit of the kind may have them.
+    /// The size of these sides in tenths of a millimetre, where a unit of the kind may have them: a width of
+    /// 1 to 200000, and a height of 1 to 60000, which for a bar is 1.
     pub fn new(kind: Kind, w: u32, h: u32) -> Option<Size>
         ensures { result ≡ size_of kind w h }
     {
@@ -53,6 +58,7 @@ impl Size {
         }
     }
 
+    /// The width in tenths of a millimetre.
     pub fn w(&self) -> u32
         ensures value { result ≡ self.now.w }
         ensures least { 1 ≤ result }
@@ -61,6 +67,7 @@ impl Size {
         self.w
     }
 
+    /// The height in tenths of a millimetre.
     pub fn h(&self) -> u32
         ensures value { result ≡ self.now.h }
         ensures least { 1 ≤ result }
@@ -69,7 +76,7 @@ impl Size {
         self.h
     }
 
-    /// How many cells it has.
+    /// How many cells it has: a cell is a tenth of a millimetre on each side.
     pub fn cells(&self) -> u64
         ensures value { result ≡ self.now.w * self.now.h }
         ensures counted { result ≡ length (cells_of self.now) }

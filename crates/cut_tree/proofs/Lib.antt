@@ -1,0 +1,11 @@
+pub mod Covers
+pub mod Counts
+pub mod Fronts
+pub mod Reading
+pub mod Whole
+pub mod Pieces
+pub mod Counting
+pub mod Rows
+pub mod Texts
+pub mod Exactly
+pub mod Only

@@ -1,0 +1,67 @@
+ghost use Rattle.std.specs.Prelude.{◌≡◌, ◌≤◌, ◌<◌, ◌^◌, ℕ, MatchOption, ◌∷◌, ◌++◌};
+ghost use Rattle.std.specs.Fmt.{decimal};
+
+use cut_measure::{Axis, read_number};
+
+/// A node of a tree as its text has it.
+#[derive(Clone, Copy, PartialEq, Eq, Debug)]
+pub enum Token {
+    Cut(Axis, u32),
+    Piece(u32, bool),
+    Rest,
+}
+
+/// Why a text is no tree's.
+#[derive(Clone, Copy, PartialEq, Eq, Debug)]
+pub enum Cause {
+    BadToken,
+    TooManyCuts,
+    OffUnit,
+    Missing,
+    Extra,
+    NoMemory,
+}
+
+/// The number of at least 1 that the digits are, without leading zeros.
+pub fn number(digits: &[u8]) -> Option<u32>
+    ensures { MatchOption result
+        ((n : ℕ) → 1 ≤ n → n < 2 ^ 32 → decimal n ≡ digits.now → ⊥)
+        (λ n. (1 ≤ n) × (decimal n ≡ digits.now)) }
+{
+    let n = read_number(digits)?;
+    if n == 0 {
+        return None;
+    }
+    Some(n)
+}
+
+/// The sides of a rectangle.
+#[derive(Clone, Copy, PartialEq, Eq, Debug)]
+pub struct Sides {
+    pub w: u32,
+    pub h: u32,
+}
+
+impl Sides {
+    ghost use Rattle.cut_tree.specs.Sides.{side_along, part_of};
+
+    /// The side that a cut along an axis divides.
+    pub fn along(self, axis: Axis) -> u32
+        ensures { result ≡ side_along self axis }
+    {
+        match axis {
+            Axis::X => self.w,
+            Axis::Y => self.h,
+        }
+    }
+
+    /// The sides of a part of this length.
+    pub fn part(self, axis: Axis, length: u32) -> Sides
+        ensures { result ≡ part_of self axis length }
+    {
+        match axis {
+            Axis::X => Sides { w: length, ..self },
+            Axis::Y => Sides { h: length, ..self },
+        }
+    }
+}
