@@ -117,7 +117,7 @@ all_best wants places rows w h table wp hl v u vw uh =
     let d = some_of rows (omega arith) in
     (get_or (get_or rows u d).items v 0, (table u d (omega arith)).best v (omega arith))
 
-contains_get : (xs : List Want) (i : ℕ) (x : Want) → slice_get xs i ≡ Some x → Contains xs x
+pub contains_get : (xs : List Want) (i : ℕ) (x : Want) → slice_get xs i ≡ Some x → Contains xs x
 contains_get [] i x h = absurd (cc)
 contains_get (z ∷ zs) zero x h = let e : z ≡ x = cc in (0, omega arith, e)
 contains_get (z ∷ zs) (suc i) x h = Contains-tail z zs x (contains_get zs i x h)
@@ -128,7 +128,7 @@ in_get (z ∷ zs) zero x h = omega arith
 in_get (z ∷ zs) (suc i) x h = omega (arith, in_get zs i x h)
 
 -- the same demand stands at one place only
-own_at : (xs : List Want) (i j : ℕ) (x y : Want) → HaveOwnDemands xs → slice_get xs i ≡ Some x → slice_get xs j ≡ Some y → x.demand ≡ y.demand → i ≡ j
+pub own_at : (xs : List Want) (i j : ℕ) (x y : Want) → HaveOwnDemands xs → slice_get xs i ≡ Some x → slice_get xs j ≡ Some y → x.demand ≡ y.demand → i ≡ j
 own_at [] i j x y own hi hj same = absurd (cc)
 own_at (z ∷ zs) zero zero x y own hi hj same = refl
 own_at (z ∷ zs) zero (suc j) x y own hi hj same =
@@ -139,7 +139,7 @@ own_at (z ∷ zs) (suc i) zero x y own hi hj same =
     absurd (own.0 x (contains_get zs i x hi) (same ∙ ap (λ (v : Want). v.demand) (sym e)))
 own_at (z ∷ zs) (suc i) (suc j) x y own hi hj same = ap (λ n. suc n) (own_at zs i j x y own.1 hi hj same)
 
-counts_one : (wants : List Want) (i : ℕ) (x : Want) (old : List ℕ) → HaveOwnDemands wants → length old ≡ length wants → slice_get wants i ≡ Some x
+pub counts_one : (wants : List Want) (i : ℕ) (x : Want) (old : List ℕ) → HaveOwnDemands wants → length old ≡ length wants → slice_get wants i ≡ Some x
     → (j : ℕ) (y : Want) → slice_get wants j ≡ Some y → get_or (slice_set old i (get_or old i 0 + 1)) j 0 ≡ get_or old j 0 + cond (eqb x.demand y.demand) 1 0
 counts_one wants i x old own len hi j y hj =
     let lt : i < length old = omega (arith, in_get wants i x hi) in

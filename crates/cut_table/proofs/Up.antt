@@ -11,7 +11,7 @@ use Rattle.cut_table.specs.Legal.{IsPiece, Legal, leaves_of}
 use Rattle.cut_table.specs.Rounded.{steps_up, want_up, wants_up}
 use Rattle.cut_table.proofs.Trees.{Contains-cases, Contains-head, Contains-tail}
 
-up_from : (k s : ℕ) (xs : List Want) (y : Want) → Contains (wants_up k s xs) y → (x : Want) × Contains xs x × (want_up k s x ≡ y)
+pub up_from : (k s : ℕ) (xs : List Want) (y : Want) → Contains (wants_up k s xs) y → (x : Want) × Contains xs x × (want_up k s x ≡ y)
 up_from k s [] y has = absurd (omega (arith, has.1))
 up_from k s (x ∷ xs) y has =
     elim (Contains-cases (want_up k s x) (wants_up k s xs) y has) [
@@ -19,11 +19,11 @@ up_from k s (x ∷ xs) y has =
       | inr h ↦ let r = up_from k s xs y h in (r.0, Contains-tail x xs r.0 r.1, r.2)
     ]
 
-up_holds : (k s l : ℕ) → 1 ≤ s → l + k ≤ steps_up k s l * s
+pub up_holds : (k s l : ℕ) → 1 ≤ s → l + k ≤ steps_up k s l * s
 up_holds k s l pos = let h : l + k + (s - 1) < (l + k + (s - 1)) / s * s + s = lt-div-mul-add pos in omega arith
 
 -- the side of a piece that was rounded up fits where its steps fit
-side_fits : (k s l p w : ℕ) → 1 ≤ s → steps_up k s l ≡ p → p * s ≤ w + k → l ≤ w
+pub side_fits : (k s l p w : ℕ) → 1 ≤ s → steps_up k s l ≡ p → p * s ≤ w + k → l ≤ w
 side_fits k s l p w pos e le = omega (arith, up_holds k s l pos, ap (λ n. n * s) e)
 
 none_sum : (f : ℕ → ℕ) (t : Tree) → leaves_of t ≡ 0 → leaf_sum f t ≡ 0

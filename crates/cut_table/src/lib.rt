@@ -3,6 +3,7 @@
 
 pub mod bar;
 pub mod bound;
+pub mod keep;
 pub mod reach;
 pub mod read;
 pub mod sheet;

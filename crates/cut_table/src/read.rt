@@ -3,7 +3,7 @@ ghost use Rattle.std.specs.Prelude.{◌≡◌, ℕ, ◌+◌, ◌-◌, ◌*◌, �
 ghost use Rattle.cut_table.specs.declared.wants.Want.{Want};
 ghost use Rattle.cut_table.specs.Best.{IsBestOf};
 ghost use Rattle.cut_table.specs.Legal.{HaveOwnDemands, HasSides};
-ghost use Rattle.cut_table.specs.Table.{IsTable, AreSmall, IsCutX, IsCutY, IsPieceAt, Explains, CountsLeaves};
+ghost use Rattle.cut_table.specs.Table.{IsTable, AreSmall, IsCutX, IsCutY, IsPieceAt, Explains};
 
 use crate::wants::Scaled;
 
@@ -17,7 +17,7 @@ pub enum Choice {
 }
 
 /// The best worth of a rectangle.
-fn worth_at(wants: &[Scaled], rows: &[Vec<u64>], places: usize, w: usize, h: usize) -> u64
+pub fn worth_at(wants: &[Scaled], rows: &[Vec<u64>], places: usize, w: usize, h: usize) -> u64
     requires table { IsTable wants.now places rows.now }
     requires w { w < places }
     requires h { h < length rows.now }
@@ -110,7 +110,7 @@ fn find_piece(wants: &[Scaled], w: usize, h: usize, best: u64) -> Option<(usize,
 }
 
 /// How the best worth of a rectangle is reached.
-fn choose(
+pub fn choose(
     wants: &[Scaled],
     rows: &[Vec<u64>],
     places: usize,
@@ -137,41 +137,5 @@ fn choose(
                 None => Choice::Waste,
             },
         },
-    }
-}
-
-/// Counts the leaves of a best tree of a rectangle, by want.
-fn add_leaves(
-    wants: &[Scaled],
-    rows: &[Vec<u64>],
-    places: usize,
-    w: usize,
-    h: usize,
-    counts: &mut [u32],
-)
-    requires own { HaveOwnDemands wants.now }
-    requires small { AreSmall wants.now }
-    requires places { places ≤ 501 }
-    requires heights { length rows.now ≤ 501 }
-    requires table { IsTable wants.now places rows.now }
-    requires w { w < places }
-    requires h { h < length rows.now }
-    requires len { length counts.old ≡ length wants.now }
-    requires fits { (i : ℕ) → i < length counts.old → slice_index counts.old i + w * h < 2 ^ 32 }
-    ensures leaves { CountsLeaves wants.now w h counts.old counts.new }
-    ensures grown { (i : ℕ) → i < length counts.old → slice_index counts.new i ≤ slice_index counts.old i + w * h }
-{
-    let best = worth_at(wants, rows, places, w, h);
-    match choose(wants, rows, places, w, h, best) {
-        Choice::Waste => {}
-        Choice::Whole(i, _) => counts[i] += 1,
-        Choice::CutX(a) => {
-            add_leaves(wants, rows, places, a, h, counts);
-            add_leaves(wants, rows, places, w - a, h, counts);
-        }
-        Choice::CutY(a) => {
-            add_leaves(wants, rows, places, w, a, counts);
-            add_leaves(wants, rows, places, w, h - a, counts);
-        }
     }
 }

@@ -3,6 +3,8 @@ ghost use Rattle.cut_tree.specs.Tree.{Tree, cut_count};
 ghost use Rattle.cut_tree.specs.declared.token.Cause.TheVariants.{NoMemory};
 ghost use Rattle.cut_tree.specs.Spelling.{text_of, IsSpelling, IsFirstFault};
 ghost use Rattle.cut_tree.specs.Laying.{IsLaid};
+ghost use Rattle.cut_tree.specs.Nodes.{tree_of};
+ghost use Rattle.cut_tree.specs.Patterns.{IsPlan};
 ghost use Rattle.cut_tree.specs.Stops.{outcome_of, IsStopOf};
 
 use crate::lay::{Rect, Row, Saw, Stop, lay_node};
@@ -37,6 +39,14 @@ impl Model for Plan {
 }
 
 impl Plan {
+    /// The plan of these nodes on a unit of this size, under this kerf.
+    pub fn of(root: Node, size: Size, kerf: u32) -> Plan
+        requires { IsPlan (record { tree = tree_of root; w = size.w; h = size.h; kerf = kerf }) }
+        ensures { result ≡ record { tree = tree_of root; w = size.w; h = size.h; kerf = kerf } }
+    {
+        Plan { root, size, kerf }
+    }
+
     /// The plan that a text spells on a unit of this size, under this kerf; else the text's first fault.
     pub fn read(alloc: Global, text: &str, size: Size, kerf: u32) -> Result<Plan, SpellFault>
         requires { kerf ≤ 200 }
