@@ -9,3 +9,6 @@ pub mod Rows
 pub mod Texts
 pub mod Exactly
 pub mod Only
+pub mod StepPlaces
+pub mod BarTrees
+pub mod FirstWords

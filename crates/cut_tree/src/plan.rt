@@ -1,15 +1,19 @@
-ghost use Rattle.std.specs.Prelude.{◌≡◌, ◌≤◌, ◌<◌, ◌++◌, IfOk, IfErr, MatchResult, is_ok, if◌then◌else◌, string_bytes};
-ghost use Rattle.cut_tree.specs.Tree.{Tree, cut_count};
+ghost use Rattle.std.specs.Prelude.{ℕ, ◌↔◌, IsTrue, All, sum_by, OnOk, ◌≡◌, ◌≤◌, ◌<◌, ◌++◌, IfOk, IfErr, MatchResult, is_ok, if◌then◌else◌, string_bytes};
+ghost use Rattle.cut_tree.specs.Tree.{Tree, cut_count, count_of, leaf_sum};
 ghost use Rattle.cut_tree.specs.declared.token.Cause.TheVariants.{NoMemory};
 ghost use Rattle.cut_tree.specs.Spelling.{text_of, IsSpelling, IsFirstFault};
 ghost use Rattle.cut_tree.specs.Laying.{IsLaid};
 ghost use Rattle.cut_tree.specs.Nodes.{tree_of};
 ghost use Rattle.cut_tree.specs.Patterns.{IsPlan};
+ghost use Rattle.cut_tree.specs.Stepping.{AreSteps};
+ghost use Rattle.cut_tree.specs.Bars.{IsBarPiece, bar_length, bar_tree, IsBarFault};
 ghost use Rattle.cut_tree.specs.Stops.{outcome_of, IsStopOf};
 
+use crate::bars::{BarFault, bar_root};
 use crate::lay::{Rect, Row, Saw, Stop, lay_node};
-use crate::node::{Node, count_cuts};
+use crate::node::{Node, copy_node, count_cuts, count_pieces, is_same};
 use crate::read::{SpellFault, behind, read_node, words_of};
+use crate::steps::{Step, step_node};
 use crate::token::{Cause, Sides};
 use crate::write::write_node;
 use cut_measure::Size;
@@ -99,8 +103,50 @@ impl Plan {
     pub fn cuts(&self) -> u32
         ensures count { result ≡ cut_count self.now.tree }
         ensures few { result ≤ 255 }
+        ensures kept { IsPlan self.now }
     {
         count_cuts(&self.root)
+    }
+
+    /// How many pieces of a demand the plan has.
+    pub fn count(&self, demand: u32) -> u32
+        ensures { result ≡ count_of self.now.tree demand }
+    {
+        count_pieces(&self.root, demand)
+    }
+
+    /// The same plan in memory of its own.
+    pub fn copy(&self, alloc: Global) -> Result<Plan, AllocError>
+        ensures { IfOk result (λ copy. copy ≡ self.now) }
+    {
+        let root = copy_node(alloc, &self.root)?;
+        Ok(Plan {
+            root,
+            size: self.size,
+            kerf: self.kerf,
+        })
+    }
+
+    /// Whether two plans are the same: tree, size and kerf.
+    pub fn is(&self, other: &Plan) -> bool
+        ensures { IsTrue result ↔ (self.now ≡ other.now) }
+    {
+        self.size == other.size && self.kerf == other.kerf && is_same(&self.root, &other.root)
+    }
+
+    /// One step for each node in the order of the nodes, with its whole rectangle.
+    pub fn steps(&self, alloc: Global) -> Result<Vec<Step>, AllocError>
+        ensures { IfOk result (λ steps. AreSteps self.now.tree self.now.w self.now.h self.now.kerf steps.items) }
+    {
+        let mut steps = Vec::new(alloc);
+        let rect = Rect {
+            x: 0,
+            y: 0,
+            w: self.size.w(),
+            h: self.size.h(),
+        };
+        step_node(&self.root, rect, self.kerf, 0, &mut steps)?;
+        Ok(steps)
     }
 
     /// The rectangles into which the unit falls, and what each belongs to, by rising nodes.
@@ -122,4 +168,25 @@ impl Plan {
         lay_node(&self.root, rect, saw, 0, 0, &mut rows)?;
         Ok(rows)
     }
+}
+
+/// The plan of a bar from which pieces, each a demand and a length, are cut off in the list's order.
+pub fn bar_plan(
+    alloc: Global,
+    size: Size,
+    kerf: u32,
+    pieces: &[(u32, u32)],
+) -> Result<Plan, BarFault>
+    requires bar { size.h ≡ 1 }
+    requires narrow { kerf ≤ 200 }
+    requires pieces { All IsBarPiece pieces.now }
+    ensures tree { IfOk result (λ plan. plan.tree ≡ bar_tree pieces.now size.w kerf) }
+    ensures unit { IfOk result (λ plan. (plan.w ≡ size.w) × (plan.h ≡ size.h) × (plan.kerf ≡ kerf)) }
+    ensures fits { OnOk result (bar_length pieces.now kerf ≤ size.w) }
+    ensures sums { IfOk result (λ plan. (f : ℕ → ℕ) → leaf_sum f plan.tree ≡ sum_by (λ p. f p.0) pieces.now) }
+    ensures fault { IfErr result (λ fault. IsBarFault fault pieces.now size.w kerf) }
+{
+    let root = bar_root(alloc, size.w(), kerf, pieces)?;
+    let _height = size.h();
+    Ok(Plan { root, size, kerf })
 }
