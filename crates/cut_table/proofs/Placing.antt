@@ -1,5 +1,5 @@
 -- The kept leaves have places on the sheet itself.
-use Rattle.std.proofs.Common.{◌≡◌, ℕ, ◌+◌, ◌-◌, ◌*◌, ◌/◌, ◌<◌, ◌≤◌, Bool, true, false, List, [], ◌∷◌, refl, ap, ◌∙◌, sym, subst, inl, inr, arith}
+use Rattle.std.proofs.Common.{◌≡◌, ℕ, ◌+◌, ◌-◌, ◌*◌, ◌/◌, ◌<◌, ◌≤◌, Bool, true, false, List, [], ◌∷◌, length, take, get_or, refl, ap, ◌∙◌, sym, subst, inl, inr, arith}
 use Rattle.std.specs.Prelude.{Contains, ◌==◌, nat_lt, if◌then◌else◌}
 use Rattle.std.proofs.lemmas.Bool.{cases_lt, ltb-true, ltb-false, eqb-true, eqb-false}
 use Rattle.std.proofs.lemmas.Nat.{mul-le}
@@ -8,7 +8,11 @@ use Rattle.cut_measure.specs.declared.sizes.Axis.{Axis}
 use Rattle.cut_measure.specs.declared.sizes.Axis.TheVariants.{X, Y}
 use Rattle.cut_tree.specs.Tree.{Tree, Rest, Piece, Trim, Cut, CutsInto, leaf_sum, cut_count}
 use Rattle.cut_table.specs.declared.wants.Want.{Want}
-use Rattle.cut_table.specs.Legal.{Legal, leaves_of, IsPiece}
+use Rattle.cut_measure.specs.Measures.{Extent}
+use Rattle.cut_table.specs.Legal.{Legal, leaves_of, IsPiece, HaveOwnDemands, of_demand}
+use Rattle.cut_table.proofs.Trees.{Contains-cases, of_demand_found}
+use Rattle.std.proofs.lemmas.List.{take_more}
+use Rattle.std.proofs.lemmas.List.Elements.{Contains-append_cases}
 use Rattle.cut_table.specs.Rounded.{steps_up, want_up, wants_up}
 use Rattle.cut_table.specs.Table.{HaveSides}
 use Rattle.cut_table.specs.Kept.{IsInside, IsFull, IsPruned, HasPlaces, cut_off, Places}
@@ -137,3 +141,67 @@ cut_off_cuts axis l side k t = go (l == side) (nat_lt (l + k) side)
     go true d = omega arith
     go false true = omega arith
     go false false = omega arith
+
+same_size : (wants : List Want) (x y : Want) → HaveOwnDemands wants → Contains wants x → Contains wants y → x.demand ≡ y.demand → (x.size.w ≡ y.size.w) × (x.size.h ≡ y.size.h)
+same_size wants x y own hx hy e = (
+  sym (of_demand_found (λ z. z.size.w) wants x own hx) ∙ ap (of_demand (λ z. z.size.w) wants) e ∙ of_demand_found (λ z. z.size.w) wants y own hy,
+  sym (of_demand_found (λ z. z.size.h) wants x own hx) ∙ ap (of_demand (λ z. z.size.h) wants) e ∙ of_demand_found (λ z. z.size.h) wants y own hy,
+)
+
+-- a piece in the corner, where `l` and `m` are its sides as it lies
+corner : (wants : List Want) (k d : ℕ) (b : Bool) (l m w h : ℕ) → IsPiece wants d b l m → 1 ≤ l → 1 ≤ m → l ≤ w → m ≤ h
+    → Places wants k (Piece d b) w h (cut_off X l w k (cut_off Y m h k (Piece d b)))
+corner wants k d b l m w h is one one' lw mh = record {
+  legal = cut_off_x wants k l w h (cut_off Y m h k (Piece d b)) one lw (cut_off_y wants k m l h (Piece d b) one' mh is);
+  sums = λ f. cut_off_sum f X l w k (cut_off Y m h k (Piece d b)) ∙ cut_off_sum f Y m h k (Piece d b);
+  few_cuts = omega (arith, cut_off_cuts X l w k (cut_off Y m h k (Piece d b)), cut_off_cuts Y m h k (Piece d b));
+}
+
+pub corner_upright : (wants : List Want) (k d : ℕ) (w h : ℕ) (size : Extent) → HaveOwnDemands wants → IsInside wants d false w h
+    → (x : Want) × Contains wants x × (x.demand ≡ d) × (x.size ≡ size) → 1 ≤ size.w → 1 ≤ size.h
+    → Places wants k (Piece d false) w h (cut_off X size.w w k (cut_off Y size.h h k (Piece d false)))
+corner_upright wants k d w h size own in_ f one one' =
+    let s = same_size wants in_.0 f.0 own in_.1 f.1 (in_.2 ∙ sym f.2) in
+    let e : in_.0.size.w ≡ size.w = s.0 ∙ ap (λ (z : Extent). z.w) f.3 in
+    let e' : in_.0.size.h ≡ size.h = s.1 ∙ ap (λ (z : Extent). z.h) f.3 in
+    corner wants k d false size.w size.h w h (in_.0, in_.1, in_.2, (e, e')) one one' (omega (arith, in_.3)) (omega (arith, in_.3))
+
+pub corner_turned : (wants : List Want) (k d : ℕ) (w h : ℕ) (size : Extent) → HaveOwnDemands wants → IsInside wants d true w h
+    → (x : Want) × Contains wants x × (x.demand ≡ d) × (x.size ≡ size) → 1 ≤ size.w → 1 ≤ size.h
+    → Places wants k (Piece d true) w h (cut_off X size.h w k (cut_off Y size.w h k (Piece d true)))
+corner_turned wants k d w h size own in_ f one one' =
+    let s = same_size wants in_.0 f.0 own in_.1 f.1 (in_.2 ∙ sym f.2) in
+    let e : in_.0.size.w ≡ size.w = s.0 ∙ ap (λ (z : Extent). z.w) f.3 in
+    let e' : in_.0.size.h ≡ size.h = s.1 ∙ ap (λ (z : Extent). z.h) f.3 in
+    corner wants k d true size.h size.w w h (in_.0, in_.1, in_.2, (in_.3.0, e', e)) one' one (omega (arith, in_.3)) (omega (arith, in_.3))
+
+pub places_x : (wants : List Want) (k s a w h : ℕ) (t u t' u' : Tree) → IsFull t → IsFull u → k < a * s → a * s < w
+    → Places wants k t (a * s - k) h t' → Places wants k u (w - a * s) h u' → Places wants k (Cut X a t u) w h (Cut X (a * s - k) t' u')
+places_x wants k s a w h t u t' u' ft fu low high p q =
+    let there : w - a * s ≡ w - (a * s - k) - k = omega arith in
+    record {
+      legal = (omega arith, omega arith, p.legal, subst (λ n. Legal wants k u' n h) there q.legal);
+      sums = λ f. omega (arith, p.sums f, q.sums f);
+      few_cuts = omega (arith, p.few_cuts, q.few_cuts, full_leaves t ft, full_leaves u fu);
+    }
+
+pub places_y : (wants : List Want) (k s a w h : ℕ) (t u t' u' : Tree) → IsFull t → IsFull u → k < a * s → a * s < h
+    → Places wants k t w (a * s - k) t' → Places wants k u w (h - a * s) u' → Places wants k (Cut Y a t u) w h (Cut Y (a * s - k) t' u')
+places_y wants k s a w h t u t' u' ft fu low high p q =
+    let there : h - a * s ≡ h - (a * s - k) - k = omega arith in
+    record {
+      legal = (omega arith, omega arith, p.legal, subst (λ n. Legal wants k u' w n) there q.legal);
+      sums = λ f. omega (arith, p.sums f, q.sums f);
+      few_cuts = omega (arith, p.few_cuts, q.few_cuts, full_leaves t ft, full_leaves u fu);
+    }
+
+pub none_more : (wants : List Want) (i demand : ℕ) (d : Want) → i < length wants → ((x : Want) → Contains (take i wants) x → x.demand ≡ demand → ⊥) → ((get_or wants i d).demand ≡ demand → ⊥)
+    → (x : Want) → Contains (take (i + 1) wants) x → x.demand ≡ demand → ⊥
+none_more wants i demand d lt before here x has e =
+    elim (Contains-append_cases (take i wants) (get_or wants i d ∷ []) x (rw (take_more wants i d lt) at has)) [
+      | inl h ↦ before x h e
+      | inr h ↦ elim (Contains-cases (get_or wants i d) [] x h) [
+        | inl same ↦ here (ap (λ (z : Want). z.demand) same ∙ e)
+        | inr none ↦ absurd (omega (arith, none.1))
+      ]
+    ]

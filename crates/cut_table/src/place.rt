@@ -1,7 +1,7 @@
 // Where the kept leaves of a best tree lie on the sheet itself.
 ghost use Rattle.std.specs.Prelude.{◌≡◌, ◌+◌, ◌^◌, ◌<◌, ◌≤◌, IfOk, IfSome, IfNone, Contains};
 ghost use Rattle.cut_measure.specs.declared.sizes.Axis.TheVariants.{X, Y};
-ghost use Rattle.cut_tree.specs.Tree.{Piece};
+ghost use Rattle.cut_tree.specs.Tree.{Piece, Cut};
 ghost use Rattle.cut_tree.specs.Nodes.{tree_of};
 ghost use Rattle.cut_table.specs.declared.wants.Want.{Want};
 ghost use Rattle.cut_table.specs.Legal.{HaveOwnDemands};
@@ -12,6 +12,20 @@ use crate::wants::Want;
 use cut_measure::{Axis, Size};
 use cut_tree::Node;
 use std::alloc::{AllocError, Global};
+
+fn cut(
+    alloc: Global,
+    axis: Axis,
+    place: u32,
+    first: Node,
+    second: Node,
+) -> Result<Node, AllocError>
+    ensures { IfOk result (λ cut. tree_of cut ≡ Cut axis place (tree_of first) (tree_of second)) }
+{
+    let first = Box::new(alloc, first)?;
+    let second = Box::new(alloc, second)?;
+    Ok(Node::Cut(axis, place, first, second))
+}
 
 // What is cut off at a length, where the side is longer.
 fn cut_off(
@@ -120,21 +134,22 @@ pub fn place(
             let piece = place_piece(alloc, wants, *demand, *turned, w, h, kerf)?;
             Ok(piece)
         }
-        Node::Cut(Axis::X, steps, first, second) => {
+        Node::Cut(axis, steps, first, second) => {
             let far = *steps * step;
-            let first = place(alloc, wants, first, far - kerf, h, kerf, step)?;
-            let second = place(alloc, wants, second, w - far, h, kerf, step)?;
-            let first = Box::new(alloc, first)?;
-            let second = Box::new(alloc, second)?;
-            Ok(Node::Cut(Axis::X, far - kerf, first, second))
-        }
-        Node::Cut(Axis::Y, steps, first, second) => {
-            let far = *steps * step;
-            let first = place(alloc, wants, first, w, far - kerf, kerf, step)?;
-            let second = place(alloc, wants, second, w, h - far, kerf, step)?;
-            let first = Box::new(alloc, first)?;
-            let second = Box::new(alloc, second)?;
-            Ok(Node::Cut(Axis::Y, far - kerf, first, second))
+            match axis {
+                Axis::X => {
+                    let first = place(alloc, wants, first, far - kerf, h, kerf, step)?;
+                    let second = place(alloc, wants, second, w - far, h, kerf, step)?;
+                    let cut = cut(alloc, Axis::X, far - kerf, first, second)?;
+                    Ok(cut)
+                }
+                Axis::Y => {
+                    let first = place(alloc, wants, first, w, far - kerf, kerf, step)?;
+                    let second = place(alloc, wants, second, w, h - far, kerf, step)?;
+                    let cut = cut(alloc, Axis::Y, far - kerf, first, second)?;
+                    Ok(cut)
+                }
+            }
         }
     }
 }
