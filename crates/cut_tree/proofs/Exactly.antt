@@ -60,7 +60,7 @@ words-text_of [] some p = absurd (omega arith)
 words-text_of (t ∷ ts) some p = words-some (join_with_byte 32 (map word_of (t ∷ ts))) (some_text t ts) ∙ words-join t ts p
 
 -- one token for a word
-one_token : (t u : Token) → IsToken t → IsToken u → word_of t ≡ word_of u → t ≡ u
+pub one_token : (t u : Token) → IsToken t → IsToken u → word_of t ≡ word_of u → t ≡ u
 one_token (token.Cut X a) (token.Cut X b) p q same = ap (λ n. token.Cut X n) (decimal_injective a b (omega (arith, p.1)) (omega (arith, q.1)) (cc))
 one_token (token.Cut Y a) (token.Cut Y b) p q same = ap (λ n. token.Cut Y n) (decimal_injective a b (omega (arith, p.1)) (omega (arith, q.1)) (cc))
 one_token (token.Cut X a) (token.Cut Y b) p q same = absurd (omega (arith, first_byte 120 121 _ _ same))

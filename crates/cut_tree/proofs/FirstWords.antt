@@ -55,11 +55,11 @@ pub behind_fault : (ws : List (List ℕ)) (text : List ℕ) (w h k n cuts : ℕ)
     HasRead ws 0 0 w h k tree n cuts → IsWrongBehind cause (slice_get ws n) → IsFirstFault text w h k n cause
 behind_fault ws text w h k n cuts cause tree is early r wrong =
     let s : FollowsOn ws w h k n cause = record {
-        front = tokens tree;
-        place = omega (arith, r.upto);
-        spelled = r.spelled;
-        whole = (tree, r.shaped, refl);
-        few_cuts = omega (arith, r.counted, r.few_cuts);
-        wrong = wrong;
-      } in
+      front = tokens tree;
+      place = omega (arith, r.upto);
+      spelled = r.spelled;
+      whole = (tree, r.shaped, refl);
+      few_cuts = omega (arith, r.counted, r.few_cuts);
+      wrong = wrong;
+    } in
     inr (inr (FollowsOn-take 512 (words text) w h k n cause (omega arith) (subst (λ (v : List (List ℕ)). FollowsOn v w h k n cause) is s)))

@@ -12,3 +12,4 @@ pub mod Only
 pub mod StepPlaces
 pub mod BarTrees
 pub mod FirstWords
+pub mod OneFault

@@ -1,4 +1,4 @@
--- Worked examples: a sheet of 10 by 8 under a kerf of 1, cut by x4 y3 p1 p2 r.
+-- Examples: a sheet of 10 by 8 under a kerf of 1, cut by x4 y3 p1 p2 r.
 use Rattle.std.proofs.Common.{◌≡◌, ℕ, true, false, List, [], ◌∷◌, refl, arith}
 use Rattle.cut_measure.specs.declared.sizes.Axis.TheVariants.{X, Y}
 use Rattle.cut_tree.specs.declared.lay.Owner.{Owner}
@@ -7,6 +7,10 @@ use Rattle.cut_tree.specs.declared.lay.Row.{Row}
 use Rattle.cut_tree.specs.Tree.{Tree, Piece, Rest, Trim, Cut, IsShaped}
 use Rattle.cut_tree.specs.Cells.{Spot, spot_of, all_made, made_below}
 use Rattle.cut_tree.specs.Counting.{Test, cells_of_unit}
+use Rattle.cut_tree.specs.Stepping.{step_at}
+use Rattle.cut_tree.specs.Bars.{bar_tree, bar_length}
+use Rattle.cut_tree.specs.declared.token.Token.TheVariants as token
+use Rattle.cut_tree.specs.declared.steps.Step.{Step}
 
 sheet : Tree
 sheet = Cut X 4 (Cut Y 3 (Piece 1 false) (Piece 2 false)) Rest
@@ -67,3 +71,25 @@ bar_shaped = (omega arith, omega arith, tt, (omega arith, omega arith, tt, (omeg
 bar_kerf : cells_of_unit is_kerf bar 98 1 3 all_made ≡ 8
 unfolding bar is_kerf
 bar_kerf = refl
+
+-- where the sheet's nodes lie: the second piece, and the rest
+second_piece : step_at sheet 0 0 10 8 1 3 3 ≡ record { node = 3; x = 0; y = 4; w = 4; h = 4; what = token.Piece 2 false }
+unfolding sheet
+second_piece = refl
+
+rest_behind : step_at sheet 0 0 10 8 1 4 4 ≡ record { node = 4; x = 5; y = 0; w = 5; h = 8; what = token.Rest }
+unfolding sheet
+rest_behind = refl
+
+-- bars of 100 under a kerf of 3: 60 and 37 fill one, 60 and 38 are too long, and of nothing all is left
+full_bar : bar_tree ((1, 60) ∷ (2, 37) ∷ []) 100 3 ≡ Cut X 60 (Piece 1 false) (Piece 2 false)
+full_bar = refl
+
+full_length : bar_length ((1, 60) ∷ (2, 37) ∷ []) 3 ≡ 100
+full_length = refl
+
+long_length : bar_length ((1, 60) ∷ (2, 38) ∷ []) 3 ≡ 101
+long_length = refl
+
+empty_bar : bar_tree [] 100 3 ≡ Rest
+empty_bar = refl

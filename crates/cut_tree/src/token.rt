@@ -3,6 +3,9 @@ ghost use Rattle.std.specs.Fmt.{decimal};
 
 use cut_measure::{Axis, read_number};
 
+/// The most cuts that a plan has.
+pub const MOST_CUTS: u32 = 255;
+
 /// A node of a tree as its text has it.
 #[derive(Clone, Copy, PartialEq, Eq, Debug)]
 pub enum Token {

@@ -42,7 +42,7 @@ returns-clause-spelled c =
     let r = c.in_ok-read.ensures.ok in
     let is : map (λ w. w.now) c.as_slice-words.result.now ≡ take 512 (words c.args.text.now) = ap (map (λ w. w.now)) c.as_slice-words.ensures.value ∙ c.in-Ok.ensures in
     let short : length (take 512 (words c.args.text.now)) < 512 =
-      rw (← is, length-map) (omega (arith, c.if-read-words.false, c.in_ok-read.ensures.near, r.few_cuts)) in
+    rw (← is, length-map) (omega (arith, c.if-read-words.false, c.in_ok-read.ensures.near, r.few_cuts)) in
     record {
       shaped = rw (← c.w.ensures.value, ← c.h.ensures.value) r.shaped;
       numbers = spelled_numbers _ 0 (tokens (tree_of c.in_ok-read.read.node)) r.spelled;
