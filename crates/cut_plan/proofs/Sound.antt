@@ -166,15 +166,15 @@ some_worth kind size k s wants best e fit each =
     let p = fitted k wants x size.w size.h fit.there fit.wide fit.tall fit.fits in
     let worth = p.sums (of_demand (λ y. y.worth) wants) ∙ of_demand_found (λ y. y.worth) wants x (own kind wants e) fit.there in
     let within : IsWithinCounts wants p.tree = λ d.
-        elim (eqb_tells x.demand d) [
-          | inl (t, same) ↦
-              let left = ap (of_demand (λ y. y.left) wants) (sym same) ∙ of_demand_found (λ y. y.left) wants x (own kind wants e) fit.there in
-              let one = p.sums (λ f. if f == d then 1 else 0) in
-              omega (arith, one, rw t at one, left, r.left)
-          | inr (t, other) ↦
-              let none = p.sums (λ f. if f == d then 1 else 0) in
-              omega (arith, rw t at none)
-        ] in
+    elim (eqb_tells x.demand d) [
+      | inl (t, same) ↦
+          let left = ap (of_demand (λ y. y.left) wants) (sym same) ∙ of_demand_found (λ y. y.left) wants x (own kind wants e) fit.there in
+          let one = p.sums (λ f. if f == d then 1 else 0) in
+          omega (arith, one, rw t at one, left, r.left)
+      | inr (t, other) ↦
+          let none = p.sums (λ f. if f == d then 1 else 0) in
+          omega (arith, rw t at none)
+    ] in
     omega (arith, each p.tree p.legal within, worth, r.worth)
 
 -- no legal tree within the counts is worth more than a unit's best

@@ -62,10 +62,7 @@ fn has_bad_want(kind: Kind, wants: &[Want]) -> bool
 fn are_bad_wants(kind: Kind, wants: &[Want]) -> bool
     ensures { result ≡ faults.are_bad_wants kind wants.now }
 {
-    wants.is_empty()
-        || wants.len() > 40
-        || has_twice(wants)
-        || has_bad_want(kind, wants)
+    wants.is_empty() || wants.len() > 40 || has_twice(wants) || has_bad_want(kind, wants)
 }
 
 fn is_short(want: &Want, kerf: u32, step: u32) -> bool

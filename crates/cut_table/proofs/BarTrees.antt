@@ -120,7 +120,7 @@ total_absent d (x ∷ xs) (a ∷ ns) away =
     let other : eqb x.demand d ≡ false = ne_eqb x.demand d (away x (Contains-head x xs)) in
     rw other (omega (arith, total_absent d xs ns (λ y h. away y (Contains-tail x xs y h))))
 
-total_within : (d : ℕ) (xs : List Want) (ns : List ℕ) → HaveOwnDemands xs → AreCounts xs ns → total_of (λ x. cond (eqb x.demand d) 1 0) xs ns ≤ of_demand (λ x. x.left) xs d
+pub total_within : (d : ℕ) (xs : List Want) (ns : List ℕ) → HaveOwnDemands xs → AreCounts xs ns → total_of (λ x. cond (eqb x.demand d) 1 0) xs ns ≤ of_demand (λ x. x.left) xs d
 total_within d [] ns own is = omega arith
 total_within d (x ∷ xs) [] own is = absurd is
 total_within d (x ∷ xs) (a ∷ ns) own is =
@@ -129,7 +129,7 @@ total_within d (x ∷ xs) (a ∷ ns) own is =
       | inr (t, n) ↦ rw t (omega (arith, total_within d xs ns own.1 is.1))
     ]
 
-total_same : (f g : Want → ℕ) (xs : List Want) (ns : List ℕ) → ((x : Want) → Contains xs x → f x ≡ g x) → total_of f xs ns ≡ total_of g xs ns
+pub total_same : (f g : Want → ℕ) (xs : List Want) (ns : List ℕ) → ((x : Want) → Contains xs x → f x ≡ g x) → total_of f xs ns ≡ total_of g xs ns
 total_same f g [] ns same = refl
 total_same f g (x ∷ xs) [] same = refl
 total_same f g (x ∷ xs) (a ∷ ns) same =
@@ -146,3 +146,12 @@ counts_best wants k w ns own bar best = record {
       );
   most = λ t ok. tree_le_counts wants k w ns own bar best t ok.0 ok.1;
 }
+
+-- a tree with these counts of leaves is within the counts, and has their value
+pub counted_within : (wants : List Want) (ns : List ℕ) (t : Tree) → HaveOwnDemands wants → AreCounts wants ns → ((f : ℕ → ℕ) → leaf_sum f t ≡ total_of (λ x. f x.demand) wants ns)
+    → IsWithinCounts wants t
+counted_within wants ns t own few sums = λ d. omega (arith, sums (λ e. cond (eqb e d) 1 0), total_within d wants ns own few)
+
+pub counted_value : (wants : List Want) (ns : List ℕ) (t : Tree) → HaveOwnDemands wants → ((f : ℕ → ℕ) → leaf_sum f t ≡ total_of (λ x. f x.demand) wants ns) → worth_of wants t ≡ value_of wants ns
+counted_value wants ns t own sums =
+    sums (of_demand (λ x. x.worth) wants) ∙ total_same (λ x. of_demand (λ x. x.worth) wants x.demand) (λ x. x.worth) wants ns (λ x h. of_demand_found (λ x. x.worth) wants x own h)

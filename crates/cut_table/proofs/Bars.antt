@@ -154,10 +154,10 @@ pub length_more : (xs : List Want) (i j : ℕ) (d : Want) → i < length xs → 
 length_more xs i j d lt next some have =
     let parts : drop i xs ≡ get_or xs i d ∷ drop j xs = drop_more xs i d lt ∙ ap (λ n. get_or xs i d ∷ drop n xs) next in
     rw parts (
-      λ x has. elim (Contains-cases (get_or xs i d) (drop j xs) x has) [
-        | inl e ↦ subst (λ (y : Want). 1 ≤ y.size.w) e some
-        | inr h ↦ have x h
-      ]
+    λ x has. elim (Contains-cases (get_or xs i d) (drop j xs) x has) [
+      | inl e ↦ subst (λ (y : Want). 1 ≤ y.size.w) e some
+      | inr h ↦ have x h
+    ]
     )
 
 pub rows_more : (k room i j : ℕ) (xs : List Want) (d : Want) (base best : List ℕ) (vec : Vec ℕ Global) (rows : List (Vec ℕ Global)) → i < length xs → i + 1 ≡ j

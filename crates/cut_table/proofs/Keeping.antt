@@ -112,35 +112,35 @@ pub keeps_piece : (wants : List Want) (w h best i : ℕ) (turned : Bool) (old : 
 keeps_piece wants w h best i turned old kept own len b p way =
     elim way [
       | inl k ↦ subst (λ t. Keeps wants w h old (slice_set old i (get_or old i 0 + 1)) t) (sym k.1) (record {
-          leaves = leaves;
-          few = λ j y hj. elim (eqb_tells p.want.demand y.demand) [
-            | inl (t, e) ↦
-                let j_i : j ≡ i = sym (own_at wants i j p.want y own p.here hj e) in
-                let y_x : y ≡ p.want = same_want j y hj j_i in
-                let grown = counts_one wants i p.want old own len p.here j y hj in
-                rw t (omega (arith, rw t at grown, k.0, ap (λ n. get_or old n 0) j_i, ap (λ (z : Want). z.left) y_x))
-            | inr (t, n) ↦
-                let grown = counts_one wants i p.want old own len p.here j y hj in
-                rw t (omega (arith, rw t at grown))
-          ];
-          inside = (p.want, contains_get wants i p.want p.here, refl, room_of_sides p.want turned w h p.sides);
-          pruned = tt;
-        })
+        leaves = leaves;
+        few = λ j y hj. elim (eqb_tells p.want.demand y.demand) [
+          | inl (t, e) ↦
+              let j_i : j ≡ i = sym (own_at wants i j p.want y own p.here hj e) in
+              let y_x : y ≡ p.want = same_want j y hj j_i in
+              let grown = counts_one wants i p.want old own len p.here j y hj in
+              rw t (omega (arith, rw t at grown, k.0, ap (λ n. get_or old n 0) j_i, ap (λ (z : Want). z.left) y_x))
+          | inr (t, n) ↦
+              let grown = counts_one wants i p.want old own len p.here j y hj in
+              rw t (omega (arith, rw t at grown))
+        ];
+        inside = (p.want, contains_get wants i p.want p.here, refl, room_of_sides p.want turned w h p.sides);
+        pruned = tt;
+      })
       | inr k ↦ subst (λ t. Keeps wants w h old (slice_set old i (get_or old i 0 + 1)) t) (sym k.1) (record {
-          leaves = leaves;
-          few = λ j y hj. elim (eqb_tells p.want.demand y.demand) [
-            | inl (t, e) ↦
-                let j_i : j ≡ i = sym (own_at wants i j p.want y own p.here hj e) in
-                let y_x : y ≡ p.want = same_want j y hj j_i in
-                let grown = counts_one wants i p.want old own len p.here j y hj in
-                omega (arith, rw t at grown, k.0, ap (λ n. get_or old n 0) j_i, ap (λ (z : Want). z.left) y_x)
-            | inr (t, n) ↦
-                let grown = counts_one wants i p.want old own len p.here j y hj in
-                omega (arith, rw t at grown)
-          ];
-          inside = tt;
-          pruned = tt;
-        })
+        leaves = leaves;
+        few = λ j y hj. elim (eqb_tells p.want.demand y.demand) [
+          | inl (t, e) ↦
+              let j_i : j ≡ i = sym (own_at wants i j p.want y own p.here hj e) in
+              let y_x : y ≡ p.want = same_want j y hj j_i in
+              let grown = counts_one wants i p.want old own len p.here j y hj in
+              omega (arith, rw t at grown, k.0, ap (λ n. get_or old n 0) j_i, ap (λ (z : Want). z.left) y_x)
+          | inr (t, n) ↦
+              let grown = counts_one wants i p.want old own len p.here j y hj in
+              omega (arith, rw t at grown)
+        ];
+        inside = tt;
+        pruned = tt;
+      })
     ]
   where
     leaves : CountsLeaves wants w h old (slice_set old i (get_or old i 0 + 1))

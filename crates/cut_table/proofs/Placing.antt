@@ -31,8 +31,7 @@ wide wants k s (Piece d false) p q pos sides l full =
     let x = up_from k s wants l.0 l.1 in
     let sd = sides x.0 x.1 in
     let a : steps_up k s x.0.size.w ≤ p = omega (arith, ap (λ (z : Want). z.size.w) x.2, l.3) in
-    let b : steps_up k s x.0.size.h ≤ q = omega (arith, ap (λ (z : Want). z.size.h) x.2, l.3) in
-    (
+    let b : steps_up k s x.0.size.h ≤ q = omega (arith, ap (λ (z : Want). z.size.h) x.2, l.3) in (
       omega (arith, up_holds k s x.0.size.w pos, mul-le (steps_up k s x.0.size.w) s p s a (le_refl s), sd),
       omega (arith, up_holds k s x.0.size.h pos, mul-le (steps_up k s x.0.size.h) s q s b (le_refl s), sd),
     )
@@ -40,8 +39,7 @@ wide wants k s (Piece d true) p q pos sides l full =
     let x = up_from k s wants l.0 l.1 in
     let sd = sides x.0 x.1 in
     let a : steps_up k s x.0.size.h ≤ p = omega (arith, ap (λ (z : Want). z.size.h) x.2, l.3) in
-    let b : steps_up k s x.0.size.w ≤ q = omega (arith, ap (λ (z : Want). z.size.w) x.2, l.3) in
-    (
+    let b : steps_up k s x.0.size.w ≤ q = omega (arith, ap (λ (z : Want). z.size.w) x.2, l.3) in (
       omega (arith, up_holds k s x.0.size.h pos, mul-le (steps_up k s x.0.size.h) s p s a (le_refl s), sd),
       omega (arith, up_holds k s x.0.size.w pos, mul-le (steps_up k s x.0.size.w) s q s b (le_refl s), sd),
     )
@@ -77,8 +75,7 @@ full_places wants k s (Trim x a t) p q w h pos sides l full pw qh = absurd full
 full_places wants k s (Cut X a t u) p q w h pos sides l full pw qh =
     let wt = (wide wants k s t a q pos sides l.2 full.0).0 in
     let wu = (wide wants k s u (p - a - 0) q pos sides l.3 full.1).0 in
-    let sum = parts a p s (omega (arith, l.1)) in
-    (
+    let sum = parts a p s (omega (arith, l.1)) in (
       wt,
       omega arith,
       full_places wants k s t a q (a * s - k) h pos sides l.2 full.0 (omega arith) qh,
@@ -87,8 +84,7 @@ full_places wants k s (Cut X a t u) p q w h pos sides l full pw qh =
 full_places wants k s (Cut Y a t u) p q w h pos sides l full pw qh =
     let wt = (wide wants k s t p a pos sides l.2 full.0).1 in
     let wu = (wide wants k s u p (q - a - 0) pos sides l.3 full.1).1 in
-    let sum = parts a q s (omega (arith, l.1)) in
-    (
+    let sum = parts a q s (omega (arith, l.1)) in (
       wt,
       omega arith,
       full_places wants k s t p a w (a * s - k) pos sides l.2 full.0 pw (omega arith),

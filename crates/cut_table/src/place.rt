@@ -13,13 +13,7 @@ use cut_measure::{Axis, Size};
 use cut_tree::Node;
 use std::alloc::{AllocError, Global};
 
-fn cut(
-    alloc: Global,
-    axis: Axis,
-    place: u32,
-    first: Node,
-    second: Node,
-) -> Result<Node, AllocError>
+fn cut(alloc: Global, axis: Axis, place: u32, first: Node, second: Node) -> Result<Node, AllocError>
     ensures { IfOk result (λ cut. tree_of cut ≡ Cut axis place (tree_of first) (tree_of second)) }
 {
     let first = Box::new(alloc, first)?;

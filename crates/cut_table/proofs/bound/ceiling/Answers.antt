@@ -29,5 +29,5 @@ returns-clause-small c =
     omega (
       arith,
       value_small (wants_down c.args.kerf c.args.step c.args.wants.now) (steps_down c.args.kerf c.args.step c.args.size.w) (steps_down c.args.kerf c.args.step c.args.size.h) c.index-best.result.now
-      (down_own _ _ _ c.requires.own) (down_small _ _ _ c.requires.step c.requires.worthy) c.requires.wide c.requires.tall (returns-clause-best c),
+          (down_own _ _ _ c.requires.own) (down_small _ _ _ c.requires.step c.requires.worthy) c.requires.wide c.requires.tall (returns-clause-best c),
     )

@@ -74,8 +74,8 @@ keep-requires-in-CutY-2 t c = (
 pub returns-in-Whole-clause-kept : goal.returns-in-Whole-clause-kept
 returns-in-Whole-clause-kept t c =
     rw c.keep_leaf.ensures.counted (
-      keeps_piece _ _ _ _ _ c.in-Whole.turned _ _ c.requires.own c.requires.len c.worth_at-best.ensures c.in-Whole.ensures
-      (c.keep_leaf.ensures.kept c.in-Whole.ensures.want c.in-Whole.ensures.here)
+    keeps_piece _ _ _ _ _ c.in-Whole.turned _ _ c.requires.own c.requires.len c.worth_at-best.ensures c.in-Whole.ensures
+    (c.keep_leaf.ensures.kept c.in-Whole.ensures.want c.in-Whole.ensures.here)
     )
 
 pub returns-in-Whole-clause-grown : goal.returns-in-Whole-clause-grown
@@ -85,7 +85,7 @@ returns-in-Whole-clause-grown t c =
 pub returns-in_ok-node-in-CutX-clause-kept : goal.returns-in_ok-node-in-CutX-clause-kept
 returns-in_ok-node-in-CutX-clause-kept t c =
     rw c.in_ok-node-in-CutX.ensures (
-      keeps_x _ _ _ _ _ _ _ _ _ _ c.worth_at-best.ensures c.in-CutX.ensures c.in_ok-first-in-CutX.ensures.kept c.in_ok-second-in-CutX.ensures.kept
+    keeps_x _ _ _ _ _ _ _ _ _ _ c.worth_at-best.ensures c.in-CutX.ensures c.in_ok-first-in-CutX.ensures.kept c.in_ok-second-in-CutX.ensures.kept
     )
 
 pub returns-in_ok-node-in-CutX-clause-grown : goal.returns-in_ok-node-in-CutX-clause-grown
@@ -95,7 +95,7 @@ returns-in_ok-node-in-CutX-clause-grown t c =
 pub returns-in_ok-node-in-CutY-clause-kept : goal.returns-in_ok-node-in-CutY-clause-kept
 returns-in_ok-node-in-CutY-clause-kept t c =
     rw c.in_ok-node-in-CutY.ensures (
-      keeps_y _ _ _ _ _ _ _ _ _ _ c.worth_at-best.ensures c.in-CutY.ensures c.in_ok-first-in-CutY.ensures.kept c.in_ok-second-in-CutY.ensures.kept
+    keeps_y _ _ _ _ _ _ _ _ _ _ c.worth_at-best.ensures c.in-CutY.ensures c.in_ok-first-in-CutY.ensures.kept c.in_ok-second-in-CutY.ensures.kept
     )
 
 pub returns-in_ok-node-in-CutY-clause-grown : goal.returns-in_ok-node-in-CutY-clause-grown
