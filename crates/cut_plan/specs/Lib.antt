@@ -1,3 +1,4 @@
 pub mod Faults
 pub mod Bounds
 pub mod Proposals
+pub mod Sheets

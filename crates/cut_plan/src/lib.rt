@@ -4,8 +4,10 @@
 mod bars;
 mod bounds;
 mod faults;
+mod sheets;
 
 pub use bars::{Proposal, plan_bar};
 pub use bounds::{Bound, least_units};
 pub use cut_table::wants::Want;
 pub use faults::PlanFault;
+pub use sheets::{SheetProposal, plan_sheet};

@@ -30,11 +30,11 @@ bar_room wants k (Trim Y a t) w own bar l = absurd (omega (arith, l.0, l.1))
 bar_room wants k (Cut X a t u) w own bar l = omega (arith, bar_room wants k t a own bar l.2, bar_room wants k u (w - a - k) own bar l.3, l.1)
 bar_room wants k (Cut Y a t u) w own bar l = absurd (omega (arith, l.0, l.1))
 
-tree_counts : List Want → Tree → List ℕ
+abbrev pub tree_counts : List Want → Tree → List ℕ
 tree_counts [] t = []
 tree_counts (x ∷ xs) t = count_of t x.demand ∷ tree_counts xs t
 
-tree_total : (f : Want → ℕ) (xs : List Want) (t : Tree) → total_of f xs (tree_counts xs t) ≡ weigh f (λ d. count_of t d) xs
+pub tree_total : (f : Want → ℕ) (xs : List Want) (t : Tree) → total_of f xs (tree_counts xs t) ≡ weigh f (λ d. count_of t d) xs
 unfolding tree_counts
 tree_total f [] t = refl
 tree_total f (x ∷ xs) t = ap (λ n. f x * count_of t x.demand + n) (tree_total f xs t)

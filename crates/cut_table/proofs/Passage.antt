@@ -8,9 +8,14 @@ use Rattle.cut_table.specs.declared.wants.Want.{Want}
 use Rattle.cut_tree.specs.Tree.{Tree, leaf_sum, Rest, Piece, Trim, Cut}
 use Rattle.cut_measure.specs.declared.sizes.Axis.TheVariants.{X, Y}
 use Rattle.cut_table.specs.Legal.{IsPiece, Legal, of_demand, worth_of, HaveOwnDemands}
-use Rattle.cut_table.specs.Table.{AreWorthy, AreSmall}
+use Rattle.cut_table.specs.Table.{AreWorthy, AreSmall, HaveSides}
 use Rattle.cut_table.specs.Best.{IsBestOf}
-use Rattle.cut_table.specs.Rounded.{steps_down, want_down, wants_down, IsStep}
+use Rattle.cut_table.specs.Rounded.{steps_down, steps_up, want_up, want_down, wants_down, wants_up, IsStep}
+use Rattle.std.proofs.Common.{take, get_or, ◌++◌, sym}
+use Rattle.std.proofs.lemmas.List.{map-append}
+use Rattle.std.proofs.lemmas.List.{take_more}
+use Rattle.std.proofs.lemmas.List.Elements.{Contains-append_cases, Contains-get_or}
+use Rattle.cut_table.proofs.Up.{up_from, up_holds}
 use Rattle.cut_table.proofs.Trees.{Contains-cases, Contains-head, Contains-tail}
 
 down_has : (k s : ℕ) (xs : List Want) (x : Want) → Contains xs x → Contains (wants_down k s xs) (want_down k s x)
@@ -175,3 +180,46 @@ down_small k s xs st range = λ y h.
     let a = some_steps k s r.0.size.w st.some (st.within r.0 r.1).0 in
     let b = some_steps k s r.0.size.h st.some (st.within r.0 r.1).1 in
     (omega (arith, a, ap (λ (z : Want). z.size.w) r.2), omega (arith, b, ap (λ (z : Want). z.size.h) r.2), omega (arith, range r.0 r.1, ap (λ (z : Want). z.worth) r.2))
+
+pub up_own : (k s : ℕ) (xs : List Want) → HaveOwnDemands xs → HaveOwnDemands (wants_up k s xs)
+up_own k s [] own = tt
+up_own k s (x ∷ xs) own = ((λ y has. let r = up_from k s xs y has in λ e. own.0 r.0 r.1 (ap (λ (z : Want). z.demand) r.2 ∙ e)), up_own k s xs own.1)
+
+some_up : (k s l : ℕ) → 1 ≤ s → 1 ≤ l → 1 ≤ steps_up k s l
+some_up k s l pos one =
+    let h = up_holds k s l pos in
+    elim (cases_lt 0 (steps_up k s l)) [
+      | inl some ↦ omega arith
+      | inr none ↦ let z : steps_up k s l ≡ 0 = omega arith in absurd (omega (arith, h, ap (λ n. n * s) z))
+    ]
+
+pub up_small : (k s : ℕ) (xs : List Want) → 1 ≤ s → HaveSides xs → AreWorthy xs → AreSmall (wants_up k s xs)
+up_small k s xs pos sides worthy = λ y h.
+    let r = up_from k s xs y h in
+    let sd = sides r.0 r.1 in
+    let a = some_up k s r.0.size.w pos sd.0 in
+    let b = some_up k s r.0.size.h pos sd.1 in
+    (omega (arith, a, ap (λ (z : Want). z.size.w) r.2), omega (arith, b, ap (λ (z : Want). z.size.h) r.2), omega (arith, worthy r.0 r.1, ap (λ (z : Want). z.worth) r.2))
+
+pub sides_more : (xs : List Want) (i : ℕ) (d : Want) → i < length xs → HaveSides (take i xs) → (1 ≤ (get_or xs i d).size.w) × (1 ≤ (get_or xs i d).size.h) → HaveSides (take (i + 1) xs)
+sides_more xs i d lt before here = λ x has.
+    elim (Contains-append_cases (take i xs) (get_or xs i d ∷ []) x (rw (take_more xs i d lt) at has)) [
+      | inl h ↦ before x h
+      | inr h ↦ elim (Contains-cases (get_or xs i d) [] x h) [
+        | inl same ↦ subst (λ (z : Want). (1 ≤ z.size.w) × (1 ≤ z.size.h)) same here
+        | inr none ↦ absurd (omega (arith, none.1))
+      ]
+    ]
+
+-- the units of a table lie inside a sheet and a kerf
+pub steps_inside : (k s l : ℕ) → steps_down k s l * s ≤ l + k
+steps_inside k s l = div-mul-le_self (l + k) s
+
+pub step_at : (k s : ℕ) (xs : List Want) (i : ℕ) (d : Want) → IsStep k s xs → i < length xs → s ≤ (get_or xs i d).size.w + k
+step_at k s xs i d st lt = (st.within (get_or xs i d) (Contains-get_or xs i d lt)).0
+
+pub ups_more : (k s : ℕ) (xs : List Want) (i : ℕ) (d y : Want) (items pushed : List Want) → i < length xs → items ≡ wants_up k s (take i xs) → pushed ≡ items ++ y ∷ []
+    → y ≡ want_up k s (get_or xs i d) → pushed ≡ wants_up k s (take (i + 1) xs)
+ups_more k s xs i d y items pushed lt is push e =
+    push ∙ ap (λ l. l ++ y ∷ []) is ∙ ap (λ z. wants_up k s (take i xs) ++ z ∷ []) e
+    ∙ sym (ap (wants_up k s) (take_more xs i d lt) ∙ map-append (want_up k s) (take i xs) (get_or xs i d ∷ []))

@@ -4,9 +4,9 @@ ghost use Rattle.cut_table.specs.declared.wants.Want.{Want};
 ghost use Rattle.cut_tree.specs.Tree.{Tree};
 ghost use Rattle.cut_table.specs.Legal.{HaveOwnDemands, Legal, IsWithinCounts, worth_of};
 ghost use Rattle.cut_table.specs.Best.{IsBestOf};
-ghost use Rattle.cut_table.specs.Rounded.{want_down, wants_down, steps_down, IsStep};
+ghost use Rattle.cut_table.specs.Rounded.{want_down, wants_down, want_up, wants_up, steps_down, IsStep};
 ghost use Rattle.cut_table.specs.Bound.{Meets, worth_left, div_up};
-ghost use Rattle.cut_table.specs.Table.{AreWorthy};
+ghost use Rattle.cut_table.specs.Table.{AreWorthy, HaveSides};
 
 use crate::sheet::best_table;
 use crate::wants::{Scaled, Want};
@@ -36,6 +36,43 @@ fn all_down(alloc: Global, wants: &[Want], kerf: u32, step: u32) -> Result<Vec<S
     let mut rounded = Vec::new(alloc);
     for want in wants {
         let want = down(want, kerf, step);
+        rounded.push(want)?;
+    }
+    Ok(rounded)
+}
+
+fn up(want: &Want, kerf: u32, step: u32) -> Scaled
+    requires kerf { kerf ≤ 200 }
+    requires step { 1 ≤ step }
+    requires within { step ≤ want.now.size.w + kerf }
+    ensures value { result ≡ want_up kerf step want.now }
+    ensures sides { (1 ≤ want.now.size.w) × (1 ≤ want.now.size.h) }
+{
+    Scaled {
+        demand: want.demand,
+        w: (want.size.w() + kerf + (step - 1)) / step,
+        h: (want.size.h() + kerf + (step - 1)) / step,
+        may_turn: want.may_turn,
+        left: want.left,
+        worth: want.worth,
+    }
+}
+
+/// The wants in steps, with sides rounded up.
+pub fn all_up(
+    alloc: Global,
+    wants: &[Want],
+    kerf: u32,
+    step: u32,
+) -> Result<Vec<Scaled>, AllocError>
+    requires kerf { kerf ≤ 200 }
+    requires step { IsStep kerf step wants.now }
+    ensures value { IfOk result (λ up. up.items ≡ wants_up kerf step wants.now) }
+    ensures sides { IfOk result (λ _. HaveSides wants.now) }
+{
+    let mut rounded = Vec::new(alloc);
+    for want in wants {
+        let want = up(want, kerf, step);
         rounded.push(want)?;
     }
     Ok(rounded)
