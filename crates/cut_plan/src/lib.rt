@@ -5,6 +5,8 @@ mod bars;
 mod bounds;
 mod faults;
 mod sheets;
+#[cfg(test)]
+mod tests;
 
 pub use bars::{Proposal, plan_bar};
 pub use bounds::{Bound, least_units};

@@ -14,7 +14,7 @@ use Rattle.cut_table.specs.Rounded.{steps_down, steps_up, want_up, want_down, wa
 use Rattle.std.proofs.Common.{take, get_or, ◌++◌, sym}
 use Rattle.std.proofs.lemmas.List.{map-append}
 use Rattle.std.proofs.lemmas.List.{take_more}
-use Rattle.std.proofs.lemmas.List.Elements.{Contains-append_cases, Contains-get_or}
+use Rattle.std.proofs.lemmas.List.Elements.{Contains-get_or}
 use Rattle.cut_table.proofs.Up.{up_from, up_holds}
 use Rattle.cut_table.proofs.Trees.{Contains-cases, Contains-head, Contains-tail}
 
@@ -200,16 +200,6 @@ up_small k s xs pos sides worthy = λ y h.
     let a = some_up k s r.0.size.w pos sd.0 in
     let b = some_up k s r.0.size.h pos sd.1 in
     (omega (arith, a, ap (λ (z : Want). z.size.w) r.2), omega (arith, b, ap (λ (z : Want). z.size.h) r.2), omega (arith, worthy r.0 r.1, ap (λ (z : Want). z.worth) r.2))
-
-pub sides_more : (xs : List Want) (i : ℕ) (d : Want) → i < length xs → HaveSides (take i xs) → (1 ≤ (get_or xs i d).size.w) × (1 ≤ (get_or xs i d).size.h) → HaveSides (take (i + 1) xs)
-sides_more xs i d lt before here = λ x has.
-    elim (Contains-append_cases (take i xs) (get_or xs i d ∷ []) x (rw (take_more xs i d lt) at has)) [
-      | inl h ↦ before x h
-      | inr h ↦ elim (Contains-cases (get_or xs i d) [] x h) [
-        | inl same ↦ subst (λ (z : Want). (1 ≤ z.size.w) × (1 ≤ z.size.h)) same here
-        | inr none ↦ absurd (omega (arith, none.1))
-      ]
-    ]
 
 -- the units of a table lie inside a sheet and a kerf
 pub steps_inside : (k s l : ℕ) → steps_down k s l * s ≤ l + k

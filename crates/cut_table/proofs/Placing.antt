@@ -1,5 +1,5 @@
 -- The kept leaves have places on the sheet itself.
-use Rattle.std.proofs.Common.{◌≡◌, ℕ, ◌+◌, ◌-◌, ◌*◌, ◌/◌, ◌<◌, ◌≤◌, Bool, true, false, List, [], ◌∷◌, length, take, get_or, refl, ap, ◌∙◌, sym, subst, inl, inr, arith}
+use Rattle.std.proofs.Common.{◌≡◌, ℕ, ◌+◌, ◌-◌, ◌*◌, ◌/◌, ◌<◌, ◌≤◌, Bool, true, false, List, [], ◌∷◌, refl, ap, ◌∙◌, sym, subst, inl, inr, arith}
 use Rattle.std.specs.Prelude.{Contains, ◌==◌, nat_lt, if◌then◌else◌}
 use Rattle.std.proofs.lemmas.Bool.{cases_lt, ltb-true, ltb-false, eqb-true, eqb-false}
 use Rattle.std.proofs.lemmas.Nat.{mul-le}
@@ -10,9 +10,7 @@ use Rattle.cut_tree.specs.Tree.{Tree, Rest, Piece, Trim, Cut, CutsInto, leaf_sum
 use Rattle.cut_table.specs.declared.wants.Want.{Want}
 use Rattle.cut_measure.specs.Measures.{Extent}
 use Rattle.cut_table.specs.Legal.{Legal, leaves_of, IsPiece, HaveOwnDemands, of_demand}
-use Rattle.cut_table.proofs.Trees.{Contains-cases, of_demand_found}
-use Rattle.std.proofs.lemmas.List.{take_more}
-use Rattle.std.proofs.lemmas.List.Elements.{Contains-append_cases}
+use Rattle.cut_table.proofs.Trees.{of_demand_found}
 use Rattle.cut_table.specs.Rounded.{steps_up, want_up, wants_up}
 use Rattle.cut_table.specs.Table.{HaveSides}
 use Rattle.cut_table.specs.Kept.{IsInside, IsFull, IsPruned, HasPlaces, cut_off, Places}
@@ -190,14 +188,3 @@ places_y wants k s a w h t u t' u' ft fu low high p q =
       sums = λ f. omega (arith, p.sums f, q.sums f);
       few_cuts = omega (arith, p.few_cuts, q.few_cuts, full_leaves t ft, full_leaves u fu);
     }
-
-pub none_more : (wants : List Want) (i demand : ℕ) (d : Want) → i < length wants → ((x : Want) → Contains (take i wants) x → x.demand ≡ demand → ⊥) → ((get_or wants i d).demand ≡ demand → ⊥)
-    → (x : Want) → Contains (take (i + 1) wants) x → x.demand ≡ demand → ⊥
-none_more wants i demand d lt before here x has e =
-    elim (Contains-append_cases (take i wants) (get_or wants i d ∷ []) x (rw (take_more wants i d lt) at has)) [
-      | inl h ↦ before x h e
-      | inr h ↦ elim (Contains-cases (get_or wants i d) [] x h) [
-        | inl same ↦ here (ap (λ (z : Want). z.demand) same ∙ e)
-        | inr none ↦ absurd (omega (arith, none.1))
-      ]
-    ]

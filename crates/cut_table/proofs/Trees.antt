@@ -1,6 +1,9 @@
 -- What a tree's leaves add up to, counted leaf by leaf or want by want.
 use Rattle.std.proofs.Common.{◌≡◌, ◌≢◌, ℕ, zero, suc, ◌+◌, ◌*◌, true, false, cond, eqb, List, [], ◌∷◌, sym, refl, ap, ◌∙◌, inl, inr, ◌⊎◌, arith, eq-eqb}
+use Rattle.std.proofs.Common.{◌<◌, length, take, get_or, subst}
 use Rattle.std.specs.Prelude.{Contains}
+use Rattle.std.proofs.lemmas.List.{take_more}
+use Rattle.std.proofs.lemmas.List.Elements.{Contains-append_cases}
 use Rattle.std.proofs.lemmas.Bool.{ne_eqb}
 use Rattle.std.proofs.lemmas.Bool.Decides.{eqb_tells}
 use Rattle.cut_table.specs.declared.wants.Want.{Want}
@@ -17,6 +20,18 @@ Contains-head y ys = (0, omega arith, refl)
 
 pub Contains-tail : (y : Want) (ys : List Want) (x : Want) → Contains ys x → Contains (y ∷ ys) x
 Contains-tail y ys x (k, lt, e) = (suc k, omega arith, e)
+
+-- what holds of each of the first wants, and of the next
+pub first_each : (P : Want → Type 0) (xs : List Want) (i : ℕ) (d : Want) → i < length xs → ((x : Want) → Contains (take i xs) x → P x) → P (get_or xs i d)
+    → (x : Want) → Contains (take (i + 1) xs) x → P x
+first_each P xs i d lt before here x has =
+    elim (Contains-append_cases (take i xs) (get_or xs i d ∷ []) x (rw (take_more xs i d lt) at has)) [
+      | inl h ↦ before x h
+      | inr h ↦ elim (Contains-cases (get_or xs i d) [] x h) [
+        | inl same ↦ subst P same here
+        | inr none ↦ absurd (omega (arith, none.1))
+      ]
+    ]
 
 Contains-none : (x : Want) → Contains [] x → {P : Type 0} → P
 Contains-none x (k, lt, e) = absurd (omega arith)

@@ -1,10 +1,10 @@
 -- The trees of bars: which pieces have room, how many cuts they take, and what stands at the leaves.
-use Rattle.std.proofs.Common.{◌≡◌, ℕ, zero, suc, ◌+◌, ◌-◌, ◌*◌, ◌≤◌, ◌<◌, Bool, true, false, List, [], ◌∷◌, length, get_or, refl, ap, subst, sym, ◌∙◌, inl, inr, arith, eqb}
+use Rattle.std.proofs.Common.{◌≡◌, ℕ, suc, ◌+◌, ◌-◌, ◌*◌, ◌≤◌, ◌<◌, Bool, true, false, List, [], ◌∷◌, length, refl, ap, subst, sym, ◌∙◌, inl, inr, arith}
 use Rattle.std.specs.Prelude.{All, sum_by, ◌⊎◌, nat_le, ◌==◌, if◌then◌else◌}
 use Rattle.std.proofs.lemmas.Bool.{eqb-true, eqb-false, leb-true, leb-false}
 use Rattle.std.proofs.lemmas.List.Sums.{sum_by-cons}
 use Rattle.cut_measure.specs.declared.sizes.Axis.TheVariants.{X}
-use Rattle.cut_tree.specs.Tree.{Tree, Piece, Rest, Trim, Cut, CutsInto, cut_count, leaf_sum}
+use Rattle.cut_tree.specs.Tree.{Tree, Piece, Trim, Cut, CutsInto, cut_count, leaf_sum}
 use Rattle.cut_tree.specs.Patterns.{HasDemands}
 use Rattle.cut_tree.specs.Bars.{IsBarPiece, bar_length, bar_tree}
 

@@ -1,5 +1,5 @@
 -- A text has one first fault.
-use Rattle.std.proofs.Common.{◌≡◌, ℕ, zero, suc, ◌+◌, ◌≤◌, ◌<◌, List, [], ◌∷◌, ◌++◌, length, refl, ap, subst, sym, ◌∙◌, ◌⊎◌, inl, inr, arith, append_assoc, length-append, Option, Some, None}
+use Rattle.std.proofs.Common.{◌≡◌, ℕ, suc, ◌+◌, ◌≤◌, ◌<◌, List, [], ◌∷◌, ◌++◌, length, refl, ap, subst, sym, ◌∙◌, inl, inr, arith, append_assoc, length-append, Option, Some, None}
 use Rattle.std.specs.Prelude.{slice_get}
 use Rattle.std.proofs.lemmas.Bool.{cases_lt}
 use Rattle.std.proofs.lemmas.List.{append-nil}
@@ -7,8 +7,8 @@ use Rattle.cut_tree.specs.declared.token.Token.{Token}
 use Rattle.cut_tree.specs.declared.token.Token.TheVariants as token
 use Rattle.cut_tree.specs.declared.token.Cause.{Cause}
 use Rattle.cut_tree.specs.declared.token.Cause.TheVariants.{BadToken, TooManyCuts, OffUnit, Missing, Extra, NoMemory}
-use Rattle.cut_tree.specs.Tree.{Tree, IsShaped}
-use Rattle.cut_tree.specs.Spelling.{tokens, word_of, words, IsToken, cuts_in, SpelledAt, IsWhole, IsFront, GoesOn, IsNoToken, IsCut, IsWrong, IsWrongBehind, Stops, FollowsOn, IsFirstFault}
+use Rattle.cut_tree.specs.Tree.{Tree}
+use Rattle.cut_tree.specs.Spelling.{tokens, word_of, words, IsToken, cuts_in, SpelledAt, IsWhole, IsFront, GoesOn, IsNoToken, IsWrong, IsWrongBehind, Stops, FollowsOn, IsFirstFault}
 use Rattle.cut_tree.proofs.Exactly.{one_token}
 use Rattle.cut_tree.proofs.Fronts.{one_tree, cuts_in-append}
 

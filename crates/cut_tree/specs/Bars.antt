@@ -1,5 +1,5 @@
 -- The plan of a bar: pieces cut off one after another.
-use Rattle.std.specs.Prelude.{ℕ, Bool, false, ◌≡◌, ◌+◌, ◌-◌, ◌*◌, ◌≤◌, ◌<◌, ◌==◌, nat_le, if◌then◌else◌, List, [], ◌∷◌, length, sum_by}
+use Rattle.std.specs.Prelude.{ℕ, false, ◌+◌, ◌-◌, ◌*◌, ◌≤◌, ◌<◌, ◌==◌, nat_le, if◌then◌else◌, List, [], ◌∷◌, length, sum_by}
 use Rattle.cut_measure.specs.declared.sizes.Axis.TheVariants.{X}
 use Rattle.cut_tree.specs.declared.bars.BarFault.{BarFault}
 use Rattle.cut_tree.specs.declared.bars.BarFault.TheVariants.{TooLong, TooManyCuts, NoMemory}

@@ -8,13 +8,14 @@ use crate::node::Node;
 use cut_measure::Axis;
 use std::alloc::{AllocError, Global};
 
-/// Why there is no plan of a bar's pieces.
+/// Why there is no plan of a bar's pieces, in this order.
 #[derive(Clone, Copy, PartialEq, Eq, Debug)]
 pub enum BarFault {
     /// The pieces with a kerf between each two are longer than the bar.
     TooLong,
     /// Their plan has over 255 cuts.
     TooManyCuts,
+    /// Want of memory.
     NoMemory,
 }
 

@@ -20,7 +20,8 @@ use cut_measure::Size;
 use std::alloc::{AllocError, Global};
 use std::marker::Model;
 
-/// A cutting tree on a unit's size, under a saw's kerf.
+/// A cutting tree on a unit's size, under a saw's kerf. It follows the rule of cuts, has at most 255 of them, and its
+/// demands are 1 to 2147483647.
 #[derive(Drop)]
 pub struct Plan {
     root: Node,
@@ -43,15 +44,7 @@ impl Model for Plan {
 }
 
 impl Plan {
-    /// The plan of these nodes on a unit of this size, under this kerf.
-    pub fn of(root: Node, size: Size, kerf: u32) -> Plan
-        requires { IsPlan (record { tree = tree_of root; w = size.w; h = size.h; kerf = kerf }) }
-        ensures { result ≡ record { tree = tree_of root; w = size.w; h = size.h; kerf = kerf } }
-    {
-        Plan { root, size, kerf }
-    }
-
-    /// The plan that a text spells on a unit of this size, under this kerf; else the text's first fault.
+    /// The plan that a text spells on a unit of this size, under a kerf of at most 200; else the text's first fault.
     pub fn read(alloc: Global, text: &str, size: Size, kerf: u32) -> Result<Plan, SpellFault>
         requires { kerf ≤ 200 }
         ensures spelled { IfOk result (λ plan. IsSpelling text.now plan.tree size.w size.h kerf) }
@@ -149,7 +142,8 @@ impl Plan {
         Ok(steps)
     }
 
-    /// The rectangles into which the unit falls, and what each belongs to, by rising nodes.
+    /// The rectangles into which the unit falls once the work ended so, and what each belongs to, by rising nodes. A stop
+    /// names a cut of the plan.
     pub fn lay(&self, alloc: Global, stop: Stop) -> Result<Vec<Row>, AllocError>
         requires { IsStopOf stop (cut_count self.now.tree) }
         ensures { IfOk result (λ rows. IsLaid self.now.tree self.now.w self.now.h self.now.kerf (outcome_of stop) rows.items) }
@@ -170,7 +164,18 @@ impl Plan {
     }
 }
 
-/// The plan of a bar from which pieces, each a demand and a length, are cut off in the list's order.
+impl Plan {
+    /// The plan of these nodes on a unit of this size, under this kerf.
+    pub fn of(root: Node, size: Size, kerf: u32) -> Plan
+        requires { IsPlan (record { tree = tree_of root; w = size.w; h = size.h; kerf = kerf }) }
+        ensures { result ≡ record { tree = tree_of root; w = size.w; h = size.h; kerf = kerf } }
+    {
+        Plan { root, size, kerf }
+    }
+}
+
+/// The plan of a bar from which pieces, each a demand and a length of at least 1, are cut off in the list's order. A
+/// last piece that fills its part needs no cut, and what is left is a rest. The faults come in the order of `BarFault`.
 pub fn bar_plan(
     alloc: Global,
     size: Size,

@@ -8,7 +8,8 @@ use crate::node::{Node, count_nodes};
 use crate::token::Token;
 use std::alloc::AllocError;
 
-/// A node of a plan with its whole rectangle, the lengths in tenths of a millimetre: what is done there.
+/// A node of a plan, numbered from 0 in preorder, with its whole rectangle in tenths of a millimetre and what is done
+/// there: the cut, the piece or the rest.
 #[derive(Clone, Copy, PartialEq, Eq, Debug)]
 pub struct Step {
     pub node: u32,

@@ -1,4 +1,4 @@
-ghost use Rattle.std.specs.Prelude.{◌≤◌, ◌≡◌, IfOk, MatchResult, All};
+ghost use Rattle.std.specs.Prelude.{◌≤◌, ◌↔◌, All, IsTrue};
 ghost use Rattle.cut_tree.specs.Bars.{IsBarPiece};
 
 use crate::{BarFault, Cause, Owner, Plan, Row, SpellFault, Step, Stop, Token, bar_plan};
@@ -166,6 +166,32 @@ fn plans_bars(rt: HostRuntime) -> Result<(), Fail> {
                 }
                 Err(fault) => assert_eq!(rt; Err(fault), text),
             }
+        }
+    }
+    Ok(())
+}
+
+fn are_bar_pieces(pieces: &[(u32, u32)]) -> bool
+    ensures { IsTrue result ↔ All IsBarPiece pieces.now }
+{
+    pieces.iter().all(|piece| 1 <= piece.0 && piece.0 <= 2147483647 && 1 <= piece.1)
+}
+
+#[test]
+fn plans_long_lists(rt: HostRuntime) -> Result<(), Fail> {
+    let pieces = vec![in rt.alloc(); (1, 1); 300]?;
+    for (length, kerf, count, answer) in [
+        (100, 3, 0, Ok(0)),
+        (256, 0, 256, Ok(255)),
+        (256, 0, 257, Err(BarFault::TooLong)),
+        (257, 0, 256, Err(BarFault::TooManyCuts)),
+        (300, 0, 300, Err(BarFault::TooManyCuts)),
+    ] {
+        let bar = Size::new(Kind::Bar, length, 1).ok_or("no size")?;
+        let some = pieces.as_slice().get(..count).ok_or("too few")?;
+        if bar.h() == 1 && kerf <= 200 && are_bar_pieces(some) {
+            let plan = bar_plan(rt.alloc(), bar, kerf, some);
+            assert_eq!(rt; plan.map(|plan| plan.cuts()), answer, "{count} on {length}");
         }
     }
     Ok(())

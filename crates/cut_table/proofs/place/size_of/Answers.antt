@@ -1,12 +1,12 @@
 use Rattle.std.proofs.Common.{◌≡◌, arith, sym, subst, take_all}
 use Rattle.std.specs.Prelude.{Contains}
 use Rattle.cut_table.specs.declared.wants.Want.{Want}
-use Rattle.cut_table.proofs.Placing.{none_more}
+use Rattle.cut_table.proofs.Trees.{first_each}
 use Rattle.cut_table.proofs.place.size_of.Goals as goal
 
 pub loop-want-preserved : goal.loop-want-preserved
 loop-want-preserved c =
-    none_more c.args.wants.now c.loop-want.want-index c.args.demand c.want-item.result (omega arith) c.loop-want.invariant
+    first_each (λ (x : Want). x.demand ≡ c.args.demand → ⊥) c.args.wants.now c.loop-want.want-index c.want-item.result (omega arith) c.loop-want.invariant
     (subst (λ (x : Want). x.demand ≡ c.args.demand → ⊥) c.want-item.is c.if-want-demand.false)
 
 pub returns-clause-none : goal.returns-clause-none

@@ -1,4 +1,4 @@
-use Rattle.std.proofs.Common.{◌≡◌, ◌+◌, ◌-◌, ◌≤◌, ◌<◌, inl, inr, arith}
+use Rattle.std.proofs.Common.{◌≡◌, ◌+◌, inl, inr}
 use Rattle.std.specs.Prelude.{◌⊎◌}
 use Rattle.std.proofs.lemmas.Bool.{cases_lt}
 use Rattle.cut_tree.proofs.BarTrees.{spent, fits_bar, over_bar, cuts_by_room}

@@ -1,7 +1,5 @@
-use Rattle.std.proofs.Common.{◌≡◌, ◌≤◌, ℕ, arith, ap, sym, subst, ◌∙◌}
-use Rattle.cut_tree.specs.Tree.{Tree, IsShaped, cut_count, leaf_sum}
-use Rattle.cut_tree.specs.Patterns.{HasDemands}
-use Rattle.cut_tree.specs.Bars.{bar_tree}
+use Rattle.std.proofs.Common.{ap, ◌∙◌}
+use Rattle.cut_tree.specs.Tree.{leaf_sum}
 use Rattle.cut_tree.proofs.BarTrees.{fits_spent, leaf_sum-bar_tree, CutsInto-bar_tree, HasDemands-bar_tree}
 use Rattle.cut_tree.proofs.plan.bar_plan.Goals as goal
 

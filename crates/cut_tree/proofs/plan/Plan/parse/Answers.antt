@@ -1,7 +1,7 @@
-use Rattle.std.proofs.Common.{◌≡◌, ◌≤◌, ◌<◌, ◌+◌, take, length, map, ℕ, List, arith, ap, sym, ◌∙◌, subst}
+use Rattle.std.proofs.Common.{◌≡◌, ◌<◌, take, length, map, arith, ap, ◌∙◌}
 use Rattle.std.proofs.lemmas.List.{length-map}
 use Rattle.cut_tree.specs.Nodes.{tree_of}
-use Rattle.cut_tree.specs.Spelling.{words, SpelledAt, tokens}
+use Rattle.cut_tree.specs.Spelling.{words, tokens}
 use Rattle.cut_tree.proofs.Whole.{spelled_text, cuts_in-tokens, demands_read}
 use Rattle.std.proofs.lemmas.Result.{err_from_is_err_and}
 use Rattle.cut_tree.proofs.FirstWords.{read_fault, behind_fault, all_taken}
