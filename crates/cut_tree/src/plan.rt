@@ -3,6 +3,7 @@ ghost use Rattle.cut_tree.specs.Tree.{Tree, cut_count, count_of, leaf_sum};
 ghost use Rattle.cut_tree.specs.declared.token.Cause.TheVariants.{NoMemory};
 ghost use Rattle.cut_tree.specs.Spelling.{text_of, IsSpelling, IsFirstFault};
 ghost use Rattle.cut_tree.specs.Laying.{IsLaid};
+ghost use Rattle.cut_tree.specs.Nodes.{tree_of};
 ghost use Rattle.cut_tree.specs.Patterns.{IsPlan};
 ghost use Rattle.cut_tree.specs.Stepping.{AreSteps};
 ghost use Rattle.cut_tree.specs.Bars.{IsBarPiece, bar_length, bar_tree, IsBarFault};
@@ -160,6 +161,16 @@ impl Plan {
         };
         lay_node(&self.root, rect, saw, 0, 0, &mut rows)?;
         Ok(rows)
+    }
+}
+
+impl Plan {
+    /// The plan of these nodes on a unit of this size, under this kerf.
+    pub fn of(root: Node, size: Size, kerf: u32) -> Plan
+        requires { IsPlan (record { tree = tree_of root; w = size.w; h = size.h; kerf = kerf }) }
+        ensures { result ≡ record { tree = tree_of root; w = size.w; h = size.h; kerf = kerf } }
+    {
+        Plan { root, size, kerf }
     }
 }
 
