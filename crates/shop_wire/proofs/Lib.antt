@@ -1,0 +1,4 @@
+pub mod Parts
+pub mod Failing
+pub mod LineLemmas
+pub mod Reading
