@@ -1,8 +1,12 @@
 //! Messages and queries as lines of JSON, and their replies as lines, over any source, sink and book.
 #![tactic(auto)]
 
+mod answers;
+mod desk_stub;
 mod faults;
 mod reader;
+mod replays;
 mod writer;
 
 pub use faults::ReplayFault;
+pub use replays::replay;
