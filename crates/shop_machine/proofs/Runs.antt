@@ -111,3 +111,7 @@ gives_after texts history old new [] (r ∷ rs) are given run = absurd run
 gives_after texts history old new (m ∷ ms) [] are given run = absurd run
 gives_after texts history old new (m ∷ ms) (r ∷ rs) are given run =
     gives_after texts (accepted_after history m r) run.0 new ms rs are.1 (gives_step texts history old run.0 m given are.0 r run.1) run.2
+
+pub AreMessages-push : (messages : List Message) (message : Message) → AreMessages messages → IsMessage message → AreMessages (messages ++ message ∷ [])
+AreMessages-push [] message are is = (is, tt)
+AreMessages-push (m ∷ ms) message are is = (are.0, AreMessages-push ms message are.1 is)

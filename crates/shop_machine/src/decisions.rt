@@ -1,4 +1,6 @@
-ghost use Rattle.std.specs.Prelude.{◌≡◌, ◌*◌, ◌≤◌, IfOk};
+ghost use Rattle.std.specs.Prelude.{◌≡◌, ◌≢◌, ◌*◌, ◌≤◌, IfOk, IfErr, IsTrue};
+ghost use Rattle.shop_machine.specs.History.{is_accepted};
+ghost use Rattle.shop_machine.specs.declared.refusals.Refusal.TheVariants.{StoreFault};
 ghost use Rattle.cut_measure.specs.Measures.{Rule};
 ghost use Rattle.shop_machine.specs.Machine.{Decides, material_refusal, material_change, receive_refusal, receive_change, unit_parts};
 
@@ -23,8 +25,10 @@ pub fn decide_material(
     min_long: u32,
     min_short: u32,
 ) -> Result<Change, Refusal>
-    ensures { let rule : Rule = record { kerf = kerf; min_long = min_long; min_short = min_short } in
+    ensures decision { let rule : Rule = record { kerf = kerf; min_long = min_long; min_short = min_short } in
         Decides (material_refusal known kind rule) (material_change known material kind rule) result }
+    ensures told { IfOk result (λ change. IsTrue (is_accepted change.reply)) }
+    ensures sure { IfErr result (λ refusal. refusal ≢ StoreFault) }
 {
     let Some(limits) = Limits::new(kind, kerf, min_long, min_short) else {
         return Err(Refusal::BadMaterial);
@@ -90,8 +94,10 @@ pub fn decide_receive(
     count: u32,
 ) -> Result<Change, Refusal>
     requires { 1 ≤ act }
-    ensures { Decides (receive_refusal known received act w h count)
+    ensures decision { Decides (receive_refusal known received act w h count)
         (receive_change material batch (record { w = w; h = h }) act count) result }
+    ensures told { IfOk result (λ change. IsTrue (is_accepted change.reply)) }
+    ensures sure { IfErr result (λ refusal. refusal ≢ StoreFault) }
 {
     let Some(known) = known else {
         return Err(Refusal::NoMaterial);

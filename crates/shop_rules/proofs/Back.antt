@@ -53,11 +53,11 @@ sent_back_by : (terminal n : ℕ) (command : Command) → IsNumber terminal → 
 sent_back_by terminal n (AddMaterial material kind kerf min_long min_short) p q h =
     let d = message_data (record { terminal = terminal; number = n; command = AddMaterial material kind kerf min_long min_short }) in
     read_sent d (codes "material") terminal n (AddMaterial material kind kerf min_long min_short) refl refl refl refl p q
-        (read_material d material kind kerf min_long min_short refl refl refl refl refl h)
+    (read_material d material kind kerf min_long min_short refl refl refl refl refl h)
 sent_back_by terminal n (Receive material batch w h count) p q c =
     let d = message_data (record { terminal = terminal; number = n; command = Receive material batch w h count }) in
     read_sent d (codes "receive") terminal n (Receive material batch w h count) refl refl refl refl p q
-        (read_receive d material batch w h count refl refl refl refl refl c)
+    (read_receive d material batch w h count refl refl refl refl refl c)
 
 pub sent_back : (message : Message) → IsMessage message → sent_of (message_data message) ≡ Some message
 sent_back message h = sent_back_by message.terminal message.number message.command h.terminal h.number h.command
@@ -95,24 +95,42 @@ text_read_by : (terminal n : ℕ) (command : Command) → IsNumber terminal → 
     → let d = message_data (record { terminal = terminal; number = n; command = command }) in read (compact_text d) ≡ Some d
 text_read_by terminal n (AddMaterial material kind kerf min_long min_short) p q h =
     let d = message_data (record { terminal = terminal; number = n; command = AddMaterial material kind kerf min_long min_short }) in
-    read-compact d
-        (tt, (IsNumber-decimal kerf (wide kerf h.1), (tt, (tt, (IsNumber-decimal min_long (wide min_long h.2), (IsNumber-decimal min_short (wide min_short h.3),
-        (IsNumber-decimal n (wide n q), (IsNumber-decimal terminal (wide terminal p), tt)))))))) (omega arith)
-        (rw (number_of-decimal kerf (wide kerf h.1), number_of-decimal min_long (wide min_long h.2), number_of-decimal min_short (wide min_short h.3), number_of-decimal n (wide n q), number_of-decimal terminal (wide terminal p)) refl)
+    read-compact d (
+      tt,
+      (
+        IsNumber-decimal kerf (wide kerf h.1),
+        (
+          tt,
+          (
+            tt,
+            (
+              IsNumber-decimal min_long (wide min_long h.2),
+              (
+                IsNumber-decimal min_short (wide min_short h.3),
+                (IsNumber-decimal n (wide n q), (IsNumber-decimal terminal (wide terminal p), tt)),
+              ),
+            ),
+          ),
+        ),
+      ),
+    ) (omega arith)
+    (rw (number_of-decimal kerf (wide kerf h.1), number_of-decimal min_long (wide min_long h.2), number_of-decimal min_short (wide min_short h.3), number_of-decimal n (wide n q), number_of-decimal terminal (wide terminal p)) refl)
 text_read_by terminal n (Receive material batch w h count) p q c =
     let d = message_data (record { terminal = terminal; number = n; command = Receive material batch w h count }) in
     read-compact d
-        (tt, (IsNumber-decimal count (wide count c.4), (tt, (IsNumber-decimal h (wide h c.3), (tt, (IsNumber-decimal n (wide n q), (IsNumber-decimal terminal (wide terminal p), (IsNumber-decimal w (wide w c.2), tt)))))))) (omega arith)
-        (rw (number_of-decimal count (wide count c.4), number_of-decimal h (wide h c.3), number_of-decimal n (wide n q), number_of-decimal terminal (wide terminal p), number_of-decimal w (wide w c.2)) refl)
+    (tt, (IsNumber-decimal count (wide count c.4), (tt, (IsNumber-decimal h (wide h c.3), (tt, (IsNumber-decimal n (wide n q), (IsNumber-decimal terminal (wide terminal p), (IsNumber-decimal w (wide w c.2), tt)))))))) (omega arith)
+    (rw (number_of-decimal count (wide count c.4), number_of-decimal h (wide h c.3), number_of-decimal n (wide n q), number_of-decimal terminal (wide terminal p), number_of-decimal w (wide w c.2)) refl)
 
 pub message_text_read : (message : Message) → IsMessage message → read (json_texts.of_message message) ≡ Some (message_data message)
+unfolding json_texts
 message_text_read message h = text_read_by message.terminal message.number message.command h.terminal h.number h.command
 
 pub reply_text_read : (answer : Reply) → IsMade answer → read (json_texts.of_reply answer) ≡ Some (reply_data answer)
+unfolding json_texts
 reply_text_read (reply.AddMaterial material) h = read-compact (reply_data (reply.AddMaterial material)) (tt, (tt, tt)) (omega arith) refl
 reply_text_read (reply.Receive act count) h =
     read-compact (reply_data (reply.Receive act count)) (IsNumber-decimal act (wide act h.0), (IsNumber-decimal count (wide count h.1), (tt, tt))) (omega arith)
-        (rw (number_of-decimal act (wide act h.0), number_of-decimal count (wide count h.1)) refl)
+    (rw (number_of-decimal act (wide act h.0), number_of-decimal count (wide count h.1)) refl)
 reply_text_read (reply.Totals material received stock rack pieces kerf scrap) h = absurd h
 reply_text_read (reply.Refused refusal) h = absurd h
 
@@ -120,17 +138,20 @@ same_some : {A : Type 0} (a b : A) → Some a ≡ Some b → a ≡ b
 same_some a b e = cc
 
 pub one_message : (m n : Message) → IsMessage m → IsMessage n → json_texts.of_message m ≡ json_texts.of_message n → m ≡ n
+unfolding json_texts
 one_message m n p q same =
     let read_m = message_text_read m p in
     let data_same : message_data m ≡ message_data n = same_some _ _ (sym read_m ∙ ap read same ∙ message_text_read n q) in
     same_some m n (sym (sent_back m p) ∙ ap sent_of data_same ∙ sent_back n q)
 
 pub one_reply : (a b : Reply) → IsMade a → IsMade b → json_texts.of_reply a ≡ json_texts.of_reply b → a ≡ b
+unfolding json_texts
 one_reply a b p q same =
     let data_same : reply_data a ≡ reply_data b = same_some _ _ (sym (reply_text_read a p) ∙ ap read same ∙ reply_text_read b q) in
     same_some a b (sym (reply_back a p) ∙ ap reply_of data_same ∙ reply_back b q)
 
 pub kept_back : (answer : Reply) → IsMade answer → kept_reply_of (json_texts.of_reply answer) ≡ Some answer
+unfolding json_texts
 kept_back answer h = ap (option_and_then reply_of) (reply_text_read answer h) ∙ reply_back answer h
 
 -- ---- no value is both

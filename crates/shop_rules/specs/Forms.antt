@@ -157,7 +157,7 @@ reply_data (reply.Refused refusal) =
 -- ---- texts
 
 -- the canonical text of a message, and the text of a reply: compact JSON
-abbrev pub json_texts : Texts
+unfoldable pub json_texts : Texts
 json_texts =
     record {
       of_message = λ message. compact_text (message_data message);

@@ -153,6 +153,7 @@ pub fn reply_value(alloc: Global, reply: &Reply) -> Result<Value, AllocError>
     }
 }
 
+#[tactic(auto, unfolding(crate::specs::Forms::json_texts))]
 /// The canonical text of a message: compact, with its keys in byte order.
 pub fn message_text(alloc: Global, message: &Message) -> Result<Text, AllocError>
     ensures text { IfOk result (λ text. text ≡ json_texts.of_message message.now) }
@@ -163,6 +164,7 @@ pub fn message_text(alloc: Global, message: &Message) -> Result<Text, AllocError
     Ok(Text::of(text))
 }
 
+#[tactic(auto, unfolding(crate::specs::Forms::json_texts))]
 /// The text of a reply: compact, with its keys in byte order.
 pub fn reply_text(alloc: Global, reply: &Reply) -> Result<Text, AllocError>
     ensures { IfOk result (λ text. text ≡ json_texts.of_reply reply.now) }

@@ -110,7 +110,6 @@ module _ {X K : Type 0} (key_of : X → K) (cmp : K → K → Ordering) (o : IsT
 
   -- ---- no row with the key
 
-
   ranked : (x y key : K) (r : Ordering) → cmp x y ≡ Less → cmp y key ≡ r → ordering_index (cmp x key) ≤ ordering_index (cmp y key)
   ranked x y key Less lt e = subst (λ q. ordering_index q ≤ ordering_index (cmp y key)) (sym (o.trans x y key lt e)) (omega arith)
   ranked x y key Equal lt e = subst (λ q. ordering_index q ≤ ordering_index (cmp y key)) (sym (sym (alike_right o y key x e) ∙ lt)) (omega arith)

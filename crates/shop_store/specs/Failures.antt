@@ -2,6 +2,8 @@
 use Rattle.std.specs.Prelude.{◌≡◌, ℕ, ◌+◌, nat_lt, if◌then◌else◌, Result, Ok, Err}
 use Rattle.shop_store.specs.declared.books.BookFault.{BookFault}
 use Rattle.shop_store.specs.declared.books.BookFault.TheVariants.{NoMemory, Store}
+use Rattle.shop_machine.specs.declared.refusals.Refusal.{Refusal}
+use Rattle.shop_machine.specs.declared.refusals.Refusal.TheVariants as refusal
 
 abbrev pub most_failures : ℕ
 most_failures = 18446744073709551615
@@ -15,3 +17,8 @@ abbrev pub CountsFailure : {T : Type 0} → ℕ → Result T BookFault → ℕ �
 CountsFailure before (Ok x) after = after ≡ before
 CountsFailure before (Err NoMemory) after = after ≡ before
 CountsFailure before (Err Store) after = after ≡ one_more_failure before
+
+-- the refusal that tells of a fault
+abbrev pub refusal_for : BookFault → Refusal
+refusal_for NoMemory = refusal.NoMemory
+refusal_for Store = refusal.StoreFault

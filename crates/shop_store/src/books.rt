@@ -4,7 +4,7 @@ ghost use Rattle.shop_machine.specs.Soundness.{Fits};
 ghost use Rattle.shop_store.specs.Failures.{CountsFailure};
 
 use cut_measure::{Code, PartName};
-use shop_machine::{Change, Kept, Material, Part, PartList, Totals};
+use shop_machine::{Change, Kept, Material, Part, PartList, Refusal, Totals};
 use std::alloc::Global;
 
 /// Why a book has no answer.
@@ -14,6 +14,20 @@ pub enum BookFault {
     NoMemory,
     /// The store failed; the book counts it.
     Store,
+}
+
+impl From<BookFault> for Refusal {
+    ghost use Rattle.std.specs.Prelude.{◌≡◌};
+    ghost use Rattle.shop_store.specs.Failures.{refusal_for};
+
+    ghost from_gives = { λ fault refusal. refusal ≡ refusal_for fault };
+
+    fn from(fault: BookFault) -> Refusal {
+        match fault {
+            BookFault::NoMemory => Refusal::NoMemory,
+            BookFault::Store => Refusal::StoreFault,
+        }
+    }
 }
 
 /// What the shop contains, wherever it is kept.

@@ -1,0 +1,68 @@
+use Rattle.std.specs.Prelude.{Some}
+use Rattle.std.proofs.Common.{◌≡◌, refl, sym, ap, subst, inl, ◌∙◌}
+use Rattle.shop_machine.specs.declared.kept_texts.Kept.{Kept}
+use Rattle.shop_machine.specs.declared.changes.Change.{Change}
+use Rattle.shop_machine.specs.Messages.{pair_of}
+use Rattle.shop_machine.specs.Content.{changed}
+use Rattle.shop_machine.specs.Machine.{keeping}
+use Rattle.shop_machine.specs.Soundness.{Fits}
+use Rattle.shop_rules.specs.Forms.{json_texts}
+use Rattle.shop_machine.specs.declared.refusals.Refusal.TheVariants.{BadMessage}
+use Rattle.shop_machine.specs.declared.messages.Reply.TheVariants.{Refused}
+use Rattle.shop_desk.specs.Faults.{CountsReply}
+use Rattle.shop_desk.specs.Handled.{IsHandled}
+use Rattle.shop_desk.proofs.Steps.{decided, faulted, committed, failed, counts_made, is_fault, fits_committed}
+use Rattle.shop_desk.proofs.desk_calls.handle_new.Goals as goal
+
+pub returns-in-Err-clause-step : goal.returns-in-Err-clause-step
+returns-in-Err-clause-step g c =
+    λ _ is_message honest m held sound none.
+    decided json_texts g.B.Book.stands (g.B.Book.may_leave c.args.book.now) (g.B.Book.may_leave c.decide.new.book) (g.B.Book.holds c.decide.new.book)
+    m c.args.message.now c.in-Err.refusal (c.in-Err.ensures.decision honest m held) none sound (c.decide.ensures.stays honest m held) (c.decide.ensures.crash honest m held)
+
+pub returns-in_default-clause-step : goal.returns-in_default-clause-step
+returns-in_default-clause-step g c =
+    λ _ is_message honest m held sound none.
+    faulted json_texts g.B.Book.stands (g.B.Book.may_leave c.args.book.now) (g.B.Book.may_leave c.decide.new.book) (g.B.Book.holds c.decide.new.book)
+    m c.args.message.now _ (λ n s. n refl) sound (c.decide.ensures.stays honest m held) (c.decide.ensures.crash honest m held)
+
+-- the change that is committed keeps the message with both texts
+pub returns-in-Ok-commit-clause-step : goal.returns-in-Ok-commit-clause-step
+returns-in-Ok-commit-clause-step g c =
+    λ text is_message honest m held sound none.
+    let before = c.commit.ensures.honest honest in
+    let kept = c.decide.ensures.stays before m held in
+    let decision = c.in-Ok.ensures.decision before m held in
+    let change = c.keeping_message-change.result.0 in
+    let made = c.in-Ok.change in
+    let row : changed m change ≡ changed m (keeping json_texts c.args.message.now made) =
+    ap (changed m) c.keeping_message-change.ensures.change
+    ∙ ap (λ t. changed m (record made { kept = Some (record { pair = pair_of c.args.message.now; kept = record { command = t; reply = c.in-Ok-reply_text.told } }) })) text
+    ∙ ap (λ t. changed m (record made { kept = Some (record { pair = pair_of c.args.message.now; kept = record { command = json_texts.of_message c.args.message.now; reply = t } }) })) c.in-Ok-reply_text.ensures in
+    let fits : Fits m change = subst (Fits m) (sym c.keeping_message-change.ensures.change) (fits_committed json_texts m c.args.message.now made c.args.text c.in-Ok-reply_text.told (Refused BadMessage) none sound decision.0 decision.1) in
+    subst (λ answer. IsHandled json_texts g.B.Book.stands (g.B.Book.may_leave c.args.book.now) (g.B.Book.may_leave c.commit.new.self) (g.B.Book.holds c.commit.new.self) m c.args.message.now answer)
+    (sym c.keeping_message-change.ensures.reply)
+    (committed json_texts g.B.Book.stands (g.B.Book.may_leave c.args.book.now) (g.B.Book.may_leave c.decide.new.book) (g.B.Book.may_leave c.commit.new.self) (g.B.Book.holds c.commit.new.self)
+    m c.args.message.now change made is_message none sound decision.0 decision.1 row (c.in-Ok-commit.ensures.ok honest m kept fits) (c.in-Ok-commit.ensures.lasts honest m kept fits))
+
+pub returns-in-Ok-commit-clause-failures : goal.returns-in-Ok-commit-clause-failures
+returns-in-Ok-commit-clause-failures g c =
+    subst (λ answer. CountsReply (g.B.Book.failed c.args.book.now) answer (g.B.Book.failed c.commit.new.self)) (sym c.keeping_message-change.ensures.reply)
+    (counts_made (g.B.Book.failed c.args.book.now) (g.B.Book.failed c.commit.new.self) c.in-Ok.change.reply c.in-Ok.ensures.told (c.in-Ok-commit.ensures.failures ∙ c.in-Ok.ensures.failures))
+
+pub returns-in-Err-commit-clause-step : goal.returns-in-Err-commit-clause-step
+returns-in-Err-commit-clause-step g c =
+    λ text is_message honest m held sound none.
+    let before = c.commit.ensures.honest honest in
+    let kept = c.decide.ensures.stays before m held in
+    let decision = c.in-Ok.ensures.decision before m held in
+    let change = c.keeping_message-change.result.0 in
+    let made = c.in-Ok.change in
+    let row : changed m change ≡ changed m (keeping json_texts c.args.message.now made) =
+    ap (changed m) c.keeping_message-change.ensures.change
+    ∙ ap (λ t. changed m (record made { kept = Some (record { pair = pair_of c.args.message.now; kept = record { command = t; reply = c.in-Ok-reply_text.told } }) })) text
+    ∙ ap (λ t. changed m (record made { kept = Some (record { pair = pair_of c.args.message.now; kept = record { command = json_texts.of_message c.args.message.now; reply = t } }) })) c.in-Ok-reply_text.ensures in
+    let fits : Fits m change = subst (Fits m) (sym c.keeping_message-change.ensures.change) (fits_committed json_texts m c.args.message.now made c.args.text c.in-Ok-reply_text.told (Refused BadMessage) none sound decision.0 decision.1) in
+    failed json_texts g.B.Book.stands (g.B.Book.may_leave c.args.book.now) (g.B.Book.may_leave c.decide.new.book) (g.B.Book.may_leave c.commit.new.self) (g.B.Book.holds c.commit.new.self)
+    m c.args.message.now change made is_message none sound decision.0 decision.1 row c.from.result (is_fault json_texts c.from.result c.in-Err-commit.fault c.from.ensures)
+    (c.in-Err-commit.ensures.err honest m kept fits) (c.decide.ensures.crash before m held) (c.commit.ensures.crash honest m kept fits)

@@ -1,0 +1,137 @@
+ghost use Rattle.std.specs.Prelude.{◌≡◌, ◌≢◌, IfOk, OnErr, None};
+ghost use Rattle.shop_machine.specs.Content.{Content, kept_at};
+ghost use Rattle.shop_machine.specs.Messages.{IsMessage, pair_of};
+ghost use Rattle.shop_machine.specs.Machine.{Answers, StepAgain};
+ghost use Rattle.shop_machine.specs.Soundness.{IsSound, IsKept};
+ghost use Rattle.shop_machine.specs.declared.kept_texts.Pair.{Pair as PairOf};
+ghost use Rattle.shop_machine.specs.declared.messages.Message.{Message as MessageOf};
+ghost use Rattle.shop_machine.specs.declared.messages.Reply.TheVariants.{Refused};
+ghost use Rattle.shop_machine.specs.declared.refusals.Refusal.TheVariants.{StoreFault};
+ghost use Rattle.shop_rules.specs.Forms.{json_texts};
+ghost use Rattle.shop_desk.specs.Faults.{CountsReply, CountsOrContradicts, StoreFailed};
+ghost use Rattle.shop_desk.specs.Handled.{IsHandled, HasRun};
+
+use crate::decided::{decide, keeping_message};
+use shop_rules::{
+    Kept, KeptMessage, Message, Pair, Query, Refusal, Reply, Text, kept_reply, message_text,
+    reply_text,
+};
+use shop_store::Book;
+use std::alloc::{AllocError, Global};
+
+// What is answered to a message whose pair is kept. The text is the message's.
+fn answer_again(alloc: Global, text: &Text, kept: &Kept) -> Reply
+    ensures { (message : MessageOf) → text.now ≡ json_texts.of_message message → (pair : PairOf) → IsKept json_texts pair kept.now
+        → StepAgain json_texts kept.now message result × (result ≢ Refused StoreFault) }
+{
+    if kept.command.as_str() != text.as_str() {
+        return Reply::Refused(Refusal::NumberReused);
+    }
+    match kept_reply(alloc, kept.reply.as_str()) {
+        Ok(Some(reply)) => reply,
+        Ok(None) => Reply::Refused(Refusal::StoreFault),
+        Err(_) => Reply::Refused(Refusal::NoMemory),
+    }
+}
+
+// Handles a message whose pair isn't kept. The text is the message's.
+fn handle_new<B: Book>(alloc: Global, book: &mut B, message: &Message, text: Text) -> Reply
+    ensures step { text ≡ json_texts.of_message message.now → IsMessage message.now → B.is_honest book.new → (m : Content) → B.holds book.old m
+        → IsSound json_texts m → kept_at m (pair_of message.now) ≡ None
+        → IsHandled json_texts B.stands (B.may_leave book.old) (B.may_leave book.new) (B.holds book.new) m message.now result }
+    ensures honest { B.is_honest book.new → B.is_honest book.old }
+    ensures failures { CountsReply (B.failed book.old) result (B.failed book.new) }
+{
+    let change = match decide(alloc, book, &message.command) {
+        Ok(change) => change,
+        Err(refusal) => return Reply::Refused(refusal),
+    };
+    let Ok(told) = reply_text(alloc, &change.reply) else {
+        return Reply::Refused(Refusal::NoMemory);
+    };
+    let pair = Pair {
+        terminal: message.terminal,
+        number: message.number,
+    };
+    let kept = Kept {
+        command: text,
+        reply: told,
+    };
+    let (change, reply) = keeping_message(change, KeptMessage { pair, kept });
+    match book.commit(change) {
+        Ok(()) => reply,
+        Err(fault) => Reply::Refused(Refusal::from(fault)),
+    }
+}
+
+/// Handles a message: one step of the machine. A message whose pair is kept gets the kept reply, or 11 where it is
+/// another command; one that is accepted is kept with its reply.
+pub fn handle<B: Book>(alloc: Global, book: &mut B, message: &Message) -> Reply
+    ensures step { B.is_honest book.new → (m : Content) → B.holds book.old m → IsSound json_texts m
+        → IsHandled json_texts B.stands (B.may_leave book.old) (B.may_leave book.new) (B.holds book.new) m message.now result }
+    ensures message { IsMessage message.now }
+    ensures honest { B.is_honest book.new → B.is_honest book.old }
+    ensures failures { CountsOrContradicts (B.failed book.old) result (B.failed book.new) }
+    ensures store_fault { B.is_honest book.new → (m : Content) → B.holds book.old m → IsSound json_texts m
+        → result ≡ Refused StoreFault → StoreFailed (B.failed book.old) (B.failed book.new) }
+{
+    let Ok(text) = message_text(alloc, message) else {
+        return Reply::Refused(Refusal::NoMemory);
+    };
+    match book.kept(alloc, message.terminal, message.number) {
+        Ok(None) => handle_new(alloc, book, message, text),
+        Ok(Some(kept)) => answer_again(alloc, &text, &kept),
+        Err(fault) => Reply::Refused(Refusal::from(fault)),
+    }
+}
+
+/// Answers a query, and changes nothing.
+pub fn ask<B: Book>(_alloc: Global, book: &mut B, query: &Query) -> Reply
+    ensures answer { B.is_honest book.new → (m : Content) → B.holds book.old m → Answers m query.now result }
+    ensures stays { B.is_honest book.new → (m : Content) → B.holds book.old m → B.holds book.new m }
+    ensures crash { B.is_honest book.new → (m : Content) → B.holds book.old m → (left : B.Left) → B.may_leave book.new left → B.may_leave book.old left }
+    ensures honest { B.is_honest book.new → B.is_honest book.old }
+    ensures failures { CountsReply (B.failed book.old) result (B.failed book.new) }
+    ensures store_fault { result ≡ Refused StoreFault → StoreFailed (B.failed book.old) (B.failed book.new) }
+{
+    match *query {
+        Query::Totals { material } => match book.material(material) {
+            Err(fault) => Reply::Refused(Refusal::from(fault)),
+            Ok(None) => Reply::Refused(Refusal::NoMaterial),
+            Ok(Some(_)) => match book.totals(material) {
+                Err(fault) => Reply::Refused(Refusal::from(fault)),
+                Ok(totals) => Reply::Totals {
+                    material,
+                    received: totals.received,
+                    stock: totals.stock,
+                    rack: totals.rack,
+                    pieces: totals.pieces,
+                    kerf: totals.kerf,
+                    scrap: totals.scrap,
+                },
+            },
+        },
+    }
+}
+
+/// Handles messages in order. It makes room for all replies first, so an `Err` means that none was handled.
+pub fn run<B: Book>(
+    alloc: Global,
+    book: &mut B,
+    messages: &[Message],
+) -> Result<Vec<Reply>, AllocError>
+    ensures run { B.is_honest book.new → (m : Content) → B.holds book.old m → IsSound json_texts m → IfOk result (λ replies.
+        HasRun json_texts B.stands (B.may_leave book.old) (B.may_leave book.new) (B.holds book.new) m messages.now replies.items) }
+    ensures err { OnErr result (book.new ≡ book.old) }
+    ensures honest { B.is_honest book.new → B.is_honest book.old }
+{
+    let mut replies = Vec::with_capacity(alloc, messages.len())?;
+    for message in messages {
+        let reply = handle(alloc, book, message);
+        match replies.push(reply) {
+            Ok(()) => (),
+            Err(_) => unreachable!(),
+        }
+    }
+    Ok(replies)
+}

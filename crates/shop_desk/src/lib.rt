@@ -1,0 +1,7 @@
+//! The shop's desk: it handles messages and answers queries over any book.
+#![tactic(auto)]
+
+mod decided;
+mod desk_calls;
+
+pub use desk_calls::{ask, handle, run};
