@@ -8,3 +8,8 @@ most_failures = 18446744073709551615
 abbrev pub CountsFailure : {T : Type 0} → ℕ → Result T Failed → ℕ → Type 0
 CountsFailure before (Ok x) after = after ≡ before
 CountsFailure before (Err e) after = after ≡ (if nat_lt before most_failures then before + 1 else before)
+
+-- a reader or a writer, and how often it failed
+pub record Tally (T : Type 0) : Type 0 where
+  pub inner : T
+  pub failures : ℕ

@@ -2,6 +2,7 @@ ghost use Rattle.std.specs.Prelude.{◌≡◌};
 
 use crate::streams::{Failed, Sink, Source};
 use std::io::{ErrorKind, Read, Write};
+use std::marker::Model;
 
 const MOST_TRIES: u32 = 1000;
 
@@ -11,6 +12,14 @@ const MOST_TRIES: u32 = 1000;
 pub struct Counted<T> {
     inner: T,
     failures: u64,
+}
+
+impl<T> Model for Counted<T> {
+    ghost use Rattle.shop_text.specs.Streams.{Tally};
+
+    ghost Value = { Tally T };
+
+    ghost view = { λ c. record { inner = c.inner; failures = c.failures } };
 }
 
 impl<T> Counted<T> {

@@ -4,7 +4,7 @@ use Rattle.std.proofs.Math.Seq.{take-length, drop-cons}
 use Rattle.std.proofs.lemmas.Bool.Decides.{nat_tests}
 use Rattle.std.proofs.lemmas.List.{take-append-drop, drop-drop, drop-take}
 use Rattle.std.specs.Prelude.{slice_index}
-use Rattle.memchr.specs.Find.{IsFirstByte, Nowhere, Passes, is_byte}
+use Rattle.memchr.specs.Find.{Nowhere, Passes, is_byte}
 use Rattle.shop_wire.specs.Lines.{HasNoFeed, pending}
 
 false_from : (b : Bool) → (b ≡ true → ⊥) → b ≡ false

@@ -1,7 +1,7 @@
 -- A line while it is read.
 use Rattle.std.proofs.Common.{◌≡◌, ℕ, zero, suc, lit<, ◌+◌, ◌-◌, ◌<◌, ◌≤◌, List, [], ◌∷◌, ◌++◌, length, take, Bool, true, false, Option, Some, None, refl, sym, ap, subst, ◌∙◌, arith, append_assoc, append-nil, length-append, nat_eq, ne_eqb, Result, Ok}
 use Rattle.std.proofs.lemmas.List.{length-take}
-use Rattle.std.specs.Prelude.{IfSome, not}
+use Rattle.std.specs.Prelude.{not}
 use Rattle.std.specs.Io.KnownBytes.{Consumes, IsAtEnd, prepend_known}
 use Rattle.std.proofs.KnownBytes.{Consumes-trans, Consumes-nil}
 use Rattle.shop_wire.specs.Lines.{lines_of, HasNoFeed, GivesLine, kept_of, longest_line}
@@ -37,10 +37,10 @@ pub refilled : (before left left' : Option (List ℕ)) (p line got : List ℕ) �
 refilled before left left' p line got so_far is =
     record { free = so_far.free; kept = so_far.kept; taken = subst (Consumes before (prepend_known p left')) (append-nil got) (Consumes-trans before (prepend_known [] left) (prepend_known p left') got [] so_far.taken (came left left' is)) }
   where
-  came : (a b : Option (List ℕ)) → Consumes a b p → Consumes (prepend_known [] a) (prepend_known p b) []
-  came None b h = tt
-  came (Some x) None h = absurd h
-  came (Some x) (Some y) h = h
+    came : (a b : Option (List ℕ)) → Consumes a b p → Consumes (prepend_known [] a) (prepend_known p b) []
+    came None b h = tt
+    came (Some x) None h = absurd h
+    came (Some x) (Some y) h = h
 
 pub at_the_end : (before left left' : Option (List ℕ)) (p line got : List ℕ) → IsReading before (prepend_known [] left) line got → Consumes left left' [] → p ≡ [] → IsReading before (prepend_known p left') line got
 at_the_end before left left' p line got so_far is none = refilled before left left' p line got so_far (subst (Consumes left left') (sym none) is)

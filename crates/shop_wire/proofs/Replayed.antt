@@ -1,7 +1,9 @@
 -- Lines that were answered, and more of them.
-use Rattle.std.proofs.Common.{◌≡◌, ℕ, ◌+◌, List, [], ◌∷◌, ◌++◌, length, Option, Some, None, refl, sym, ap, subst, ◌∙◌, arith, append_assoc, append-nil, length-append}
-use Rattle.std.specs.Prelude.{IfSome, ⊤}
-use Rattle.std.specs.List.{flat_map}
+use Rattle.std.proofs.Common.{◌≡◌, ℕ, ◌+◌, ◌*◌, ◌≤◌, inl, inr, Result, Ok, Err, List, [], ◌∷◌, ◌++◌, length, Option, Some, None, refl, sym, ap, subst, ◌∙◌, arith, append_assoc, append-nil, length-append}
+use Rattle.std.specs.Prelude.{IfErr, ◌⊎◌, ⊤}
+use Rattle.shop_wire.specs.declared.faults.ReplayFault.{ReplayFault}
+use Rattle.shop_wire.specs.declared.faults.ReplayFault.TheVariants.{Read, Write, NoMemory}
+use Rattle.shop_wire.specs.Streams.{work, most_reads}
 use Rattle.std.specs.Io.KnownBytes.{Appends, IsAtEnd, prepend_known}
 use Rattle.std.proofs.KnownBytes.{Appends-trans, Appends-nil}
 use Rattle.std.proofs.lemmas.Grind.{flat_map-append}
@@ -132,3 +134,21 @@ first_read left now lines those rest line p is =
     let same : (lines ++ line ∷ []) ++ more.0 ≡ (lines ++ those) ++ (rest ++ more.0) =
     ap (λ l. (lines ++ l) ++ more.0) (sym is) ∙ ap (λ l. l ++ more.0) (sym (append_assoc lines those rest)) ∙ append_assoc (lines ++ those) rest more.0 in
     (rest ++ more.0, subst (AreLines left) same more.1)
+
+-- ---- at the start, and where it stops
+
+pub work_before : (reads : ℕ) (p : List ℕ) → reads ≡ 0 → p ≡ [] → 0 + work reads p ≤ most_reads * 65537
+work_before reads p is none = omega (arith, is, ap length none)
+
+pub for_each_fault : {T E : Type 0} (r : Result T E) (P : E → Type 0) → ((e : E) → P e) → IfErr r P
+for_each_fault (Ok x) P h = tt
+for_each_fault (Err e) P h = h e
+
+pub for_the_fault : {T E : Type 0} (r : Result T E) (P : E → Type 0) (e : E) → r ≡ Err e → P e → IfErr r P
+for_the_fault (Ok x) P e is h = absurd (cc is)
+for_the_fault (Err d) P e is h = let same : e ≡ d = cc in subst P same h
+
+-- a line was read, so that reading did not fail
+pub not_read : (fault : ReplayFault) (A : Type 0) (unwritten : List ℕ) → (fault ≡ NoMemory) ⊎ ((fault ≡ Write) × A) → fault ≡ Read → unwritten ≡ []
+not_read fault A unwritten (inl is) e = absurd (cc (sym is ∙ e))
+not_read fault A unwritten (inr is) e = absurd (cc (sym is.0 ∙ e))

@@ -1,5 +1,5 @@
 -- The lines of an input, and what is kept of one while it is read.
-use Rattle.std.specs.Prelude.{◌≡◌, ℕ, ◌+◌, ◌-◌, ◌<◌, ◌==◌, List, [], ◌∷◌, ◌++◌, length, take, drop, Bool, false, if◌then◌else◌, Option, Some, None, ⊤}
+use Rattle.std.specs.Prelude.{◌≡◌, ℕ, ◌+◌, ◌-◌, ◌==◌, List, [], ◌∷◌, take, drop, false, if◌then◌else◌, Option, Some, None, ⊤}
 
 -- a byte goes onto the first line of the rest
 abbrev pub onto_first : ℕ → List (List ℕ) → List (List ℕ)

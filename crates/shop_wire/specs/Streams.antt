@@ -1,6 +1,5 @@
 -- How far a source was read, and when a source or a sink failed.
-use Rattle.std.specs.Prelude.{◌≡◌, ℕ, ◌+◌, ◌-◌, ◌*◌, ◌<◌, ◌≤◌, ◌⊎◌, List, length, Bool, true, Option, Some, None, ⊤, IfSome}
-use Rattle.std.specs.Io.KnownBytes.{IsAtEnd}
+use Rattle.std.specs.Prelude.{ℕ, ◌+◌, ◌-◌, ◌*◌, ◌<◌, ◌≤◌, ◌⊎◌, List, length, Option, Some, None, ⊤, IfSome}
 use Rattle.shop_text.specs.Streams.{most_failures}
 
 -- the most reads of a replay

@@ -5,9 +5,9 @@ ghost use Rattle.shop_machine.specs.Soundness.{IsSound};
 ghost use Rattle.shop_rules.specs.Forms.{json_texts};
 ghost use Rattle.shop_wire.specs.Replays.{Leads, LineStep, ValueStep, reply_line};
 
-use crate::desk_stub::{ask, handle};
 use crate::reader::LONGEST_LINE;
 use serde_json::Value;
+use shop_desk::{ask, handle};
 use shop_rules::{Refusal, Reply, Text, read_message, read_query, reply_text};
 use shop_store::Book;
 use std::alloc::{AllocError, Global};
@@ -27,11 +27,7 @@ fn reply_to<B: Book>(alloc: Global, book: &mut B, value: &Value) -> Reply
 }
 
 /// The reply to a line.
-pub(crate) fn answer<B: Book>(
-    alloc: Global,
-    book: &mut B,
-    line: &[u8],
-) -> Result<Reply, AllocError>
+pub(crate) fn answer<B: Book>(alloc: Global, book: &mut B, line: &[u8]) -> Result<Reply, AllocError>
     ensures ok { IfOk result (λ reply. B.is_honest book.new → (m : Content) → B.holds book.old m → IsSound json_texts m → Leads (LineStep m line.now reply) (B.holds book.new)) }
     ensures err { OnErr result (book.new ≡ book.old) }
     ensures honest { B.is_honest book.new → B.is_honest book.old }

@@ -2,7 +2,6 @@
 #![tactic(auto)]
 
 mod answers;
-mod desk_stub;
 mod faults;
 mod reader;
 mod replays;

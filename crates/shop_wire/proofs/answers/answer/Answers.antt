@@ -1,4 +1,4 @@
-use Rattle.std.proofs.Common.{◌≤◌, ◌<◌, length, arith}
+use Rattle.std.proofs.Common.{◌≤◌, length, arith}
 use Rattle.serde_json.specs.View.{view}
 use Rattle.shop_wire.proofs.Answered.{data_read, data_none, data_long, line_answered, line_refused, not_memory}
 use Rattle.shop_wire.proofs.answers.answer.Goals as goal

@@ -7,7 +7,7 @@ use Rattle.shop_wire.proofs.answers.reply_to.Goals as goal
 pub returns-in-Ok-clause-step : goal.returns-in-Ok-clause-step
 returns-in-Ok-clause-step g c = λ honest m held sound.
     let l = c.handle.ensures.step honest m held sound in
-    record { next = l.next; stepped = of_message m l.next (view c.args.value.now) c.handle.result c.in-Ok.message c.in-Ok.ensures l.stepped; held = l.held; sound = l.sound }
+    record { next = l.next; stepped = of_message m l.next (view c.args.value.now) c.handle.result c.in-Ok.message c.in-Ok.ensures l.step; held = l.held; sound = l.sound }
 
 pub returns-in-Ok-read_query-clause-step : goal.returns-in-Ok-read_query-clause-step
 returns-in-Ok-read_query-clause-step g c = λ honest m held sound. record {

@@ -1,8 +1,7 @@
-use Rattle.std.proofs.Common.{◌≡◌, ℕ, ◌+◌, ◌<◌, ◌≤◌, List, [], ◌++◌, length, Option, Ok, true, false, nat_eq, Bool, refl, sym, ap, subst, ◌∙◌, arith, length-append}
-use Rattle.std.specs.Prelude.{not}
+use Rattle.std.proofs.Common.{◌+◌, ◌++◌, Ok, nat_eq, sym, ap, subst, ◌∙◌}
 use Rattle.std.specs.Io.KnownBytes.{prepend_known}
 use Rattle.shop_wire.specs.Lines.{pending}
-use Rattle.shop_wire.specs.Streams.{CountsReads, work, most_reads}
+use Rattle.shop_wire.specs.Streams.{CountsReads, work}
 use Rattle.shop_wire.proofs.Reading.{fed_part, open_part, refilled, at_the_end, last_part, nothing_left, reads_more, kept_none, kept_short, some_got, none_got, same_ok, work_on}
 use Rattle.shop_wire.proofs.reader.LineReader.next_line.Goals as goal
 
@@ -14,7 +13,7 @@ returns-then-fed-clause-line g c =
     let so_far = c.loop-fed.invariant in
     let part = c.in-Ok.ensures.fed (ap Ok c.if-fed.true) in
     let line = fed_part (prepend_known (pending old.buffer old.start old.end) (g.S.Source.left c.args.source.now)) (g.S.Source.left c.loop-fed.source)
-        (pending mid.buffer mid.start mid.end) part.0 (pending new.buffer new.start new.end) c.loop-fed.line.items c.take_part.new.line.items so_far.0 so_far.1 part.1 part.2 part.3 in
+    (pending mid.buffer mid.start mid.end) part.0 (pending new.buffer new.start new.end) c.loop-fed.line.items c.take_part.new.line.items so_far.0 so_far.1 part.1 part.2 part.3 in
     λ _. (so_far.0 ++ part.0, line.0, line.1)
 
 pub returns-then-not-branch-clause-line : goal.returns-then-not-branch-clause-line

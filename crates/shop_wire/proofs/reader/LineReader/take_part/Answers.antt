@@ -1,4 +1,4 @@
-use Rattle.std.proofs.Common.{refl, arith, ◌+◌, ◌-◌, take, drop, length}
+use Rattle.std.proofs.Common.{arith, ◌-◌, take, drop}
 use Rattle.std.proofs.lemmas.List.{length-take}
 use Rattle.shop_wire.specs.Lines.{pending}
 use Rattle.shop_wire.proofs.Parts.{no_feed, no_feed_whole, split_at_feed, pending_none}
@@ -8,8 +8,12 @@ pub returns-in_ok-append_kept-in-Some-clause-fed : goal.returns-in_ok-append_kep
 returns-in_ok-append_kept-in-Some-clause-fed c =
     let self = c.args.self.now in
     let rest = pending self.buffer self.start self.end in
-    λ _. (take c.in-Some.at rest, no_feed rest c.in-Some.at c.in-Some.ensures.0.before,
-      split_at_feed self.buffer self.start self.end c.in-Some.at c.in-Some.ensures.0.high (omega (arith, c.in-Some.ensures.0.high, length-take (self.end - self.start) (drop self.start self.buffer))) c.in-Some.ensures.1, c.in_ok-append_kept-in-Some.ensures)
+    λ _. (
+      take c.in-Some.at rest,
+      no_feed rest c.in-Some.at c.in-Some.ensures.0.before,
+      split_at_feed self.buffer self.start self.end c.in-Some.at c.in-Some.ensures.0.high (omega (arith, c.in-Some.ensures.0.high, length-take (self.end - self.start) (drop self.start self.buffer))) c.in-Some.ensures.1,
+      c.in_ok-append_kept-in-Some.ensures,
+    )
 
 pub returns-in_ok-append_kept-in-None-clause-open : goal.returns-in_ok-append_kept-in-None-clause-open
 returns-in_ok-append_kept-in-None-clause-open c =
