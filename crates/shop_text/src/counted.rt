@@ -1,4 +1,5 @@
 ghost use Rattle.std.specs.Prelude.{◌≡◌};
+ghost use Rattle.shop_text.specs.Streams.{one_more};
 
 use crate::streams::{Failed, Sink, Source};
 use std::io::{ErrorKind, Read, Write};
@@ -30,6 +31,15 @@ impl<T> Counted<T> {
     {
         Counted { inner, failures: 0 }
     }
+
+    // Counts a failure.
+    fn fail(&mut self) -> Failed
+        ensures inner { self.new.inner ≡ self.old.inner }
+        ensures failures { self.new.failures ≡ one_more self.old.failures }
+    {
+        self.failures = self.failures.saturating_add(1);
+        Failed
+    }
 }
 
 impl<R: Read> Source for Counted<R> {
@@ -48,8 +58,7 @@ impl<R: Read> Source for Counted<R> {
                 }
             }
         }
-        self.failures = self.failures.saturating_add(1);
-        Err(Failed)
+        Err(self.fail())
     }
 
     fn failures(&self) -> u64 {
@@ -74,8 +83,7 @@ impl<W: Write> Sink for Counted<W> {
                 }
             }
         }
-        self.failures = self.failures.saturating_add(1);
-        Err(Failed)
+        Err(self.fail())
     }
 
     fn failures(&self) -> u64 {
