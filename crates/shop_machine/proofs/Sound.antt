@@ -32,14 +32,14 @@ use Rattle.shop_machine.specs.declared.messages.Message.{Message}
 use Rattle.shop_machine.specs.declared.messages.Reply.{Reply}
 use Rattle.shop_machine.specs.Messages.{Texts, IsMessage, IsCommand, IsMade, IsNumber, pair_of}
 use Rattle.shop_machine.specs.Columns.{is_counted}
-use Rattle.shop_machine.specs.Content.{Content, fresh, material_at, part_at, kept_at, pair_cmp, counts_for, cells_in, totals_in, totals_of, AddsUp, with_parts, changed}
+use Rattle.shop_machine.specs.Content.{of_found, Content, fresh, material_at, part_at, kept_at, pair_cmp, counts_for, cells_in, totals_in, totals_of, AddsUp, with_parts, changed}
 use Rattle.shop_machine.specs.Machine.{Accepts, Keeps, first_of, refusal_of, change_of, keeping, receive_refusal, receive_change, material_change, unit_part, unit_parts, most_received, most_acts}
 use Rattle.shop_machine.specs.History.{Gives, same_pair}
 use Rattle.shop_machine.specs.Soundness.{IsInRange, IsKept, IsSound, Fits}
 use Rattle.shop_machine.proofs.Accounts.{names_total, entries-nothing, with_parts-append, unit_parts-suc, later_act, later_node}
 use Rattle.shop_machine.proofs.Owners.{same_self}
 use Rattle.shop_machine.proofs.Runs.{pairs_total, same_by_order}
-use Rattle.shop_machine.proofs.Sums.{sum-insert, of_found}
+use Rattle.shop_machine.proofs.Sums.{sum-insert}
 
 -- ---- what an accepted receipt meets
 

@@ -8,11 +8,7 @@ use Rattle.std.specs.Cmp.{IsTotalOrder}
 use Rattle.std.specs.FinMap.{FinMap, entries, entries_sorted, entries-insert, get, get-entries, insert, values, find, put, is_sorted}
 use Rattle.std.specs.FinMap.Entries.{below_all, by_order}
 use Rattle.std.proofs.lemmas.List.Sums.{sum_by-cons}
-
--- a number of the row that was found, 0 where there was none
-abbrev pub of_found : {X : Type 0} → (X → ℕ) → Option X → ℕ
-of_found f None = 0
-of_found f (Some x) = f x
+use Rattle.shop_machine.specs.Content.{of_found}
 
 pub first : (a b : Bool) → T (a && b) → T a
 first true b p = tt

@@ -42,6 +42,11 @@ kept_at content pair = map.get content.kept pair
 
 -- ---- totals
 
+-- a number of the row that was found, 0 where there was none
+abbrev pub of_found : {X : Type 0} → (X → ℕ) → Option X → ℕ
+of_found f None = 0
+of_found f (Some x) = f x
+
 -- whether the cells of a part are counted in a column of a material
 abbrev pub counts_for : Column → List ℕ → Part → Bool
 counts_for column code part = is_eq (code_cmp part.material code) && is_counted column part

@@ -70,6 +70,18 @@ pub struct Kept {
     pub reply: Text,
 }
 
+impl Kept {
+    ghost use Rattle.std.specs.Prelude.{◌≡◌, IfOk};
+
+    pub fn copy(&self, alloc: Global) -> Result<Kept, AllocError>
+        ensures { IfOk result (λ copy. copy ≡ self.now) }
+    {
+        let command = self.command.copy(alloc)?;
+        let reply = self.reply.copy(alloc)?;
+        Ok(Kept { command, reply })
+    }
+}
+
 /// An accepted message, as it is kept under its pair.
 #[derive(Debug, Drop)]
 pub struct KeptMessage {

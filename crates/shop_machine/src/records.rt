@@ -1,4 +1,5 @@
 use cut_measure::{Code, Kind, Limits, PartName, Size};
+use std::cmp::Ordering;
 
 /// A material that was added.
 #[derive(Clone, Copy, Debug)]
@@ -57,6 +58,15 @@ pub enum Column {
 impl Part {
     ghost use Rattle.std.specs.Prelude.{◌≡◌};
     ghost use Rattle.shop_machine.specs.Columns.{is_counted};
+    ghost use Rattle.shop_machine.specs.Content.{is_listed};
+
+    /// Whether it is a part of the material that stands, reserved or not.
+    pub fn is_listed(&self, material: &Code) -> bool
+        ensures { result ≡ is_listed material.now self.now }
+    {
+        self.material.order(material) == Ordering::Equal
+            && matches!(self.state, State::Standing | State::Reserved(_))
+    }
 
     /// Whether its cells are counted in a column.
     pub fn counts_in(&self, column: Column) -> bool

@@ -1,2 +1,5 @@
 pub mod Failures
 pub mod Rows
+pub mod Sums
+pub mod Memory
+pub mod MemBooks

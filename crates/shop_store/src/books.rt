@@ -5,7 +5,7 @@ ghost use Rattle.shop_store.specs.Failures.{CountsFailure};
 
 use cut_measure::{Code, PartName};
 use shop_machine::{Change, Kept, Material, Part, PartList, Refusal, Totals};
-use std::alloc::Global;
+use std::alloc::{AllocError, Global};
 
 /// Why a book has no answer.
 #[derive(Clone, Copy, Debug, PartialEq, Eq)]
@@ -27,6 +27,17 @@ impl From<BookFault> for Refusal {
             BookFault::NoMemory => Refusal::NoMemory,
             BookFault::Store => Refusal::StoreFault,
         }
+    }
+}
+
+impl From<AllocError> for BookFault {
+    ghost use Rattle.std.specs.Prelude.{◌≡◌};
+    ghost use Rattle.shop_store.specs.declared.books.BookFault.TheVariants.{NoMemory};
+
+    ghost from_gives = { λ _ fault. fault ≡ NoMemory };
+
+    fn from(_error: AllocError) -> BookFault {
+        BookFault::NoMemory
     }
 }
 

@@ -2,6 +2,9 @@
 #![tactic(auto)]
 
 mod books;
+mod memory;
 mod rows;
+mod sums;
 
 pub use books::{Book, BookFault};
+pub use memory::MemBook;

@@ -1,5 +1,5 @@
 ghost use Rattle.std.specs.declared.cmp.Ordering.{Ordering};
-ghost use Rattle.std.specs.Prelude.{◌≡◌, ◌+◌, ◌<◌, ◌≤◌, IsTrue, length, vec_len, vec_capacity};
+ghost use Rattle.std.specs.Prelude.{◌≡◌, ◌+◌, ◌<◌, ◌≤◌, IfSome, IsSome, IsTrue, length, vec_len, vec_capacity};
 ghost use Rattle.std.specs.List.Sorted.{IsBinarySearchResult, IsSearchInRange};
 ghost use Rattle.shop_store.specs.Rows.{rise, row_at, IsPut};
 
@@ -39,7 +39,8 @@ fn place<R: Row>(rows: &[R], key: R::Key) -> Result<usize, usize>
 /// The row of a key.
 pub fn find<R: Row>(rows: &[R], key: R::Key) -> Option<R>
     requires { IsTrue (rise R.key_of R.cmp rows.now) }
-    ensures { result ≡ row_at R.key_of R.cmp key rows.now }
+    ensures row { result ≡ row_at R.key_of R.cmp key rows.now }
+    ensures key { IfSome result (λ row. R.key_of row ≡ key) }
 {
     match place(rows, key) {
         Ok(i) => Some(rows[i]),
@@ -55,6 +56,7 @@ pub fn put<R: Row>(rows: &mut Vec<R>, row: R) -> Option<R>
     ensures replaced { result ≡ row_at R.key_of R.cmp (R.key_of row) rows.old.items }
     ensures rising { IsTrue (rise R.key_of R.cmp rows.new.items) }
     ensures len { vec_len rows.new ≤ vec_len rows.old + 1 }
+    ensures same_len { IsSome result → vec_len rows.new ≡ vec_len rows.old }
     ensures capacity { vec_capacity rows.old ≤ vec_capacity rows.new }
 {
     match place(rows, row.key()) {

@@ -1,0 +1,13 @@
+use Rattle.std.proofs.Common.{◌+◌, List, sym, ap, ◌∙◌}
+use Rattle.std.specs.Prelude.{Some}
+use Rattle.cut_measure.specs.Codes.{code_cmp}
+use Rattle.shop_store.specs.declared.sums.Sums.{Sums}
+use Rattle.shop_store.specs.Rows.{row_at}
+use Rattle.shop_store.specs.Sums.{sums_key, found_sum, sum_at, counted_cells}
+use Rattle.shop_store.proofs.Summed.{taken}
+use Rattle.shop_store.proofs.sums.take_part.Goals as goal
+
+pub returns-in-Some-clause-takes : goal.returns-in-Some-clause-takes
+returns-in-Some-clause-takes c = λ column code.
+    taken column code c.without_part-sums.result c.args.rows.now.items c.put.new.rows.items c.put.ensures.put c.args.part.now (c.without_part-sums.ensures.code ∙ c.in-Some.ensures.key)
+    (c.without_part-sums.ensures.sums column ∙ ap (found_sum column) c.in-Some.ensures.row ∙ ap (λ (rows : List Sums). sum_at column c.args.part.now.material rows) c.deref.ensures.value)

@@ -1,0 +1,69 @@
+-- What the rows of a book in memory stand for.
+use Rattle.std.specs.Prelude.{◌≡◌, ℕ, List, Option, Some, None, IsTrue}
+use Rattle.std.specs.Prelude.{refl}
+use Rattle.std.proofs.Common.{ap}
+use Rattle.std.proofs.lemmas.Map.Lookups.{exact_pairs, exact_unsigned}
+use Rattle.std.specs.Ordering.{nat_cmp}
+use Rattle.std.specs.FinMap.{IsAntisymmetric}
+use Rattle.std.specs.Coded.{Coded, code_by, coded×, coded_ℕ, coded_list}
+use Rattle.std.specs.FinMap as map
+use Rattle.shop_machine.specs.contracts.records.Material as material_type
+use Rattle.shop_machine.specs.contracts.records.Part as part_type
+use Rattle.shop_machine.specs.contracts.kept_texts.Pair as pair_type
+use Rattle.shop_machine.specs.contracts.kept_texts.Kept as kept_type
+use Rattle.cut_measure.specs.Codes.{code_cmp}
+use Rattle.cut_measure.specs.Names.{Name, name_cmp}
+use Rattle.shop_machine.specs.declared.records.Material.{Material}
+use Rattle.shop_machine.specs.declared.records.Part.{Part}
+use Rattle.shop_machine.specs.declared.kept_texts.Pair.{Pair}
+use Rattle.shop_machine.specs.declared.kept_texts.Kept.{Kept}
+use Rattle.shop_machine.specs.declared.kept_texts.KeptMessage.{KeptMessage}
+use Rattle.shop_machine.specs.Content.{Content, pair_cmp}
+use Rattle.shop_store.specs.Rows.{entries_of, rise}
+
+abbrev pub material_key : Material → List ℕ
+material_key m = m.code
+
+abbrev pub part_key : Part → Name
+part_key p = p.name
+
+-- only equal names tie
+pub names_exact : IsAntisymmetric name_cmp
+names_exact a b h = ap (λ (p : ℕ × ℕ). record { act = p.0; node = p.1 }) (exact_pairs nat_cmp nat_cmp exact_unsigned exact_unsigned (a.act, a.node) (b.act, b.node) h)
+
+-- a book in memory: what it contains, and how often it failed
+pub record MemoryBook : Type 0 where
+  pub content : Content
+  pub failures : ℕ
+
+-- how a proof tells such books apart: by all that they hold
+abbrev pub name_code : Coded Name
+name_code = code_by (ℕ × ℕ) (coded× coded_ℕ coded_ℕ) (λ n. (n.act, n.node)) (λ p. record { act = p.0; node = p.1 }) (λ _. refl)
+
+abbrev pub memory_code : Coded MemoryBook
+memory_code =
+    code_by (map.FinMap code_cmp Material × (map.FinMap name_cmp Part × (map.FinMap pair_cmp Kept × (ℕ × ℕ))))
+    (coded× (map.code (coded_list coded_ℕ) material_type.the_row.coded) (coded× (map.code name_code part_type.the_row.coded) (coded× (map.code pair_type.the_row.coded kept_type.the_row.coded) (coded× coded_ℕ coded_ℕ))))
+    (λ b. (b.content.materials, (b.content.parts, (b.content.kept, (b.content.last_act, b.failures)))))
+    (λ t. record { content = record { materials = t.0; parts = t.1.0; kept = t.1.1.0; last_act = t.1.1.1.0 }; failures = t.1.1.1.1 })
+    (λ _. refl)
+
+abbrev pub content_of_rows : List Material → List Part → List (Pair × Kept) → ℕ → Content
+content_of_rows materials parts kept last_act =
+    record {
+      materials = map.from_sorted (entries_of material_key code_cmp materials);
+      parts = map.from_sorted (entries_of part_key name_cmp parts);
+      kept = map.from_sorted kept;
+      last_act = last_act;
+    }
+
+abbrev pub put_kept : Option KeptMessage → List (Pair × Kept) → List (Pair × Kept)
+put_kept None entries = entries
+put_kept (Some message) entries = map.put pair_cmp message.pair message.kept entries
+
+-- the maps that rows stand for
+abbrev pub materials_of : List Material → map.FinMap code_cmp Material
+materials_of rows = map.from_sorted (entries_of material_key code_cmp rows)
+
+abbrev pub parts_in : List Part → map.FinMap name_cmp Part
+parts_in rows = map.from_sorted (entries_of part_key name_cmp rows)

@@ -1,0 +1,357 @@
+ghost use Rattle.std.specs.Prelude.{◌≡◌, ◌≢◌, ◌+◌, ◌<◌, ◌≤◌, ◌^◌, ⊤, IfOk, IfErr, IsOk, OnOk, OnErr, IsTrue, List, ℕ, ◌-◌, filter, length, vec_len, vec_capacity};
+ghost use Rattle.cut_measure.specs.Codes.{code_cmp};
+ghost use Rattle.cut_measure.specs.Names.{name_cmp};
+ghost use Rattle.shop_machine.specs.Content.{Content, material_at, part_at, kept_at, totals_of, parts_of as listed_parts, changed, is_listed, with_parts, with_material};
+ghost use Rattle.shop_machine.specs.Soundness.{IsInRange};
+ghost use Rattle.shop_store.specs.Memory.{material_key, part_key, put_kept, materials_of, parts_in};
+ghost use Rattle.std.specs.FinMap.{find as find_entry};
+ghost use Rattle.shop_machine.specs.Content.{pair_cmp};
+ghost use Rattle.shop_store.specs.Rows.{rise, IsPut};
+ghost use Rattle.shop_store.specs.Sums.{sums_key, AreSumsOf, all_small};
+
+use crate::books::{Book, BookFault};
+use crate::rows::{Row, find, put};
+use crate::sums::{Sums, add_part, take_replaced, totals_in};
+use cut_measure::{Code, PartName};
+use shop_machine::{Change, Kept, KeptMessage, Material, Pair, Part, PartList, Totals};
+use std::alloc::{AllocError, Global};
+use std::cmp::Ordering;
+use std::collections::BTreeMap;
+use std::marker::Model;
+
+impl Row for Material {
+    ghost use Rattle.cut_measure.specs.Codes.{code_cmp};
+    ghost use Rattle.std.specs.Cmp.Lexicographic.{nat_list_cmp_total};
+    ghost use Rattle.std.specs.FinMap.{slice_cmp-IsAntisymmetric, nat_cmp-IsAntisymmetric};
+    ghost use Rattle.shop_store.specs.Memory.{material_key};
+
+    type Key = Code;
+
+    ghost key_of = { material_key };
+
+    ghost cmp = { code_cmp };
+
+    fn compare(&self, key: Code) -> Ordering {
+        self.code.order(&key)
+    }
+
+    fn key(&self) -> Code {
+        self.code
+    }
+
+    ghost total = { nat_list_cmp_total };
+
+    ghost exact = { slice_cmp-IsAntisymmetric nat_cmp-IsAntisymmetric };
+}
+
+impl Row for Part {
+    ghost use Rattle.cut_measure.specs.Names.{name_cmp};
+    ghost use Rattle.shop_machine.proofs.Accounts.{names_total};
+    ghost use Rattle.shop_store.specs.Memory.{part_key, names_exact};
+
+    type Key = PartName;
+
+    ghost key_of = { part_key };
+
+    ghost cmp = { name_cmp };
+
+    fn compare(&self, key: PartName) -> Ordering {
+        self.name.order(&key)
+    }
+
+    fn key(&self) -> PartName {
+        self.name
+    }
+
+    ghost total = { names_total };
+
+    ghost exact = { names_exact };
+}
+
+/// A book in memory.
+#[derive(Drop)]
+pub struct MemBook {
+    materials: Vec<Material>,
+    parts: Vec<Part>,
+    totals: Vec<Sums>,
+    kept: BTreeMap<Pair, Kept>,
+    last_act: u32,
+    failures: u64,
+}
+
+impl Model for MemBook {
+    ghost use Rattle.shop_store.specs.Memory.{MemoryBook, memory_code};
+
+    ghost Value = { MemoryBook };
+
+    ghost coded = { memory_code };
+
+    ghost use Rattle.shop_store.specs.MemBooks.{book_of, IsWhole};
+
+    ghost view = { book_of };
+
+    ghost invariant = { IsWhole };
+}
+
+impl MemBook {
+    ghost use Rattle.std.specs.Prelude.{◌≡◌};
+    ghost use Rattle.shop_machine.specs.Content.{fresh};
+
+    /// A book of a shop in which nothing was done yet.
+    pub fn new(alloc: Global) -> MemBook
+        ensures content { result.content ≡ fresh }
+        ensures failures { result.failures ≡ 0 }
+    {
+        MemBook {
+            materials: Vec::new(alloc),
+            parts: Vec::new(alloc),
+            totals: Vec::new(alloc),
+            kept: BTreeMap::new(alloc),
+            last_act: 0,
+            failures: 0,
+        }
+    }
+}
+
+// The listed parts of a material.
+fn listed(alloc: Global, parts: &[Part], material: Code) -> Result<PartList, AllocError>
+    ensures { IfOk result (λ rows. rows ≡ filter (is_listed material) parts.now) }
+{
+    let mut rows = PartList::new(alloc);
+    for part in parts {
+        if part.is_listed(&material) {
+            rows.push(*part)?;
+        }
+    }
+    Ok(rows)
+}
+
+// What is kept under a pair.
+fn find_kept(
+    alloc: Global,
+    kept: &BTreeMap<Pair, Kept>,
+    pair: Pair,
+) -> Result<Option<Kept>, AllocError>
+    ensures { IfOk result (λ row. row ≡ find_entry pair_cmp pair kept.now.entries) }
+{
+    match kept.get(&pair) {
+        None => Ok(None),
+        Some(row) => {
+            let copy = row.copy(alloc)?;
+            Ok(Some(copy))
+        }
+    }
+}
+
+// Puts a part, and keeps the sums.
+fn put_part(parts: &mut Vec<Part>, totals: &mut Vec<Sums>, part: Part)
+    requires parts { IsTrue (rise part_key name_cmp parts.old.items) }
+    requires totals { IsTrue (rise sums_key code_cmp totals.old.items) }
+    requires small { IsTrue (all_small parts.old.items) }
+    requires sums { AreSumsOf parts.old.items totals.old.items }
+    requires parts_room { vec_len parts.old < vec_capacity parts.old }
+    requires totals_room { vec_len totals.old < vec_capacity totals.old }
+    ensures put { IsPut part_key name_cmp part parts.old.items parts.new.items }
+    ensures parts { IsTrue (rise part_key name_cmp parts.new.items) }
+    ensures totals { IsTrue (rise sums_key code_cmp totals.new.items) }
+    ensures small { IsTrue (all_small parts.new.items) }
+    ensures sums { AreSumsOf parts.new.items totals.new.items }
+    ensures parts_len { vec_len parts.new ≤ vec_len parts.old + 1 }
+    ensures totals_len { vec_len totals.new ≤ vec_len totals.old + 1 }
+    ensures parts_capacity { vec_capacity parts.old ≤ vec_capacity parts.new }
+    ensures totals_capacity { vec_capacity totals.old ≤ vec_capacity totals.new }
+{
+    let _len = parts.len();
+    let _cells = part.size.cells();
+    let replaced = put(parts, part);
+    take_replaced(totals, replaced);
+    add_part(totals, &part);
+}
+
+// Puts parts one after another.
+fn put_parts(parts: &mut Vec<Part>, totals: &mut Vec<Sums>, rows: &[Part])
+    requires parts { IsTrue (rise part_key name_cmp parts.old.items) }
+    requires totals { IsTrue (rise sums_key code_cmp totals.old.items) }
+    requires small { IsTrue (all_small parts.old.items) }
+    requires sums { AreSumsOf parts.old.items totals.old.items }
+    requires parts_room { vec_len parts.old + length rows.now ≤ vec_capacity parts.old }
+    requires totals_room { vec_len totals.old + length rows.now ≤ vec_capacity totals.old }
+    ensures put { parts_in parts.new.items ≡ with_parts rows.now (parts_in parts.old.items) }
+    ensures parts { IsTrue (rise part_key name_cmp parts.new.items) }
+    ensures totals { IsTrue (rise sums_key code_cmp totals.new.items) }
+    ensures small { IsTrue (all_small parts.new.items) }
+    ensures sums { AreSumsOf parts.new.items totals.new.items }
+{
+    for part in rows {
+        put_part(parts, totals, *part);
+    }
+}
+
+// Puts a material, if there is one.
+fn put_material(materials: &mut Vec<Material>, row: Option<Material>)
+    requires rising { IsTrue (rise material_key code_cmp materials.old.items) }
+    requires room { vec_len materials.old < vec_capacity materials.old }
+    ensures put { materials_of materials.new.items ≡ with_material row (materials_of materials.old.items) }
+    ensures rising { IsTrue (rise material_key code_cmp materials.new.items) }
+{
+    if let Some(row) = row {
+        let _ = put(materials, row);
+    }
+}
+
+// Keeps a message, if there is one. An `Err` keeps nothing.
+fn keep(kept: &mut BTreeMap<Pair, Kept>, message: Option<KeptMessage>) -> Result<(), AllocError>
+    ensures ok { OnOk result (kept.new.entries ≡ put_kept message kept.old.entries) }
+    ensures err { OnErr result (kept.new.entries ≡ kept.old.entries) }
+{
+    if let Some(message) = message {
+        kept.insert(message.pair, message.kept)?;
+    }
+    Ok(())
+}
+
+// Makes room for the rows of a change.
+fn reserve(
+    materials: &mut Vec<Material>,
+    parts: &mut Vec<Part>,
+    totals: &mut Vec<Sums>,
+    count: usize,
+) -> Result<(), AllocError>
+    ensures materials { materials.new.items ≡ materials.old.items }
+    ensures parts { parts.new.items ≡ parts.old.items }
+    ensures totals { totals.new.items ≡ totals.old.items }
+    ensures room { OnOk result ((vec_len materials.new < vec_capacity materials.new)
+        × (vec_len parts.new + count ≤ vec_capacity parts.new) × (vec_len totals.new + count ≤ vec_capacity totals.new)) }
+{
+    materials.reserve(1)?;
+    parts.reserve(count)?;
+    totals.reserve(count)?;
+    Ok(())
+}
+
+impl MemBook {
+    ghost use Rattle.std.specs.Prelude.{◌≡◌};
+    ghost use Rattle.shop_store.specs.Failures.{one_more_failure};
+    ghost use Rattle.shop_store.specs.declared.books.BookFault.TheVariants.{Store};
+
+    // Counts a failure of the store.
+    fn fault(&mut self) -> BookFault
+        ensures fault { result ≡ Store }
+        ensures content { self.new.content ≡ self.old.content }
+        ensures failures { self.new.failures ≡ one_more_failure self.old.failures }
+    {
+        self.failures = self.failures.saturating_add(1);
+        BookFault::Store
+    }
+}
+
+/// Each call answers exactly, and none answers `Store` on a content as histories give it.
+impl Book for MemBook {
+    ghost use Rattle.std.specs.Prelude.{◌≡◌, ⊤};
+    ghost use Rattle.shop_machine.specs.Content.{Content};
+    ghost use Rattle.shop_machine.specs.Soundness.{IsInRange};
+    ghost use Rattle.shop_store.specs.Failures.{CountsFailure};
+    ghost use Rattle.shop_store.specs.declared.books.BookFault.TheVariants.{NoMemory};
+
+    ghost Left = { Content };
+
+    ghost stands = { λ left m. left ≡ m };
+
+    ghost may_leave = { λ book left. ⊥ };
+
+    ghost holds = { λ book m. book.content ≡ m };
+
+    ghost is_honest = { λ book. ⊤ };
+
+    ghost failed = { λ book. book.failures };
+
+    fn material(&mut self, code: Code) -> Result<Option<Material>, BookFault>
+        ensures row { result ≡ Ok (material_at self.old.content code) }
+        ensures same { self.new ≡ self.old }
+    {
+        Ok(find(&self.materials, code))
+    }
+
+    fn part(&mut self, name: PartName) -> Result<Option<Part>, BookFault>
+        ensures row { result ≡ Ok (part_at self.old.content name) }
+        ensures same { self.new ≡ self.old }
+    {
+        Ok(find(&self.parts, name))
+    }
+
+    fn kept(&mut self, alloc: Global, terminal: u32, number: u32) -> Result<Option<Kept>, BookFault>
+        ensures row { IfOk result (λ row. row ≡ kept_at self.old.content (record { terminal = terminal; number = number })) }
+        ensures memory { IfErr result (λ fault. fault ≡ NoMemory) }
+        ensures same { self.new ≡ self.old }
+    {
+        let row = find_kept(alloc, &self.kept, Pair { terminal, number })?;
+        Ok(row)
+    }
+
+    fn next_act(&mut self) -> Result<u32, BookFault>
+        ensures number { IfOk result (λ act. act ≡ self.old.content.last_act + 1) }
+        ensures sure { self.old.content.last_act < 2 ^ 32 - 1 → IsOk result }
+        ensures content { self.new.content ≡ self.old.content }
+        ensures failures { CountsFailure self.old.failures result self.new.failures }
+    {
+        match self.last_act.checked_add(1) {
+            Some(act) => Ok(act),
+            None => Err(self.fault()),
+        }
+    }
+
+    fn totals(&mut self, material: Code) -> Result<Totals, BookFault>
+        ensures sums { IfOk result (λ totals. totals ≡ totals_of self.old.content material) }
+        ensures sure { IsInRange self.old.content → IsOk result }
+        ensures content { self.new.content ≡ self.old.content }
+        ensures failures { CountsFailure self.old.failures result self.new.failures }
+    {
+        match totals_in(&self.totals, material) {
+            Some(totals) => Ok(totals),
+            None => Err(self.fault()),
+        }
+    }
+
+    fn parts_of(&mut self, alloc: Global, material: Code) -> Result<PartList, BookFault>
+        ensures rows { IfOk result (λ rows. rows ≡ listed_parts self.old.content material) }
+        ensures memory { IfErr result (λ fault. fault ≡ NoMemory) }
+        ensures same { self.new ≡ self.old }
+    {
+        let rows = listed(alloc, &self.parts, material)?;
+        Ok(rows)
+    }
+
+    fn commit(&mut self, change: Change) -> Result<(), BookFault>
+        ensures ok { OnOk result (self.new.content ≡ changed self.old.content change) }
+        ensures err { OnErr result (self.new.content ≡ self.old.content) }
+        ensures memory { IfErr result (λ fault. fault ≡ NoMemory) }
+        ensures failures { self.new.failures ≡ self.old.failures }
+    {
+        let Change {
+            material,
+            parts,
+            act,
+            kept,
+            reply: _,
+        } = change;
+        let rows = parts.as_slice();
+        let count = rows.len();
+        reserve(
+            &mut self.materials,
+            &mut self.parts,
+            &mut self.totals,
+            count,
+        )?;
+        keep(&mut self.kept, kept)?;
+        put_material(&mut self.materials, material);
+        put_parts(&mut self.parts, &mut self.totals, rows);
+        self.last_act = act.unwrap_or(self.last_act);
+        Ok(())
+    }
+
+    fn failures(&self) -> u64
+        ensures { result ≡ self.now.failures }
+    {
+        self.failures
+    }
+}
