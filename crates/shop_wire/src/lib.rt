@@ -5,6 +5,8 @@ mod answers;
 mod faults;
 mod reader;
 mod replays;
+#[cfg(test)]
+mod tests;
 mod writer;
 
 pub use faults::ReplayFault;
