@@ -4,6 +4,8 @@
 mod laws;
 mod printing;
 mod reading;
+#[cfg(test)]
+mod tests;
 
 pub use cut_measure::{Axis, Code, Kind, Limits, PartName, Size};
 pub use laws::{one_kind_of_value, one_text, read_back};

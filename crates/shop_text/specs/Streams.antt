@@ -5,6 +5,16 @@ use Rattle.shop_text.specs.declared.streams.Failed.{Failed}
 abbrev pub most_failures : ℕ
 most_failures = 18446744073709551615
 
+-- one failure more, unless the count stands at the greatest number
+abbrev pub one_more : ℕ → ℕ
+one_more before = if nat_lt before most_failures then before + 1 else before
+
+-- an Err is counted, and an Ok is not
 abbrev pub CountsFailure : {T : Type 0} → ℕ → Result T Failed → ℕ → Type 0
 CountsFailure before (Ok x) after = after ≡ before
-CountsFailure before (Err e) after = after ≡ (if nat_lt before most_failures then before + 1 else before)
+CountsFailure before (Err e) after = after ≡ one_more before
+
+-- a reader or a writer, and how often it failed
+pub record Tally (T : Type 0) : Type 0 where
+  pub inner : T
+  pub failures : ℕ

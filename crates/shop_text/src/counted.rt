@@ -1,7 +1,9 @@
 ghost use Rattle.std.specs.Prelude.{◌≡◌};
+ghost use Rattle.shop_text.specs.Streams.{one_more};
 
 use crate::streams::{Failed, Sink, Source};
 use std::io::{ErrorKind, Read, Write};
+use std::marker::Model;
 
 const MOST_TRIES: u32 = 1000;
 
@@ -13,6 +15,14 @@ pub struct Counted<T> {
     failures: u64,
 }
 
+impl<T> Model for Counted<T> {
+    ghost use Rattle.shop_text.specs.Streams.{Tally};
+
+    ghost Value = { Tally T };
+
+    ghost view = { λ c. record { inner = c.inner; failures = c.failures } };
+}
+
 impl<T> Counted<T> {
     /// Nothing has failed yet.
     pub fn new(inner: T) -> Self
@@ -20,6 +30,15 @@ impl<T> Counted<T> {
         ensures none { result.failures ≡ 0 }
     {
         Counted { inner, failures: 0 }
+    }
+
+    // Counts a failure.
+    fn fail(&mut self) -> Failed
+        ensures inner { self.new.inner ≡ self.old.inner }
+        ensures failures { self.new.failures ≡ one_more self.old.failures }
+    {
+        self.failures = self.failures.saturating_add(1);
+        Failed
     }
 }
 
@@ -39,8 +58,7 @@ impl<R: Read> Source for Counted<R> {
                 }
             }
         }
-        self.failures = self.failures.saturating_add(1);
-        Err(Failed)
+        Err(self.fail())
     }
 
     fn failures(&self) -> u64 {
@@ -65,8 +83,7 @@ impl<W: Write> Sink for Counted<W> {
                 }
             }
         }
-        self.failures = self.failures.saturating_add(1);
-        Err(Failed)
+        Err(self.fail())
     }
 
     fn failures(&self) -> u64 {

@@ -5,6 +5,6 @@ use Rattle.shop_text.proofs.counted.CountedSink.write.Given as goal
 abbrev pub invariant-loop : goal.invariant-loop
 invariant-loop g l =
     record {
-      count : l.self.failures ≡ l.fn.self.failures;
-      kept : Keeps (g.W.Write.contents l.fn.self.inner) (g.W.Write.contents l.self.inner);
+      count : l.self-inside.failures ≡ l.fn.self.failures;
+      kept : Keeps (g.W.Write.contents l.fn.self.inner) (g.W.Write.contents l.self-inside.inner);
     }

@@ -5,6 +5,6 @@ use Rattle.shop_text.proofs.counted.CountedSource.read.Given as goal
 abbrev pub invariant-loop : goal.invariant-loop
 invariant-loop g l =
     record {
-      count : l.self.failures ≡ l.fn.self.failures;
-      kept : Keeps (g.R.Read.remaining l.fn.self.inner) (g.R.Read.remaining l.self.inner);
+      count : l.self-inside.failures ≡ l.fn.self.failures;
+      kept : Keeps (g.R.Read.remaining l.fn.self.inner) (g.R.Read.remaining l.self-inside.inner);
     }

@@ -1,0 +1,98 @@
+-- What is answered to a value and to a line.
+use Rattle.std.proofs.Common.{◌≡◌, ℕ, ◌+◌, ◌<◌, ◌≤◌, List, length, Bool, true, false, nat_le, Option, Some, None, Ok, Err, refl, sym, ap, subst, ◌∙◌, arith}
+use Rattle.std.specs.Prelude.{MatchOption, ◌&&◌, if◌then◌else◌}
+use Rattle.std.specs.Option.{ok_or}
+use Rattle.std.specs.Str.{IsUtf8, is_utf8}
+use Rattle.std.proofs.lemmas.Str.{IsUtf8-from_is_utf8, is_utf8-from_IsUtf8}
+use Rattle.std.proofs.lemmas.Bool.Decides.{nat_tests}
+use Rattle.std.proofs.lemmas.List.{take_all, length-take}
+use Rattle.shop_machine.specs.declared.messages.Message.{Message}
+use Rattle.shop_machine.specs.declared.messages.Query.{Query}
+use Rattle.shop_machine.specs.declared.refusals.Refusal.{Refusal}
+use Rattle.shop_machine.specs.declared.refusals.Refusal.TheVariants.{BadMessage}
+use Rattle.shop_machine.specs.declared.messages.Reply.{Reply}
+use Rattle.shop_machine.specs.declared.messages.Reply.TheVariants.{Refused}
+use Rattle.shop_machine.specs.Content.{Content}
+use Rattle.shop_machine.specs.Machine.{Step, Answers}
+use Rattle.serde_json.specs.Data.{Data}
+use Rattle.serde_json.specs.Read.{read}
+use Rattle.shop_rules.specs.Forms.{message_of, query_of, json_texts}
+use Rattle.shop_wire.specs.Lines.{kept_of, longest_line}
+use Rattle.shop_wire.specs.Replays.{data_of, IsNoMessage, ValueStep, LineStep}
+
+from_ok : {A : Type 0} (o : Option A) (a : A) (e : Refusal) → Ok a ≡ ok_or o e → o ≡ Some a
+from_ok None a e is = cc
+from_ok (Some b) a e is = cc
+
+from_err : {A : Type 0} (o : Option A) (e r : Refusal) → Err r ≡ ok_or o e → (o ≡ None) × (r ≡ e)
+from_err None e r is = (refl, cc)
+from_err (Some b) e r is = (cc, cc)
+
+module _ (old new : Content) (d : Data) (reply : Reply) where
+  abbrev Otherwise : Option Query → Type 0
+  Otherwise o = MatchOption o (IsNoMessage old reply new) (λ query. Answers old query reply × (new ≡ old))
+
+  pub of_message : (message : Message) → Ok message ≡ ok_or (message_of d) BadMessage → Step json_texts old message reply new → ValueStep old d reply new
+  of_message message is step =
+      subst (λ (o : Option Message). MatchOption o (Otherwise (query_of d)) (λ message. Step json_texts old message reply new))
+      (sym (from_ok (message_of d) message BadMessage is)) step
+
+  pub of_no_message : (r : Refusal) → Err r ≡ ok_or (message_of d) BadMessage → Otherwise (query_of d) → ValueStep old d reply new
+  of_no_message r is other =
+      subst (λ (o : Option Message). MatchOption o (Otherwise (query_of d)) (λ message. Step json_texts old message reply new))
+      (sym (from_err (message_of d) BadMessage r is).0) other
+
+  pub of_query : (r : Refusal) (query : Query) → Err r ≡ ok_or (message_of d) BadMessage → Ok query ≡ ok_or (query_of d) BadMessage → Answers old query reply → new ≡ old → ValueStep old d reply new
+  of_query r query refused is answered stays =
+      of_no_message r refused (subst Otherwise (sym (from_ok (query_of d) query BadMessage is)) (answered, stays))
+
+  pub of_nothing : (r s : Refusal) → Err r ≡ ok_or (message_of d) BadMessage → Err s ≡ ok_or (query_of d) BadMessage → reply ≡ Refused s → new ≡ old → ValueStep old d reply new
+  of_nothing r s refused none is stays =
+      of_no_message r refused (subst Otherwise (sym (from_err (query_of d) BadMessage s none).0) (is ∙ ap Refused (from_err (query_of d) BadMessage s none).1, stays))
+
+-- ---- lines
+
+short_test : (n : ℕ) → n ≤ 131072 → nat_le n 131072 ≡ true
+short_test n h = grind (arith, nat_tests)
+
+long_test : (n : ℕ) → 131072 < n → nat_le n 131072 ≡ false
+long_test n h = grind (arith, nat_tests)
+
+pub data_read : (line : List ℕ) (d : Data) → length line ≤ 131072 → IsUtf8 line → read line ≡ Some d → data_of line ≡ Some d
+data_read line d short text is = rw (short_test (length line) short, is_utf8-from_IsUtf8 line text) is
+
+unread : (line : List ℕ) (b : Bool) → is_utf8 line ≡ b → (short : Bool) → (IsUtf8 line → read line ≡ None) → (if short && b then read line else None) ≡ None
+unread line true e true none = none (IsUtf8-from_is_utf8 line e)
+unread line true e false none = refl
+unread line false e true none = refl
+unread line false e false none = refl
+
+pub data_none : (line : List ℕ) → (IsUtf8 line → read line ≡ None) → data_of line ≡ None
+data_none line none = unread line (is_utf8 line) refl (nat_le (length line) 131072) none
+
+pub data_long : (line : List ℕ) → 131072 < length line → data_of line ≡ None
+data_long line long = ap (λ (short : Bool). if short && is_utf8 line then read line else None) (long_test (length line) long)
+
+pub line_answered : (old new : Content) (line : List ℕ) (d : Data) (reply : Reply) → data_of line ≡ Some d → ValueStep old d reply new → LineStep old line reply new
+line_answered old new line d reply is step = subst (λ (o : Option Data). MatchOption o (IsNoMessage old reply new) (λ d. ValueStep old d reply new)) (sym is) step
+
+pub line_refused : (old : Content) (line : List ℕ) → data_of line ≡ None → LineStep old line (Refused BadMessage) old
+line_refused old line is = subst (λ (o : Option Data). MatchOption o (IsNoMessage old (Refused BadMessage) old) (λ d. ValueStep old d (Refused BadMessage) old)) (sym is) (refl, refl)
+
+pub not_memory : {M : Type 0} (b : Bool) → (M → b ≡ true) → b ≡ false → ¬ M
+not_memory b told is m = cc (told m)
+
+-- ---- what is kept of a line stands for what the line does
+
+by_length : (whole : List ℕ) (short : Bool) → nat_le (length whole) 131072 ≡ short → data_of (kept_of whole) ≡ data_of whole
+by_length whole true e = let within : length whole ≤ longest_line + 1 = grind (arith, nat_tests) in ap data_of (take_all (longest_line + 1) whole within)
+by_length whole false e =
+    let long : 131072 < length whole = grind (arith, nat_tests) in
+    data_long (kept_of whole) (omega (arith, length-take (longest_line + 1) whole)) ∙ sym (data_long whole long)
+
+pub data_of-kept_of : (whole : List ℕ) → data_of (kept_of whole) ≡ data_of whole
+data_of-kept_of whole = by_length whole (nat_le (length whole) 131072) refl
+
+pub whole_line : (old new : Content) (whole : List ℕ) (reply : Reply) → LineStep old (kept_of whole) reply new → LineStep old whole reply new
+whole_line old new whole reply step =
+    subst (λ (o : Option Data). MatchOption o (IsNoMessage old reply new) (λ d. ValueStep old d reply new)) (data_of-kept_of whole) step

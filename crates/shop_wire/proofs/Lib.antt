@@ -1,0 +1,6 @@
+pub mod Answered
+pub mod Parts
+pub mod Failing
+pub mod LineLemmas
+pub mod Reading
+pub mod Replayed

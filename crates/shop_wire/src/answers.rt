@@ -1,0 +1,56 @@
+ghost use Rattle.std.specs.Prelude.{◌≡◌, IfOk, OnErr};
+ghost use Rattle.serde_json.specs.View.{view};
+ghost use Rattle.shop_machine.specs.Content.{Content};
+ghost use Rattle.shop_machine.specs.Soundness.{IsSound};
+ghost use Rattle.shop_rules.specs.Forms.{json_texts};
+ghost use Rattle.shop_wire.specs.Replays.{Leads, LineStep, ValueStep, reply_line};
+
+use crate::reader::LONGEST_LINE;
+use serde_json::Value;
+use shop_desk::{ask, handle};
+use shop_rules::{Refusal, Reply, Text, read_message, read_query, reply_text};
+use shop_store::Book;
+use std::alloc::{AllocError, Global};
+
+// The reply to a value.
+fn reply_to<B: Book>(alloc: Global, book: &mut B, value: &Value) -> Reply
+    ensures step { B.is_honest book.new → (m : Content) → B.holds book.old m → IsSound json_texts m → Leads (ValueStep m (view value.now) result) (B.holds book.new) }
+    ensures honest { B.is_honest book.new → B.is_honest book.old }
+{
+    match read_message(value) {
+        Ok(message) => handle(alloc, book, &message),
+        Err(_) => match read_query(value) {
+            Ok(query) => ask(alloc, book, &query),
+            Err(refusal) => Reply::Refused(refusal),
+        },
+    }
+}
+
+/// The reply to a line.
+pub(crate) fn answer<B: Book>(alloc: Global, book: &mut B, line: &[u8]) -> Result<Reply, AllocError>
+    ensures ok { IfOk result (λ reply. B.is_honest book.new → (m : Content) → B.holds book.old m → IsSound json_texts m → Leads (LineStep m line.now reply) (B.holds book.new)) }
+    ensures err { OnErr result (book.new ≡ book.old) }
+    ensures honest { B.is_honest book.new → B.is_honest book.old }
+{
+    if line.len() > LONGEST_LINE {
+        return Ok(Reply::Refused(Refusal::BadMessage));
+    }
+    match Value::from_slice(alloc, line) {
+        Ok(value) => Ok(reply_to(alloc, book, &value)),
+        Err(error) => {
+            if error.is_memory() {
+                return Err(AllocError);
+            }
+            Ok(Reply::Refused(Refusal::BadMessage))
+        }
+    }
+}
+
+/// A reply as a line.
+pub(crate) fn line_text(alloc: Global, reply: &Reply) -> Result<Text, AllocError>
+    ensures { IfOk result (λ text. text ≡ reply_line reply.now) }
+{
+    let mut text = reply_text(alloc, reply)?;
+    text.push("\n")?;
+    Ok(text)
+}

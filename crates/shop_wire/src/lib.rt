@@ -1,0 +1,13 @@
+//! Messages and queries as lines of JSON, and their replies as lines, over any source, sink and book.
+#![tactic(auto)]
+
+mod answers;
+mod faults;
+mod reader;
+mod replays;
+#[cfg(test)]
+mod tests;
+mod writer;
+
+pub use faults::ReplayFault;
+pub use replays::replay;

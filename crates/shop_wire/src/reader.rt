@@ -1,0 +1,150 @@
+ghost use Rattle.std.specs.Prelude.{◌≡◌, ◌+◌, ◌-◌, ◌*◌, ◌≤◌, ◌<◌, ◌⊎◌, ◌++◌, ◌∷◌, [], ℕ, List, Option, IfOk, OnOk, IfErr, OnErr, IfSome, Ok, Err, true, false, length, take, if◌then◌else◌};
+ghost use Rattle.std.specs.Io.KnownBytes.{Consumes, Keeps, IsAtEnd, prepend_known};
+ghost use Rattle.shop_wire.specs.Lines.{HasNoFeed, GivesLine, kept_of, longest_line, pending};
+ghost use Rattle.shop_wire.specs.Streams.{CountsReads, HasFailed, IsLong, most_reads, work};
+ghost use Rattle.shop_wire.specs.declared.faults.ReplayFault.TheVariants.{Read, NoMemory};
+
+use crate::faults::ReplayFault;
+use memchr::memchr;
+use shop_text::Source;
+use std::alloc::AllocError;
+
+const MOST_READS: u32 = 1_000_000_000;
+
+pub(crate) const LONGEST_LINE: usize = 131_072;
+
+const ROOM: usize = 65_536;
+
+/// A buffer that is filled again once all of it was taken, and how far the source was read.
+#[derive(Drop)]
+pub(crate) struct LineReader {
+    buffer: [u8; 65_536],
+    start: usize,
+    end: usize,
+    reads: u32,
+    ended: bool,
+    ghost within: { start ≤ end },
+    ghost most: { end ≤ 65536 },
+}
+
+// Appends what belongs to a line, up to one byte over the longest.
+fn append_kept(line: &mut Vec<u8>, part: &[u8]) -> Result<(), AllocError>
+    requires { length line.old.items ≤ longest_line + 1 }
+    ensures { OnOk result (line.new.items ≡ line.old.items ++ take (longest_line + 1 - length line.old.items) part.now) }
+{
+    let room = LONGEST_LINE + 1 - line.len();
+    if part.len() <= room {
+        line.extend_from_slice(part)
+    } else {
+        line.extend_from_slice(&part[..room])
+    }
+}
+
+impl LineReader {
+    pub(crate) fn new() -> LineReader
+        ensures none { pending result.buffer result.start result.end ≡ [] }
+        ensures reads { result.reads ≡ 0 }
+        ensures goes_on { result.ended ≡ false }
+    {
+        LineReader {
+            buffer: [0; ROOM],
+            start: 0,
+            end: 0,
+            reads: 0,
+            ended: false,
+        }
+    }
+
+    // Takes what is pending, up to a line feed, and tells whether there is one.
+    fn take_part(&mut self, line: &mut Vec<u8>) -> Result<bool, AllocError>
+        requires { length line.old.items ≤ longest_line + 1 }
+        ensures fed { result ≡ Ok true → (part : List ℕ) × HasNoFeed part
+            × (pending self.old.buffer self.old.start self.old.end ≡ part ++ 10 ∷ pending self.new.buffer self.new.start self.new.end)
+            × (line.new.items ≡ line.old.items ++ take (longest_line + 1 - length line.old.items) part) }
+        ensures open { result ≡ Ok false → HasNoFeed (pending self.old.buffer self.old.start self.old.end)
+            × (pending self.new.buffer self.new.start self.new.end ≡ [])
+            × (line.new.items ≡ line.old.items ++ take (longest_line + 1 - length line.old.items) (pending self.old.buffer self.old.start self.old.end)) }
+        ensures reads { self.new.reads ≡ self.old.reads }
+        ensures ended { self.new.ended ≡ self.old.ended }
+    {
+        let rest = &self.buffer[self.start..self.end];
+        match memchr(b'\n', rest) {
+            Some(at) => {
+                append_kept(line, &rest[..at])?;
+                self.start += at + 1;
+                Ok(true)
+            }
+            None => {
+                append_kept(line, rest)?;
+                self.start = self.end;
+                Ok(false)
+            }
+        }
+    }
+
+    // Fills the buffer by one read, and tells whether there was something left.
+    fn refill<S: Source>(&mut self, source: &mut S) -> Result<bool, ReplayFault>
+        requires most { self.old.reads ≤ most_reads }
+        requires ended { self.old.ended ≡ true → IsAtEnd (S.left source.old) }
+        ensures more { result ≡ Ok true → Consumes (S.left source.old) (S.left source.new) (pending self.new.buffer self.new.start self.new.end)
+            × (self.new.ended ≡ false) × (self.new.reads ≡ self.old.reads + 1) × (length (pending self.new.buffer self.new.start self.new.end) ≤ 65536) }
+        ensures none { result ≡ Ok false → IsAtEnd (S.left source.new) × Consumes (S.left source.old) (S.left source.new) []
+            × (self.new.ended ≡ true) × (self.new.reads ≡ self.old.reads) × (pending self.new.buffer self.new.start self.new.end ≡ []) }
+        ensures counted { CountsReads self.old.reads (S.left source.old) self.new.reads (S.left source.new) }
+        ensures failures { OnOk result (S.failed source.new ≡ S.failed source.old) }
+        ensures fault { IfErr result (λ fault. (fault ≡ Read) × (HasFailed (S.failed source.old) (S.failed source.new) ⊎ IsLong self.old.reads (S.left source.old))) }
+        ensures most { self.new.reads ≤ most_reads }
+    {
+        self.start = self.end;
+        if self.ended {
+            return Ok(false);
+        }
+        if self.reads == MOST_READS {
+            return Err(ReplayFault::Read);
+        }
+        let Ok(count) = source.read(&mut self.buffer) else {
+            return Err(ReplayFault::Read);
+        };
+        self.start = 0;
+        self.end = count;
+        if count == 0 {
+            self.ended = true;
+            return Ok(false);
+        }
+        self.reads += 1;
+        Ok(true)
+    }
+
+    /// Reads the next line, and tells whether there was one. Of a line that is too long, one byte more than the longest
+    /// is kept.
+    pub(crate) fn next_line<S: Source>(
+        &mut self,
+        source: &mut S,
+        line: &mut Vec<u8>,
+    ) -> Result<bool, ReplayFault>
+        requires most { self.old.reads ≤ most_reads }
+        requires ended { self.old.ended ≡ true → IsAtEnd (S.left source.old) }
+        ensures line { result ≡ Ok true → (whole : List ℕ) × (line.new.items ≡ kept_of whole)
+            × GivesLine (prepend_known (pending self.old.buffer self.old.start self.old.end) (S.left source.old)) (prepend_known (pending self.new.buffer self.new.start self.new.end) (S.left source.new)) whole }
+        ensures none { result ≡ Ok false → IsAtEnd (prepend_known (pending self.old.buffer self.old.start self.old.end) (S.left source.old)) }
+        ensures shorter { result ≡ Ok true → work self.new.reads (pending self.new.buffer self.new.start self.new.end) < work self.old.reads (pending self.old.buffer self.old.start self.old.end) }
+        ensures most { OnOk result (self.new.reads ≤ most_reads) }
+        ensures ended { OnOk result (self.new.ended ≡ true → IsAtEnd (S.left source.new)) }
+        ensures counted { OnOk result (CountsReads self.old.reads (S.left source.old) self.new.reads (S.left source.new)) }
+        ensures failures { OnOk result (S.failed source.new ≡ S.failed source.old) }
+        ensures fault { IfErr result (λ fault. fault ≡ NoMemory ⊎ (fault ≡ Read) × (HasFailed (S.failed source.old) (S.failed source.new) ⊎ IsLong self.old.reads (S.left source.old))) }
+    {
+        line.clear();
+        loop {
+            let Ok(fed) = self.take_part(line) else {
+                return Err(ReplayFault::NoMemory);
+            };
+            if fed {
+                return Ok(true);
+            }
+            if !self.refill(source)? {
+                return Ok(!line.is_empty());
+            }
+        }
+    }
+}
