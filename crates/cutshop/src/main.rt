@@ -1,6 +1,9 @@
 //! The shop's program. `cutshop replay` answers the lines of standard input on standard output, over a book in memory.
 #![tactic(auto)]
 
+ghost use Rattle.std.specs.Prelude.{◌≡◌};
+ghost use Rattle.cutshop.specs.Faults.{fault_text};
+
 use shop_store::MemBook;
 use shop_text::Counted;
 use shop_wire::{ReplayFault, replay};
@@ -11,7 +14,9 @@ use std::rt::Env;
 use std::{env, io};
 
 // The line that tells of a fault.
-fn fault_line(fault: ReplayFault) -> &'static str {
+fn fault_line(fault: ReplayFault) -> &'static str
+    ensures { result.now ≡ fault_text fault }
+{
     match fault {
         ReplayFault::Read => "fault read",
         ReplayFault::Write => "fault write",
