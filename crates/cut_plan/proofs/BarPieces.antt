@@ -1,5 +1,5 @@
 -- The pieces of counts, and the tree of a bar that they make.
-use Rattle.std.proofs.Common.{◌≡◌, ℕ, ◌+◌, ◌-◌, ◌*◌, ◌<◌, ◌≤◌, ◌⊎◌, false, List, [], ◌∷◌, ◌++◌, length, replicate, sym, refl, ap, ◌∙◌, subst, inl, inr, arith}
+use Rattle.std.proofs.Common.{◌≡◌, ℕ, ◌+◌, ◌<◌, ◌≤◌, false, List, [], ◌∷◌, length, replicate, sym, refl, ap, ◌∙◌, subst, inl, inr, arith}
 use Rattle.std.specs.Prelude.{Contains, All, sum_by}
 use Rattle.std.proofs.lemmas.List.Elements.{All-append, All-replicate}
 use Rattle.std.proofs.lemmas.List.Folds.{sum_by-replicate}
@@ -11,7 +11,7 @@ use Rattle.cut_tree.specs.Bars.{IsBarPiece, bar_tree, bar_length}
 use Rattle.cut_tree.proofs.BarTrees.{spent, spent-cons, fits_bar, leaf_sum-bar_tree, cut_count-bar_tree, CutsInto-bar_tree}
 use Rattle.cut_table.specs.declared.wants.Want.{Want}
 use Rattle.cut_table.specs.Legal.{Legal, IsPiece, IsWithinCounts, HaveOwnDemands, worth_of, leaves_of}
-use Rattle.cut_table.specs.Counts.{AreCounts, total_of, room_of, value_of, AreBestCounts, AreFlat, HaveLength}
+use Rattle.cut_table.specs.Counts.{total_of, value_of, AreBestCounts, AreFlat, HaveLength}
 use Rattle.cut_table.proofs.Trees.{Contains-head, Contains-tail}
 use Rattle.cut_table.proofs.BarTrees.{bar_wants, counts_best, counted_within, counted_value}
 use Rattle.cut_plan.specs.declared.bars.Pieces.{Pieces}

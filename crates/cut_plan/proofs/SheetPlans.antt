@@ -1,5 +1,5 @@
 -- A sheet's plan: what is known of the kept leaves of a best tree, and of the tree that they are laid out to.
-use Rattle.std.proofs.Common.{◌≡◌, ◌≢◌, ℕ, zero, suc, ◌+◌, ◌-◌, ◌*◌, ◌<◌, ◌≤◌, ◌⊎◌, Bool, true, false, List, [], ◌∷◌, length, get_or, min, sym, refl, ap, ◌∙◌, subst, inl, inr, arith, Some, cond, eqb, eq-eqb}
+use Rattle.std.proofs.Common.{◌≡◌, ◌≢◌, ℕ, zero, suc, ◌+◌, ◌-◌, ◌*◌, ◌<◌, ◌≤◌, ◌⊎◌, false, List, [], ◌∷◌, length, get_or, min, sym, refl, ap, ◌∙◌, inl, inr, arith, Some, cond, eqb}
 use Rattle.std.specs.Prelude.{All, Contains, sum_by, slice_get}
 use Rattle.std.proofs.lemmas.Nat.{mul-le}
 use Rattle.std.proofs.lemmas.Bool.{ne_eqb}
@@ -7,18 +7,18 @@ use Rattle.std.proofs.lemmas.Bool.Decides.{eqb_tells}
 use Rattle.std.proofs.lemmas.List.Sums.{sum_by-cons}
 use Rattle.cut_measure.specs.declared.sizes.Axis.TheVariants.{X, Y}
 use Rattle.cut_measure.specs.Measures.{Extent}
-use Rattle.cut_tree.specs.Tree.{Tree, Rest, Piece, Trim, Cut, CutsInto, IsShaped, leaf_sum, count_of, cut_count}
+use Rattle.cut_tree.specs.Tree.{Tree, Rest, Piece, Trim, Cut, IsShaped, leaf_sum, count_of, cut_count}
 use Rattle.cut_tree.specs.Patterns.{HasDemands}
 use Rattle.cut_table.specs.declared.wants.Want.{Want}
-use Rattle.cut_table.specs.Legal.{HasSides, IsPiece, Legal, of_demand, worth_of, IsWithinCounts, HaveOwnDemands, leaves_of}
+use Rattle.cut_table.specs.Legal.{Legal, of_demand, IsWithinCounts, HaveOwnDemands, leaves_of}
 use Rattle.cut_table.specs.Rounded.{steps_down, want_up, wants_up}
-use Rattle.cut_table.specs.Counts.{AreCounts, total_of, value_of}
+use Rattle.cut_table.specs.Counts.{AreCounts, value_of}
 use Rattle.cut_table.specs.Kept.{Keeps, Places}
 use Rattle.cut_table.proofs.Trees.{Contains-cases, Contains-head, Contains-tail, of_demand_found, weigh, weigh-count}
 use Rattle.cut_table.proofs.BarTrees.{tree_counts, tree_total}
 use Rattle.cut_table.proofs.Reaching.{in_get}
 use Rattle.cut_plan.specs.Proposals.{AreDemands}
-use Rattle.cut_plan.specs.Sheets.{IsBestUp, IsCutting, kept_counts, dropped_of, IsLaid}
+use Rattle.cut_plan.specs.Sheets.{IsCutting, kept_counts, dropped_of, IsLaid}
 
 pub cutting : (wants : List Want) (p q : ℕ) (old new : List ℕ) (kept : Tree) → Keeps wants p q old new kept → length new ≡ length wants → ((i : ℕ) → get_or old i 0 ≡ 0) → p ≤ 500 → q ≤ 500
     → ((i : ℕ) → i < length new → get_or new i 0 ≤ get_or old i 0 + p * q) → IsCutting wants p q new kept

@@ -22,7 +22,7 @@ use Rattle.cut_table.proofs.Up.{fitted}
 use Rattle.cut_table.proofs.Passage.{ceiling_holds}
 use Rattle.cut_plan.specs.Bounds.{IsUnitBest}
 use Rattle.cut_plan.specs.declared.faults.PlanFault.{PlanFault}
-use Rattle.cut_plan.specs.Faults.{is_bad_number, is_bad_want, has_twice, are_bad_wants, is_short, is_bad_step, is_large, is_fitting, fault_of, SomeFits}
+use Rattle.cut_plan.specs.Faults.{is_bad_number, is_bad_want, has_twice, are_bad_wants, is_short, is_bad_step, is_large, fault_of, SomeFits}
 
 -- neither of two tests holds
 neither : (a b : Bool) → (a || b) ≡ false → (a ≡ false) × (b ≡ false)

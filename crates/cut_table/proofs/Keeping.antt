@@ -1,16 +1,16 @@
 -- The leaves that are kept of a best tree, joined.
-use Rattle.std.proofs.Common.{◌≡◌, ℕ, ◌+◌, ◌-◌, ◌*◌, ◌<◌, ◌≤◌, ◌⊎◌, Bool, true, false, List, length, get_or, min, sym, refl, ap, ◌∙◌, subst, inl, inr, arith, Some, cond, eqb}
-use Rattle.std.specs.Prelude.{Contains, slice_get, slice_set}
+use Rattle.std.proofs.Common.{◌≡◌, ℕ, ◌+◌, ◌-◌, ◌<◌, ◌≤◌, ◌⊎◌, Bool, true, false, List, length, get_or, sym, refl, ap, ◌∙◌, subst, inl, inr, arith, Some, cond, eqb}
+use Rattle.std.specs.Prelude.{slice_get, slice_set}
 use Rattle.std.proofs.lemmas.Bool.Decides.{eqb_tells}
 use Rattle.cut_measure.specs.declared.sizes.Axis.{Axis}
 use Rattle.cut_measure.specs.declared.sizes.Axis.TheVariants.{X, Y}
-use Rattle.cut_tree.specs.Tree.{Tree, Rest, Piece, Trim, Cut, CutsInto, leaf_sum, count_of}
+use Rattle.cut_tree.specs.Tree.{Tree, Rest, Piece, Trim, Cut, CutsInto, leaf_sum}
 use Rattle.cut_table.specs.declared.wants.Want.{Want}
 use Rattle.cut_table.specs.Legal.{HasSides, HaveOwnDemands}
 use Rattle.cut_table.specs.Best.{IsBestOf}
 use Rattle.cut_table.specs.Table.{CountsLeaves, IsPieceAt, IsCutX, IsCutY}
-use Rattle.cut_table.specs.Kept.{HasRoom, IsInside, IsFull, IsPruned, joined, Keeps}
-use Rattle.cut_table.proofs.Reaching.{contains_get, in_get, own_at, leaves_none, leaves_piece, leaves_x, leaves_y, counts_one}
+use Rattle.cut_table.specs.Kept.{HasRoom, IsInside, IsPruned, joined, Keeps}
+use Rattle.cut_table.proofs.Reaching.{contains_get, own_at, leaves_none, leaves_piece, leaves_x, leaves_y, counts_one}
 
 pub wider_inside : (wants : List Want) (t : Tree) (w h w' h' : ℕ) → CutsInto (IsInside wants) t w h 0 → w ≤ w' → h ≤ h' → CutsInto (IsInside wants) t w' h' 0
 wider_inside wants Rest w h w' h' l ws hs = tt

@@ -1,5 +1,5 @@
 -- The kept leaves have places on the sheet itself.
-use Rattle.std.proofs.Common.{◌≡◌, ℕ, ◌+◌, ◌-◌, ◌*◌, ◌/◌, ◌<◌, ◌≤◌, Bool, true, false, List, [], ◌∷◌, refl, ap, ◌∙◌, sym, subst, inl, inr, arith}
+use Rattle.std.proofs.Common.{◌≡◌, ℕ, ◌+◌, ◌-◌, ◌*◌, ◌<◌, ◌≤◌, Bool, true, false, List, refl, ap, ◌∙◌, sym, subst, inl, inr, arith}
 use Rattle.std.specs.Prelude.{Contains, ◌==◌, nat_lt, if◌then◌else◌}
 use Rattle.std.proofs.lemmas.Bool.{cases_lt, ltb-true, ltb-false, eqb-true, eqb-false}
 use Rattle.std.proofs.lemmas.Nat.{mul-le}
@@ -11,10 +11,10 @@ use Rattle.cut_table.specs.declared.wants.Want.{Want}
 use Rattle.cut_measure.specs.Measures.{Extent}
 use Rattle.cut_table.specs.Legal.{Legal, leaves_of, IsPiece, HaveOwnDemands, of_demand}
 use Rattle.cut_table.proofs.Trees.{of_demand_found}
-use Rattle.cut_table.specs.Rounded.{steps_up, want_up, wants_up}
+use Rattle.cut_table.specs.Rounded.{steps_up, wants_up}
 use Rattle.cut_table.specs.Table.{HaveSides}
 use Rattle.cut_table.specs.Kept.{IsInside, IsFull, IsPruned, HasPlaces, cut_off, Places}
-use Rattle.cut_table.proofs.Up.{up_from, up_holds, side_fits}
+use Rattle.cut_table.proofs.Up.{up_from, up_holds}
 
 full_leaves : (t : Tree) → IsFull t → 1 ≤ leaves_of t
 full_leaves Rest f = absurd f

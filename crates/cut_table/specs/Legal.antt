@@ -1,5 +1,5 @@
 -- Legal cuttings of one unit, their worth, and the counts of the wants.
-use Rattle.std.specs.Prelude.{◌≡◌, ◌≢◌, ℕ, ◌+◌, ◌≤◌, Bool, true, false, IsTrue, List, [], ◌∷◌, ◌==◌, if◌then◌else◌, Contains}
+use Rattle.std.specs.Prelude.{◌≡◌, ◌≢◌, ℕ, ◌≤◌, Bool, true, false, IsTrue, List, [], ◌∷◌, ◌==◌, if◌then◌else◌, Contains}
 use Rattle.cut_tree.specs.Tree.{Tree, CutsInto, leaf_sum, count_of}
 use Rattle.cut_table.specs.declared.wants.Want.{Want}
 

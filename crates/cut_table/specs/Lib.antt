@@ -5,4 +5,3 @@ pub mod Bound
 pub mod Table
 pub mod Counts
 pub mod Kept
-pub mod Reach

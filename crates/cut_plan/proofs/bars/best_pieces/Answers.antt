@@ -1,4 +1,4 @@
-use Rattle.std.proofs.Common.{◌≡◌, ◌<◌, ◌^◌, false, length, arith}
+use Rattle.std.proofs.Common.{arith}
 use Rattle.cut_measure.specs.declared.sizes.Kind.TheVariants.{Bar}
 use Rattle.cut_plan.proofs.Sound as sound
 use Rattle.cut_plan.proofs.bars.best_pieces.Goals as goal

@@ -1,5 +1,4 @@
-use Rattle.std.proofs.Common.{◌≡◌, ◌≤◌, false, arith}
-use Rattle.cut_plan.specs.Faults.{are_bad_wants, is_bad_step}
+use Rattle.std.proofs.Common.{arith}
 use Rattle.cut_plan.proofs.Sound as sound
 use Rattle.cut_plan.proofs.bounds.faultless_bound.Goals as goal
 

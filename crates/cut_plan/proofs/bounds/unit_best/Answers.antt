@@ -1,13 +1,5 @@
-use Rattle.std.proofs.Common.{◌≡◌, ◌+◌, ◌<◌, ◌≤◌, ◌^◌, ℕ, None, false, ap, subst, arith, sym}
-use Rattle.cut_measure.specs.declared.sizes.Kind.{Kind}
-use Rattle.cut_measure.specs.declared.sizes.Kind.TheVariants.{Bar, Sheet}
-use Rattle.cut_table.specs.Best.{IsBestWithin, IsBestOf}
-use Rattle.cut_table.specs.Counts.{value_of}
-use Rattle.cut_table.specs.Rounded.{wants_down, steps_down}
-use Rattle.cut_table.proofs.Passage.{down_own, down_small}
-use Rattle.cut_table.proofs.Reaching.{value_small}
-use Rattle.cut_plan.specs.Faults.{are_bad_wants, is_bad_step, is_large}
-use Rattle.cut_plan.specs.Bounds.{IsUnitBest}
+use Rattle.std.proofs.Common.{◌≡◌, false, subst, arith}
+use Rattle.cut_plan.specs.Faults.{are_bad_wants, is_bad_step}
 use Rattle.cut_plan.proofs.Sound as sound
 use Rattle.cut_plan.proofs.bounds.unit_best.Goals as goal
 

@@ -1,4 +1,3 @@
-use Rattle.std.proofs.Common.{arith}
 use Rattle.cut_measure.specs.declared.sizes.Kind.TheVariants.{Sheet}
 use Rattle.cut_plan.proofs.Sound as sound
 use Rattle.cut_plan.proofs.sheets.faultless_sheet.Goals as goal

@@ -1,4 +1,4 @@
-use Rattle.std.proofs.Common.{◌≡◌, ◌+◌, ◌/◌, ◌<◌, ◌^◌, false, length, arith, ap, ◌∙◌, sym, subst}
+use Rattle.std.proofs.Common.{◌≡◌, length, arith, ◌∙◌}
 use Rattle.cut_measure.specs.declared.sizes.Kind.TheVariants.{Sheet}
 use Rattle.cut_table.proofs.Passage.{up_own, up_small, steps_inside}
 use Rattle.cut_table.proofs.Placing.{kept_places}

@@ -1,5 +1,4 @@
-use Rattle.std.proofs.Common.{◌≡◌, ◌≤◌, arith}
-use Rattle.cut_tree.specs.Patterns.{IsPlan}
+use Rattle.std.proofs.Common.{arith}
 use Rattle.cut_plan.proofs.SheetPlans.{demands_of, shaped_of}
 use Rattle.cut_plan.proofs.sheets.proposal_of.Goals as goal
 

@@ -1,4 +1,4 @@
-use Rattle.std.proofs.Common.{◌≡◌, ◌≤◌, arith, subst, take_all}
+use Rattle.std.proofs.Common.{◌≤◌, arith, subst, take_all}
 use Rattle.cut_table.specs.declared.wants.Want.{Want}
 use Rattle.cut_table.proofs.Trees.{first_each}
 use Rattle.cut_plan.specs.Proposals.{AreDemands}

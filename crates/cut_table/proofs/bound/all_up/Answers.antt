@@ -1,4 +1,4 @@
-use Rattle.std.proofs.Common.{◌≡◌, ◌≤◌, ◌+◌, arith, sym, subst, ap, ◌∙◌, take_all}
+use Rattle.std.proofs.Common.{◌≤◌, ◌+◌, arith, sym, subst, ap, ◌∙◌, take_all}
 use Rattle.cut_table.specs.declared.wants.Want.{Want}
 use Rattle.cut_table.specs.Rounded.{want_up}
 use Rattle.cut_table.specs.Table.{HaveSides}
