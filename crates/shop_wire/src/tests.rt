@@ -214,8 +214,8 @@ fn longest_line_is_read(rt: HostRuntime) -> Result<(), Fail> {
         (131_073, BAD_MESSAGE),
         (400_000, BAD_MESSAGE),
     ] {
-        let mut input = vec![in alloc; b' '; length]?;
-        input[..TOTALS.len()].copy_from_slice(TOTALS.as_bytes());
+        let mut input = TOTALS.as_bytes().to_vec(alloc)?;
+        input.resize(length, b' ')?;
         input.push(b'\n')?;
         input.extend_from_slice(TOTALS.as_bytes())?;
         let written = replayed(alloc, &mut MemBook::new(alloc), &input)?;
