@@ -31,6 +31,20 @@ impl Model for Code {
     ghost inverse_ok = { λ a h. fields_back a h.0 h.1 h.2 };
 }
 
+impl PartialEq for Code {
+    ghost use Rattle.std.specs.Cmp.{partial_equiv_from_equiv};
+    ghost use Rattle.std.specs.Cmp.Lexicographic.{pointwise, nat_list_eq_equiv};
+    ghost use Rattle.std.specs.Prelude.{nat_eq};
+
+    ghost eq = { pointwise nat_eq };
+
+    ghost laws = { partial_equiv_from_equiv nat_list_eq_equiv };
+
+    fn eq(&self, other: &Code) -> bool {
+        self.as_str() == other.as_str()
+    }
+}
+
 fn is_code_char(b: u8) -> bool
     ensures { result ≡ is_code_byte b }
 {

@@ -56,6 +56,31 @@ impl Text {
     }
 }
 
+impl Clone for Text {
+    ghost use Rattle.std.specs.Prelude.{◌≡◌};
+
+    ghost is_clone = { λ s t. t ≡ s };
+
+    fn clone(&self) -> Result<Text, AllocError> {
+        let string = self.string.clone()?;
+        Ok(Text { string })
+    }
+}
+
+impl PartialEq for Text {
+    ghost use Rattle.std.specs.Cmp.{partial_equiv_from_equiv};
+    ghost use Rattle.std.specs.Cmp.Lexicographic.{pointwise, nat_list_eq_equiv};
+    ghost use Rattle.std.specs.Prelude.{nat_eq};
+
+    ghost eq = { pointwise nat_eq };
+
+    ghost laws = { partial_equiv_from_equiv nat_list_eq_equiv };
+
+    fn eq(&self, other: &Text) -> bool {
+        self.string.as_str() == other.string.as_str()
+    }
+}
+
 /// What a message is known by: its terminal and its number.
 #[derive(Clone, Copy, Debug, PartialEq, Eq, PartialOrd, Ord)]
 pub struct Pair {
@@ -64,7 +89,7 @@ pub struct Pair {
 }
 
 /// What is kept of an accepted message: its canonical text, and the text of its reply.
-#[derive(Debug, Drop)]
+#[derive(Debug, Drop, PartialEq)]
 pub struct Kept {
     pub command: Text,
     pub reply: Text,
@@ -78,6 +103,18 @@ impl Kept {
     {
         let command = self.command.copy(alloc)?;
         let reply = self.reply.copy(alloc)?;
+        Ok(Kept { command, reply })
+    }
+}
+
+impl Clone for Kept {
+    ghost use Rattle.std.specs.Prelude.{◌≡◌};
+
+    ghost is_clone = { λ s t. t ≡ s };
+
+    fn clone(&self) -> Result<Kept, AllocError> {
+        let command = self.command.clone()?;
+        let reply = self.reply.clone()?;
         Ok(Kept { command, reply })
     }
 }

@@ -2,7 +2,7 @@ use cut_measure::{Code, Kind, Limits, PartName, Size};
 use std::cmp::Ordering;
 
 /// A material that was added.
-#[derive(Clone, Copy, Debug)]
+#[derive(Clone, Copy, Debug, PartialEq)]
 pub struct Material {
     pub code: Code,
     pub kind: Kind,
@@ -21,7 +21,7 @@ pub enum State {
 }
 
 /// A part of a received unit, by its place in that unit.
-#[derive(Clone, Copy, Debug)]
+#[derive(Clone, Copy, Debug, PartialEq)]
 pub struct Part {
     pub name: PartName,
     pub material: Code,

@@ -2,4 +2,5 @@ pub mod Failures
 pub mod Rows
 pub mod Sums
 pub mod Memory
+pub mod Equal
 pub mod MemBooks

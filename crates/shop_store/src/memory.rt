@@ -113,6 +113,28 @@ impl MemBook {
     }
 }
 
+impl MemBook {
+    ghost use Rattle.std.specs.Prelude.{◌≡◌, IfOk};
+
+    /// An equal book.
+    pub fn copy(&self, alloc: Global) -> Result<MemBook, AllocError>
+        ensures { IfOk result (λ copy. copy ≡ self.now) }
+    {
+        let materials = Vec::from_slice(alloc, &self.materials)?;
+        let parts = Vec::from_slice(alloc, &self.parts)?;
+        let totals = Vec::from_slice(alloc, &self.totals)?;
+        let kept = self.kept.clone()?;
+        Ok(MemBook {
+            materials,
+            parts,
+            totals,
+            kept,
+            last_act: self.last_act,
+            failures: self.failures,
+        })
+    }
+}
+
 // The listed parts of a material.
 fn listed(alloc: Global, parts: &[Part], material: Code) -> Result<PartList, AllocError>
     ensures { IfOk result (λ rows. rows ≡ filter (is_listed material) parts.now) }
@@ -242,6 +264,55 @@ impl MemBook {
     {
         self.failures = self.failures.saturating_add(1);
         BookFault::Store
+    }
+}
+
+impl MemBook {
+    ghost use Rattle.std.specs.Prelude.{◌≡◌, ◌↔◌, IsTrue};
+
+    fn has_materials_of(&self, other: &MemBook) -> bool
+        ensures { IsTrue result ↔ (self.now.content.materials ≡ other.now.content.materials) }
+    {
+        self.materials == other.materials
+    }
+
+    fn has_parts_of(&self, other: &MemBook) -> bool
+        ensures { IsTrue result ↔ (self.now.content.parts ≡ other.now.content.parts) }
+    {
+        self.parts == other.parts
+    }
+
+    fn has_kept_of(&self, other: &MemBook) -> bool
+        ensures { IsTrue result ↔ (self.now.content.kept ≡ other.now.content.kept) }
+    {
+        self.kept == other.kept
+    }
+
+    // Whether the contents are equal.
+    fn has_content_of(&self, other: &MemBook) -> bool
+        ensures { IsTrue result ↔ (self.now.content ≡ other.now.content) }
+    {
+        self.has_materials_of(other)
+            && self.has_parts_of(other)
+            && self.has_kept_of(other)
+            && self.last_act == other.last_act
+    }
+}
+
+/// Two books are equal exactly where their contents are, whatever failed.
+impl PartialEq for MemBook {
+    ghost use Rattle.std.specs.Prelude.{◌≡◌, ◌↔◌, IsTrue};
+    ghost use Rattle.shop_store.specs.Equal.{same_books, same_books_laws};
+
+    ghost eq = { same_books };
+
+    ghost laws = { same_books_laws };
+
+    fn eq(&self, other: &MemBook) -> bool
+        ensures test { result ≡ same_books self.now other.now }
+        ensures same { IsTrue result ↔ (self.now.content ≡ other.now.content) }
+    {
+        self.has_content_of(other)
     }
 }
 
