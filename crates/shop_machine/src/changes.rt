@@ -22,6 +22,7 @@ impl Model for PartList {
 impl PartList {
     ghost use Rattle.std.specs.Prelude.{◌≡◌, ◌++◌, ◌∷◌, [], OnOk, OnErr};
 
+    /// No rows.
     pub fn new(alloc: Global) -> PartList
         ensures { result ≡ [] }
     {
@@ -39,6 +40,7 @@ impl PartList {
         Ok(())
     }
 
+    /// The rows in order.
     pub fn as_slice(&self) -> &[Part]
         ensures { result.now ≡ self.now }
     {

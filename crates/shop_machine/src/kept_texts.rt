@@ -18,6 +18,7 @@ impl Model for Text {
 impl Text {
     ghost use Rattle.std.specs.Prelude.{◌≡◌, ◌++◌, [], OnOk, OnErr, IfOk, string_bytes};
 
+    /// The empty text.
     pub fn new(alloc: Global) -> Text
         ensures { result ≡ [] }
     {
@@ -42,12 +43,14 @@ impl Text {
         Ok(())
     }
 
+    /// Its bytes.
     pub fn as_str(&self) -> &str
         ensures { result.now ≡ self.now }
     {
         self.string.as_str()
     }
 
+    /// An equal text.
     pub fn copy(&self, alloc: Global) -> Result<Text, AllocError>
         ensures { IfOk result (λ copy. copy ≡ self.now) }
     {
@@ -98,6 +101,7 @@ pub struct Kept {
 impl Kept {
     ghost use Rattle.std.specs.Prelude.{◌≡◌, IfOk};
 
+    /// The same command and reply.
     pub fn copy(&self, alloc: Global) -> Result<Kept, AllocError>
         ensures { IfOk result (λ copy. copy ≡ self.now) }
     {
