@@ -5,6 +5,8 @@ mod books;
 mod memory;
 mod rows;
 mod sums;
+#[cfg(test)]
+mod tests;
 
 pub use books::{Book, BookFault};
 pub use memory::MemBook;
