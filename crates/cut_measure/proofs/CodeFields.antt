@@ -1,9 +1,8 @@
 -- The sixteen bytes of a code that was just copied.
-use Rattle.std.proofs.Common.{◌≡◌, ◌++◌, ◌∷◌, [], ◌-◌, ◌≤◌, ◌<◌, ℕ, zero, suc, get_or, lit<, Bool, true, false, ◌&&◌, nat_le, IsTrue, List, length, take, drop, sym, subst, ap, ◌∙◌, arith, length-append, length-drop}
+use Rattle.std.proofs.Common.{◌≡◌, ◌++◌, ◌∷◌, [], ◌-◌, ◌≤◌, ◌<◌, ℕ, zero, suc, get_or, lit<, Bool, true, false, ◌&&◌, nat_le, List, length, take, drop, ◌∙◌, arith, length-append, length-drop}
 use Rattle.std.specs.Prelude.{replicate, refl}
 use Rattle.std.proofs.Math.Seq.{take-append_seam, drop-append_seam}
 use Rattle.std.proofs.lemmas.List.{length-replicate, drop-replicate}
-use Rattle.std.proofs.lemmas.Grind.{common_steps}
 use Rattle.std.proofs.lemmas.Bool.Decides.{nat_tests}
 use Rattle.std.specs.List.{list_all}
 use Rattle.std.specs.Str.{IsUtf8}

@@ -1,5 +1,5 @@
 -- Sizes in tenths of a millimetre, the cells of a rectangle, and what a cut may leave as a remnant.
-use Rattle.std.specs.Prelude.{ℕ, suc, zero, ◌+◌, ◌≤◌, ◌&&◌, ◌==◌, ◌++◌, Bool, nat_le, List, [], ◌∷◌, map, length, if◌then◌else◌, min, max, Option, Some, None}
+use Rattle.std.specs.Prelude.{ℕ, suc, zero, ◌&&◌, ◌==◌, ◌++◌, Bool, nat_le, List, [], ◌∷◌, map, if◌then◌else◌, min, max, Option, Some, None}
 use Rattle.std.specs.List.{flat_map}
 use Rattle.cut_measure.specs.declared.sizes.Kind.{Kind}
 use Rattle.cut_measure.specs.declared.sizes.Kind.TheVariants.{Bar, Sheet}

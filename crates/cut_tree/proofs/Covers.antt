@@ -1,6 +1,6 @@
 -- The rows of a tree share its rectangle out: each cell is in one of them, and each row has the cells of its node.
-use Rattle.std.proofs.Common.{◌≡◌, ℕ, zero, suc, ◌+◌, ◌-◌, ◌<◌, ◌≤◌, List, [], ◌∷◌, ◌++◌, length, get_or, refl, ap, subst, sym, ◌∙◌, arith, cond, lt-ltb, ◌⊎◌, inl, inr}
-use Rattle.std.specs.Prelude.{All, Any, AllPairs, Contains}
+use Rattle.std.proofs.Common.{◌≡◌, ℕ, zero, suc, ◌+◌, ◌-◌, ◌<◌, ◌≤◌, List, [], ◌++◌, length, get_or, refl, ap, subst, sym, ◌∙◌, arith, cond, lt-ltb, ◌⊎◌, inl, inr}
+use Rattle.std.specs.Prelude.{All, Any, AllPairs}
 use Rattle.std.proofs.lemmas.List.Elements.{All-append, All-cons}
 use Rattle.std.proofs.lemmas.List.{get_or_default, get_or_append_left, get_or-append_right, length-append}
 use Rattle.std.proofs.lemmas.Bool.{cases_lt, le-ltb}
@@ -11,7 +11,7 @@ use Rattle.cut_tree.specs.declared.lay.Owner.TheVariants as owner
 use Rattle.cut_tree.specs.declared.lay.Row.{Row}
 use Rattle.cut_tree.specs.Tree.{Tree, Piece, Rest, Trim, Cut, IsShaped, node_count, cut_count}
 use Rattle.cut_tree.specs.Cells.{Outcome, Made, LeftWhole, Spoiled, Spot, spot_of, by_outcome}
-use Rattle.cut_tree.specs.Laying.{Holds, IsSpot, Owns, IsLaid}
+use Rattle.cut_tree.specs.Laying.{Holds, IsSpot, IsLaid}
 use Rattle.cut_tree.specs.Nodes.{rows_of, one_row, strip_row, rows_by_outcome}
 
 -- the cell (i, j) is in the rectangle at (x, y) of w by h
@@ -301,6 +301,7 @@ by_cases Spoiled made spot x y w h n m wp hp nm c =
 
 -- The rows of a tree share its rectangle out.
 pub covers : (t : Tree) (x y w h k : ℕ) (outcome : ℕ → Outcome) (n c : ℕ) → 0 < w → 0 < h → IsShaped t w h k → Shares t x y w h k outcome n c
+unfolding spot_of
 covers (Piece d turned) x y w h k outcome n c wp hp shaped = one x y w h n (owner.Piece d) wp hp
 covers Rest x y w h k outcome n c wp hp shaped = one x y w h n owner.Rest wp hp
 covers (Trim X a first) x y w h k outcome n c wp hp shaped =

@@ -1,23 +1,21 @@
 -- A text that spells a tree has no fault.
-use Rattle.std.proofs.Common.{◌≡◌, ℕ, zero, suc, ◌+◌, ◌-◌, ◌^◌, ◌<◌, ◌≤◌, Bool, true, false, List, [], ◌∷◌, ◌++◌, length, get_or, drop, map, refl, ap, subst, sym, ◌∙◌, arith, eqb, ◌⊎◌, inl, inr, append_assoc}
+use Rattle.std.proofs.Common.{◌≡◌, ℕ, zero, suc, ◌+◌, ◌^◌, ◌<◌, ◌≤◌, Bool, true, false, List, [], ◌∷◌, ◌++◌, length, get_or, drop, map, refl, ap, subst, sym, ◌∙◌, arith, eqb, inl, inr, append_assoc}
 use Rattle.std.specs.Prelude.{Option, Some, None, slice_get, All}
 use Rattle.std.specs.List.{slice_split, join_with_byte}
 use Rattle.std.specs.Fmt.{decimal}
-use Rattle.std.specs.Str.Parse.{AllDigits}
 use Rattle.std.proofs.lemmas.Bool.{false_from_ne_true, eqb-true}
 use Rattle.std.proofs.lemmas.Fmt.{digits_decimal, decimal_injective}
 use Rattle.std.proofs.lemmas.Str.Parse.{digit_at}
 use Rattle.std.proofs.lemmas.List.{append-nil, append_cancel_right, get_or_default}
 use Rattle.std.proofs.lemmas.List.Elements.{All-cons, All-append, All-nil}
 use Rattle.std.proofs.lemmas.List.Splits.{slice_split_none, slice_split_at}
-use Rattle.cut_measure.specs.declared.sizes.Axis.{Axis}
 use Rattle.cut_measure.specs.declared.sizes.Axis.TheVariants.{X, Y}
 use Rattle.cut_tree.specs.declared.token.Token.{Token}
 use Rattle.cut_tree.specs.declared.token.Token.TheVariants as token
 use Rattle.cut_tree.specs.declared.token.Cause.{Cause}
 use Rattle.cut_tree.specs.declared.token.Cause.TheVariants.{BadToken, TooManyCuts, OffUnit, Missing, Extra, NoMemory}
 use Rattle.cut_tree.specs.Tree.{Tree, Piece, Rest, Trim, Cut, IsShaped, cut_count}
-use Rattle.cut_tree.specs.Spelling.{tokens, word_of, turn_mark, axis_letter, text_of, words, IsToken, AllTokens, IsSpelling, cuts_in, SpelledAt, IsFront, GoesOn, IsNoToken, IsCut, IsWrong, IsWrongBehind, Stops, FollowsOn, IsFirstFault}
+use Rattle.cut_tree.specs.Spelling.{tokens, word_of, turn_mark, words, IsToken, AllTokens, IsSpelling, cuts_in, SpelledAt, GoesOn, IsNoToken, IsWrong, IsWrongBehind, Stops, FollowsOn, IsFirstFault}
 use Rattle.cut_tree.proofs.Pieces.{own, unlike, first_byte}
 use Rattle.cut_tree.proofs.Fronts.{one_tree, no_end, append-nil', cuts_in-append}
 use Rattle.cut_tree.proofs.Whole.{words-some, cuts_in-tokens}
@@ -60,7 +58,7 @@ words-text_of [] some p = absurd (omega arith)
 words-text_of (t ∷ ts) some p = words-some (join_with_byte 32 (map word_of (t ∷ ts))) (some_text t ts) ∙ words-join t ts p
 
 -- one token for a word
-one_token : (t u : Token) → IsToken t → IsToken u → word_of t ≡ word_of u → t ≡ u
+pub one_token : (t u : Token) → IsToken t → IsToken u → word_of t ≡ word_of u → t ≡ u
 one_token (token.Cut X a) (token.Cut X b) p q same = ap (λ n. token.Cut X n) (decimal_injective a b (omega (arith, p.1)) (omega (arith, q.1)) (cc))
 one_token (token.Cut Y a) (token.Cut Y b) p q same = ap (λ n. token.Cut Y n) (decimal_injective a b (omega (arith, p.1)) (omega (arith, q.1)) (cc))
 one_token (token.Cut X a) (token.Cut Y b) p q same = absurd (omega (arith, first_byte 120 121 _ _ same))

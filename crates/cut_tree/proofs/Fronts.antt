@@ -1,7 +1,7 @@
 -- Fronts of trees: where a fault of a part is one of the whole.
-use Rattle.std.proofs.Common.{◌≡◌, ℕ, suc, ◌+◌, ◌-◌, ◌<◌, ◌≤◌, Bool, List, [], ◌∷◌, ◌++◌, length, refl, ap, subst, sym, ◌∙◌, arith, ◌⊎◌, inl, inr, append_assoc, Option, Some, None}
+use Rattle.std.proofs.Common.{◌≡◌, ℕ, suc, ◌+◌, ◌-◌, ◌<◌, ◌≤◌, List, [], ◌∷◌, ◌++◌, length, refl, ap, subst, sym, ◌∙◌, arith, ◌⊎◌, inl, inr, append_assoc, Option, Some}
 use Rattle.std.specs.Prelude.{slice_get}
-use Rattle.std.proofs.lemmas.List.{append-nil, length-append, append_cancel_left}
+use Rattle.std.proofs.lemmas.List.{append-nil, length-append}
 use Rattle.std.proofs.lemmas.Bool.{cases_lt}
 use Rattle.cut_measure.specs.declared.sizes.Axis.{Axis}
 use Rattle.cut_measure.specs.declared.sizes.Axis.TheVariants.{X, Y}
@@ -10,7 +10,7 @@ use Rattle.cut_tree.specs.declared.token.Token.TheVariants as token
 use Rattle.cut_tree.specs.declared.token.Cause.{Cause}
 use Rattle.cut_tree.specs.declared.token.Cause.TheVariants.{BadToken, TooManyCuts, OffUnit, Missing, Extra, NoMemory}
 use Rattle.cut_tree.specs.Tree.{Tree, Piece, Rest, Trim, Cut, IsShaped}
-use Rattle.cut_tree.specs.Spelling.{tokens, word_of, IsToken, cuts_in, IsWhole, IsFront, GoesOn, SpelledAt, IsWrong, Stops, HasRead}
+use Rattle.cut_tree.specs.Spelling.{tokens, word_of, IsToken, cuts_in, IsFront, GoesOn, SpelledAt, IsWrong, Stops}
 
 -- No tree's tokens begin those of another tree on the same sides.
 pub one_tree : (t u : Tree) (w h k : ℕ) (xs ys : List Token) → IsShaped t w h k → IsShaped u w h k → tokens t ++ xs ≡ tokens u ++ ys → (t ≡ u) × (xs ≡ ys)

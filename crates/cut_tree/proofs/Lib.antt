@@ -9,3 +9,8 @@ pub mod Rows
 pub mod Texts
 pub mod Exactly
 pub mod Only
+pub mod StepPlaces
+pub mod BarTrees
+pub mod FirstWords
+pub mod OneFault
+pub mod ReadBack

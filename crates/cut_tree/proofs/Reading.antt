@@ -1,18 +1,17 @@
 -- What a reader of nodes says of its faults, and of a cut with both parts.
-use Rattle.std.proofs.Common.{◌≡◌, ℕ, suc, ◌+◌, ◌-◌, ◌<◌, ◌≤◌, List, [], ◌∷◌, ◌++◌, length, refl, ap, subst, sym, ◌∙◌, arith, ◌⊎◌, inl, inr, Option, Some, None}
+use Rattle.std.proofs.Common.{◌≡◌, ℕ, ◌+◌, ◌-◌, ◌<◌, ◌≤◌, List, [], refl, subst, sym, arith, ◌⊎◌, inl, inr, Option, Some}
 use Rattle.std.specs.Prelude.{slice_get}
 use Rattle.std.proofs.lemmas.List.{length-append}
 use Rattle.cut_measure.specs.declared.sizes.Axis.{Axis}
 use Rattle.cut_measure.specs.declared.sizes.Axis.TheVariants.{X, Y}
-use Rattle.cut_tree.specs.declared.token.Token.{Token}
 use Rattle.cut_tree.specs.declared.token.Token.TheVariants as token
 use Rattle.cut_tree.specs.declared.token.Cause.{Cause}
 use Rattle.cut_tree.specs.declared.token.Cause.TheVariants.{BadToken, TooManyCuts, OffUnit, Missing, Extra, NoMemory}
 use Rattle.cut_tree.specs.declared.token.Sides.{Sides}
 use Rattle.cut_tree.specs.declared.read.SpellFault.{SpellFault}
 use Rattle.cut_tree.specs.Sides.{side_along, part_of}
-use Rattle.cut_tree.specs.Tree.{Tree, Piece, Rest, Trim, Cut, IsShaped}
-use Rattle.cut_tree.specs.Spelling.{tokens, word_of, IsToken, cuts_in, IsFront, GoesOn, SpelledAt, IsWrong, IsNoTokenFor, Stops, HasRead}
+use Rattle.cut_tree.specs.Tree.{Tree, Rest, Cut, IsShaped}
+use Rattle.cut_tree.specs.Spelling.{tokens, word_of, IsToken, cuts_in, SpelledAt, IsWrong, IsNoTokenFor, Stops, HasRead}
 use Rattle.cut_tree.proofs.Fronts.{first_stops_x, first_stops_y, second_stops_x, second_stops_y, off_x, off_y, SpelledAt-append, cuts_in-append}
 
 abbrev pub Fails : List (List ℕ) → (at cuts : ℕ) → Sides → (kerf : ℕ) → SpellFault → Type 0

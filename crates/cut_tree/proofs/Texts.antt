@@ -1,9 +1,8 @@
 -- The text of a cut, by the texts of its parts.
-use Rattle.std.proofs.Common.{◌≡◌, ℕ, ◌+◌, ◌<◌, ◌≤◌, List, [], ◌∷◌, ◌++◌, length, map, refl, ap, sym, ◌∙◌, arith, append_assoc}
+use Rattle.std.proofs.Common.{◌≡◌, ℕ, ◌<◌, List, [], ◌∷◌, ◌++◌, length, map, refl, ap, sym, ◌∙◌, arith, append_assoc}
 use Rattle.std.specs.List.{join_with_byte}
-use Rattle.std.proofs.lemmas.List.{length-append, length-map, map-append}
+use Rattle.std.proofs.lemmas.List.{length-append, map-append}
 use Rattle.cut_measure.specs.declared.sizes.Axis.{Axis}
-use Rattle.cut_tree.specs.declared.token.Token.{Token}
 use Rattle.cut_tree.specs.declared.token.Token.TheVariants as token
 use Rattle.cut_tree.specs.Tree.{Tree, Piece, Rest, Trim, Cut}
 use Rattle.cut_tree.specs.Spelling.{tokens, word_of, text_of}

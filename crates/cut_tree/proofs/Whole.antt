@@ -1,16 +1,13 @@
 -- What has been read to the end of a text.
-use Rattle.std.proofs.Common.{◌≡◌, ℕ, suc, ◌+◌, ◌-◌, ◌^◌, ◌<◌, ◌≤◌, List, [], ◌∷◌, ◌++◌, length, get_or, drop, map, refl, ap, subst, sym, ◌∙◌, arith, Option, Some, None, eqb, add-one, drop-cons}
-use Rattle.std.specs.Prelude.{slice_get}
+use Rattle.std.proofs.Common.{◌≡◌, ℕ, suc, ◌+◌, ◌<◌, ◌≤◌, List, [], ◌∷◌, ◌++◌, length, get_or, drop, map, refl, ap, subst, sym, ◌∙◌, arith, eqb, drop-cons}
 use Rattle.std.specs.List.{slice_split, join_with_byte}
 use Rattle.std.proofs.Math.ListN.{drop_of_length-le}
 use Rattle.std.proofs.lemmas.Option.{slice_get_within, get_or_from_slice_get}
 use Rattle.std.proofs.lemmas.List.Splits.{join_with_byte-slice_split}
-use Rattle.cut_measure.specs.declared.sizes.Axis.{Axis}
 use Rattle.cut_tree.specs.declared.token.Token.{Token}
-use Rattle.cut_tree.specs.declared.token.Token.TheVariants as token
 use Rattle.cut_tree.specs.Tree.{Tree, Piece, Rest, Trim, Cut, cut_count}
 use Rattle.cut_tree.specs.Patterns.{HasDemands}
-use Rattle.cut_tree.specs.Spelling.{tokens, word_of, text_of, words, IsToken, cuts_in, SpelledAt}
+use Rattle.cut_tree.specs.Spelling.{tokens, word_of, text_of, words, cuts_in, SpelledAt}
 use Rattle.cut_tree.proofs.Fronts.{cuts_in-append}
 
 -- words that the tokens spell up to the end

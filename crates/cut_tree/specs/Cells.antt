@@ -1,6 +1,5 @@
 -- The owner of one cell of a unit: what it belongs to once the cuts are made.
-use Rattle.std.specs.Prelude.{ℕ, Bool, true, false, ◌≡◌, ◌+◌, ◌-◌, ◌≤◌, ◌<◌, nat_lt, min, if◌then◌else◌}
-use Rattle.cut_measure.specs.declared.sizes.Axis.{Axis}
+use Rattle.std.specs.Prelude.{ℕ, Bool, false, ◌+◌, ◌-◌, nat_lt, if◌then◌else◌}
 use Rattle.cut_measure.specs.declared.sizes.Axis.TheVariants.{X, Y}
 use Rattle.cut_tree.specs.declared.lay.Owner.{Owner}
 use Rattle.cut_tree.specs.declared.lay.Owner.TheVariants as owner
@@ -29,7 +28,7 @@ by_outcome Spoiled made whole spoiled = spoiled
 
 -- Follows the cell (x, y) down a tree on w by h. `outcome` says what became of each cut by its number; n is the
 -- number of the tree's first node, c that of its first cut.
-abbrev pub spot_of : Tree → (w h kerf : ℕ) → (ℕ → Outcome) → (n c x y : ℕ) → Spot
+unfoldable pub spot_of : Tree → (w h kerf : ℕ) → (ℕ → Outcome) → (n c x y : ℕ) → Spot
 spot_of (Piece demand turned) w h k outcome n c x y =
     record { node = n; owner = owner.Piece demand; w = w; h = h; x = x; y = y }
 spot_of Rest w h k outcome n c x y = record { node = n; owner = owner.Rest; w = w; h = h; x = x; y = y }

@@ -1,12 +1,9 @@
 -- Rows of rectangles that share a unit out among the nodes of a tree.
-use Rattle.std.specs.Prelude.{ℕ, Bool, ◌≡◌, ◌+◌, ◌-◌, ◌≤◌, ◌<◌, ◌↔◌, List, [], ◌∷◌, ◌++◌, All, Any, AllPairs, Contains, nat_eq, min, if◌then◌else◌}
-use Rattle.cut_measure.specs.declared.sizes.Axis.{Axis}
-use Rattle.cut_measure.specs.declared.sizes.Axis.TheVariants.{X, Y}
+use Rattle.std.specs.Prelude.{ℕ, ◌≡◌, ◌+◌, ◌≤◌, ◌<◌, ◌↔◌, List, All, Any, AllPairs}
 use Rattle.cut_tree.specs.declared.lay.Owner.{Owner}
-use Rattle.cut_tree.specs.declared.lay.Owner.TheVariants as owner
 use Rattle.cut_tree.specs.declared.lay.Row.{Row}
-use Rattle.cut_tree.specs.Tree.{Tree, Piece, Rest, Trim, Cut, node_count, cut_count}
-use Rattle.cut_tree.specs.Cells.{Outcome, Made, LeftWhole, Spoiled, Spot, spot_of}
+use Rattle.cut_tree.specs.Tree.{Tree}
+use Rattle.cut_tree.specs.Cells.{Outcome, Spot, spot_of}
 
 -- the row's rectangle holds the cell
 pub record Holds (r : Row) (x y : ℕ) : Type 0 where

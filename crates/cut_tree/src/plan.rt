@@ -1,20 +1,27 @@
-ghost use Rattle.std.specs.Prelude.{◌≡◌, ◌≤◌, ◌<◌, ◌++◌, IfOk, IfErr, MatchResult, is_ok, if◌then◌else◌, string_bytes};
-ghost use Rattle.cut_tree.specs.Tree.{Tree, cut_count};
+ghost use Rattle.std.specs.Prelude.{ℕ, ◌↔◌, IsTrue, All, sum_by, OnOk, ◌≡◌, ◌≤◌, ◌<◌, ◌++◌, IfOk, IfErr, MatchResult, is_ok, if◌then◌else◌, string_bytes};
+ghost use Rattle.cut_tree.specs.Tree.{Tree, cut_count, count_of, leaf_sum};
 ghost use Rattle.cut_tree.specs.declared.token.Cause.TheVariants.{NoMemory};
 ghost use Rattle.cut_tree.specs.Spelling.{text_of, IsSpelling, IsFirstFault};
 ghost use Rattle.cut_tree.specs.Laying.{IsLaid};
+ghost use Rattle.cut_tree.specs.Nodes.{tree_of};
+ghost use Rattle.cut_tree.specs.Patterns.{IsPlan};
+ghost use Rattle.cut_tree.specs.Stepping.{AreSteps};
+ghost use Rattle.cut_tree.specs.Bars.{IsBarPiece, bar_length, bar_tree, IsBarFault};
 ghost use Rattle.cut_tree.specs.Stops.{outcome_of, IsStopOf};
 
+use crate::bars::{BarFault, bar_root};
 use crate::lay::{Rect, Row, Saw, Stop, lay_node};
-use crate::node::{Node, count_cuts};
+use crate::node::{Node, copy_node, count_cuts, count_pieces, is_same};
 use crate::read::{SpellFault, behind, read_node, words_of};
+use crate::steps::{Step, step_node};
 use crate::token::{Cause, Sides};
 use crate::write::write_node;
 use cut_measure::Size;
 use std::alloc::{AllocError, Global};
 use std::marker::Model;
 
-/// A cutting tree on a unit's size, under a saw's kerf.
+/// A cutting tree on a unit's size, under a saw's kerf. It follows the rule of cuts, has at most 255 of them, and its
+/// demands are 1 to 2147483647.
 #[derive(Drop)]
 pub struct Plan {
     root: Node,
@@ -37,7 +44,7 @@ impl Model for Plan {
 }
 
 impl Plan {
-    /// The plan that a text spells on a unit of this size, under this kerf; else the text's first fault.
+    /// The plan that a text spells on a unit of this size, under a kerf of at most 200; else the text's first fault.
     pub fn read(alloc: Global, text: &str, size: Size, kerf: u32) -> Result<Plan, SpellFault>
         requires { kerf ≤ 200 }
         ensures spelled { IfOk result (λ plan. IsSpelling text.now plan.tree size.w size.h kerf) }
@@ -89,11 +96,54 @@ impl Plan {
     pub fn cuts(&self) -> u32
         ensures count { result ≡ cut_count self.now.tree }
         ensures few { result ≤ 255 }
+        ensures kept { IsPlan self.now }
     {
         count_cuts(&self.root)
     }
 
-    /// The rectangles into which the unit falls, and what each belongs to, by rising nodes.
+    /// How many pieces of a demand the plan has.
+    pub fn count(&self, demand: u32) -> u32
+        ensures { result ≡ count_of self.now.tree demand }
+    {
+        count_pieces(&self.root, demand)
+    }
+
+    /// The same plan in memory of its own.
+    pub fn copy(&self, alloc: Global) -> Result<Plan, AllocError>
+        ensures { IfOk result (λ copy. copy ≡ self.now) }
+    {
+        let root = copy_node(alloc, &self.root)?;
+        Ok(Plan {
+            root,
+            size: self.size,
+            kerf: self.kerf,
+        })
+    }
+
+    /// Whether two plans are the same: tree, size and kerf.
+    pub fn is(&self, other: &Plan) -> bool
+        ensures { IsTrue result ↔ (self.now ≡ other.now) }
+    {
+        self.size == other.size && self.kerf == other.kerf && is_same(&self.root, &other.root)
+    }
+
+    /// One step for each node in the order of the nodes, with its whole rectangle.
+    pub fn steps(&self, alloc: Global) -> Result<Vec<Step>, AllocError>
+        ensures { IfOk result (λ steps. AreSteps self.now.tree self.now.w self.now.h self.now.kerf steps.items) }
+    {
+        let mut steps = Vec::new(alloc);
+        let rect = Rect {
+            x: 0,
+            y: 0,
+            w: self.size.w(),
+            h: self.size.h(),
+        };
+        step_node(&self.root, rect, self.kerf, 0, &mut steps)?;
+        Ok(steps)
+    }
+
+    /// The rectangles into which the unit falls once the work ended so, and what each belongs to, by rising nodes. A stop
+    /// names a cut of the plan.
     pub fn lay(&self, alloc: Global, stop: Stop) -> Result<Vec<Row>, AllocError>
         requires { IsStopOf stop (cut_count self.now.tree) }
         ensures { IfOk result (λ rows. IsLaid self.now.tree self.now.w self.now.h self.now.kerf (outcome_of stop) rows.items) }
@@ -112,4 +162,36 @@ impl Plan {
         lay_node(&self.root, rect, saw, 0, 0, &mut rows)?;
         Ok(rows)
     }
+}
+
+impl Plan {
+    /// The plan of these nodes on a unit of this size, under this kerf.
+    pub fn of(root: Node, size: Size, kerf: u32) -> Plan
+        requires { IsPlan (record { tree = tree_of root; w = size.w; h = size.h; kerf = kerf }) }
+        ensures { result ≡ record { tree = tree_of root; w = size.w; h = size.h; kerf = kerf } }
+    {
+        Plan { root, size, kerf }
+    }
+}
+
+/// The plan of a bar from which pieces, each a demand and a length of at least 1, are cut off in the list's order. A
+/// last piece that fills its part needs no cut, and what is left is a rest. The faults come in the order of `BarFault`.
+pub fn bar_plan(
+    alloc: Global,
+    size: Size,
+    kerf: u32,
+    pieces: &[(u32, u32)],
+) -> Result<Plan, BarFault>
+    requires bar { size.h ≡ 1 }
+    requires narrow { kerf ≤ 200 }
+    requires pieces { All IsBarPiece pieces.now }
+    ensures tree { IfOk result (λ plan. plan.tree ≡ bar_tree pieces.now size.w kerf) }
+    ensures unit { IfOk result (λ plan. (plan.w ≡ size.w) × (plan.h ≡ size.h) × (plan.kerf ≡ kerf)) }
+    ensures fits { OnOk result (bar_length pieces.now kerf ≤ size.w) }
+    ensures sums { IfOk result (λ plan. (f : ℕ → ℕ) → leaf_sum f plan.tree ≡ sum_by (λ p. f p.0) pieces.now) }
+    ensures fault { IfErr result (λ fault. IsBarFault fault pieces.now size.w kerf) }
+{
+    let root = bar_root(alloc, size.w(), kerf, pieces)?;
+    let _height = size.h();
+    Ok(Plan { root, size, kerf })
 }

@@ -1,7 +1,8 @@
-ghost use Rattle.std.specs.Prelude.{◌≤◌};
+ghost use Rattle.std.specs.Prelude.{◌≤◌, ◌↔◌, All, IsTrue};
+ghost use Rattle.cut_tree.specs.Bars.{IsBarPiece};
 
-use crate::{Cause, Owner, Plan, Row, SpellFault, Stop};
-use cut_measure::{Kind, Size};
+use crate::{BarFault, Cause, Owner, Plan, Row, SpellFault, Step, Stop, Token, bar_plan};
+use cut_measure::{Axis, Kind, Size};
 use std::test::Fail;
 
 fn plan(
@@ -17,68 +18,180 @@ fn plan(
     Ok(Plan::read(rt.alloc(), text, size, kerf))
 }
 
+fn row(node: u32, x: u32, y: u32, w: u32, h: u32, owner: Owner) -> Row {
+    Row {
+        node,
+        x,
+        y,
+        w,
+        h,
+        owner,
+    }
+}
+
+fn step(node: u32, x: u32, y: u32, w: u32, h: u32, what: Token) -> Step {
+    Step {
+        node,
+        x,
+        y,
+        w,
+        h,
+        what,
+    }
+}
+
+#[test]
+fn two_pieces_of_a_sheet(rt: HostRuntime) -> Result<(), Fail> {
+    let plan = plan(&rt, "x4 y3 p1 p2 r", 10, 8, 1)??;
+    assert_eq!(rt; (plan.cuts(), plan.count(1), plan.count(3)), (2, 1, 0));
+    let mut text = String::from_str(rt.alloc(), "=")?;
+    plan.write(&mut text)?;
+    assert_eq!(rt; text.as_str(), "=x4 y3 p1 p2 r");
+    let copy = plan.copy(rt.alloc())?;
+    assert!(rt; copy.is(&plan));
+    let steps = plan.steps(rt.alloc())?;
+    let wanted = [
+        step(0, 0, 0, 10, 8, Token::Cut(Axis::X, 4)),
+        step(1, 0, 0, 4, 8, Token::Cut(Axis::Y, 3)),
+        step(2, 0, 0, 4, 3, Token::Piece(1, false)),
+        step(3, 0, 4, 4, 4, Token::Piece(2, false)),
+        step(4, 5, 0, 5, 8, Token::Rest),
+    ];
+    assert_eq!(rt; steps.as_slice(), wanted.as_slice());
+    let cut = plan.lay(rt.alloc(), Stop::All)?;
+    let wanted = [
+        row(0, 4, 0, 1, 8, Owner::Kerf),
+        row(1, 0, 3, 4, 1, Owner::Kerf),
+        row(2, 0, 0, 4, 3, Owner::Piece(1)),
+        row(3, 0, 4, 4, 4, Owner::Piece(2)),
+        row(4, 5, 0, 5, 8, Owner::Rest),
+    ];
+    assert_eq!(rt; cut.as_slice(), wanted.as_slice());
+    Ok(())
+}
+
 #[test]
 fn lays_what_is_lost(rt: HostRuntime) -> Result<(), Fail> {
     let plan = plan(&rt, "x4 y3 p1 p2 r", 10, 8, 1)??;
-    assert_eq!(rt; plan.cuts(), 2);
-    let mut text = String::new(rt.alloc());
-    plan.write(&mut text)?;
-    assert_eq!(rt; text.as_str(), "x4 y3 p1 p2 r");
-    if 1 < plan.cuts() {
-        let rows = plan.lay(
-            rt.alloc(),
-            Stop::After {
-                cuts: 1,
-                lost: true,
-            },
-        )?;
-        let wanted = [
-            Row {
-                node: 0,
-                x: 4,
-                y: 0,
-                w: 1,
-                h: 8,
-                owner: Owner::Kerf,
-            },
-            Row {
-                node: 1,
-                x: 0,
-                y: 0,
-                w: 4,
-                h: 8,
-                owner: Owner::Lost,
-            },
-            Row {
-                node: 4,
-                x: 5,
-                y: 0,
-                w: 5,
-                h: 8,
-                owner: Owner::Rest,
-            },
-        ];
-        assert_eq!(rt; rows.as_slice(), wanted.as_slice());
+    for (lost, owner) in [(true, Owner::Lost), (false, Owner::Uncut)] {
+        if 1 < plan.cuts() {
+            let rows = plan.lay(rt.alloc(), Stop::After { cuts: 1, lost })?;
+            let wanted = [
+                row(0, 4, 0, 1, 8, Owner::Kerf),
+                row(1, 0, 0, 4, 8, owner),
+                row(4, 5, 0, 5, 8, Owner::Rest),
+            ];
+            assert_eq!(rt; rows.as_slice(), wanted.as_slice());
+        }
+    }
+    Ok(())
+}
+
+#[test]
+fn leaves_the_saw_what_is_there(rt: HostRuntime) -> Result<(), Fail> {
+    for (text, w, kerf, pieces, saw) in [
+        ("x30 p1 x30 p1 x30 p1", 98, 3, 90, 8),
+        ("x30 p1 x30 p1 p1", 96, 3, 90, 6),
+        ("x30 p1 x30 p1 p1", 90, 0, 90, 0),
+        ("x30 p1 x30 p1t x30 p1 r", 100, 3, 90, 9),
+    ] {
+        let plan = plan(&rt, text, w, 1, kerf)??;
+        let (mut made, mut sawn) = (0u32, 0u32);
+        for row in plan.lay(rt.alloc(), Stop::All)?.as_slice() {
+            match row.owner {
+                Owner::Piece(_) => made = made.saturating_add(row.w),
+                Owner::Kerf => sawn = sawn.saturating_add(row.w),
+                _ => {}
+            }
+        }
+        assert_eq!(rt; (made, sawn), (pieces, saw), "{text}");
     }
     Ok(())
 }
 
 #[test]
 fn names_the_first_fault(rt: HostRuntime) -> Result<(), Fail> {
-    let faults = [
+    for (text, w, h, kerf, token, cause) in [
         ("x30 p1 x30 p1 x30 p1 r", 98, 1, 3, 6, Cause::Extra),
         ("x5 p3", 5, 8, 1, 0, Cause::OffUnit),
         ("p07", 10, 8, 1, 0, Cause::BadToken),
         ("p1  r", 10, 8, 1, 1, Cause::BadToken),
         (" p1", 10, 8, 1, 0, Cause::BadToken),
+        ("p1 ", 10, 8, 1, 1, Cause::BadToken),
+        ("p2147483648", 10, 8, 1, 0, Cause::BadToken),
+        ("x4294967296 r", 10, 8, 1, 0, Cause::BadToken),
         ("", 10, 8, 1, 0, Cause::Missing),
         ("x4 p1", 10, 8, 1, 2, Cause::Missing),
+        ("p1 x99", 10, 8, 1, 1, Cause::Extra),
         ("p1 p0", 10, 8, 1, 1, Cause::BadToken),
-    ];
-    for (text, w, h, kerf, token, cause) in faults {
-        if kerf <= 200 {
-            let found = plan(&rt, text, w, h, kerf)?;
-            assert_eq!(rt; found.err(), Some(SpellFault { token, cause }), "{text}");
+    ] {
+        let found = plan(&rt, text, w, h, kerf)?;
+        assert_eq!(rt; found.err(), Some(SpellFault { token, cause }), "{text}");
+    }
+    Ok(())
+}
+
+#[test]
+fn counts_cuts_in_long_texts(rt: HostRuntime) -> Result<(), Fail> {
+    for (cuts, token, cause) in [
+        (255u32, 255, Cause::Missing),
+        (256, 255, Cause::TooManyCuts),
+        (9000, 255, Cause::TooManyCuts),
+    ] {
+        let mut text = String::new(rt.alloc());
+        for i in 0..cuts {
+            write!(text, "x{} ", 199999u32.saturating_sub(i))?;
+        }
+        let found = plan(&rt, text.as_str().trim_end(), 200000, 1, 1)?;
+        assert_eq!(rt; found.err(), Some(SpellFault { token, cause }), "{cuts}");
+    }
+    Ok(())
+}
+
+#[test]
+fn plans_bars(rt: HostRuntime) -> Result<(), Fail> {
+    let bar = Size::new(Kind::Bar, 100, 1).ok_or("no size")?;
+    for (first, second, text) in [
+        ((1, 60), (2, 37), Ok("x60 p1 p2")),
+        ((1, 60), (2, 36), Ok("x60 p1 x36 p2")),
+        ((1, 60), (2, 33), Ok("x60 p1 x33 p2 r")),
+        ((1, 60), (2, 38), Err(BarFault::TooLong)),
+    ] {
+        let mut out = String::new(rt.alloc());
+        if bar.h() == 1 {
+            match bar_plan(rt.alloc(), bar, 3, &[first, second]) {
+                Ok(plan) => {
+                    plan.write(&mut out)?;
+                    assert_eq!(rt; Ok(out.as_str()), text);
+                }
+                Err(fault) => assert_eq!(rt; Err(fault), text),
+            }
+        }
+    }
+    Ok(())
+}
+
+fn are_bar_pieces(pieces: &[(u32, u32)]) -> bool
+    ensures { IsTrue result ↔ All IsBarPiece pieces.now }
+{
+    pieces.iter().all(|piece| 1 <= piece.0 && piece.0 <= 2147483647 && 1 <= piece.1)
+}
+
+#[test]
+fn plans_long_lists(rt: HostRuntime) -> Result<(), Fail> {
+    let pieces = vec![in rt.alloc(); (1, 1); 300]?;
+    for (length, kerf, count, answer) in [
+        (100, 3, 0, Ok(0)),
+        (256, 0, 256, Ok(255)),
+        (256, 0, 257, Err(BarFault::TooLong)),
+        (257, 0, 256, Err(BarFault::TooManyCuts)),
+        (300, 0, 300, Err(BarFault::TooManyCuts)),
+    ] {
+        let bar = Size::new(Kind::Bar, length, 1).ok_or("no size")?;
+        let some = pieces.as_slice().get(..count).ok_or("too few")?;
+        if bar.h() == 1 && kerf <= 200 && are_bar_pieces(some) {
+            let plan = bar_plan(rt.alloc(), bar, kerf, some);
+            assert_eq!(rt; plan.map(|plan| plan.cuts()), answer, "{count} on {length}");
         }
     }
     Ok(())

@@ -3,22 +3,34 @@ ghost use Rattle.std.specs.Fmt.{decimal};
 
 use cut_measure::{Axis, read_number};
 
+/// The most cuts that a plan has.
+pub const MOST_CUTS: u32 = 255;
+
 /// A node of a tree as its text has it.
 #[derive(Clone, Copy, PartialEq, Eq, Debug)]
 pub enum Token {
+    /// `x30` or `y30`: a cut along the axis at this place, from 1 on.
     Cut(Axis, u32),
+    /// `p7`, or `p7t` where it is turned: a piece of a demand, 1 to 2147483647.
     Piece(u32, bool),
+    /// `r`: a rest.
     Rest,
 }
 
-/// Why a text is no tree's.
+/// Why a text is no tree's, in the order of what is judged at one token.
 #[derive(Clone, Copy, PartialEq, Eq, Debug)]
 pub enum Cause {
+    /// No token, an empty one too.
     BadToken,
+    /// A 256th cut.
     TooManyCuts,
+    /// A cut whose place isn't inside its rectangle.
     OffUnit,
+    /// The text ended before the tree; the token is the number of its tokens.
     Missing,
+    /// A token behind the whole tree.
     Extra,
+    /// Want of memory; the token is 0.
     NoMemory,
 }
 

@@ -3,5 +3,7 @@
 
 mod decided;
 mod desk_calls;
+#[cfg(test)]
+mod tests;
 
 pub use desk_calls::{ask, handle, run};

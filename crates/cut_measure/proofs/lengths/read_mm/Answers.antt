@@ -1,4 +1,4 @@
-use Rattle.std.proofs.Common.{◌≡◌, ℕ, List, ap, sym, ◌∙◌}
+use Rattle.std.proofs.Common.{◌≡◌, ℕ, List, ap}
 use Rattle.std.specs.Prelude.{Option, Some, None, MatchOption}
 use Rattle.cut_measure.specs.Lengths.{IsLengthText}
 use Rattle.cut_measure.proofs.LengthTexts.{one_length}

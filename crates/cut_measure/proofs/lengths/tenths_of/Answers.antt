@@ -1,4 +1,4 @@
-use Rattle.std.proofs.Common.{lit<, sym, ◌∙◌}
+use Rattle.std.proofs.Common.{lit<, ◌∙◌}
 use Rattle.std.proofs.lemmas.Str.Pattern.{split_parts}
 use Rattle.cut_measure.proofs.LengthTexts.{no_whole, pointed}
 use Rattle.cut_measure.proofs.lengths.tenths_of.Goals as goal

@@ -1,4 +1,3 @@
-use Rattle.std.proofs.Common.{ap, sym}
 use Rattle.cut_measure.proofs.CodeFields.{code_utf8}
 use Rattle.cut_measure.proofs.code_texts.Code.as_str.Goals as goal
 

@@ -1,4 +1,4 @@
-use Rattle.std.proofs.Common.{◌<◌, ◌^◌, lit<, sym, ◌∙◌, inl, inr, arith, ℕ, ◌≡◌, subst}
+use Rattle.std.proofs.Common.{lit<, sym, ◌∙◌, inl, inr, arith, ◌≡◌}
 use Rattle.std.proofs.lemmas.Str.Pattern.{split_parts}
 use Rattle.std.proofs.lemmas.Fmt.{decimal_injective}
 use Rattle.cut_measure.proofs.NameTexts.{no_name, name_parts}

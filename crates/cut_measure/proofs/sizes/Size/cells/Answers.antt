@@ -1,5 +1,5 @@
-use Rattle.std.proofs.Common.{◌≡◌, ◌*◌, length, sym, ap, ◌∙◌}
-use Rattle.cut_measure.specs.Measures.{Extent, cells_of}
+use Rattle.std.proofs.Common.{◌*◌, length, sym, ap, ◌∙◌}
+use Rattle.cut_measure.specs.Measures.{cells_of}
 use Rattle.cut_measure.proofs.Cells.{length-cells_of}
 use Rattle.cut_measure.proofs.sizes.Size.cells.Goals as goal
 

@@ -1,8 +1,10 @@
-use Rattle.std.proofs.Common.{◌≡◌, ◌≤◌, ◌+◌, length, map, ℕ, List, arith, ap, sym, ◌∙◌, subst}
+use Rattle.std.proofs.Common.{◌≡◌, ◌<◌, take, length, map, arith, ap, ◌∙◌}
 use Rattle.std.proofs.lemmas.List.{length-map}
 use Rattle.cut_tree.specs.Nodes.{tree_of}
-use Rattle.cut_tree.specs.Spelling.{words, SpelledAt, tokens}
+use Rattle.cut_tree.specs.Spelling.{words, tokens}
 use Rattle.cut_tree.proofs.Whole.{spelled_text, cuts_in-tokens, demands_read}
+use Rattle.std.proofs.lemmas.Result.{err_from_is_err_and}
+use Rattle.cut_tree.proofs.FirstWords.{read_fault, behind_fault, all_taken}
 use Rattle.cut_tree.proofs.Exactly.{spelled_numbers}
 use Rattle.cut_tree.proofs.plan.Plan.parse.Goals as goal
 
@@ -20,13 +22,31 @@ invariant_of-result c =
       narrow = c.requires;
     }
 
+pub returns-in_err-read-clause-fault : goal.returns-in_err-read-clause-fault
+returns-in_err-read-clause-fault c =
+    let p = err_from_is_err_and c.from_residual.result c.from_residual.ensures.1 in
+    rw (p.1, p.2, ← c.w.ensures.value, ← c.h.ensures.value)
+    (read_fault (map (λ w. w.now) c.as_slice-words.result.now) c.args.text.now c.w.result c.h.result c.args.kerf _ _
+    (ap (map (λ w. w.now)) c.as_slice-words.ensures.value ∙ c.in-Ok.ensures) c.in_err-read.ensures.early c.in_err-read.ensures.err)
+
+pub returns-then-read-words-clause-fault : goal.returns-then-read-words-clause-fault
+returns-then-read-words-clause-fault c =
+    let r = c.in_ok-read.ensures.ok in
+    rw (c.behind.ensures.token, ← c.w.ensures.value, ← c.h.ensures.value)
+    (behind_fault (map (λ w. w.now) c.as_slice-words.result.now) c.args.text.now c.w.result c.h.result c.args.kerf c.in_ok-read.read.next c.in_ok-read.read.cuts c.behind.result.cause
+    (tree_of c.in_ok-read.read.node) (ap (map (λ w. w.now)) c.as_slice-words.ensures.value ∙ c.in-Ok.ensures)
+    (omega (arith, c.in_ok-read.ensures.near, r.few_cuts)) r c.behind.ensures.cause)
+
 pub returns-clause-spelled : goal.returns-clause-spelled
 returns-clause-spelled c =
     let r = c.in_ok-read.ensures.ok in
+    let is : map (λ w. w.now) c.as_slice-words.result.now ≡ take 512 (words c.args.text.now) = ap (map (λ w. w.now)) c.as_slice-words.ensures.value ∙ c.in-Ok.ensures in
+    let short : length (take 512 (words c.args.text.now)) < 512 =
+    rw (← is, length-map) (omega (arith, c.if-read-words.false, c.in_ok-read.ensures.near, r.few_cuts)) in
     record {
       shaped = rw (← c.w.ensures.value, ← c.h.ensures.value) r.shaped;
       numbers = spelled_numbers _ 0 (tokens (tree_of c.in_ok-read.read.node)) r.spelled;
       text_is = spelled_text c.args.text.now (map (λ w. w.now) c.as_slice-words.result.now) (tree_of c.in_ok-read.read.node)
-          (ap (map (λ w. w.now)) c.as_slice-words.ensures.value ∙ c.in-Ok.ensures) r.spelled
+          (is ∙ all_taken 512 (words c.args.text.now) short) r.spelled
           (rw length-map (omega (arith, r.upto, c.if-read-words.false)));
     }

@@ -1,0 +1,60 @@
+use Rattle.std.proofs.Common.{◌≡◌, ◌+◌, ◌<◌, ◌≤◌, ◌^◌, ℕ, None, false, ap, subst, arith, sym}
+use Rattle.cut_measure.specs.declared.sizes.Kind.{Kind}
+use Rattle.cut_measure.specs.declared.sizes.Kind.TheVariants.{Bar, Sheet}
+use Rattle.cut_table.specs.Best.{IsBestWithin, IsBestOf}
+use Rattle.cut_table.specs.Counts.{value_of}
+use Rattle.cut_table.specs.Rounded.{wants_down, steps_down}
+use Rattle.cut_table.proofs.Passage.{down_own, down_small}
+use Rattle.cut_table.proofs.Reaching.{value_small}
+use Rattle.cut_plan.specs.Faults.{are_bad_wants, is_bad_step, is_large}
+use Rattle.cut_plan.specs.Bounds.{IsUnitBest}
+use Rattle.cut_plan.proofs.Sound as sound
+use Rattle.cut_plan.proofs.bounds.unit_best.Goals as goal
+
+pub best_counts-requires-clause-own : goal.best_counts-requires-clause-own
+best_counts-requires-clause-own c =
+    sound.own c.args.kind c.args.wants.now (sound.faultless c.args.kind c.args.size c.args.kerf c.args.step c.args.wants.now c.requires.faultless).in_range
+
+pub best_counts-requires-clause-bar : goal.best_counts-requires-clause-bar
+best_counts-requires-clause-bar c =
+    let f = sound.faultless c.args.kind c.args.size c.args.kerf c.args.step c.args.wants.now c.requires.faultless in
+    sound.flat c.args.wants.now (subst (λ kind. are_bad_wants kind c.args.wants.now ≡ false) c.in-Bar.is f.in_range)
+
+pub best_counts-requires-clause-modest : goal.best_counts-requires-clause-modest
+best_counts-requires-clause-modest c =
+    sound.modest c.args.kind c.args.wants.now (sound.faultless c.args.kind c.args.size c.args.kerf c.args.step c.args.wants.now c.requires.faultless).in_range
+
+pub counted_worth-worth-requires-clause-len : goal.counted_worth-worth-requires-clause-len
+counted_worth-worth-requires-clause-len c =
+    rw c.deref.ensures.value (sound.counts_length c.args.wants.now c.in_ok-counts-in-Bar.counts.items c.in_ok-counts-in-Bar.ensures.counts.within)
+
+pub counted_worth-worth-requires-clause-small : goal.counted_worth-worth-requires-clause-small
+counted_worth-worth-requires-clause-small c =
+    let f = sound.faultless c.args.kind c.args.size c.args.kerf c.args.step c.args.wants.now c.requires.faultless in
+    rw c.deref.ensures.value (omega (
+      arith,
+      sound.value_left c.args.wants.now c.in_ok-counts-in-Bar.counts.items c.in_ok-counts-in-Bar.ensures.counts.within,
+      sound.left_fits c.args.kind c.args.wants.now f.in_range,
+    ))
+
+pub returns-in_ok-counts-in-Bar-clause-small : goal.returns-in_ok-counts-in-Bar-clause-small
+returns-in_ok-counts-in-Bar-clause-small c =
+    let f = sound.faultless c.args.kind c.args.size c.args.kerf c.args.step c.args.wants.now c.requires.faultless in
+    rw (c.counted_worth-worth.ensures, c.deref.ensures.value) (omega (
+      arith,
+      sound.value_left c.args.wants.now c.in_ok-counts-in-Bar.counts.items c.in_ok-counts-in-Bar.ensures.counts.within,
+      sound.left_fits c.args.kind c.args.wants.now f.in_range,
+    ))
+
+pub ceiling-requires-clause-own : goal.ceiling-requires-clause-own
+ceiling-requires-clause-own c =
+    sound.own c.args.kind c.args.wants.now (sound.faultless c.args.kind c.args.size c.args.kerf c.args.step c.args.wants.now c.requires.faultless).in_range
+
+pub ceiling-requires-clause-worthy : goal.ceiling-requires-clause-worthy
+ceiling-requires-clause-worthy c =
+    sound.worthy c.args.kind c.args.wants.now (sound.faultless c.args.kind c.args.size c.args.kerf c.args.step c.args.wants.now c.requires.faultless).in_range
+
+pub ceiling-requires-clause-step : goal.ceiling-requires-clause-step
+ceiling-requires-clause-step c =
+    let f = sound.faultless c.args.kind c.args.size c.args.kerf c.args.step c.args.wants.now c.requires.faultless in
+    sound.is_step c.args.kerf c.args.step c.args.wants.now (subst (λ kind. is_bad_step kind c.args.kerf c.args.step c.args.wants.now ≡ false) c.in-Sheet.is f.stepped)

@@ -1,0 +1,60 @@
+-- Why a planner gives no plan: the first of its faults whose condition holds.
+use Rattle.std.specs.Prelude.{ℕ, ◌+◌, ◌&&◌, ◌||◌, ◌==◌, not, Bool, false, nat_le, nat_lt, List, [], ◌∷◌, length, if◌then◌else◌, Option, Some, None, IsTrue, Contains, ◌≤◌}
+use Rattle.std.specs.List.{list_any}
+use Rattle.cut_measure.specs.declared.sizes.Kind.{Kind}
+use Rattle.cut_measure.specs.declared.sizes.Kind.TheVariants.{Bar, Sheet}
+use Rattle.cut_measure.specs.Measures.{Extent}
+use Rattle.cut_table.specs.declared.wants.Want.{Want}
+use Rattle.cut_table.specs.Rounded.{steps_down}
+use Rattle.cut_plan.specs.declared.faults.PlanFault.{PlanFault}
+use Rattle.cut_plan.specs.declared.faults.PlanFault.TheVariants.{BadWant, BadStep, TableTooLarge, NothingFits}
+
+-- a worth or a number that is left outside its range
+abbrev pub is_bad_number : Want → Bool
+is_bad_number x = x.worth == 0 || nat_lt 1000000000 x.worth || x.left == 0 || nat_lt 1000000 x.left
+
+-- a bar's piece is flat, and isn't turned
+abbrev pub is_bad_want : Kind → Want → Bool
+is_bad_want Bar x = is_bad_number x || not (x.size.h == 1) || x.may_turn
+is_bad_want Sheet x = is_bad_number x
+
+-- a demand stands twice
+abbrev pub has_twice : List Want → Bool
+has_twice [] = false
+has_twice (x ∷ xs) = list_any (λ y. y.demand == x.demand) xs || has_twice xs
+
+-- there are 1 to 40 wants, each of its own demand and in range
+abbrev pub are_bad_wants : Kind → List Want → Bool
+are_bad_wants kind wants = length wants == 0 || nat_lt 40 (length wants) || has_twice wants || list_any (is_bad_want kind) wants
+
+-- a side of the want and a kerf are shorter than the step
+abbrev pub is_short : (kerf step : ℕ) → Want → Bool
+is_short k s x = nat_lt (x.size.w + k) s || nat_lt (x.size.h + k) s
+
+abbrev pub is_bad_step : Kind → (kerf step : ℕ) → List Want → Bool
+is_bad_step Bar k s wants = false
+is_bad_step Sheet k s wants = s == 0 || list_any (is_short k s) wants
+
+abbrev pub is_large : Kind → Extent → (kerf step : ℕ) → Bool
+is_large Bar size k s = nat_lt 150000 size.w
+is_large Sheet size k s = nat_lt 500 (steps_down k s size.w) || nat_lt 500 (steps_down k s size.h)
+
+-- the want fits the unit, turned where it may be
+abbrev pub is_fitting : Extent → Want → Bool
+is_fitting size x =
+    (nat_le x.size.w size.w && nat_le x.size.h size.h) || (x.may_turn && nat_le x.size.h size.w && nat_le x.size.w size.h)
+
+abbrev pub fault_of : Kind → Extent → (kerf step : ℕ) → List Want → Option PlanFault
+fault_of kind size k s wants =
+    if are_bad_wants kind wants then Some BadWant
+    else (if is_bad_step kind k s wants then Some BadStep
+    else (if is_large kind size k s then Some TableTooLarge
+    else (if list_any (is_fitting size) wants then None else Some NothingFits)))
+
+-- a want that fits, with sides that a size has
+pub record SomeFits (size : Extent) (wants : List Want) : Type 0 where
+  pub want : Want
+  pub there : Contains wants want
+  pub fits : IsTrue (is_fitting size want)
+  pub wide : 1 ≤ want.size.w
+  pub tall : 1 ≤ want.size.h

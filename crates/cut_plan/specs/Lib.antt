@@ -1,0 +1,4 @@
+pub mod Faults
+pub mod Bounds
+pub mod Proposals
+pub mod Sheets

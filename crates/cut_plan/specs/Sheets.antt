@@ -1,0 +1,67 @@
+-- Plans of a sheet, with a ceiling.
+use Rattle.std.specs.Prelude.{◌≡◌, ℕ, ◌+◌, ◌-◌, ◌≤◌, ◌<◌, List, [], ◌∷◌, length, min, sum_by, slice_get, slice_index, Some, Contains}
+use Rattle.cut_measure.specs.Measures.{Extent}
+use Rattle.cut_tree.specs.Tree.{Tree, CutsInto, count_of, cut_count}
+use Rattle.cut_table.specs.declared.wants.Want.{Want}
+use Rattle.cut_table.specs.Legal.{Legal, IsWithinCounts, worth_of}
+use Rattle.cut_table.specs.Best.{IsBestOf}
+use Rattle.cut_table.specs.Rounded.{steps_down, wants_down, wants_up}
+use Rattle.cut_table.specs.Kept.{IsInside, IsPruned}
+use Rattle.cut_plan.specs.declared.sheets.SheetProposal.{SheetProposal}
+
+-- a tree that is best for the sheet in steps, with sides rounded up
+pub record IsBestUp (size : Extent) (kerf step : ℕ) (wants : List Want) (tree : Tree) : Type 0 where
+  pub legal : Legal (wants_up kerf step wants) 0 tree (steps_down kerf step size.w) (steps_down kerf step size.h)
+  pub best : IsBestOf (wants_up kerf step wants) 0 (steps_down kerf step size.w) (steps_down kerf step size.h) (worth_of (wants_up kerf step wants) tree)
+
+-- The counts of the leaves of a best tree, and a tree of those that are kept of it.
+pub record IsCutting (wants : List Want) (p q : ℕ) (counts : List ℕ) (kept : Tree) : Type 0 where
+  pub tree : Tree
+  pub legal : Legal wants 0 tree p q
+  pub best : IsBestOf wants 0 p q (worth_of wants tree)
+  pub len : length counts ≡ length wants
+  pub exact : (i : ℕ) (x : Want) → slice_get wants i ≡ Some x → slice_index counts i ≡ count_of tree x.demand
+  pub few : (i : ℕ) (x : Want) → slice_get wants i ≡ Some x → count_of kept x.demand ≡ min (slice_index counts i) x.left
+  pub small : (i : ℕ) → i < length counts → slice_index counts i ≤ 250000
+  pub inside : CutsInto (IsInside wants) kept p q 0
+  pub pruned : IsPruned kept
+
+-- of each count at most what is left
+abbrev pub kept_counts : List Want → List ℕ → List ℕ
+kept_counts [] ns = []
+kept_counts (x ∷ xs) [] = []
+kept_counts (x ∷ xs) (n ∷ ns) = min n x.left ∷ kept_counts xs ns
+
+-- what the counts have over what is left
+abbrev pub dropped_of : List Want → List ℕ → ℕ
+dropped_of [] ns = 0
+dropped_of (x ∷ xs) [] = 0
+dropped_of (x ∷ xs) (n ∷ ns) = (n - x.left) + dropped_of xs ns
+
+-- a legal tree with the pieces of a best tree of the problem rounded up, of each want as many as are left
+pub record IsLaid (size : Extent) (kerf step : ℕ) (wants : List Want) (tree : Tree) (worth dropped : ℕ) : Type 0 where
+  pub up : Tree
+  pub best_up : IsBestUp size kerf step wants up
+  pub legal : Legal wants kerf tree size.w size.h
+  pub kept : (x : Want) → Contains wants x → count_of tree x.demand ≡ min (count_of up x.demand) x.left
+  pub within : IsWithinCounts wants tree
+  pub worth_is : worth ≡ worth_of wants tree
+  pub dropped_is : dropped ≡ sum_by (λ x. count_of up x.demand - x.left) wants
+  pub few_cuts : 255 < cut_count tree → 85 < sum_by (λ x. min (count_of up x.demand) x.left) wants
+
+-- the best worth of the problem rounded down, which no legal tree on the sheet exceeds
+pub record IsCeiling (size : Extent) (kerf step : ℕ) (wants : List Want) (ceiling : ℕ) : Type 0 where
+  pub best : IsBestOf (wants_down kerf step wants) 0 (steps_down kerf step size.w) (steps_down kerf step size.h) ceiling
+  pub most : (t : Tree) → Legal wants kerf t size.w size.h → worth_of wants t ≤ ceiling
+
+-- a plan that is laid out, and a ceiling
+pub record IsSheetProposal (size : Extent) (kerf step : ℕ) (wants : List Want) (proposal : SheetProposal) : Type 0 where
+  pub laid : IsLaid size kerf step wants proposal.plan.tree proposal.worth proposal.dropped
+  pub unit : (proposal.plan.w ≡ size.w) × (proposal.plan.h ≡ size.h) × (proposal.plan.kerf ≡ kerf)
+  pub ceiling : IsCeiling size kerf step wants proposal.ceiling
+
+-- in some best tree of the problem rounded up more than 85 pieces are kept
+pub record HasManyKept (size : Extent) (kerf step : ℕ) (wants : List Want) : Type 0 where
+  pub up : Tree
+  pub best_up : IsBestUp size kerf step wants up
+  pub many : 85 < sum_by (λ x. min (count_of up x.demand) x.left) wants

@@ -1,0 +1,92 @@
+ghost use Rattle.std.specs.Prelude.{◌≡◌, ◌+◌, ◌≤◌, ◌<◌, ◌^◌, ◌⊎◌, IfOk, IfErr, IfSome, Some, None};
+ghost use Rattle.cut_measure.specs.declared.sizes.Kind.TheVariants.{Bar, Sheet};
+ghost use Rattle.cut_table.specs.Counts.{AreCounts, value_of};
+ghost use Rattle.cut_table.specs.Bound.{worth_left};
+ghost use Rattle.cut_plan.specs.Faults.{fault_of, SomeFits};
+ghost use Rattle.cut_plan.specs.Bounds.{IsUnitBest, IsBound};
+ghost use Rattle.cut_plan.specs.declared.faults.PlanFault.TheVariants.{NoMemory};
+
+use crate::faults::{PlanFault, first_fault};
+use cut_measure::{Kind, Size};
+use cut_table::bar::{best_counts, counted_worth};
+use cut_table::bound::{ceiling, units};
+use cut_table::wants::Want;
+use std::alloc::{AllocError, Global};
+
+/// What no unit is worth more than, and how many units of a size it takes at least to make all that is left.
+#[derive(Clone, Copy, Debug, PartialEq, Eq)]
+pub struct Bound {
+    pub best: u64,
+    pub units: u64,
+}
+
+// The best worth of a bar within the counts, or a sheet's ceiling.
+fn unit_best(
+    alloc: Global,
+    kind: Kind,
+    size: Size,
+    kerf: u32,
+    step: u32,
+    wants: &[Want],
+) -> Result<u64, AllocError>
+    requires kerf { kerf ≤ 200 }
+    requires flat { kind ≡ Bar → size.h ≡ 1 }
+    requires faultless { fault_of kind size kerf step wants.now ≡ None }
+    ensures best { IfOk result (IsUnitBest kind size kerf step wants.now) }
+    ensures small { IfOk result (λ best. best < 2 ^ 62) }
+{
+    match kind {
+        Kind::Bar => {
+            let counts = best_counts(alloc, wants, size.w(), kerf)?;
+            let worth = counted_worth(wants, &counts);
+            Ok(worth)
+        }
+        Kind::Sheet => ceiling(alloc, wants, size, kerf, step),
+    }
+}
+
+// The bound where no fault stands before the tables.
+fn faultless_bound(
+    alloc: Global,
+    kind: Kind,
+    size: Size,
+    kerf: u32,
+    step: u32,
+    wants: &[Want],
+) -> Result<Bound, AllocError>
+    requires kerf { kerf ≤ 200 }
+    requires flat { kind ≡ Bar → size.h ≡ 1 }
+    requires faultless { fault_of kind size kerf step wants.now ≡ None }
+    requires fits { SomeFits size wants.now }
+    ensures { IfOk result (IsBound kind size kerf step wants.now) }
+{
+    let best = unit_best(alloc, kind, size, kerf, step, wants)?;
+    let units = units(wants, best);
+    Ok(Bound { best, units })
+}
+
+/// What no unit is worth more than (for a bar the worth of its best plan, for a sheet its ceiling), and how many units it
+/// takes at least: what all that is left is worth, divided by that and rounded up (Gilmore and Gomory 1961). A bar
+/// ignores the step. Faults in the order of `PlanFault`, but never for a plan of many cuts.
+pub fn least_units(
+    alloc: Global,
+    kind: Kind,
+    size: Size,
+    kerf: u32,
+    step: u32,
+    wants: &[Want],
+) -> Result<Bound, PlanFault>
+    requires kerf { kerf ≤ 200 }
+    requires flat { kind ≡ Bar → size.h ≡ 1 }
+    ensures ok { IfOk result (IsBound kind size kerf step wants.now) }
+    ensures faulty { IfSome (fault_of kind size kerf step wants.now) (λ fault. result ≡ Err fault) }
+    ensures err { IfErr result (λ fault. (fault ≡ NoMemory) ⊎ (fault_of kind size kerf step wants.now ≡ Some fault)) }
+{
+    match first_fault(kind, size, kerf, step, wants) {
+        Some(fault) => Err(fault),
+        None => match faultless_bound(alloc, kind, size, kerf, step, wants) {
+            Ok(bound) => Ok(bound),
+            Err(_) => Err(PlanFault::NoMemory),
+        },
+    }
+}

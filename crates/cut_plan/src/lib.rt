@@ -1,0 +1,15 @@
+//! Planners of a cutting shop: the best plan of a bar, a plan of a sheet with a ceiling, and the least number of units.
+#![tactic(auto)]
+
+mod bars;
+mod bounds;
+mod faults;
+mod sheets;
+#[cfg(test)]
+mod tests;
+
+pub use bars::{Proposal, plan_bar};
+pub use bounds::{Bound, least_units};
+pub use cut_table::wants::Want;
+pub use faults::PlanFault;
+pub use sheets::{SheetProposal, plan_sheet};

@@ -1,0 +1,193 @@
+ghost use Rattle.std.specs.Prelude.{◌≡◌, ◌+◌, ◌*◌, ◌≤◌, ◌<◌, ◌^◌, ◌⊎◌, ℕ, IfOk, IfErr, IfSome, None, Some, length};
+ghost use Rattle.cut_measure.specs.declared.sizes.Kind.TheVariants.{Sheet};
+ghost use Rattle.cut_tree.specs.Tree.{cut_count};
+ghost use Rattle.cut_tree.specs.Nodes.{tree_of};
+ghost use Rattle.cut_table.specs.Legal.{HaveOwnDemands};
+ghost use Rattle.cut_table.specs.Table.{AreSmall};
+ghost use Rattle.cut_plan.specs.declared.faults.PlanFault.TheVariants.{NoMemory, TableTooLarge};
+ghost use Rattle.cut_plan.specs.Faults.{fault_of};
+ghost use Rattle.cut_plan.specs.Proposals.{AreDemands};
+ghost use Rattle.cut_plan.specs.Sheets as spec;
+
+use crate::faults::{PlanFault, first_fault};
+use cut_measure::{Kind, Size};
+use cut_table::bar::counted_worth;
+use cut_table::bound::{all_up, ceiling};
+use cut_table::keep::keep;
+use cut_table::place::place;
+use cut_table::sheet::best_table;
+use cut_table::wants::{Scaled, Want};
+use cut_tree::{Node, Plan, count_cuts};
+use std::alloc::{AllocError, Global};
+
+/// A plan, what its pieces are worth, how many pieces of a best tree became rests, and a worth that no plan exceeds.
+#[derive(Drop)]
+pub struct SheetProposal {
+    pub plan: Plan,
+    pub worth: u64,
+    pub dropped: u32,
+    pub ceiling: u64,
+}
+
+/// The counts of a best tree's leaves by want, and the tree of those that are kept.
+#[derive(Drop)]
+pub struct Cutting {
+    pub counts: Vec<u32>,
+    pub kept: Node,
+}
+
+/// The kept leaves laid out on the sheet.
+#[derive(Drop)]
+pub struct Laid {
+    pub root: Node,
+    pub worth: u64,
+    pub dropped: u32,
+}
+
+// Which leaves of a best tree are kept.
+fn kept_leaves(
+    alloc: Global,
+    wants: &[Scaled],
+    across: usize,
+    down: usize,
+) -> Result<Cutting, AllocError>
+    requires own { HaveOwnDemands wants.now }
+    requires small { AreSmall wants.now }
+    requires across { across ≤ 500 }
+    requires down { down ≤ 500 }
+    ensures { IfOk result (λ c. spec.IsCutting wants.now across down c.counts.items (tree_of c.kept)) }
+{
+    let rows = best_table(alloc, wants, across, down)?;
+    let mut counts = vec![in alloc; 0u32; wants.len()]?;
+    let kept = keep(alloc, wants, &rows, across + 1, across, down, &mut counts)?;
+    Ok(Cutting { counts, kept })
+}
+
+// Of each count at most what is left.
+fn kept_counts(alloc: Global, wants: &[Want], counts: &[u32]) -> Result<Vec<u32>, AllocError>
+    requires { length counts.now ≡ length wants.now }
+    ensures { IfOk result (λ kept. kept.items ≡ spec.kept_counts wants.now counts.now) }
+{
+    let mut kept = Vec::new(alloc);
+    for i in 0..wants.len() {
+        kept.push(counts[i].min(wants[i].left))?;
+    }
+    Ok(kept)
+}
+
+// How many of the counts are over what is left.
+fn dropped_of(wants: &[Want], counts: &[u32]) -> u32
+    requires len { length counts.now ≡ length wants.now }
+    requires small { spec.dropped_of wants.now counts.now < 2 ^ 32 }
+    ensures { result ≡ spec.dropped_of wants.now counts.now }
+{
+    let mut dropped = 0u32;
+    for i in 0..wants.len() {
+        dropped += counts[i].saturating_sub(wants[i].left);
+    }
+    dropped
+}
+
+// The kept leaves of a best tree of the problem rounded up, on the sheet itself.
+fn lay_out(
+    alloc: Global,
+    size: Size,
+    kerf: u32,
+    step: u32,
+    wants: &[Want],
+) -> Result<Laid, AllocError>
+    requires kerf { kerf ≤ 200 }
+    requires faultless { fault_of Sheet size kerf step wants.now ≡ None }
+    ensures laid { IfOk result (λ l. spec.IsLaid size kerf step wants.now (tree_of l.root) l.worth l.dropped) }
+    ensures few { IfOk result (λ l. cut_count (tree_of l.root) < 2 ^ 32) }
+{
+    let scaled = all_up(alloc, wants, kerf, step)?;
+    let across = ((size.w() + kerf) / step) as usize;
+    let down = ((size.h() + kerf) / step) as usize;
+    let cutting = kept_leaves(alloc, &scaled, across, down)?;
+    let root = place(alloc, wants, &cutting.kept, size.w(), size.h(), kerf, step)?;
+    let kept = kept_counts(alloc, wants, &cutting.counts)?;
+    let worth = counted_worth(wants, &kept);
+    let dropped = dropped_of(wants, &cutting.counts);
+    Ok(Laid {
+        root,
+        worth,
+        dropped,
+    })
+}
+
+// The plan, if it has few enough cuts.
+fn proposal_of(
+    size: Size,
+    kerf: u32,
+    step: u32,
+    wants: &[Want],
+    laid: Laid,
+    ceiling: u64,
+) -> Result<SheetProposal, PlanFault>
+    requires kerf { kerf ≤ 200 }
+    requires demands { AreDemands wants.now }
+    requires laid { spec.IsLaid size kerf step wants.now (tree_of laid.root) laid.worth laid.dropped }
+    requires few { cut_count (tree_of laid.root) < 2 ^ 32 }
+    requires ceiling { spec.IsCeiling size kerf step wants.now ceiling }
+    ensures ok { IfOk result (spec.IsSheetProposal size kerf step wants.now) }
+    ensures err { IfErr result (λ fault. (fault ≡ TableTooLarge) × spec.HasManyKept size kerf step wants.now) }
+{
+    if count_cuts(&laid.root) > 255 {
+        return Err(PlanFault::TableTooLarge);
+    }
+    let _sides = (size.w(), size.h());
+    let plan = Plan::of(laid.root, size, kerf);
+    Ok(SheetProposal {
+        plan,
+        worth: laid.worth,
+        dropped: laid.dropped,
+        ceiling,
+    })
+}
+
+fn faultless_sheet(
+    alloc: Global,
+    size: Size,
+    kerf: u32,
+    step: u32,
+    wants: &[Want],
+) -> Result<SheetProposal, PlanFault>
+    requires kerf { kerf ≤ 200 }
+    requires demands { AreDemands wants.now }
+    requires faultless { fault_of Sheet size kerf step wants.now ≡ None }
+    ensures ok { IfOk result (spec.IsSheetProposal size kerf step wants.now) }
+    ensures err { IfErr result (λ fault. (fault ≡ NoMemory) ⊎ ((fault ≡ TableTooLarge) × spec.HasManyKept size kerf step wants.now)) }
+{
+    match lay_out(alloc, size, kerf, step, wants) {
+        Ok(laid) => match ceiling(alloc, wants, size, kerf, step) {
+            Ok(ceiling) => proposal_of(size, kerf, step, wants, laid, ceiling),
+            Err(_) => Err(PlanFault::NoMemory),
+        },
+        Err(_) => Err(PlanFault::NoMemory),
+    }
+}
+
+/// A plan of a sheet within the counts, and a ceiling. Sides are counted in steps, a kerf being added to each. A tree that
+/// is best for the sides rounded up, with any number of pieces, is laid out on the sheet (guillotine cuts, Gilmore and
+/// Gomory 1965); pieces over what is left become rests, `dropped` in all. No legal plan is worth more than the best worth
+/// for the sides rounded down. Faults in the order of `PlanFault`; demands are in 1..=2147483647.
+pub fn plan_sheet(
+    alloc: Global,
+    size: Size,
+    kerf: u32,
+    step: u32,
+    wants: &[Want],
+) -> Result<SheetProposal, PlanFault>
+    requires kerf { kerf ≤ 200 }
+    requires demands { AreDemands wants.now }
+    ensures ok { IfOk result (λ p. (fault_of Sheet size kerf step wants.now ≡ None) × spec.IsSheetProposal size kerf step wants.now p) }
+    ensures faulty { IfSome (fault_of Sheet size kerf step wants.now) (λ fault. result ≡ Err fault) }
+    ensures err { IfErr result (λ fault. (fault ≡ NoMemory) ⊎ (fault_of Sheet size kerf step wants.now ≡ Some fault)
+        ⊎ ((fault ≡ TableTooLarge) × spec.HasManyKept size kerf step wants.now)) }
+{
+    match first_fault(Kind::Sheet, size, kerf, step, wants) {
+        Some(fault) => Err(fault),
+        None => faultless_sheet(alloc, size, kerf, step, wants),
+    }
+}

@@ -1,0 +1,195 @@
+ghost use Rattle.std.specs.Prelude.{◌≡◌, ◌≤◌, IsTrue};
+ghost use Rattle.cut_plan.specs.Proposals.{AreDemands};
+
+use crate::{Bound, PlanFault, Want, least_units, plan_bar, plan_sheet};
+use cut_measure::{Kind, Size};
+use std::test::Fail;
+
+fn have_demands(wants: &[Want]) -> bool
+    ensures { IsTrue result → AreDemands wants.now }
+{
+    for want in wants {
+        if want.demand < 1 || want.demand > 2147483647 {
+            return false;
+        }
+    }
+    true
+}
+
+fn want(demand: u32, w: u32, h: u32, left: u32, worth: u32) -> Result<Want, Fail> {
+    let size = Size::new(Kind::Sheet, w, h).ok_or("no size")?;
+    Ok(Want {
+        demand,
+        size,
+        may_turn: false,
+        left,
+        worth,
+    })
+}
+
+// A bar's worth and tree, or its fault.
+fn bar(
+    rt: &HostRuntime,
+    w: u32,
+    kerf: u32,
+    wants: &[Want],
+) -> Result<Result<(u64, String), PlanFault>, Fail>
+    requires { kerf ≤ 200 }
+{
+    let size = Size::new(Kind::Sheet, w, 1).ok_or("no size")?;
+    if size.h() != 1 || !have_demands(wants) {
+        return Err("no bar")?;
+    }
+    match plan_bar(rt.alloc(), size, kerf, wants) {
+        Ok(proposal) => {
+            let mut text = String::new(rt.alloc());
+            proposal.plan.write(&mut text)?;
+            Ok(Ok((proposal.worth, text)))
+        }
+        Err(fault) => Ok(Err(fault)),
+    }
+}
+
+#[test]
+fn plans_bars(rt: HostRuntime) -> Result<(), Fail> {
+    let two = [want(1, 60, 1, 1, 60)?, want(2, 48, 1, 2, 48)?];
+    let long = [want(1, 49998, 1, 3, 1)?];
+    let planned = [
+        (100, &two[..], 96, "x48 p2 x48 p2"),
+        (150000, &long[..], 3, "x49998 p1 x49998 p1 p1"),
+        (98, &two[..], 60, "x60 p1 r"),
+    ];
+    for (w, wants, worth, tree) in planned {
+        let (found, text) = bar(&rt, w, 3, wants)??;
+        assert_eq!(rt; found, worth, "{w}");
+        assert_eq!(rt; text.as_str(), tree, "{w}");
+    }
+    let many = [want(1, 1, 1, 256, 1)?];
+    let (found, _) = bar(&rt, 256, 0, &many)??;
+    assert_eq!(rt; found, 256);
+    Ok(())
+}
+
+#[test]
+fn names_a_bars_fault(rt: HostRuntime) -> Result<(), Fail> {
+    let good = want(1, 500, 1, 1000000, 1)?;
+    let mut turning = good;
+    turning.may_turn = true;
+    let none: [Want; 0] = [];
+    let faults = [
+        (100, &none[..], PlanFault::BadWant),
+        (1000, &[good, good][..], PlanFault::BadWant),
+        (1000, &[want(1, 500, 2, 1, 1)?][..], PlanFault::BadWant),
+        (1000, &[turning][..], PlanFault::BadWant),
+        (
+            1000,
+            &[want(1, 500, 1, 1, 1000000001)?][..],
+            PlanFault::BadWant,
+        ),
+        (
+            1000,
+            &[want(1, 500, 1, 1000001, 1)?][..],
+            PlanFault::BadWant,
+        ),
+        (150001, &[good][..], PlanFault::TableTooLarge),
+        (499, &[good][..], PlanFault::NothingFits),
+        (150000, &[good][..], PlanFault::TableTooLarge),
+    ];
+    for (w, wants, fault) in faults {
+        assert_eq!(rt; bar(&rt, w, 0, wants)?.err(), Some(fault), "{w}");
+    }
+    Ok(())
+}
+
+// A sheet's worth, dropped pieces and ceiling, or its fault.
+fn sheet(
+    rt: &HostRuntime,
+    size: (u32, u32),
+    kerf: u32,
+    step: u32,
+    wants: &[Want],
+) -> Result<Result<(u64, u32, u64), PlanFault>, Fail>
+    requires { kerf ≤ 200 }
+{
+    let size = Size::new(Kind::Sheet, size.0, size.1).ok_or("no size")?;
+    if !have_demands(wants) {
+        return Err("no demands")?;
+    }
+    match plan_sheet(rt.alloc(), size, kerf, step, wants) {
+        Ok(p) => Ok(Ok((p.worth, p.dropped, p.ceiling))),
+        Err(fault) => Ok(Err(fault)),
+    }
+}
+
+#[test]
+fn plans_sheets(rt: HostRuntime) -> Result<(), Fail> {
+    let planned = [
+        ((10, 10), 0, 1, want(1, 5, 5, 2, 25)?, (50, 2, 100)),
+        ((10, 8), 1, 1, want(1, 4, 3, 10, 12)?, (48, 0, 48)),
+        ((10, 8), 1, 2, want(1, 4, 3, 10, 12)?, (24, 0, 48)),
+        ((100, 100), 0, 1, want(1, 10, 10, 2, 1)?, (2, 98, 100)),
+        ((11, 5), 0, 4, want(1, 9, 5, 1, 1)?, (0, 0, 1)),
+    ];
+    for (size, kerf, step, want, found) in planned {
+        if kerf <= 200 {
+            let proposal = sheet(&rt, size, kerf, step, &[want])??;
+            assert_eq!(rt; proposal, found, "step {step}");
+        }
+    }
+    let faults = [
+        ((10, 10), 6, want(1, 5, 5, 2, 25)?, PlanFault::BadStep),
+        ((10, 10), 0, want(1, 5, 5, 2, 25)?, PlanFault::BadStep),
+        (
+            (1002, 2),
+            2,
+            want(1, 5, 5, 2, 25)?,
+            PlanFault::TableTooLarge,
+        ),
+        ((4, 10), 1, want(1, 5, 5, 2, 25)?, PlanFault::NothingFits),
+        (
+            (20, 20),
+            1,
+            want(1, 1, 1, 400, 1)?,
+            PlanFault::TableTooLarge,
+        ),
+    ];
+    for (size, step, want, fault) in faults {
+        assert_eq!(rt;
+            sheet(&rt, size, 0, step, &[want])?.err(),
+            Some(fault),
+            "step {step}"
+        );
+    }
+    Ok(())
+}
+
+#[test]
+fn bounds_units(rt: HostRuntime) -> Result<(), Fail> {
+    let bar = Size::new(Kind::Bar, 100, 1).ok_or("no size")?;
+    for (want, best, units) in [
+        (want(1, 60, 1, 3, 60)?, 60, 3),
+        (want(2, 48, 1, 5, 48)?, 96, 3),
+    ] {
+        if bar.h() == 1 {
+            let bound = least_units(rt.alloc(), Kind::Bar, bar, 3, 0, &[want])?;
+            assert_eq!(rt; bound, Bound { best, units });
+        }
+    }
+    let sheet = Size::new(Kind::Sheet, 20, 20).ok_or("no size")?;
+    let bound = least_units(
+        rt.alloc(),
+        Kind::Sheet,
+        sheet,
+        0,
+        1,
+        &[want(1, 1, 1, 401, 1)?],
+    )?;
+    assert_eq!(rt;
+        bound,
+        Bound {
+            best: 400,
+            units: 2
+        }
+    );
+    Ok(())
+}

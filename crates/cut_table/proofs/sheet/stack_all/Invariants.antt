@@ -1,0 +1,5 @@
+use Rattle.cut_table.proofs.Sheets.{TriedRow}
+use Rattle.cut_table.proofs.sheet.stack_all.Given as goal
+
+abbrev pub invariant-loop-a : goal.invariant-loop-a
+invariant-loop-a l = TriedRow l.wants l.a l.height l.row

@@ -1,0 +1,8 @@
+pub mod Legal
+pub mod Best
+pub mod Rounded
+pub mod Bound
+pub mod Table
+pub mod Counts
+pub mod Kept
+pub mod Reach

@@ -1,0 +1,113 @@
+-- Tables of best worths, a row for each height.
+use Rattle.std.specs.Prelude.{◌≡◌, ℕ, ◌+◌, ◌-◌, ◌*◌, ◌^◌, ◌<◌, ◌≤◌, Bool, List, length, max, slice_index, slice_index_or, Contains, Vec, Some, slice_get}
+use Rattle.cut_table.specs.declared.read.Choice.{Choice}
+use Rattle.cut_table.specs.declared.read.Choice.TheVariants.{Waste, Whole, CutX, CutY}
+use Rattle.std.specs.declared.alloc.Global.{Global}
+use Rattle.cut_table.specs.declared.wants.Want.{Want}
+use Rattle.cut_tree.specs.Tree.{Tree, count_of, Rest, Piece, Trim, Cut}
+use Rattle.cut_measure.specs.declared.sizes.Axis.TheVariants.{X, Y}
+use Rattle.cut_table.specs.Legal.{Legal, HasSides, worth_of}
+use Rattle.cut_table.specs.Best.{IsBest, IsBestOf}
+
+-- the greatest worth of a want with these sides, or 0
+pub record IsPlainWorth (wants : List Want) (w h v : ℕ) : Type 0 where
+  pub most : (x : Want) (turned : Bool) → Contains wants x → HasSides x turned w h → x.worth ≤ v
+  pub found : 0 < v → (x : Want) × (turned : Bool) × Contains wants x × HasSides x turned w h × (x.worth ≡ v)
+
+abbrev pub IsPlainRow : List Want → ℕ → List ℕ → Type 0
+IsPlainRow wants h row = (w : ℕ) → w < length row → IsPlainWorth wants w h (slice_index row w)
+
+-- a want was offered, upright or turned, to a row of this height
+pub record IsOffered (x : Want) (turned : Bool) (h : ℕ) (old new : List ℕ) : Type 0 where
+  pub kept : (w : ℕ) → slice_index old w ≤ slice_index new w
+  pub most : (w : ℕ) → w < length old → HasSides x turned w h → x.worth ≤ slice_index new w
+  pub found : (w : ℕ) → slice_index old w < slice_index new w → HasSides x turned w h × (x.worth ≡ slice_index new w)
+
+abbrev pub IsStacked : List ℕ → List ℕ → List ℕ → List ℕ → Type 0
+IsStacked old low high new =
+    (p : ℕ) → p < length old → slice_index new p ≡ max (slice_index old p) (slice_index low p + slice_index high p)
+
+-- a worth of less than 2^39 for each unit of width
+abbrev pub IsBelow : List ℕ → Type 0
+IsBelow row = (length row ≤ 501) × ((p : ℕ) → p < length row → slice_index row p ≤ p * 2 ^ 39)
+
+-- each place is the best sum of two parts, or what stood there
+pub record IsJoined (old new : List ℕ) : Type 0 where
+  pub kept : (p : ℕ) → p < length old → slice_index old p ≤ slice_index new p
+  pub cuts : (p a : ℕ) → p < length old → 1 ≤ a → a + a ≤ p → slice_index new a + slice_index new (p - a) ≤ slice_index new p
+  pub found : (p : ℕ) → p < length old → slice_index old p < slice_index new p →
+      (a : ℕ) × (1 ≤ a) × (a + a ≤ p) × (slice_index new p ≡ slice_index new a + slice_index new (p - a))
+
+-- the row has this many places, each with the best worth of its width
+pub record IsBestRow (wants : List Want) (places h : ℕ) (row : List ℕ) : Type 0 where
+  pub len : length row ≡ places
+  pub best : (w : ℕ) → w < places → IsBestOf wants 0 w h (slice_index row w)
+
+abbrev pub IsTable : List Want → ℕ → List (Vec ℕ Global) → Type 0
+IsTable wants places rows = (h : ℕ) (d : Vec ℕ Global) → h < length rows → IsBestRow wants places h (slice_index_or rows h d).items
+
+-- the topmost cut isn't one across the width
+abbrev pub IsUncut : Tree → Type 0
+IsUncut Rest = Unit {0}
+IsUncut (Piece d t) = Unit {0}
+IsUncut (Cut Y a t u) = Unit {0}
+IsUncut (Trim X a t) = ⊥
+IsUncut (Trim Y a t) = ⊥
+IsUncut (Cut X a t u) = ⊥
+
+-- each place has the best worth of the trees that don't begin with a cut across the width
+abbrev pub IsUncutRow : List Want → ℕ → List ℕ → Type 0
+IsUncutRow wants h row =
+    (w : ℕ) → w < length row → IsBest wants (λ t. Legal wants 0 t w h × IsUncut t) (slice_index row w)
+
+-- each side is at least 1, and each worth at most 2^30
+abbrev pub AreSmall : List Want → Type 0
+AreSmall wants = (x : Want) → Contains wants x → (1 ≤ x.size.w) × (1 ≤ x.size.h) × (x.worth ≤ 2 ^ 30)
+
+-- a cut across the width at `at` gives the best worth
+pub record IsCutX (wants : List Want) (w h best at : ℕ) : Type 0 where
+  pub some : 1 ≤ at
+  pub inside : at < w
+  pub first : ℕ
+  pub second : ℕ
+  pub firsts : IsBestOf wants 0 at h first
+  pub seconds : IsBestOf wants 0 (w - at) h second
+  pub sum : first + second ≡ best
+
+pub record IsCutY (wants : List Want) (w h best at : ℕ) : Type 0 where
+  pub some : 1 ≤ at
+  pub inside : at < h
+  pub first : ℕ
+  pub second : ℕ
+  pub firsts : IsBestOf wants 0 w at first
+  pub seconds : IsBestOf wants 0 w (h - at) second
+  pub sum : first + second ≡ best
+
+-- the want at this place has the sides and the worth
+pub record IsPieceAt (wants : List Want) (w h best i : ℕ) (turned : Bool) : Type 0 where
+  pub want : Want
+  pub here : slice_get wants i ≡ Some want
+  pub sides : HasSides want turned w h
+  pub worth : want.worth ≡ best
+
+-- how the best worth of a rectangle is reached
+abbrev pub Explains : List Want → ℕ → ℕ → ℕ → Choice → Type 0
+Explains wants w h best Waste = best ≡ 0
+Explains wants w h best (Whole i turned) = IsPieceAt wants w h best i turned
+Explains wants w h best (CutX a) = IsCutX wants w h best a
+Explains wants w h best (CutY a) = IsCutY wants w h best a
+
+-- the counts grew by the leaves of some best tree
+pub record CountsLeaves (wants : List Want) (w h : ℕ) (old new : List ℕ) : Type 0 where
+  pub tree : Tree
+  pub legal : Legal wants 0 tree w h
+  pub best : IsBestOf wants 0 w h (worth_of wants tree)
+  pub counts : (i : ℕ) (x : Want) → slice_get wants i ≡ Some x → slice_index new i ≡ slice_index old i + count_of tree x.demand
+
+-- a worth in the range of a sheet's table
+abbrev pub AreWorthy : List Want → Type 0
+AreWorthy wants = (x : Want) → Contains wants x → x.worth ≤ 2 ^ 30
+
+-- each side is at least 1
+abbrev pub HaveSides : List Want → Type 0
+HaveSides wants = (x : Want) → Contains wants x → (1 ≤ x.size.w) × (1 ≤ x.size.h)

@@ -1,0 +1,129 @@
+// The ceiling of a sheet, and the least number of units.
+ghost use Rattle.std.specs.Prelude.{◌≡◌, ℕ, ◌+◌, ◌*◌, ◌/◌, ◌^◌, ◌<◌, ◌≤◌, length, IfOk, sum_by, Contains, List};
+ghost use Rattle.cut_table.specs.declared.wants.Want.{Want};
+ghost use Rattle.cut_tree.specs.Tree.{Tree};
+ghost use Rattle.cut_table.specs.Legal.{HaveOwnDemands, Legal, IsWithinCounts, worth_of};
+ghost use Rattle.cut_table.specs.Best.{IsBestOf};
+ghost use Rattle.cut_table.specs.Rounded.{want_down, wants_down, want_up, wants_up, steps_down, IsStep};
+ghost use Rattle.cut_table.specs.Bound.{Meets, worth_left, div_up};
+ghost use Rattle.cut_table.specs.Table.{AreWorthy, HaveSides};
+
+use crate::sheet::best_table;
+use crate::wants::{Scaled, Want};
+use cut_measure::Size;
+use std::alloc::{AllocError, Global};
+
+fn down(want: &Want, kerf: u32, step: u32) -> Scaled
+    requires kerf { kerf ≤ 200 }
+    requires step { 1 ≤ step }
+    ensures { result ≡ want_down kerf step want.now }
+{
+    Scaled {
+        demand: want.demand,
+        w: (want.size.w() + kerf) / step,
+        h: (want.size.h() + kerf) / step,
+        may_turn: want.may_turn,
+        left: want.left,
+        worth: want.worth,
+    }
+}
+
+fn all_down(alloc: Global, wants: &[Want], kerf: u32, step: u32) -> Result<Vec<Scaled>, AllocError>
+    requires kerf { kerf ≤ 200 }
+    requires step { 1 ≤ step }
+    ensures { IfOk result (λ down. down.items ≡ wants_down kerf step wants.now) }
+{
+    let mut rounded = Vec::new(alloc);
+    for want in wants {
+        let want = down(want, kerf, step);
+        rounded.push(want)?;
+    }
+    Ok(rounded)
+}
+
+fn up(want: &Want, kerf: u32, step: u32) -> Scaled
+    requires kerf { kerf ≤ 200 }
+    requires step { 1 ≤ step }
+    requires within { step ≤ want.now.size.w + kerf }
+    ensures value { result ≡ want_up kerf step want.now }
+    ensures sides { (1 ≤ want.now.size.w) × (1 ≤ want.now.size.h) }
+{
+    Scaled {
+        demand: want.demand,
+        w: (want.size.w() + kerf + (step - 1)) / step,
+        h: (want.size.h() + kerf + (step - 1)) / step,
+        may_turn: want.may_turn,
+        left: want.left,
+        worth: want.worth,
+    }
+}
+
+/// The wants in steps, with sides rounded up.
+pub fn all_up(
+    alloc: Global,
+    wants: &[Want],
+    kerf: u32,
+    step: u32,
+) -> Result<Vec<Scaled>, AllocError>
+    requires kerf { kerf ≤ 200 }
+    requires step { IsStep kerf step wants.now }
+    ensures value { IfOk result (λ up. up.items ≡ wants_up kerf step wants.now) }
+    ensures sides { IfOk result (λ _. HaveSides wants.now) }
+{
+    let mut rounded = Vec::new(alloc);
+    for want in wants {
+        let want = up(want, kerf, step);
+        rounded.push(want)?;
+    }
+    Ok(rounded)
+}
+
+/// The best worth of the sheet in steps, with sides rounded down: no legal plan is worth more.
+pub fn ceiling(
+    alloc: Global,
+    wants: &[Want],
+    size: Size,
+    kerf: u32,
+    step: u32,
+) -> Result<u64, AllocError>
+    requires own { HaveOwnDemands wants.now }
+    requires worthy { AreWorthy wants.now }
+    requires kerf { kerf ≤ 200 }
+    requires step { IsStep kerf step wants.now }
+    requires wide { steps_down kerf step size.w ≤ 500 }
+    requires tall { steps_down kerf step size.h ≤ 500 }
+    ensures best { IfOk result (IsBestOf (wants_down kerf step wants.now) 0 (steps_down kerf step size.w) (steps_down kerf step size.h)) }
+    ensures most { IfOk result (λ best. (t : Tree) → Legal wants.now kerf t size.w size.h → worth_of wants.now t ≤ best) }
+    ensures small { IfOk result (λ best. best < 2 ^ 62) }
+{
+    let rounded = all_down(alloc, wants, kerf, step)?;
+    let across = ((size.w() + kerf) / step) as usize;
+    let down = ((size.h() + kerf) / step) as usize;
+    let rows = best_table(alloc, &rounded, across, down)?;
+    let best = rows[down][across];
+    Ok(best)
+}
+
+/// What all that is left is worth.
+fn total_left(wants: &[Want]) -> u64
+    requires { worth_left wants.now < 2 ^ 64 }
+    ensures { result ≡ worth_left wants.now }
+{
+    wants
+        .iter()
+        .map(|want| want.worth as u64 * want.left as u64)
+        .sum()
+}
+
+/// How many units it takes at least, where no unit is worth more than `best`.
+pub fn units(wants: &[Want], best: u64) -> u64
+    requires own { HaveOwnDemands wants.now }
+    requires best { 1 ≤ best }
+    requires small { worth_left wants.now + best < 2 ^ 64 }
+    ensures exact { result ≡ div_up (worth_left wants.now) best }
+    ensures bound { (k w h : ℕ) (trees : List Tree) → ((t : Tree) → Legal wants.now k t w h → IsWithinCounts wants.now t → worth_of wants.now t ≤ best)
+        → Meets wants.now k w h trees → result ≤ length trees }
+{
+    let total = total_left(wants);
+    (total + (best - 1)) / best
+}

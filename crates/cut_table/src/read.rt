@@ -1,0 +1,141 @@
+// How the best worths of a table are reached.
+ghost use Rattle.std.specs.Prelude.{◌≡◌, ℕ, ◌+◌, ◌-◌, ◌*◌, ◌^◌, ◌<◌, ◌≤◌, ◌≢◌, length, slice_index, IfSome, IfNone, Bool, Contains, IsTrue, ◌↔◌, true, false};
+ghost use Rattle.cut_table.specs.declared.wants.Want.{Want};
+ghost use Rattle.cut_table.specs.Best.{IsBestOf};
+ghost use Rattle.cut_table.specs.Legal.{HaveOwnDemands, HasSides};
+ghost use Rattle.cut_table.specs.Table.{IsTable, AreSmall, IsCutX, IsCutY, IsPieceAt, Explains};
+
+use crate::wants::Scaled;
+
+/// What stands first in a best tree of a rectangle.
+#[derive(Clone, Copy)]
+pub enum Choice {
+    Waste,
+    Whole(usize, bool),
+    CutX(usize),
+    CutY(usize),
+}
+
+/// The best worth of a rectangle.
+pub fn worth_at(wants: &[Scaled], rows: &[Vec<u64>], places: usize, w: usize, h: usize) -> u64
+    requires table { IsTable wants.now places rows.now }
+    requires w { w < places }
+    requires h { h < length rows.now }
+    ensures { IsBestOf wants.now 0 w h result }
+{
+    rows[h][w]
+}
+
+fn find_cut_x(
+    wants: &[Scaled],
+    rows: &[Vec<u64>],
+    places: usize,
+    w: usize,
+    h: usize,
+    best: u64,
+) -> Option<usize>
+    requires own { HaveOwnDemands wants.now }
+    requires small { AreSmall wants.now }
+    requires places { places ≤ 501 }
+    requires heights { length rows.now ≤ 501 }
+    requires table { IsTable wants.now places rows.now }
+    requires w { w < places }
+    requires h { h < length rows.now }
+    ensures found { IfSome result (IsCutX wants.now w h best) }
+    ensures none { IfNone result ((a : ℕ) → a + a ≤ w → IsCutX wants.now w h best a → ⊥) }
+{
+    for a in 1..w / 2 + 1 {
+        let first = worth_at(wants, rows, places, a, h);
+        let second = worth_at(wants, rows, places, w - a, h);
+        if first + second == best {
+            return Some(a);
+        }
+    }
+    None
+}
+
+fn find_cut_y(
+    wants: &[Scaled],
+    rows: &[Vec<u64>],
+    places: usize,
+    w: usize,
+    h: usize,
+    best: u64,
+) -> Option<usize>
+    requires own { HaveOwnDemands wants.now }
+    requires small { AreSmall wants.now }
+    requires places { places ≤ 501 }
+    requires heights { length rows.now ≤ 501 }
+    requires table { IsTable wants.now places rows.now }
+    requires w { w < places }
+    requires h { h < length rows.now }
+    ensures found { IfSome result (IsCutY wants.now w h best) }
+    ensures none { IfNone result ((a : ℕ) → a + a ≤ h → IsCutY wants.now w h best a → ⊥) }
+{
+    for a in 1..h / 2 + 1 {
+        let first = worth_at(wants, rows, places, w, a);
+        let second = worth_at(wants, rows, places, w, h - a);
+        if first + second == best {
+            return Some(a);
+        }
+    }
+    None
+}
+
+fn stands(want: &Scaled, w: usize, h: usize, best: u64) -> bool
+    ensures { IsTrue result ↔ (HasSides want.now false w h × (want.now.worth ≡ best)) }
+{
+    want.w as usize == w && want.h as usize == h && want.worth as u64 == best
+}
+
+fn stands_turned(want: &Scaled, w: usize, h: usize, best: u64) -> bool
+    ensures { IsTrue result ↔ (HasSides want.now true w h × (want.now.worth ≡ best)) }
+{
+    want.may_turn && want.h as usize == w && want.w as usize == h && want.worth as u64 == best
+}
+
+fn find_piece(wants: &[Scaled], w: usize, h: usize, best: u64) -> Option<(usize, bool)>
+    ensures found { IfSome result (λ found. IsPieceAt wants.now w h best found.0 found.1) }
+    ensures none { IfNone result ((x : Want) (turned : Bool) → Contains wants.now x → HasSides x turned w h → x.worth ≡ best → ⊥) }
+{
+    for (i, want) in wants.iter().enumerate() {
+        if stands(want, w, h, best) {
+            return Some((i, false));
+        }
+        if stands_turned(want, w, h, best) {
+            return Some((i, true));
+        }
+    }
+    None
+}
+
+/// How the best worth of a rectangle is reached.
+pub fn choose(
+    wants: &[Scaled],
+    rows: &[Vec<u64>],
+    places: usize,
+    w: usize,
+    h: usize,
+    best: u64,
+) -> Choice
+    requires own { HaveOwnDemands wants.now }
+    requires small { AreSmall wants.now }
+    requires places { places ≤ 501 }
+    requires heights { length rows.now ≤ 501 }
+    requires table { IsTable wants.now places rows.now }
+    requires w { w < places }
+    requires h { h < length rows.now }
+    requires best { IsBestOf wants.now 0 w h best }
+    ensures { Explains wants.now w h best result }
+{
+    match find_piece(wants, w, h, best) {
+        Some((i, turned)) => Choice::Whole(i, turned),
+        None => match find_cut_x(wants, rows, places, w, h, best) {
+            Some(a) => Choice::CutX(a),
+            None => match find_cut_y(wants, rows, places, w, h, best) {
+                Some(a) => Choice::CutY(a),
+                None => Choice::Waste,
+            },
+        },
+    }
+}
