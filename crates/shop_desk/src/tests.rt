@@ -1,6 +1,8 @@
+ghost use Rattle.std.specs.Prelude.{◌≤◌};
+
 use super::*;
 use shop_rules::{
-    Code, Command, Kind, Limits, Material, Message, Query, Refusal, Reply, decide_material,
+    Change, Code, Command, Kind, Limits, Material, Message, Query, Refusal, Reply, decide_material,
     decide_receive,
 };
 use shop_store::{Book, MemBook};
@@ -76,81 +78,101 @@ fn act_of(reply: &Reply) -> u32 {
     }
 }
 
+fn is_told(refusal: Refusal, number: u32, name: &str) -> bool {
+    refusal.number() == number && refusal.name() == name
+}
+
 #[test]
 fn refusals_have_numbers_and_names(rt: HostRuntime) {
-    for (refusal, number, name) in [
-        (Refusal::BadMessage, 10, "BadMessage"),
-        (Refusal::NumberReused, 11, "NumberReused"),
-        (Refusal::NoMaterial, 20, "NoMaterial"),
-        (Refusal::MaterialExists, 21, "MaterialExists"),
-        (Refusal::BadMaterial, 22, "BadMaterial"),
-        (Refusal::BadSize, 30, "BadSize"),
-        (Refusal::BadCount, 31, "BadCount"),
-        (Refusal::TooMuch, 32, "TooMuch"),
-        (Refusal::NumbersSpent, 33, "NumbersSpent"),
-        (Refusal::OrderExists, 40, "OrderExists"),
-        (Refusal::BadLine, 41, "BadLine"),
-        (Refusal::NoDemand, 42, "NoDemand"),
-        (Refusal::NoPart, 50, "NoPart"),
-        (Refusal::NotStanding, 51, "NotStanding"),
-        (Refusal::BadTree, 60, "BadTree"),
-        (Refusal::WrongMaterial, 61, "WrongMaterial"),
-        (Refusal::WrongSize, 62, "WrongSize"),
-        (Refusal::TooMany, 63, "TooMany"),
-        (Refusal::NoJob, 70, "NoJob"),
-        (Refusal::JobOver, 71, "JobOver"),
-        (Refusal::BadCut, 72, "BadCut"),
-        (Refusal::BadText, 80, "BadText"),
-        (Refusal::NothingFits, 90, "NothingFits"),
-        (Refusal::TableTooLarge, 91, "TableTooLarge"),
-        (Refusal::BadStep, 92, "BadStep"),
-        (Refusal::BadWant, 93, "BadWant"),
-        (Refusal::NoMemory, 98, "NoMemory"),
-        (Refusal::StoreFault, 99, "StoreFault"),
-    ] {
-        assert_eq!(rt; refusal.number(), number, "{name}");
-        assert_eq!(rt; refusal.name(), name);
+    let told = [
+        is_told(Refusal::BadMessage, 10, "BadMessage"),
+        is_told(Refusal::NumberReused, 11, "NumberReused"),
+        is_told(Refusal::NoMaterial, 20, "NoMaterial"),
+        is_told(Refusal::MaterialExists, 21, "MaterialExists"),
+        is_told(Refusal::BadMaterial, 22, "BadMaterial"),
+        is_told(Refusal::BadSize, 30, "BadSize"),
+        is_told(Refusal::BadCount, 31, "BadCount"),
+        is_told(Refusal::TooMuch, 32, "TooMuch"),
+        is_told(Refusal::NumbersSpent, 33, "NumbersSpent"),
+        is_told(Refusal::OrderExists, 40, "OrderExists"),
+        is_told(Refusal::BadLine, 41, "BadLine"),
+        is_told(Refusal::NoDemand, 42, "NoDemand"),
+        is_told(Refusal::NoPart, 50, "NoPart"),
+        is_told(Refusal::NotStanding, 51, "NotStanding"),
+        is_told(Refusal::BadTree, 60, "BadTree"),
+        is_told(Refusal::WrongMaterial, 61, "WrongMaterial"),
+        is_told(Refusal::WrongSize, 62, "WrongSize"),
+        is_told(Refusal::TooMany, 63, "TooMany"),
+        is_told(Refusal::NoJob, 70, "NoJob"),
+        is_told(Refusal::JobOver, 71, "JobOver"),
+        is_told(Refusal::BadCut, 72, "BadCut"),
+        is_told(Refusal::BadText, 80, "BadText"),
+        is_told(Refusal::NothingFits, 90, "NothingFits"),
+        is_told(Refusal::TableTooLarge, 91, "TableTooLarge"),
+        is_told(Refusal::BadStep, 92, "BadStep"),
+        is_told(Refusal::BadWant, 93, "BadWant"),
+        is_told(Refusal::NoMemory, 98, "NoMemory"),
+        is_told(Refusal::StoreFault, 99, "StoreFault"),
+    ];
+    assert_eq!(rt; told, [true; 28]);
+}
+
+fn row_of(steel: Code) -> Result<Material, Fail> {
+    let limits = Limits::new(Kind::Bar, 3, 20, 1).ok_or("no limits")?;
+    Ok(Material {
+        code: steel,
+        kind: Kind::Bar,
+        limits,
+    })
+}
+
+// The refusal's number of a receipt of bars one tenth long, and 0 where it is accepted.
+fn received_told(
+    alloc: Global,
+    row: Material,
+    steel: Code,
+    received: u64,
+    act: u32,
+    count: u32,
+) -> u32
+    requires { 1 ≤ act }
+{
+    match decide_receive(alloc, Some(row), received, act, steel, steel, 1, 1, count) {
+        Ok(change) => {
+            let Change { reply, .. } = change;
+            refused(&reply)
+        }
+        Err(refusal) => refusal.number(),
+    }
+}
+
+// The refusal's number where the material is added again with another kerf, and 0 where it is accepted.
+fn added_again_told(alloc: Global, row: Material, steel: Code, kerf: u32) -> u32 {
+    match decide_material(alloc, Some(row), steel, Kind::Bar, kerf, 20, 1) {
+        Ok(change) => {
+            let Change { reply, .. } = change;
+            refused(&reply)
+        }
+        Err(refusal) => refusal.number(),
     }
 }
 
 #[test]
 fn the_last_cell_of_a_material(rt: HostRuntime) -> Result<(), Fail> {
     let steel = code("STEEL")?;
-    let limits = Limits::new(Kind::Bar, 3, 20, 1).ok_or("no limits")?;
-    let known = Some(Material {
-        code: steel,
-        kind: Kind::Bar,
-        limits,
-    });
-    for (received, act, count, number) in [
-        (999_999_999_999_999, 1, 1, 0),
-        (999_999_999_999_999, 1, 2, 32),
-        (0, 2_147_483_647, 1, 0),
-        (0, 2_147_483_648, 1, 33),
-    ] {
-        let told = match decide_receive(
-            rt.alloc(),
-            known,
-            received,
-            act,
-            steel,
-            steel,
-            1,
-            1,
-            count,
-        ) {
-            Ok(change) => refused(&change.reply),
-            Err(refusal) => refusal.number(),
-        };
-        assert_eq!(rt; told, number, "{received} act {act} count {count}");
-    }
-    for (kerf, number) in [(3, 0), (4, 21), (201, 22)] {
-        let told = match decide_material(rt.alloc(), known, steel, Kind::Bar, kerf, 20, 1) {
-            Ok(change) => refused(&change.reply),
-            Err(refusal) => refusal.number(),
-        };
-        assert_eq!(rt; told, number, "kerf {kerf}");
-    }
+    let received = [
+        received_told(rt.alloc(), row_of(steel)?, steel, 999_999_999_999_999, 1, 1),
+        received_told(rt.alloc(), row_of(steel)?, steel, 999_999_999_999_999, 1, 2),
+        received_told(rt.alloc(), row_of(steel)?, steel, 0, 2_147_483_647, 1),
+        received_told(rt.alloc(), row_of(steel)?, steel, 0, 2_147_483_648, 1),
+    ];
+    assert_eq!(rt; received, [0, 32, 0, 33]);
+    let added = [
+        added_again_told(rt.alloc(), row_of(steel)?, steel, 3),
+        added_again_told(rt.alloc(), row_of(steel)?, steel, 4),
+        added_again_told(rt.alloc(), row_of(steel)?, steel, 201),
+    ];
+    assert_eq!(rt; added, [0, 21, 22]);
     Ok(())
 }
 
@@ -207,24 +229,39 @@ fn each_message_once(rt: HostRuntime) -> Result<(), Fail> {
     Ok(())
 }
 
+// The refusal's number of a message, and 0 where it is accepted.
+fn told(alloc: Global, book: &mut MemBook, message: &Message) -> u32 {
+    let reply = handle(alloc, book, message);
+    refused(&reply)
+}
+
 #[test]
 fn sizes_and_counts_at_their_limits(rt: HostRuntime) -> Result<(), Fail> {
     let mut book = MemBook::new(rt.alloc());
-    let _steel = handle(rt.alloc(), &mut book, &material(1, "STEEL", Kind::Bar)?);
-    let _glass = handle(rt.alloc(), &mut book, &material(2, "GLASS", Kind::Sheet)?);
-    for (number, text, w, h, count, wanted) in [
-        (3, "STEEL", 200_000, 1, 1, 0),
-        (4, "STEEL", 200_001, 1, 1, 30),
-        (5, "GLASS", 1, 60_000, 1, 0),
-        (6, "GLASS", 1, 60_001, 1, 30),
-        (7, "STEEL", 100, 1, 100, 0),
-        (8, "STEEL", 100, 1, 101, 31),
-        (9, "STEEL", 100, 1, 0, 31),
-        (10, "STEEL", 100, 2, 1, 30),
-    ] {
-        let message = receive(number, text, w, h, count)?;
-        let reply = handle(rt.alloc(), &mut book, &message);
-        assert_eq!(rt; refused(&reply), wanted, "{text} {w} by {h}, {count}");
-    }
+    let messages = [
+        material(1, "STEEL", Kind::Bar)?,
+        material(2, "GLASS", Kind::Sheet)?,
+        receive(3, "STEEL", 200_000, 1, 1)?,
+        receive(4, "STEEL", 200_001, 1, 1)?,
+        receive(5, "GLASS", 1, 60_000, 1)?,
+        receive(6, "GLASS", 1, 60_001, 1)?,
+        receive(7, "STEEL", 100, 1, 100)?,
+        receive(8, "STEEL", 100, 1, 101)?,
+        receive(9, "STEEL", 100, 1, 0)?,
+        receive(10, "STEEL", 100, 2, 1)?,
+    ];
+    let numbers = [
+        told(rt.alloc(), &mut book, &messages[0]),
+        told(rt.alloc(), &mut book, &messages[1]),
+        told(rt.alloc(), &mut book, &messages[2]),
+        told(rt.alloc(), &mut book, &messages[3]),
+        told(rt.alloc(), &mut book, &messages[4]),
+        told(rt.alloc(), &mut book, &messages[5]),
+        told(rt.alloc(), &mut book, &messages[6]),
+        told(rt.alloc(), &mut book, &messages[7]),
+        told(rt.alloc(), &mut book, &messages[8]),
+        told(rt.alloc(), &mut book, &messages[9]),
+    ];
+    assert_eq!(rt; numbers, [0, 0, 0, 30, 0, 30, 0, 31, 31, 30]);
     Ok(())
 }
