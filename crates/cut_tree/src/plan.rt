@@ -6,11 +6,13 @@ ghost use Rattle.cut_tree.specs.Laying.{IsLaid};
 ghost use Rattle.cut_tree.specs.Nodes.{tree_of};
 ghost use Rattle.cut_tree.specs.Patterns.{IsPlan};
 ghost use Rattle.cut_tree.specs.Stepping.{AreSteps};
+ghost use Rattle.cut_tree.specs.Leaves.{leaves_of};
 ghost use Rattle.cut_tree.specs.Bars.{IsBarPiece, bar_length, bar_tree, IsBarFault};
 ghost use Rattle.cut_tree.specs.Stops.{outcome_of, IsStopOf};
 
 use crate::bars::{BarFault, bar_root};
 use crate::lay::{Rect, Row, Saw, Stop, lay_node};
+use crate::leaves::{Leaf, add_leaves};
 use crate::node::{Node, copy_node, count_cuts, count_pieces, is_same};
 use crate::read::{SpellFault, behind, read_node, words_of};
 use crate::steps::{Step, step_node};
@@ -140,6 +142,21 @@ impl Plan {
         };
         step_node(&self.root, rect, self.kerf, 0, &mut steps)?;
         Ok(steps)
+    }
+
+    /// The piece leaves in the order of the nodes.
+    pub fn leaves(&self, alloc: Global) -> Result<Vec<Leaf>, AllocError>
+        ensures { IfOk result (λ leaves. leaves.items ≡ leaves_of self.now.tree self.now.w self.now.h self.now.kerf) }
+    {
+        let mut leaves = Vec::new(alloc);
+        let rect = Rect {
+            x: 0,
+            y: 0,
+            w: self.size.w(),
+            h: self.size.h(),
+        };
+        add_leaves(&self.root, rect, self.kerf, &mut leaves)?;
+        Ok(leaves)
     }
 
     /// The rectangles into which the unit falls once the work ended so, and what each belongs to, by rising nodes. A stop
