@@ -14,3 +14,6 @@ pub mod BarTrees
 pub mod FirstWords
 pub mod OneFault
 pub mod ReadBack
+pub mod LeafCounts
+pub mod PieceRows
+pub mod OneList
