@@ -6,6 +6,10 @@ use Rattle.shop_machine.specs.declared.records.Column.{Column}
 use Rattle.shop_machine.specs.declared.records.Column.TheVariants.{Received, Stock, Rack, Pieces, Kerf, Scrap}
 use Rattle.shop_machine.specs.declared.records.State.{State}
 use Rattle.shop_machine.specs.declared.records.State.TheVariants as state
+use Rattle.shop_machine.specs.declared.records.StateWord.{StateWord}
+use Rattle.shop_machine.specs.declared.records.StateWord.TheVariants as word
+use Rattle.shop_machine.specs.declared.records.JobState.{JobState}
+use Rattle.shop_machine.specs.declared.records.JobState.TheVariants as job
 
 abbrev pub same_name : Name → Name → Bool
 same_name a b = (a.act == b.act) && (a.node == b.node)
@@ -54,3 +58,54 @@ is_counted Rack part = is_there part.state && not (is_whole part)
 is_counted Pieces part = is_piece part.state
 is_counted Kerf part = is_kerf part.state
 is_counted Scrap part = is_scrap part.state
+
+-- a piece of this demand
+abbrev pub is_piece_of : ℕ → State → Bool
+is_piece_of number state.Standing = false
+is_piece_of number (state.Reserved job) = false
+is_piece_of number (state.Cut job) = false
+is_piece_of number (state.Piece demand) = demand == number
+is_piece_of number state.Kerf = false
+is_piece_of number state.Scrap = false
+
+-- standing and not reserved
+abbrev pub is_free : State → Bool
+is_free state.Standing = true
+is_free (state.Reserved job) = false
+is_free (state.Cut job) = false
+is_free (state.Piece demand) = false
+is_free state.Kerf = false
+is_free state.Scrap = false
+
+-- reserved for this job
+abbrev pub is_reserved_for : ℕ → State → Bool
+is_reserved_for number state.Standing = false
+is_reserved_for number (state.Reserved job) = job == number
+is_reserved_for number (state.Cut job) = false
+is_reserved_for number (state.Piece demand) = false
+is_reserved_for number state.Kerf = false
+is_reserved_for number state.Scrap = false
+
+abbrev pub is_waiting : JobState → Bool
+is_waiting job.Waiting = true
+is_waiting job.Done = false
+is_waiting job.Broken = false
+is_waiting job.Released = false
+
+-- a state without its number
+abbrev pub state_word : State → StateWord
+state_word state.Standing = word.Standing
+state_word (state.Reserved job) = word.Reserved
+state_word (state.Cut job) = word.Cut
+state_word (state.Piece demand) = word.Piece
+state_word state.Kerf = word.Kerf
+state_word state.Scrap = word.Scrap
+
+-- the job of a reserved or a cut part, the demand of a piece, else 0
+abbrev pub state_of : State → ℕ
+state_of state.Standing = 0
+state_of (state.Reserved job) = job
+state_of (state.Cut job) = job
+state_of (state.Piece demand) = demand
+state_of state.Kerf = 0
+state_of state.Scrap = 0

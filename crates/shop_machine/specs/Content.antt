@@ -3,10 +3,13 @@ use Rattle.std.specs.Prelude.{filter, ◌≡◌, ℕ, ◌+◌, ◌*◌, ◌&&◌
 use Rattle.std.specs.declared.cmp.Ordering.{Ordering}
 use Rattle.std.specs.Ordering.{nat_cmp, is_eq, ordering_then}
 use Rattle.std.specs.FinMap as map
+use Rattle.std.specs.FinSet as set
 use Rattle.cut_measure.specs.Codes.{code_cmp}
 use Rattle.cut_measure.specs.Names.{Name, name_cmp}
 use Rattle.shop_machine.specs.declared.records.Material.{Material}
 use Rattle.shop_machine.specs.declared.records.Part.{Part}
+use Rattle.shop_machine.specs.declared.records.Job.{Job}
+use Rattle.shop_machine.specs.declared.records.Demand.{Demand}
 use Rattle.shop_machine.specs.declared.records.Totals.{Totals}
 use Rattle.shop_machine.specs.declared.records.Column.{Column}
 use Rattle.shop_machine.specs.declared.records.Column.TheVariants.{Received, Stock, Rack, Pieces, Kerf, Scrap}
@@ -20,22 +23,47 @@ use Rattle.shop_machine.specs.Columns.{is_counted, is_there}
 abbrev pub pair_cmp : Pair → Pair → Ordering
 pair_cmp a b = ordering_then (nat_cmp a.terminal b.terminal) (nat_cmp a.number b.number)
 
--- the materials by their codes, the parts by their names, the accepted messages by their pairs, and the last act's number
+-- The materials by their codes, the parts by their names, the jobs and the demands by their numbers, the codes of the
+-- orders, the accepted messages by their pairs, and the last numbers of an act and of a demand.
 pub record Content : Type 0 where
   pub materials : map.FinMap code_cmp Material
   pub parts : map.FinMap name_cmp Part
+  pub jobs : map.FinMap nat_cmp Job
+  pub orders : set.FinSet code_cmp
+  pub demands : map.FinMap nat_cmp Demand
   pub kept : map.FinMap pair_cmp Kept
   pub last_act : ℕ
+  pub last_demand : ℕ
 
 -- nothing was done yet
 abbrev pub fresh : Content
-fresh = record { materials = map.empty; parts = map.empty; kept = map.empty; last_act = 0 }
+fresh =
+    record {
+      materials = map.empty;
+      parts = map.empty;
+      jobs = map.empty;
+      orders = set.empty;
+      demands = map.empty;
+      kept = map.empty;
+      last_act = 0;
+      last_demand = 0;
+    }
 
 abbrev pub material_at : Content → List ℕ → Option Material
 material_at content code = map.get content.materials code
 
 abbrev pub part_at : Content → Name → Option Part
 part_at content name = map.get content.parts name
+
+abbrev pub job_at : Content → ℕ → Option Job
+job_at content number = map.get content.jobs number
+
+-- whether the order is there
+abbrev pub has_order : Content → List ℕ → Bool
+has_order content code = set.contains content.orders code
+
+abbrev pub demand_at : Content → ℕ → Option Demand
+demand_at content number = map.get content.demands number
 
 abbrev pub kept_at : Content → Pair → Option Kept
 kept_at content pair = map.get content.kept pair
@@ -94,13 +122,26 @@ abbrev pub with_parts : List Part → map.FinMap name_cmp Part → map.FinMap na
 with_parts [] parts = parts
 with_parts (part ∷ more) parts = with_parts more (map.insert parts part.name part)
 
+abbrev pub with_job : Option Job → map.FinMap nat_cmp Job → map.FinMap nat_cmp Job
+with_job None jobs = jobs
+with_job (Some job) jobs = map.insert jobs job.act job
+
+abbrev pub with_order : Option (List ℕ) → set.FinSet code_cmp → set.FinSet code_cmp
+with_order None orders = orders
+with_order (Some code) orders = set.insert orders code
+
+abbrev pub with_demands : List Demand → map.FinMap nat_cmp Demand → map.FinMap nat_cmp Demand
+with_demands [] demands = demands
+with_demands (demand ∷ more) demands = with_demands more (map.insert demands demand.number demand)
+
 abbrev pub with_kept : Option KeptMessage → map.FinMap pair_cmp Kept → map.FinMap pair_cmp Kept
 with_kept None messages = messages
 with_kept (Some message) messages = map.insert messages message.pair message.kept
 
-abbrev pub with_act : Option ℕ → ℕ → ℕ
-with_act None last = last
-with_act (Some act) last = act
+-- the last number after one was given
+abbrev pub with_number : Option ℕ → ℕ → ℕ
+with_number None last = last
+with_number (Some number) last = number
 
 -- the content with the rows of a change
 abbrev pub changed : Content → Change → Content
@@ -108,6 +149,10 @@ changed content change =
     record {
       materials = with_material change.material content.materials;
       parts = with_parts change.parts content.parts;
+      jobs = with_job change.job content.jobs;
+      orders = with_order change.order content.orders;
+      demands = with_demands change.demands content.demands;
       kept = with_kept change.kept content.kept;
-      last_act = with_act change.act content.last_act;
+      last_act = with_number change.act content.last_act;
+      last_demand = with_number change.demand content.last_demand;
     }

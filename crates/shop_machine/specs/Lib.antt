@@ -3,5 +3,5 @@ pub mod Refusals
 pub mod Messages
 pub mod Content
 pub mod Machine
-pub mod History
 pub mod Soundness
+pub mod History

@@ -1,23 +1,44 @@
 -- Messages: what holds of each, what they are known by, and how they are written down.
-use Rattle.std.specs.Prelude.{ℕ, ◌<◌, ◌^◌, List, IsTrue, ⊤}
+use Rattle.std.specs.Prelude.{ℕ, ◌<◌, ◌^◌, List, IsTrue, ⊤, Bool, true, false, not, Option, Some, None, is_some, All}
+use Rattle.std.specs.Str.{is_utf8}
 use Rattle.cut_measure.specs.Codes.{is_code}
+use Rattle.cut_measure.specs.Names.{Name, IsName}
 use Rattle.shop_machine.specs.declared.kept_texts.Pair.{Pair}
 use Rattle.shop_machine.specs.declared.messages.Command.{Command}
-use Rattle.shop_machine.specs.declared.messages.Command.TheVariants.{AddMaterial, Receive}
+use Rattle.shop_machine.specs.declared.messages.Command.TheVariants.{AddMaterial, Receive, AddOrder, Reserve, Done, Release}
+use Rattle.shop_machine.specs.declared.messages.OrderLine.{OrderLine}
 use Rattle.shop_machine.specs.declared.messages.Message.{Message}
 use Rattle.shop_machine.specs.declared.messages.Reply.{Reply}
 use Rattle.shop_machine.specs.declared.messages.Reply.TheVariants as reply
+use Rattle.shop_machine.specs.declared.refusals.Refusal.{Refusal}
 
 -- a number of 32 bits
 abbrev pub IsNumber : ℕ → Type 0
 IsNumber n = n < 2 ^ 32
 
--- what holds of every command: its codes are codes, and its numbers have 32 bits
+-- a number of 64 bits
+abbrev pub IsWide : ℕ → Type 0
+IsWide n = n < 2 ^ 64
+
+-- what holds of every order line
+pub record IsLine (l : OrderLine) : Type 0 where
+  pub line : IsNumber l.line
+  pub material : IsTrue (is_code l.material)
+  pub w : IsNumber l.w
+  pub h : IsNumber l.h
+  pub count : IsNumber l.count
+  pub worth : IsNumber l.worth
+
+-- what holds of every command: its codes are codes, its texts are UTF-8, and its numbers have 32 bits
 abbrev pub IsCommand : Command → Type 0
 IsCommand (AddMaterial material kind kerf min_long min_short) =
     IsTrue (is_code material) × IsNumber kerf × IsNumber min_long × IsNumber min_short
 IsCommand (Receive material batch w h count) =
     IsTrue (is_code material) × IsTrue (is_code batch) × IsNumber w × IsNumber h × IsNumber count
+IsCommand (AddOrder order lines) = IsTrue (is_code order) × All IsLine lines
+IsCommand (Reserve part tree) = IsName part × IsTrue (is_utf8 tree)
+IsCommand (Done job) = IsNumber job
+IsCommand (Release job) = IsNumber job
 
 -- what holds of every message
 pub record IsMessage (message : Message) : Type 0 where
@@ -29,8 +50,22 @@ pub record IsMessage (message : Message) : Type 0 where
 abbrev pub IsMade : Reply → Type 0
 IsMade (reply.AddMaterial material) = IsTrue (is_code material)
 IsMade (reply.Receive act count) = IsNumber act × IsNumber count
+IsMade (reply.AddOrder count first order) = IsNumber count × IsNumber first × IsTrue (is_code order)
+IsMade (reply.Reserve cuts job) = IsNumber cuts × IsNumber job
+IsMade (reply.Done job kerf pieces rack scrap) = IsNumber job × IsWide kerf × IsWide pieces × IsWide rack × IsWide scrap
+IsMade (reply.Release job) = IsNumber job
 IsMade (reply.Totals material received stock rack pieces kerf scrap) = ⊥
+IsMade (reply.Trace batch h of part root state w x y) = ⊥
+IsMade (reply.Demand demand line made material order reserved wanted) = ⊥
 IsMade (reply.Refused refusal) = ⊥
+
+-- the refusal that a reply tells of
+abbrev pub refusal_in : Reply → Option Refusal
+refusal_in (reply.Refused refusal) = Some refusal
+refusal_in _ = None
+
+abbrev pub is_accepted : Reply → Bool
+is_accepted answer = not (is_some (refusal_in answer))
 
 -- the terminal and the number of a message
 abbrev pub pair_of : Message → Pair

@@ -1,22 +1,31 @@
 -- What holds of every content that a history gives, and what a change has to fit so that each book can make it.
-use Rattle.std.specs.Prelude.{◌≡◌, ℕ, ◌<◌, ◌≤◌, List, All, AllPairs, IsSome, IfSome, Option, Some, None}
+use Rattle.std.specs.Prelude.{◌≡◌, ◌≢◌, ℕ, ◌+◌, ◌<◌, ◌≤◌, ◌⊎◌, List, All, AllPairs, IsSome, IfSome, Option, Some, None, MatchOption, true, false, ⊤, if◌then◌else◌, sum_by, count_by}
 use Rattle.std.specs.declared.cmp.Ordering.TheVariants.{Less}
+use Rattle.std.specs.FinMap as map
 use Rattle.cut_measure.specs.Names.{Name, name_cmp}
+use Rattle.cut_tree.specs.Tree.{count_of}
+use Rattle.cut_tree.specs.Patterns.{IsPlan}
+use Rattle.shop_machine.specs.declared.records.Material.{Material}
 use Rattle.shop_machine.specs.declared.records.Part.{Part}
+use Rattle.shop_machine.specs.declared.records.State.TheVariants.{Reserved}
+use Rattle.shop_machine.specs.declared.records.Job.{Job}
+use Rattle.shop_machine.specs.declared.records.Demand.{Demand}
 use Rattle.shop_machine.specs.declared.kept_texts.Pair.{Pair}
 use Rattle.shop_machine.specs.declared.kept_texts.Kept.{Kept}
 use Rattle.shop_machine.specs.declared.messages.Message.{Message}
 use Rattle.shop_machine.specs.declared.messages.Reply.{Reply}
 use Rattle.shop_machine.specs.declared.changes.Change.{Change}
-use Rattle.shop_machine.specs.Messages.{Texts, IsMessage, IsMade, pair_of}
-use Rattle.shop_machine.specs.Content.{Content, material_at, part_at, kept_at, totals_of, AddsUp}
-use Rattle.shop_machine.specs.Machine.{Keeps, most_received, most_acts}
+use Rattle.shop_machine.specs.Columns.{is_piece_of, is_waiting}
+use Rattle.shop_machine.specs.Messages.{Texts, IsMessage, pair_of}
+use Rattle.shop_machine.specs.Content.{Content, material_at, part_at, job_at, has_order, demand_at, kept_at, totals_of, AddsUp}
+use Rattle.shop_machine.specs.Machine.{Keeps, in_state, most_received, most_numbers}
 
--- Each part is named after an act so far, the act numbers aren't spent, and of each material no more was received than
--- may be, all of which is accounted for.
+-- Each part is named after an act so far, the numbers aren't spent, and of each material no more was received than may be,
+-- all of which is accounted for.
 pub record IsInRange (content : Content) : Type 0 where
   pub acts : (name : Name) (part : Part) → part_at content name ≡ Some part → name.act ≤ content.last_act
-  pub last : content.last_act ≤ most_acts
+  pub last : content.last_act ≤ most_numbers
+  pub last_demand : content.last_demand ≤ most_numbers
   pub received : (code : List ℕ) → (totals_of content code).received ≤ most_received
   pub adds_up : (code : List ℕ) → AddsUp (totals_of content code)
 
@@ -25,21 +34,100 @@ pub record IsKept (texts : Texts) (pair : Pair) (row : Kept) : Type 0 where
   pub message : Message
   pub answer : Reply
   pub is_message : IsMessage message
-  pub made : IsMade answer
   pub of_pair : pair_of message ≡ pair
   pub keeps : Keeps texts row message answer
+
+-- a part stands under its own name, is of a known material, has a cell and lies in a unit
+pub record IsPlaced (content : Content) (name : Name) (part : Part) : Type 0 where
+  pub named : part.name ≡ name
+  pub known : IsSome (material_at content part.material)
+  pub some_width : 1 ≤ part.size.w
+  pub some_height : 1 ≤ part.size.h
+  pub right : part.x + part.size.w ≤ 200000
+  pub bottom : part.y + part.size.h ≤ 60000
+
+-- A waiting job's part is reserved for it, is older than it, and has the sides of its plan and a material of its kerf; its
+-- pieces' demands are there, and no part is named after it yet.
+pub record IsWaiting (content : Content) (job : Job) : Type 0 where
+  pub row : Part
+  pub found : part_at content job.part ≡ Some row
+  pub reserved : row.state ≡ Reserved job.act
+  pub older : job.part.act < job.act
+  pub material : Material
+  pub known : material_at content row.material ≡ Some material
+  pub width : job.plan.w ≡ row.size.w
+  pub height : job.plan.h ≡ row.size.h
+  pub kerf : job.plan.kerf ≡ material.limits.kerf
+  pub demands : (number : ℕ) → 1 ≤ count_of job.plan.tree number → IsSome (demand_at content number)
+  pub none_yet : (node : ℕ) → part_at content (record { act = job.act; node = node }) ≡ None
+
+-- a job stands under its own number, which is an act's so far, and has a plan
+pub record IsJob (content : Content) (number : ℕ) (job : Job) : Type 0 where
+  pub numbered : job.act ≡ number
+  pub least : 1 ≤ number
+  pub so_far : number ≤ content.last_act
+  pub plan : IsPlan job.plan
+  pub kerf : job.kerf ≡ job.plan.kerf
+  pub waits : is_waiting job.state ≡ true → IsWaiting content job
+
+-- how many pieces of a demand are in the plans of waiting jobs
+abbrev pub reserved_in : ℕ → Content → ℕ
+reserved_in number content = sum_by (λ (job : Job). if is_waiting job.state then count_of job.plan.tree number else 0) (map.values content.jobs)
+
+-- how many parts are pieces of a demand
+abbrev pub made_in : ℕ → Content → ℕ
+made_in number content = count_by (λ (part : Part). is_piece_of number part.state) (map.values content.parts)
+
+-- No more of a demand is reserved and made than wanted; what is reserved is in the plans of waiting jobs, and what is made
+-- are pieces.
+pub record IsCounted (content : Content) (number : ℕ) (demand : Demand) : Type 0 where
+  pub few : demand.reserved + demand.made ≤ demand.wanted
+  pub reserved : demand.reserved ≡ reserved_in number content
+  pub made : demand.made ≡ made_in number content
+
+-- a demand stands under its own number, one that was given
+pub record IsDemand (content : Content) (number : ℕ) (demand : Demand) : Type 0 where
+  pub numbered : demand.number ≡ number
+  pub so_far : number ≤ content.last_demand
+  pub counted : IsCounted content number demand
 
 -- a content as histories give it
 pub record IsSound (texts : Texts) (content : Content) : Type 0 where
   pub in_range : IsInRange content
+  pub parts : (name : Name) (part : Part) → part_at content name ≡ Some part → IsPlaced content name part
+  pub jobs : (number : ℕ) (job : Job) → job_at content number ≡ Some job → IsJob content number job
+  pub demands : (number : ℕ) (demand : Demand) → demand_at content number ≡ Some demand → IsDemand content number demand
   pub kept : (pair : Pair) (row : Kept) → kept_at content pair ≡ Some row → IsKept texts pair row
 
--- The change's rows are new: a material of a new code, parts of known materials whose names rise and are new, an act's
--- number above the last one, and a message of a new pair.
+-- a part is new, or is there in another state
+abbrev pub PartFits : Content → Part → Type 0
+PartFits content part = MatchOption (part_at content part.name) ⊤ (λ old. part ≡ in_state part.state old)
+
+-- a job is new, or is there in another state; its part is there
+pub record JobFits (content : Content) (job : Job) : Type 0 where
+  pub fits : MatchOption (job_at content job.act) ⊤ (λ old. job ≡ record old { state = job.state })
+  pub part : IsSome (part_at content job.part)
+
+-- a demand of the change's order has a new number, or is there with other counts
+abbrev pub DemandFits : Content → Change → Demand → Type 0
+DemandFits content change demand =
+    MatchOption (demand_at content demand.number)
+    ((content.last_demand < demand.number) × (change.order ≡ Some demand.order))
+    (λ old. demand ≡ record old { reserved = demand.reserved; made = demand.made })
+
+-- The change's rows are new, or replace rows of which they keep all that never changes: a material of a new code; parts of
+-- known materials whose names rise; a job; an order of a new code; demands of known materials, each once, of which no more
+-- is reserved and made than wanted; numbers above the last ones; and a message of a new pair.
 pub record Fits (content : Content) (change : Change) : Type 0 where
   pub material : IfSome change.material (λ row. material_at content row.code ≡ None)
-  pub parts : All (λ part. part_at content part.name ≡ None) change.parts
+  pub parts : All (PartFits content) change.parts
   pub known : All (λ part. IsSome (material_at content part.material)) change.parts
   pub rising : AllPairs (λ a b. name_cmp a.name b.name ≡ Less) change.parts
-  pub act : IfSome change.act (λ act. (content.last_act < act) × (act ≤ most_acts))
+  pub job : IfSome change.job (JobFits content)
+  pub order : IfSome change.order (λ code. has_order content code ≡ false)
+  pub demands : All (DemandFits content change) change.demands
+  pub wanted : All (λ demand. IsSome (material_at content demand.material) × (demand.reserved + demand.made ≤ demand.wanted)) change.demands
+  pub once : AllPairs (λ a b. a.number ≢ b.number) change.demands
+  pub act : IfSome change.act (λ act. (content.last_act < act) × (act ≤ most_numbers))
+  pub demand : IfSome change.demand (λ demand. (content.last_demand < demand) × (demand ≤ most_numbers))
   pub kept : IfSome change.kept (λ row. kept_at content row.pair ≡ None)

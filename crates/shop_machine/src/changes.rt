@@ -1,62 +1,32 @@
 use crate::kept_texts::KeptMessage;
+use crate::lists::RowList;
 use crate::messages::Reply;
-use crate::records::{Material, Part};
-use std::alloc::{AllocError, Global};
-use std::marker::Model;
+use crate::records::{Demand, Job, Material, Part};
+use cut_measure::Code;
 
 /// Rows of parts, in order.
-#[derive(Debug, Drop)]
-pub struct PartList {
-    rows: Vec<Part>,
-}
+pub type PartList = RowList<Part>;
 
-impl Model for PartList {
-    ghost use Rattle.std.specs.Prelude.{List};
-    ghost use Rattle.shop_machine.specs.declared.records.Part.{Part};
-
-    ghost Value = { List Part };
-
-    ghost view = { λ r. r.rows.items };
-}
-
-impl PartList {
-    ghost use Rattle.std.specs.Prelude.{◌≡◌, ◌++◌, ◌∷◌, [], OnOk, OnErr};
-
-    /// No rows.
-    pub fn new(alloc: Global) -> PartList
-        ensures { result ≡ [] }
-    {
-        PartList {
-            rows: Vec::new(alloc),
-        }
-    }
-
-    /// Appends, or changes nothing.
-    pub fn push(&mut self, part: Part) -> Result<(), AllocError>
-        ensures ok { OnOk result (self.new ≡ self.old ++ part ∷ []) }
-        ensures err { OnErr result (self.new ≡ self.old) }
-    {
-        self.rows.push(part)?;
-        Ok(())
-    }
-
-    /// The rows in order.
-    pub fn as_slice(&self) -> &[Part]
-        ensures { result.now ≡ self.now }
-    {
-        &self.rows
-    }
-}
+/// Rows of demands, in order.
+pub type DemandList = RowList<Demand>;
 
 /// What an accepted command changes, and its reply.
-#[derive(Debug, Drop)]
+#[derive(Drop)]
 pub struct Change {
     /// A material to put.
     pub material: Option<Material>,
     /// Parts to put.
     pub parts: PartList,
+    /// A job to put.
+    pub job: Option<Job>,
+    /// An order's code that is used from now on.
+    pub order: Option<Code>,
+    /// Demands to put.
+    pub demands: DemandList,
     /// The last act number from now on, where an act was numbered.
     pub act: Option<u32>,
+    /// The last demand number from now on, where demands were numbered.
+    pub demand: Option<u32>,
     /// The message to keep, once its texts are known.
     pub kept: Option<KeptMessage>,
     pub reply: Reply,

@@ -1,10 +1,10 @@
 ghost use Rattle.std.specs.Prelude.{◌≡◌, ◌≢◌, ◌*◌, ◌≤◌, IfOk, IfErr, IsTrue};
-ghost use Rattle.shop_machine.specs.History.{is_accepted};
+ghost use Rattle.shop_machine.specs.Messages.{is_accepted};
 ghost use Rattle.shop_machine.specs.declared.refusals.Refusal.TheVariants.{StoreFault};
 ghost use Rattle.cut_measure.specs.Measures.{Rule};
-ghost use Rattle.shop_machine.specs.Machine.{Decides, material_refusal, material_change, receive_refusal, receive_change, unit_parts};
+ghost use Rattle.shop_machine.specs.Machine.{Decides, no_change, material_refusal, material_change, receive_refusal, receive_change, unit_parts};
 
-use crate::changes::{Change, PartList};
+use crate::changes::{Change, DemandList, PartList};
 use crate::messages::Reply;
 use crate::records::{Material, Part, State};
 use crate::refusals::Refusal;
@@ -13,7 +13,25 @@ use std::alloc::{AllocError, Global};
 
 const MOST_RECEIVED: u64 = 1_000_000_000_000_000;
 
-const MOST_ACTS: u32 = 2_147_483_647;
+/// The greatest number of an act, and of a demand.
+pub const MOST_NUMBERS: u32 = 2_147_483_647;
+
+/// A change of nothing, with this reply.
+pub fn no_change(alloc: Global, reply: Reply) -> Change
+    ensures { result ≡ no_change reply }
+{
+    Change {
+        material: None,
+        parts: PartList::new(alloc),
+        job: None,
+        order: None,
+        demands: DemandList::new(alloc),
+        act: None,
+        demand: None,
+        kept: None,
+        reply,
+    }
+}
 
 /// Adds a material: one that is known is accepted again with equal values.
 pub fn decide_material(
@@ -26,9 +44,7 @@ pub fn decide_material(
     min_short: u32,
 ) -> Result<Change, Refusal>
     ensures decision { let rule : Rule = record { kerf = kerf; min_long = min_long; min_short = min_short } in
-        Decides (material_refusal known kind rule) (material_change known material kind rule) result }
-    ensures told { IfOk result (λ change. IsTrue (is_accepted change.reply)) }
-    ensures sure { IfErr result (λ refusal. refusal ≢ StoreFault) }
+        Decides (material_refusal known kind rule) (λ change. change ≡ material_change known material kind rule) result }
 {
     let Some(limits) = Limits::new(kind, kerf, min_long, min_short) else {
         return Err(Refusal::BadMaterial);
@@ -44,10 +60,7 @@ pub fn decide_material(
     };
     Ok(Change {
         material: put,
-        parts: PartList::new(alloc),
-        act: None,
-        kept: None,
-        reply: Reply::AddMaterial { material },
+        ..no_change(alloc, Reply::AddMaterial { material })
     })
 }
 
@@ -95,9 +108,7 @@ pub fn decide_receive(
 ) -> Result<Change, Refusal>
     requires { 1 ≤ act }
     ensures decision { Decides (receive_refusal known received act w h count)
-        (receive_change material batch (record { w = w; h = h }) act count) result }
-    ensures told { IfOk result (λ change. IsTrue (is_accepted change.reply)) }
-    ensures sure { IfErr result (λ refusal. refusal ≢ StoreFault) }
+        (λ change. change ≡ receive_change material batch (record { w = w; h = h }) act count) result }
 {
     let Some(known) = known else {
         return Err(Refusal::NoMaterial);
@@ -111,17 +122,15 @@ pub fn decide_receive(
     if received > MOST_RECEIVED || size.cells() * u64::from(count) > MOST_RECEIVED - received {
         return Err(Refusal::TooMuch);
     }
-    if act > MOST_ACTS {
+    if act > MOST_NUMBERS {
         return Err(Refusal::NumbersSpent);
     }
     let Ok(parts) = received_parts(alloc, material, batch, size, act, count) else {
         return Err(Refusal::NoMemory);
     };
     Ok(Change {
-        material: None,
         parts,
         act: Some(act),
-        kept: None,
-        reply: Reply::Receive { act, count },
+        ..no_change(alloc, Reply::Receive { act, count })
     })
 }

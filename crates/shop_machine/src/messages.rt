@@ -1,5 +1,26 @@
+use crate::kept_texts::Text;
+use crate::lists::RowList;
+use crate::records::StateWord;
 use crate::refusals::Refusal;
-use cut_measure::{Code, Kind};
+use cut_measure::{Code, Kind, PartName};
+
+/// A line of an order: so many pieces of one size of a material.
+#[derive(Clone, Copy, Debug)]
+pub struct OrderLine {
+    pub line: u32,
+    pub material: Code,
+    /// The sides of a piece in tenths of a millimetre.
+    pub w: u32,
+    pub h: u32,
+    /// Whether a piece may be turned.
+    pub turn: bool,
+    pub count: u32,
+    /// What a piece is worth to the planners.
+    pub worth: u32,
+}
+
+/// Lines of an order, in order.
+pub type LineList = RowList<OrderLine>;
 
 /// What a terminal wants done. Numbers are as they came: the shop judges their ranges.
 #[derive(Debug, Drop)]
@@ -18,6 +39,21 @@ pub enum Command {
         h: u32,
         count: u32,
     },
+    AddOrder {
+        order: Code,
+        lines: LineList,
+    },
+    /// Reserves a part for the cutting plan that the text spells on it.
+    Reserve {
+        part: PartName,
+        tree: Text,
+    },
+    Done {
+        job: u32,
+    },
+    Release {
+        job: u32,
+    },
 }
 
 /// A command with the pair that it is known by. Terminal 0 is the shop file's.
@@ -32,6 +68,8 @@ pub struct Message {
 #[derive(Debug, Drop)]
 pub enum Query {
     Totals { material: Code },
+    Trace { part: PartName },
+    Demand { demand: u32 },
 }
 
 /// What a message or a query is answered.
@@ -44,6 +82,27 @@ pub enum Reply {
         act: u32,
         count: u32,
     },
+    /// How many lines the order has, and the number of its first demand.
+    AddOrder {
+        count: u32,
+        first: u32,
+        order: Code,
+    },
+    Reserve {
+        cuts: u32,
+        job: u32,
+    },
+    /// Cells of the job's new parts.
+    Done {
+        job: u32,
+        kerf: u64,
+        pieces: u64,
+        rack: u64,
+        scrap: u64,
+    },
+    Release {
+        job: u32,
+    },
     /// Cells of a material.
     Totals {
         material: Code,
@@ -53,6 +112,28 @@ pub enum Reply {
         pieces: u64,
         kerf: u64,
         scrap: u64,
+    },
+    /// A part by its place in the received unit; `of` is the job of a reserved or a cut part, the demand of a piece,
+    /// else 0.
+    Trace {
+        batch: Code,
+        h: u32,
+        of: u32,
+        part: PartName,
+        root: PartName,
+        state: StateWord,
+        w: u32,
+        x: u32,
+        y: u32,
+    },
+    Demand {
+        demand: u32,
+        line: u32,
+        made: u32,
+        material: Code,
+        order: Code,
+        reserved: u32,
+        wanted: u32,
     },
     Refused(Refusal),
 }

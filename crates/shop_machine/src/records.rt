@@ -1,4 +1,6 @@
 use cut_measure::{Code, Kind, Limits, PartName, Size};
+use cut_tree::Plan;
+use std::alloc::{AllocError, Global};
 use std::cmp::Ordering;
 
 /// A material that was added.
@@ -20,6 +22,47 @@ pub enum State {
     Scrap,
 }
 
+/// A state without its number, as it is told.
+#[derive(Clone, Copy, Debug, PartialEq, Eq)]
+pub enum StateWord {
+    Standing,
+    Reserved,
+    Cut,
+    Piece,
+    Kerf,
+    Scrap,
+}
+
+impl State {
+    ghost use Rattle.std.specs.Prelude.{◌≡◌};
+    ghost use Rattle.shop_machine.specs.Columns.{state_word, state_of};
+
+    /// The state without its number.
+    pub fn word(self) -> StateWord
+        ensures { result ≡ state_word self }
+    {
+        match self {
+            State::Standing => StateWord::Standing,
+            State::Reserved(_) => StateWord::Reserved,
+            State::Cut(_) => StateWord::Cut,
+            State::Piece(_) => StateWord::Piece,
+            State::Kerf => StateWord::Kerf,
+            State::Scrap => StateWord::Scrap,
+        }
+    }
+
+    /// The job of a reserved or a cut part, the demand of a piece, else 0.
+    pub fn of(self) -> u32
+        ensures { result ≡ state_of self }
+    {
+        match self {
+            State::Reserved(job) | State::Cut(job) => job,
+            State::Piece(demand) => demand,
+            State::Standing | State::Kerf | State::Scrap => 0,
+        }
+    }
+}
+
 /// A part of a received unit, by its place in that unit.
 #[derive(Clone, Copy, Debug, PartialEq)]
 pub struct Part {
@@ -31,6 +74,60 @@ pub struct Part {
     pub y: u32,
     pub size: Size,
     pub state: State,
+}
+
+/// How far a job is.
+#[derive(Clone, Copy, Debug, PartialEq, Eq)]
+pub enum JobState {
+    Waiting,
+    Done,
+    Broken,
+    Released,
+}
+
+/// A part that was reserved for a cutting plan, under the number of the reservation's act.
+#[derive(Drop)]
+pub struct Job {
+    pub act: u32,
+    pub part: PartName,
+    /// How wide the saw cuts, in tenths of a millimetre.
+    pub kerf: u32,
+    pub plan: Plan,
+    pub state: JobState,
+}
+
+impl Job {
+    ghost use Rattle.std.specs.Prelude.{◌≡◌, IfOk};
+
+    /// The same job in memory of its own.
+    pub fn copy(&self, alloc: Global) -> Result<Job, AllocError>
+        ensures { IfOk result (λ copy. copy ≡ self.now) }
+    {
+        let plan = self.plan.copy(alloc)?;
+        Ok(Job {
+            act: self.act,
+            part: self.part,
+            kerf: self.kerf,
+            plan,
+            state: self.state,
+        })
+    }
+}
+
+/// What is wanted of one size: how many pieces in all, how many of them are reserved in plans of waiting jobs, and how
+/// many are made.
+#[derive(Clone, Copy, Debug, PartialEq)]
+pub struct Demand {
+    pub number: u32,
+    pub order: Code,
+    pub line: u32,
+    pub material: Code,
+    pub size: Size,
+    pub may_turn: bool,
+    pub worth: u32,
+    pub wanted: u32,
+    pub reserved: u32,
+    pub made: u32,
 }
 
 /// What is told of a material, in cells.
