@@ -94,6 +94,20 @@ impl Plan {
         out.push_str(text.as_str())
     }
 
+    /// The sides of the unit that it is for.
+    pub fn size(&self) -> Size
+        ensures { result ≡ record { w = self.now.w; h = self.now.h } }
+    {
+        self.size
+    }
+
+    /// The kerf under which it cuts: 0 to 200.
+    pub fn kerf(&self) -> u32
+        ensures { result ≡ self.now.kerf }
+    {
+        self.kerf
+    }
+
     /// How many cuts the plan has.
     pub fn cuts(&self) -> u32
         ensures count { result ≡ cut_count self.now.tree }

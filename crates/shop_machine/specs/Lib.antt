@@ -4,4 +4,5 @@ pub mod Messages
 pub mod Content
 pub mod Machine
 pub mod Soundness
+pub mod Found
 pub mod History

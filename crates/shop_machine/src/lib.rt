@@ -7,6 +7,8 @@ mod kept_texts;
 mod laws;
 mod lists;
 mod messages;
+mod orders;
+mod plans;
 mod records;
 mod refusals;
 
@@ -16,5 +18,7 @@ pub use kept_texts::{Kept, KeptMessage, Pair, Text};
 pub use laws::{accepted_changes_fit, histories_have_accounts};
 pub use lists::RowList;
 pub use messages::{Command, LineList, Message, OrderLine, Query, Reply};
+pub use orders::{FoundLine, decide_order};
+pub use plans::FoundLeaf;
 pub use records::{Column, Demand, Job, JobState, Material, Part, State, StateWord, Totals};
 pub use refusals::Refusal;

@@ -1,0 +1,42 @@
+-- Rows that were found for the lines of an order and for the leaves of a plan.
+use Rattle.std.specs.Prelude.{◌≡◌, ℕ, ◌+◌, ◌≤◌, ◌<◌, ◌^◌, List, All, map, Option, Some, None, MatchOption, IfSome, ⊤}
+use Rattle.cut_tree.specs.declared.leaves.Leaf.{Leaf}
+use Rattle.cut_tree.specs.Tree.{Tree, count_of}
+use Rattle.cut_tree.specs.Patterns.{Pattern}
+use Rattle.shop_machine.specs.declared.records.Material.{Material}
+use Rattle.shop_machine.specs.declared.records.Demand.{Demand}
+use Rattle.shop_machine.specs.declared.messages.OrderLine.{OrderLine}
+use Rattle.shop_machine.specs.declared.orders.FoundLine.{FoundLine}
+use Rattle.shop_machine.specs.declared.plans.FoundLeaf.{FoundLeaf}
+use Rattle.shop_machine.specs.declared.plans.Recount.{Recount}
+use Rattle.shop_machine.specs.declared.plans.Recount.TheVariants.{Reserved, Made, Freed}
+use Rattle.shop_machine.specs.Machine.{plan_leaves, with_reserved, with_made, with_freed}
+
+abbrev pub lines_in : List FoundLine → List OrderLine
+lines_in found = map (λ (f : FoundLine). f.line) found
+
+-- the rows of the materials are those that the function finds
+abbrev pub AreMaterialsFound : (List ℕ → Option Material) → List FoundLine → Type 0
+AreMaterialsFound at found = All (λ f. f.material ≡ at f.line.material) found
+
+abbrev pub leaves_in : List FoundLeaf → List Leaf
+leaves_in found = map (λ (f : FoundLeaf). f.leaf) found
+
+-- the rows of the demands are those that the function finds
+abbrev pub AreDemandsFound : (ℕ → Option Demand) → List FoundLeaf → Type 0
+AreDemandsFound at found = All (λ f. f.demand ≡ at f.leaf.demand) found
+
+-- the leaves are those of the plan, with the rows of their demands
+abbrev pub AreLeavesFound : (ℕ → Option Demand) → Pattern → List FoundLeaf → Type 0
+AreLeavesFound at plan found = (leaves_in found ≡ plan_leaves plan) × AreDemandsFound at found
+
+abbrev pub recount_by : Recount → ℕ → Demand → Demand
+recount_by Reserved n demand = with_reserved n demand
+recount_by Made n demand = with_made n demand
+recount_by Freed n demand = with_freed n demand
+
+-- the counts stay in range
+abbrev pub HasRoom : Recount → ℕ → Demand → Type 0
+HasRoom Reserved n demand = demand.reserved + n < 2 ^ 32
+HasRoom Made n demand = (n ≤ demand.reserved) × (demand.made + n < 2 ^ 32)
+HasRoom Freed n demand = n ≤ demand.reserved

@@ -1,0 +1,127 @@
+ghost use Rattle.std.specs.Prelude.{◌≡◌, ◌≢◌, ◌+◌, ◌≤◌, ◌<◌, ◌^◌, ◌↔◌, ℕ, List, Option, None, Some, IfOk, IfNone, IfSome, IsTrue, is_some, All, Any, map, MatchOption, true, false};
+ghost use Rattle.cut_tree.specs.Tree.{count_of};
+ghost use Rattle.cut_tree.specs.Patterns.{Pattern};
+ghost use Rattle.shop_machine.specs.declared.records.Demand.{Demand as DemandOf};
+ghost use Rattle.shop_machine.specs.Machine.{AreRecounted, Decides, IsReservation, fits_demand, has_reserved, is_over, is_too_many, leaf_refusal, leaves_refusal, plan_leaves, plan_refusal, reserve_refusal};
+ghost use Rattle.shop_machine.specs.Found.{AreLeavesFound, AreDemandsFound, leaves_in, recount_by, HasRoom};
+
+use crate::changes::{Change, DemandList, PartList};
+use crate::decisions::{MOST_NUMBERS, no_change};
+use crate::messages::Reply;
+use crate::records::{Demand, Job, JobState, Material, Part, State};
+use crate::refusals::Refusal;
+use cut_measure::Code;
+use cut_tree::{Leaf, Plan};
+use std::alloc::{AllocError, Global};
+use std::cmp::Ordering;
+
+/// A piece leaf of a plan, with the row of its demand.
+#[derive(Clone, Copy, Debug)]
+pub struct FoundLeaf {
+    pub leaf: Leaf,
+    pub demand: Option<Demand>,
+}
+
+/// How a plan counts for a demand.
+#[derive(Clone, Copy)]
+pub enum Recount {
+    /// Its pieces are reserved.
+    Reserved,
+    /// They pass from reserved to made.
+    Made,
+    /// They are free again.
+    Freed,
+}
+
+fn fits_demand(leaf: &Leaf, demand: &Demand) -> bool
+    ensures { result ≡ fits_demand leaf.now demand.now }
+{
+    let w = demand.size.w();
+    let h = demand.size.h();
+    if leaf.turned {
+        demand.may_turn && leaf.w == h && leaf.h == w
+    } else {
+        leaf.w == w && leaf.h == h
+    }
+}
+
+fn leaf_refusal(material: &Code, found: &FoundLeaf) -> Option<Refusal>
+    ensures { result ≡ leaf_refusal material.now found.now.leaf found.now.demand }
+{
+    match &found.demand {
+        None => Some(Refusal::NoDemand),
+        Some(demand) => {
+            if demand.material.order(material) != Ordering::Equal {
+                Some(Refusal::WrongMaterial)
+            } else if !fits_demand(&found.leaf, demand) {
+                Some(Refusal::WrongSize)
+            } else {
+                None
+            }
+        }
+    }
+}
+
+// Why leaves are refused on a part of this material, if they are.
+fn leaves_refusal(material: &Code, leaves: &[FoundLeaf]) -> Option<Refusal>
+    ensures refusal { (at : ℕ → Option DemandOf) → AreDemandsFound at leaves.now → result ≡ leaves_refusal at material.now (leaves_in leaves.now) }
+    ensures found { IfNone result (All (λ f. IsTrue (is_some f.demand)) leaves.now) }
+{
+    let [found, more @ ..] = leaves else {
+        return None;
+    };
+    match leaf_refusal(material, found) {
+        Some(refusal) => Some(refusal),
+        None => leaves_refusal(material, more),
+    }
+}
+
+fn is_over(count: u32, demand: &Option<Demand>) -> bool
+    ensures { result ≡ is_over count demand.now }
+{
+    match demand {
+        None => false,
+        Some(demand) => {
+            u64::from(demand.reserved) + u64::from(demand.made) + u64::from(count)
+                > u64::from(demand.wanted)
+        }
+    }
+}
+
+// With the plan's pieces, some demand would have more reserved and made than wanted.
+fn is_too_many(plan: &Plan, leaves: &[FoundLeaf]) -> bool
+    ensures { (at : ℕ → Option DemandOf) → AreLeavesFound at plan.now leaves.now → result ≡ is_too_many at plan.now }
+{
+    leaves
+        .iter()
+        .any(|found| is_over(plan.count(found.leaf.demand), &found.demand))
+}
+
+fn recounted(how: Recount, count: u32, demand: &Demand) -> Demand
+    requires { HasRoom how count demand.now }
+    ensures { result ≡ recount_by how count demand.now }
+{
+    match how {
+        Recount::Reserved => Demand {
+            reserved: demand.reserved + count,
+            ..*demand
+        },
+        Recount::Made => Demand {
+            reserved: demand.reserved - count,
+            made: demand.made + count,
+            ..*demand
+        },
+        Recount::Freed => Demand {
+            reserved: demand.reserved - count,
+            ..*demand
+        },
+    }
+}
+
+// Whether a row has the number.
+fn has_number(rows: &[Demand], number: u32) -> bool
+    ensures yes { IsTrue result → Any (λ row. row.number ≡ number) rows.now }
+    ensures no { result ≡ false → All (λ row. row.number ≢ number) rows.now }
+{
+    rows.iter().any(|row| row.number == number)
+}
