@@ -1,2 +1,4 @@
 pub mod Units
 pub mod Sums
+pub mod Recounts
+pub mod NewDemands

@@ -1,5 +1,5 @@
 -- Rows that were found for the lines of an order and for the leaves of a plan.
-use Rattle.std.specs.Prelude.{◌≡◌, ℕ, ◌+◌, ◌≤◌, ◌<◌, ◌^◌, List, All, map, Option, Some, None, MatchOption, IfSome, ⊤}
+use Rattle.std.specs.Prelude.{◌≡◌, ◌≢◌, ◌⊎◌, ◌++◌, ◌∷◌, [], Any, ℕ, ◌+◌, ◌≤◌, ◌<◌, ◌^◌, List, All, map, Option, Some, None, MatchOption, IfSome, ⊤}
 use Rattle.cut_tree.specs.declared.leaves.Leaf.{Leaf}
 use Rattle.cut_tree.specs.Tree.{Tree, count_of}
 use Rattle.cut_tree.specs.Patterns.{Pattern}
@@ -40,3 +40,14 @@ abbrev pub HasRoom : Recount → ℕ → Demand → Type 0
 HasRoom Reserved n demand = demand.reserved + n < 2 ^ 32
 HasRoom Made n demand = (n ≤ demand.reserved) × (demand.made + n < 2 ^ 32)
 HasRoom Freed n demand = n ≤ demand.reserved
+
+-- The row of a leaf's demand is there, under its own number, and stays in range when the tree's pieces are counted.
+abbrev pub HasRow : Recount → Tree → FoundLeaf → Type 0
+HasRow how tree found =
+    MatchOption found.demand ⊥ (λ demand. (demand.number ≡ found.leaf.demand) × HasRoom how (count_of tree found.leaf.demand) demand)
+
+-- the row stands behind the others, unless one of its number is there
+abbrev pub IsAddedOnce : List Demand → Demand → List Demand → Type 0
+IsAddedOnce old row new =
+    (Any (λ other. other.number ≡ row.number) old × (new ≡ old))
+    ⊎ (All (λ other. other.number ≢ row.number) old × (new ≡ old ++ row ∷ []))

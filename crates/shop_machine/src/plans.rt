@@ -1,9 +1,10 @@
-ghost use Rattle.std.specs.Prelude.{◌≡◌, ◌≢◌, ◌+◌, ◌≤◌, ◌<◌, ◌^◌, ◌↔◌, ℕ, List, Option, None, Some, IfOk, IfNone, IfSome, IsTrue, is_some, All, Any, map, MatchOption, true, false};
+ghost use Rattle.std.specs.Prelude.{◌≡◌, ◌≢◌, ◌+◌, ◌≤◌, ◌<◌, ◌^◌, ◌↔◌, ℕ, List, Option, None, Some, IfOk, IfNone, IfSome, IsTrue, OnOk, is_some, All, Any, map, MatchOption, true, false};
+ghost use Rattle.std.specs.List.{list_any};
 ghost use Rattle.cut_tree.specs.Tree.{count_of};
 ghost use Rattle.cut_tree.specs.Patterns.{Pattern};
 ghost use Rattle.shop_machine.specs.declared.records.Demand.{Demand as DemandOf};
 ghost use Rattle.shop_machine.specs.Machine.{AreRecounted, Decides, IsReservation, fits_demand, has_reserved, is_over, is_too_many, leaf_refusal, leaves_refusal, plan_leaves, plan_refusal, reserve_refusal};
-ghost use Rattle.shop_machine.specs.Found.{AreLeavesFound, AreDemandsFound, leaves_in, recount_by, HasRoom};
+ghost use Rattle.shop_machine.specs.Found.{AreLeavesFound, AreDemandsFound, leaves_in, recount_by, HasRoom, HasRow, IsAddedOnce};
 
 use crate::changes::{Change, DemandList, PartList};
 use crate::decisions::{MOST_NUMBERS, no_change};
@@ -88,13 +89,18 @@ fn is_over(count: u32, demand: &Option<Demand>) -> bool
     }
 }
 
-// With the plan's pieces, some demand would have more reserved and made than wanted.
+// With the plan's pieces, some demand of the leaves would have more reserved and made than wanted.
 fn is_too_many(plan: &Plan, leaves: &[FoundLeaf]) -> bool
-    ensures { (at : ℕ → Option DemandOf) → AreLeavesFound at plan.now leaves.now → result ≡ is_too_many at plan.now }
+    ensures { (at : ℕ → Option DemandOf) → AreDemandsFound at leaves.now →
+        result ≡ list_any (λ leaf. is_over (count_of plan.now.tree leaf.demand) (at leaf.demand)) (leaves_in leaves.now) }
 {
-    leaves
-        .iter()
-        .any(|found| is_over(plan.count(found.leaf.demand), &found.demand))
+    let [found, more @ ..] = leaves else {
+        return false;
+    };
+    match is_over(plan.count(found.leaf.demand), &found.demand) {
+        true => true,
+        false => is_too_many(plan, more),
+    }
 }
 
 fn recounted(how: Recount, count: u32, demand: &Demand) -> Demand
@@ -124,4 +130,36 @@ fn has_number(rows: &[Demand], number: u32) -> bool
     ensures no { result ≡ false → All (λ row. row.number ≢ number) rows.now }
 {
     rows.iter().any(|row| row.number == number)
+}
+
+// Puts a row behind the others, unless one of its number is there.
+fn add_once(rows: &mut DemandList, row: Demand) -> Result<(), AllocError>
+    ensures { OnOk result (IsAddedOnce rows.old row rows.new) }
+{
+    if has_number(rows.as_slice(), row.number) {
+        return Ok(());
+    }
+    rows.push(row)
+}
+
+/// The rows of a plan's demands, each once, recounted.
+pub fn recounted_rows(
+    alloc: Global,
+    how: Recount,
+    plan: &Plan,
+    leaves: &[FoundLeaf],
+) -> Result<DemandList, AllocError>
+    requires leaves { leaves_in leaves.now ≡ plan_leaves plan.now }
+    requires found { All (HasRow how plan.now.tree) leaves.now }
+    ensures { IfOk result (λ rows. (at : ℕ → Option DemandOf) → AreDemandsFound at leaves.now → AreRecounted at (recount_by how) plan.now.tree rows) }
+{
+    let mut rows = DemandList::new(alloc);
+    for found in leaves {
+        let Some(demand) = &found.demand else {
+            unreachable!()
+        };
+        let count = plan.count(found.leaf.demand);
+        add_once(&mut rows, recounted(how, count, demand))?;
+    }
+    Ok(rows)
 }

@@ -1,0 +1,208 @@
+-- The demands of a plan's leaves, each once.
+use Rattle.std.proofs.Common.{◌≡◌, ◌≢◌, ℕ, zero, suc, ◌+◌, ◌-◌, ◌<◌, ◌≤◌, List, [], ◌∷◌, ◌++◌, length, get_or, drop, map, Bool, true, false, refl, sym, ap, subst, ◌∙◌, arith, inl, inr, ◌⊎◌}
+use Rattle.std.specs.Prelude.{Option, Some, None, All, Any, AllPairs, count_by, nat_eq, MatchOption, ◌||◌, if◌then◌else◌}
+use Rattle.std.specs.List.{list_any}
+use Rattle.std.proofs.lemmas.Bool.{cases_lt}
+use Rattle.std.proofs.lemmas.Bool.Decides.{nat_tests}
+use Rattle.std.proofs.lemmas.List.{get_or_append_left, get_or-append_right, get_or_default, length-append, length-map, get_or-map}
+use Rattle.std.proofs.lemmas.List.Elements.{All-append, All-nil}
+use Rattle.std.proofs.lemmas.List.Quantifiers.{Any-push}
+use Rattle.std.proofs.lemmas.List.Sums.{sum_by-cons}
+use Rattle.cut_tree.specs.declared.leaves.Leaf.{Leaf}
+use Rattle.cut_tree.specs.Tree.{Tree, count_of}
+use Rattle.cut_tree.specs.Patterns.{Pattern}
+use Rattle.cut_tree.specs.Leaves.{leaves_of}
+use Rattle.cut_tree.proofs.LeafCounts.{counted}
+use Rattle.shop_machine.specs.declared.records.Demand.{Demand}
+use Rattle.shop_machine.specs.declared.plans.FoundLeaf.{FoundLeaf}
+use Rattle.shop_machine.specs.declared.plans.Recount.{Recount}
+use Rattle.shop_machine.specs.declared.plans.Recount.TheVariants.{Reserved, Made, Freed}
+use Rattle.shop_machine.specs.Machine.{AreRecounted, plan_leaves, is_over}
+use Rattle.shop_machine.specs.Found.{AreDemandsFound, leaves_in, recount_by, HasRoom, HasRow, IsAddedOnce}
+
+-- ---- demands over their numbers
+
+-- a first leaf that isn't over, and the others
+pub over_more : (tree : Tree) (at : ℕ → Option Demand) (leaves : List FoundLeaf) (b : Bool) (d : FoundLeaf) → 1 ≤ length leaves → AreDemandsFound at leaves
+    → is_over (count_of tree (get_or leaves 0 d).leaf.demand) (get_or leaves 0 d).demand ≡ false
+    → b ≡ list_any (λ (leaf : Leaf). is_over (count_of tree leaf.demand) (at leaf.demand)) (leaves_in (drop 1 leaves))
+    → b ≡ list_any (λ (leaf : Leaf). is_over (count_of tree leaf.demand) (at leaf.demand)) (leaves_in leaves)
+over_more tree at [] b d some found within e = absurd (omega arith)
+over_more tree at (f ∷ fs) b d some found within e =
+    e ∙ ap (λ o. o || list_any (λ (leaf : Leaf). is_over (count_of tree leaf.demand) (at leaf.demand)) (leaves_in fs))
+    (sym (ap (is_over (count_of tree f.leaf.demand)) (sym (found 0 d (omega arith))) ∙ within))
+
+-- ---- counts of what passes a test
+
+module _ {X : Type 0} (p : X → Bool) where
+  count-cons : (x : X) (xs : List X) (b : Bool) → p x ≡ b → count_by p (x ∷ xs) ≡ (if b then 1 else 0) + count_by p xs
+  count-cons x xs b e = sum_by-cons (λ x. if p x then 1 else 0) x xs ∙ ap (λ c. (if c then 1 else 0) + count_by p xs) e
+
+  some_by : (x : X) (xs : List X) (b : Bool) → p x ≡ b → 1 ≤ count_by p (x ∷ xs) → (1 ≤ count_by p xs → Any (λ x. p x ≡ true) xs) → Any (λ x. p x ≡ true) (x ∷ xs)
+  some_by x xs true e some rest = (0, x, omega arith, refl, e)
+  some_by x xs false e some rest =
+      let more = rest (omega (arith, some, count-cons x xs false e)) in
+      let within : more.0 < length xs = more.2 in
+      (suc more.0, more.1, omega arith, more.3, more.4)
+
+  -- where some are counted, one passes
+  pub some_passes : (xs : List X) → 1 ≤ count_by p xs → Any (λ x. p x ≡ true) xs
+  some_passes [] some = absurd (omega arith)
+  some_passes (x ∷ xs) some = some_by x xs (p x) refl some (some_passes xs)
+
+  -- one that passes is counted
+  pub passes_some : (xs : List X) (k : ℕ) (x : X) → k < length xs → p (get_or xs k x) ≡ true → 1 ≤ count_by p xs
+  passes_some [] k x within e = absurd (omega arith)
+  passes_some (y ∷ ys) zero x within e = omega (arith, count-cons y ys true e)
+  passes_some (y ∷ ys) (suc k) x within e =
+      let rest = passes_some ys k x (omega arith) e in
+      let all = sum_by-cons (λ x. if p x then 1 else 0) y ys in
+      omega (arith, rest, all)
+
+-- ---- leaves and their demands
+
+same_number : (a b : ℕ) → nat_eq a b ≡ true → a ≡ b
+same_number a b e = grind (arith, nat_tests)
+
+is_same_number : (a b : ℕ) → a ≡ b → nat_eq a b ≡ true
+is_same_number a b e = grind (arith, nat_tests)
+
+-- a leaf's demand has a piece
+pub leaf_counts : (plan : Pattern) (k : ℕ) (d : Leaf) (number : ℕ) → k < length (plan_leaves plan) → (get_or (plan_leaves plan) k d).demand ≡ number → 1 ≤ count_of plan.tree number
+leaf_counts plan k d number within e =
+    let some = passes_some (λ (l : Leaf). nat_eq l.demand number) (plan_leaves plan) k d within (is_same_number _ number e) in
+    let all = counted plan.tree plan.w plan.h plan.kerf number in
+    omega (arith, some, all)
+
+-- a demand that has a piece is a leaf's
+pub counts_leaf : (plan : Pattern) (number : ℕ) → 1 ≤ count_of plan.tree number → Any (λ (l : Leaf). l.demand ≡ number) (plan_leaves plan)
+counts_leaf plan number some =
+    let all = counted plan.tree plan.w plan.h plan.kerf number in
+    let any = some_passes (λ (l : Leaf). nat_eq l.demand number) (plan_leaves plan) (omega (arith, some, all)) in
+    (any.0, any.1, any.2, any.3, same_number any.1.demand number any.4)
+
+-- ---- rows of the leaves that were taken
+
+-- the rows of the first `taken` leaves
+pub record AreAdded (how : Recount) (tree : Tree) (leaves : List FoundLeaf) (taken : ℕ) (rows : List Demand) : Type 0 where
+  pub only : All (λ row. Any (λ (found : FoundLeaf). (before : Demand) × (found.demand ≡ Some before) × (found.leaf.demand ≡ row.number) × (row ≡ recount_by how (count_of tree row.number) before)) leaves) rows
+  pub each : (k : ℕ) (d : FoundLeaf) → k < taken → k < length leaves → Any (λ (row : Demand). row.number ≡ (get_or leaves k d).leaf.demand) rows
+  pub once : AllPairs (λ (a b : Demand). a.number ≢ b.number) rows
+
+pub none_added : (how : Recount) (tree : Tree) (leaves : List FoundLeaf) → AreAdded how tree leaves 0 []
+none_added how tree leaves = record {
+  only = All-nil _;
+  each = λ k d before within. absurd (omega arith);
+  once = λ i j d before within. absurd (omega arith);
+}
+
+pub number_kept : (how : Recount) (n : ℕ) (demand : Demand) → (recount_by how n demand).number ≡ demand.number
+number_kept Reserved n demand = refl
+number_kept Made n demand = refl
+number_kept Freed n demand = refl
+
+any_row : (rows : List Demand) (a b : ℕ) → a ≡ b → Any (λ (row : Demand). row.number ≡ a) rows → Any (λ (row : Demand). row.number ≡ b) rows
+any_row rows a b e any = (any.0, any.1, any.2, any.3, any.4 ∙ e)
+
+any_left : (rows more : List Demand) (n : ℕ) → Any (λ (row : Demand). row.number ≡ n) rows → Any (λ (row : Demand). row.number ≡ n) (rows ++ more)
+any_left rows more n any =
+    let within : any.0 < length rows = any.2 in
+    (any.0, any.1, omega (arith, length-append rows more), get_or_append_left rows more any.1 any.0 within ∙ any.3, any.4)
+
+once_push : (rows : List Demand) (row : Demand) → AllPairs (λ (a b : Demand). a.number ≢ b.number) rows → All (λ (other : Demand). other.number ≢ row.number) rows
+    → AllPairs (λ (a b : Demand). a.number ≢ b.number) (rows ++ row ∷ [])
+once_push rows row pairs none i j d before within =
+    let count = length-append rows (row ∷ []) in
+    let first : i < length rows = omega (arith, count) in
+    rw (get_or_append_left rows (row ∷ []) d i first)
+    (elim (cases_lt j (length rows)) [
+      | inl less ↦ rw (get_or_append_left rows (row ∷ []) d j less) (pairs i j d before less)
+      | inr last ↦
+          let at : j ≡ length rows = omega (arith, count) in
+          let end : get_or (rows ++ row ∷ []) j d ≡ row =
+          get_or-append_right rows (row ∷ []) (length rows) j d refl last ∙ ap (λ n. get_or (row ∷ []) n d) (let z : j - length rows ≡ 0 = omega arith in z) in
+          subst (λ (b : Demand). (get_or rows i d).number ≢ b.number) (sym end) (none i d first)
+    ])
+
+module _ (how : Recount) (tree : Tree) (leaves : List FoundLeaf) (i : ℕ) (rows new : List Demand) (found : FoundLeaf) (demand : Demand)
+    (within : i < length leaves) (is : found ≡ get_or leaves i found) (row_is : found.demand ≡ Some demand) (own : demand.number ≡ found.leaf.demand)
+    (before : AreAdded how tree leaves i rows) where
+  abbrev row : Demand
+  row = recount_by how (count_of tree found.leaf.demand) demand
+
+  row_number : row.number ≡ found.leaf.demand
+  row_number = number_kept how (count_of tree found.leaf.demand) demand ∙ own
+
+  leaf_number : (d : FoundLeaf) → (get_or leaves i d).leaf.demand ≡ found.leaf.demand
+  leaf_number d = ap (λ (f : FoundLeaf). f.leaf.demand) (get_or_default leaves i d found within ∙ sym is)
+
+  there : Any (λ (other : Demand). other.number ≡ row.number) rows → new ≡ rows → AreAdded how tree leaves (i + 1) new
+  there any same = subst (AreAdded how tree leaves (i + 1)) (sym same) (record {
+    only = before.only;
+    each = λ k d le inside. elim (cases_lt k i) [
+      | inl less ↦ before.each k d less inside
+      | inr least ↦
+          let at : i ≡ k = omega arith in
+          subst (λ n. Any (λ (r : Demand). r.number ≡ (get_or leaves n d).leaf.demand) rows) at (any_row rows row.number (get_or leaves i d).leaf.demand (row_number ∙ sym (leaf_number d)) any)
+    ];
+    once = before.once;
+  })
+
+  pushed : All (λ (other : Demand). other.number ≢ row.number) rows → new ≡ rows ++ row ∷ [] → AreAdded how tree leaves (i + 1) new
+  pushed none more = subst (AreAdded how tree leaves (i + 1)) (sym more) (record {
+    only = All-append (λ (row : Demand). Any (λ (found : FoundLeaf). (before : Demand) × (found.demand ≡ Some before) × (found.leaf.demand ≡ row.number) × (row ≡ recount_by how (count_of tree row.number) before)) leaves) rows (row ∷ []) before.only (λ k d inside. elim (cases_lt k 0) [
+      | inl less ↦ absurd (omega arith)
+      | inr least ↦
+          let at : k ≡ 0 = omega arith in
+          subst (λ n. Any (λ (f : FoundLeaf). (b : Demand) × (f.demand ≡ Some b) × (f.leaf.demand ≡ (get_or (row ∷ []) n d).number) × (get_or (row ∷ []) n d ≡ recount_by how (count_of tree (get_or (row ∷ []) n d).number) b)) leaves) (sym at)
+          (i, found, within, sym is, (demand, row_is, sym row_number, ap (λ n. recount_by how (count_of tree n) demand) (sym row_number)))
+    ]);
+    each = λ k d le inside. elim (cases_lt k i) [
+      | inl less ↦ any_left rows (row ∷ []) (get_or leaves k d).leaf.demand (before.each k d less inside)
+      | inr least ↦
+          let at : i ≡ k = omega arith in
+          subst (λ n. Any (λ (r : Demand). r.number ≡ (get_or leaves n d).leaf.demand) (rows ++ row ∷ [])) at
+          (Any-push (λ (r : Demand). r.number ≡ (get_or leaves i d).leaf.demand) rows row (row_number ∙ sym (leaf_number d)))
+    ];
+    once = once_push rows row before.once none;
+  })
+
+  pub added_more : IsAddedOnce rows row new → AreAdded how tree leaves (i + 1) new
+  added_more (inl a) = there a.0 a.1
+  added_more (inr a) = pushed a.0 a.1
+
+-- rows of all leaves of a plan
+pub all_added : (how : Recount) (plan : Pattern) (leaves : List FoundLeaf) (rows : List Demand) (at : ℕ → Option Demand) (taken : ℕ)
+    → leaves_in leaves ≡ plan_leaves plan → length leaves ≤ taken → AreAdded how plan.tree leaves taken rows → AreDemandsFound at leaves
+    → AreRecounted at (recount_by how) plan.tree rows
+all_added how plan leaves rows at taken same all added found =
+    let count : length (plan_leaves plan) ≡ length leaves = ap length (sym same) ∙ length-map leaves (λ (f : FoundLeaf). f.leaf) in
+    record {
+      only = λ k d within.
+          let row = get_or rows k d in
+          let from = added.only k d within in
+          let inside : from.0 < length leaves = from.2 in
+          let leaf : get_or (plan_leaves plan) from.0 from.1.leaf ≡ from.1.leaf =
+          ap (λ ls. get_or ls from.0 from.1.leaf) (sym same) ∙ get_or-map (λ (f : FoundLeaf). f.leaf) leaves from.0 from.1 from.1.leaf inside ∙ ap (λ (f : FoundLeaf). f.leaf) from.3 in
+          let row_at : from.1.demand ≡ at from.1.leaf.demand = subst (λ (f : FoundLeaf). f.demand ≡ at f.leaf.demand) from.3 (found from.0 from.1 inside) in (
+            from.4.0,
+            ap at (sym from.4.2) ∙ sym row_at ∙ from.4.1,
+            leaf_counts plan from.0 from.1.leaf row.number (omega (arith, count, inside)) (ap (λ (l : Leaf). l.demand) leaf ∙ from.4.2),
+            from.4.3,
+          );
+      each = λ number some.
+          let leaf = counts_leaf plan number some in
+          let inside : leaf.0 < length (plan_leaves plan) = leaf.2 in
+          let d : FoundLeaf = record { leaf = leaf.1; demand = None } in
+          let is : (get_or leaves leaf.0 d).leaf ≡ leaf.1 =
+          sym (get_or-map (λ (f : FoundLeaf). f.leaf) leaves leaf.0 d leaf.1 (omega (arith, count, inside))) ∙ ap (λ ls. get_or ls leaf.0 leaf.1) same ∙ leaf.3 in
+          any_row rows (get_or leaves leaf.0 d).leaf.demand number (ap (λ (l : Leaf). l.demand) is ∙ leaf.4)
+          (added.each leaf.0 d (omega (arith, count, inside, all)) (omega (arith, count, inside)));
+      once = added.once;
+    }
+
+-- the row that a leaf has
+pub row_of : (how : Recount) (tree : Tree) (found : FoundLeaf) (demand : Demand) → HasRow how tree found → found.demand ≡ Some demand
+    → (demand.number ≡ found.leaf.demand) × HasRoom how (count_of tree found.leaf.demand) demand
+row_of how tree found demand has is =
+    subst (λ (o : Option Demand). MatchOption o ⊥ (λ (d : Demand). (d.number ≡ found.leaf.demand) × HasRoom how (count_of tree found.leaf.demand) d)) is has
