@@ -1,7 +1,7 @@
 ghost use Rattle.std.specs.Prelude.{◌≤◌, ◌↔◌, All, IsTrue};
 ghost use Rattle.cut_tree.specs.Bars.{IsBarPiece};
 
-use crate::{BarFault, Cause, Owner, Plan, Row, SpellFault, Step, Stop, Token, bar_plan};
+use crate::{BarFault, Cause, Leaf, Owner, Plan, Row, SpellFault, Step, Stop, Token, bar_plan};
 use cut_measure::{Axis, Kind, Size};
 use std::test::Fail;
 
@@ -67,6 +67,41 @@ fn two_pieces_of_a_sheet(rt: HostRuntime) -> Result<(), Fail> {
         row(4, 5, 0, 5, 8, Owner::Rest),
     ];
     assert_eq!(rt; cut.as_slice(), wanted.as_slice());
+    Ok(())
+}
+
+fn leaf(demand: u32, turned: bool, w: u32, h: u32) -> Leaf {
+    Leaf {
+        demand,
+        turned,
+        w,
+        h,
+    }
+}
+
+#[test]
+fn lists_piece_leaves(rt: HostRuntime) -> Result<(), Fail> {
+    let plan = plan(&rt, "x4 y3 p1 p2t r", 10, 8, 1)??;
+    let leaves = plan.leaves(rt.alloc())?;
+    let wanted = [leaf(1, false, 4, 3), leaf(2, true, 4, 4)];
+    assert_eq!(rt; leaves.as_slice(), wanted.as_slice());
+    Ok(())
+}
+
+#[test]
+fn clones_are_equal(rt: HostRuntime) -> Result<(), Fail> {
+    let first = plan(&rt, "x4 y3 p1 p2t r", 10, 8, 1)??;
+    assert!(rt; first.clone()? == first);
+    for (text, w, h, kerf, same) in [
+        ("x4 y3 p1 p2t r", 10, 8, 1, true),
+        ("x4 y3 p1 p2 r", 10, 8, 1, false),
+        ("x4 y3 p1 p2t r", 11, 8, 1, false),
+        ("x4 y3 p1 p2t r", 10, 9, 1, false),
+        ("x4 y3 p1 p2t r", 10, 8, 2, false),
+    ] {
+        let other = plan(&rt, text, w, h, kerf)??;
+        assert_eq!(rt; first == other, same, "{text} on {w} by {h}, kerf {kerf}");
+    }
     Ok(())
 }
 
