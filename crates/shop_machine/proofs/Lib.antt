@@ -2,3 +2,4 @@ pub mod Units
 pub mod Sums
 pub mod Recounts
 pub mod NewDemands
+pub mod Refused

@@ -1,5 +1,5 @@
 -- The demands of a plan's leaves, each once.
-use Rattle.std.proofs.Common.{◌≡◌, ◌≢◌, ℕ, zero, suc, ◌+◌, ◌-◌, ◌<◌, ◌≤◌, List, [], ◌∷◌, ◌++◌, length, get_or, drop, map, Bool, true, false, refl, sym, ap, subst, ◌∙◌, arith, inl, inr, ◌⊎◌}
+use Rattle.std.proofs.Common.{◌≡◌, ◌≢◌, ℕ, zero, suc, ◌+◌, ◌-◌, ◌<◌, ◌≤◌, List, [], ◌∷◌, ◌++◌, length, get_or, take, drop, map, Bool, true, false, refl, sym, ap, subst, ◌∙◌, arith, inl, inr, ◌⊎◌}
 use Rattle.std.specs.Prelude.{Option, Some, None, All, Any, AllPairs, count_by, nat_eq, MatchOption, ◌||◌, if◌then◌else◌}
 use Rattle.std.specs.List.{list_any}
 use Rattle.std.proofs.lemmas.Bool.{cases_lt}
@@ -8,6 +8,7 @@ use Rattle.std.proofs.lemmas.List.{get_or_append_left, get_or-append_right, get_
 use Rattle.std.proofs.lemmas.List.Elements.{All-append, All-nil}
 use Rattle.std.proofs.lemmas.List.Quantifiers.{Any-push}
 use Rattle.std.proofs.lemmas.List.Sums.{sum_by-cons}
+use Rattle.std.proofs.Math.Seq.{take-length}
 use Rattle.cut_tree.specs.declared.leaves.Leaf.{Leaf}
 use Rattle.cut_tree.specs.Tree.{Tree, count_of}
 use Rattle.cut_tree.specs.Patterns.{Pattern}
@@ -22,14 +23,18 @@ use Rattle.shop_machine.specs.Found.{AreDemandsFound, leaves_in, recount_by, Has
 
 -- ---- demands over their numbers
 
+all_behind : (f : FoundLeaf) (fs : List FoundLeaf) → take (length (f ∷ fs) - 1) fs ≡ fs
+all_behind f fs = ap (λ n. take n fs) (let e : length (f ∷ fs) - 1 ≡ length fs = omega arith in e) ∙ take-length fs
+
 -- a first leaf that isn't over, and the others
 pub over_more : (tree : Tree) (at : ℕ → Option Demand) (leaves : List FoundLeaf) (b : Bool) (d : FoundLeaf) → 1 ≤ length leaves → AreDemandsFound at leaves
     → is_over (count_of tree (get_or leaves 0 d).leaf.demand) (get_or leaves 0 d).demand ≡ false
-    → b ≡ list_any (λ (leaf : Leaf). is_over (count_of tree leaf.demand) (at leaf.demand)) (leaves_in (drop 1 leaves))
+    → b ≡ list_any (λ (leaf : Leaf). is_over (count_of tree leaf.demand) (at leaf.demand)) (leaves_in (take (length leaves - 1) (drop 1 leaves)))
     → b ≡ list_any (λ (leaf : Leaf). is_over (count_of tree leaf.demand) (at leaf.demand)) (leaves_in leaves)
 over_more tree at [] b d some found within e = absurd (omega arith)
 over_more tree at (f ∷ fs) b d some found within e =
-    e ∙ ap (λ o. o || list_any (λ (leaf : Leaf). is_over (count_of tree leaf.demand) (at leaf.demand)) (leaves_in fs))
+    e ∙ ap (λ ls. list_any (λ (leaf : Leaf). is_over (count_of tree leaf.demand) (at leaf.demand)) (leaves_in ls)) (all_behind f fs)
+    ∙ ap (λ o. o || list_any (λ (leaf : Leaf). is_over (count_of tree leaf.demand) (at leaf.demand)) (leaves_in fs))
     (sym (ap (is_over (count_of tree f.leaf.demand)) (sym (found 0 d (omega arith))) ∙ within))
 
 -- ---- counts of what passes a test
@@ -206,3 +211,7 @@ pub row_of : (how : Recount) (tree : Tree) (found : FoundLeaf) (demand : Demand)
     → (demand.number ≡ found.leaf.demand) × HasRoom how (count_of tree found.leaf.demand) demand
 row_of how tree found demand has is =
     subst (λ (o : Option Demand). MatchOption o ⊥ (λ (d : Demand). (d.number ≡ found.leaf.demand) × HasRoom how (count_of tree found.leaf.demand) d)) is has
+
+pub found_behind : (at : ℕ → Option Demand) (leaves : List FoundLeaf) → AreDemandsFound at leaves → AreDemandsFound at (take (length leaves - 1) (drop 1 leaves))
+found_behind at [] found = found
+found_behind at (f ∷ fs) found = subst (AreDemandsFound at) (sym (all_behind f fs)) (λ k d within. found (suc k) d (omega (arith, within)))

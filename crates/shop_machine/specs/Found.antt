@@ -46,6 +46,10 @@ abbrev pub HasRow : Recount → Tree → FoundLeaf → Type 0
 HasRow how tree found =
     MatchOption found.demand ⊥ (λ demand. (demand.number ≡ found.leaf.demand) × HasRoom how (count_of tree found.leaf.demand) demand)
 
+-- where the row of a leaf's demand is there, it stands under its own number
+abbrev pub IsNumbered : FoundLeaf → Type 0
+IsNumbered found = IfSome found.demand (λ demand. demand.number ≡ found.leaf.demand)
+
 -- the row stands behind the others, unless one of its number is there
 abbrev pub IsAddedOnce : List Demand → Demand → List Demand → Type 0
 IsAddedOnce old row new =

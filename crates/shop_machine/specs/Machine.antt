@@ -27,6 +27,8 @@ use Rattle.shop_machine.specs.declared.records.JobState.{JobState}
 use Rattle.shop_machine.specs.declared.records.JobState.TheVariants as job
 use Rattle.shop_machine.specs.declared.records.Demand.{Demand}
 use Rattle.shop_machine.specs.declared.records.Totals.{Totals}
+use Rattle.shop_machine.specs.declared.records.Column.{Column}
+use Rattle.shop_machine.specs.declared.records.Column.TheVariants as column
 use Rattle.shop_machine.specs.declared.kept_texts.Kept.{Kept}
 use Rattle.shop_machine.specs.declared.changes.Change.{Change}
 use Rattle.shop_machine.specs.declared.messages.Command.{Command}
@@ -39,7 +41,7 @@ use Rattle.shop_machine.specs.declared.refusals.Refusal.{Refusal}
 use Rattle.shop_machine.specs.declared.refusals.Refusal.TheVariants.{NumberReused, NoMaterial, MaterialExists, BadMaterial, BadSize, BadCount, TooMuch, NumbersSpent, OrderExists, BadLine, NoDemand, NoPart, NotStanding, BadTree, WrongMaterial, WrongSize, TooMany, NoJob, JobOver, NoMemory, StoreFault}
 use Rattle.shop_machine.specs.declared.messages.Reply.{Reply}
 use Rattle.shop_machine.specs.declared.messages.Reply.TheVariants as reply
-use Rattle.shop_machine.specs.Columns.{is_there, is_piece, is_kerf, is_scrap, is_free, is_reserved_for, is_waiting, state_word, state_of}
+use Rattle.shop_machine.specs.Columns.{is_counted, is_free, is_reserved_for, is_waiting, state_word, state_of}
 use Rattle.shop_machine.specs.Messages.{Texts, IsMade, refusal_in, pair_of}
 use Rattle.shop_machine.specs.Content.{Content, material_at, part_at, job_at, has_order, demand_at, kept_at, totals_of, changed}
 
@@ -252,14 +254,10 @@ is_over n (Some demand) = nat_lt demand.wanted (demand.reserved + demand.made + 
 abbrev pub is_too_many : (ℕ → Option Demand) → Pattern → Bool
 is_too_many at plan = list_any (λ leaf. is_over (count_of plan.tree leaf.demand) (at leaf.demand)) (plan_leaves plan)
 
-abbrev pub is_empty : {X : Type 0} → List X → Bool
-is_empty [] = true
-is_empty (x ∷ xs) = false
-
 abbrev pub plan_refusal : Part → Option Pattern → (ℕ → Option Demand) → ℕ → Option Refusal
 plan_refusal part None at act = Some BadTree
 plan_refusal part (Some plan) at act =
-    option_or (first_of ((is_empty (plan_leaves plan), BadTree) ∷ []))
+    option_or (first_of ((length (plan_leaves plan) == 0, BadTree) ∷ []))
     (option_or (leaves_refusal at part.material (plan_leaves plan))
     (first_of ((is_too_many at plan, TooMany) ∷ (nat_lt most_numbers act, NumbersSpent) ∷ [])))
 
@@ -336,13 +334,13 @@ row_part part rule act row =
       state = fate rule row.owner size;
     }
 
--- the cells of the parts in such a state
-abbrev pub cells_where : (State → Bool) → List Part → ℕ
-cells_where test parts = sum_by (λ part. if test part.state then part.size.w * part.size.h else 0) parts
+-- the cells of parts that a column counts
+abbrev pub cells_counted : Column → List Part → ℕ
+cells_counted column parts = sum_by (λ part. if is_counted column part then part.size.w * part.size.h else 0) parts
 
 abbrev pub done_reply : ℕ → List Part → Reply
 done_reply number parts =
-    reply.Done number (cells_where is_kerf parts) (cells_where is_piece parts) (cells_where is_free parts) (cells_where is_scrap parts)
+    reply.Done number (cells_counted column.Kerf parts) (cells_counted column.Pieces parts) (cells_counted column.Rack parts) (cells_counted column.Scrap parts)
 
 abbrev pub done_change : Job → Part → Rule → List Row → List Demand → Change
 done_change j part rule laid rows =

@@ -3,6 +3,7 @@
 
 mod changes;
 mod decisions;
+mod jobs;
 mod kept_texts;
 mod laws;
 mod lists;
@@ -19,6 +20,6 @@ pub use laws::{accepted_changes_fit, histories_have_accounts};
 pub use lists::RowList;
 pub use messages::{Command, LineList, Message, OrderLine, Query, Reply};
 pub use orders::{FoundLine, decide_order};
-pub use plans::FoundLeaf;
+pub use plans::{FoundLeaf, decide_reserve};
 pub use records::{Column, Demand, Job, JobState, Material, Part, State, StateWord, Totals};
 pub use refusals::Refusal;

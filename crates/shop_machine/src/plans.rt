@@ -4,7 +4,8 @@ ghost use Rattle.cut_tree.specs.Tree.{count_of};
 ghost use Rattle.cut_tree.specs.Patterns.{Pattern};
 ghost use Rattle.shop_machine.specs.declared.records.Demand.{Demand as DemandOf};
 ghost use Rattle.shop_machine.specs.Machine.{AreRecounted, Decides, IsReservation, fits_demand, has_reserved, is_over, is_too_many, leaf_refusal, leaves_refusal, plan_leaves, plan_refusal, reserve_refusal};
-ghost use Rattle.shop_machine.specs.Found.{AreLeavesFound, AreDemandsFound, leaves_in, recount_by, HasRoom, HasRow, IsAddedOnce};
+ghost use Rattle.shop_machine.specs.Found.{AreLeavesFound, AreDemandsFound, leaves_in, recount_by, HasRoom, HasRow, IsNumbered, IsAddedOnce};
+ghost use Rattle.shop_machine.specs.declared.plans.Recount.TheVariants.{Reserved};
 
 use crate::changes::{Change, DemandList, PartList};
 use crate::decisions::{MOST_NUMBERS, no_change};
@@ -77,22 +78,30 @@ fn leaves_refusal(material: &Code, leaves: &[FoundLeaf]) -> Option<Refusal>
     }
 }
 
+fn wide(n: u32) -> u64
+    ensures value { result ≡ n }
+    ensures range { result < 2 ^ 32 }
+{
+    u64::from(n)
+}
+
 fn is_over(count: u32, demand: &Option<Demand>) -> bool
-    ensures { result ≡ is_over count demand.now }
+    ensures test { result ≡ is_over count demand.now }
+    ensures room { result ≡ false → IfSome demand.now (HasRoom Reserved count) }
 {
     match demand {
         None => false,
         Some(demand) => {
-            u64::from(demand.reserved) + u64::from(demand.made) + u64::from(count)
-                > u64::from(demand.wanted)
+            wide(demand.reserved) + wide(demand.made) + wide(count) > wide(demand.wanted)
         }
     }
 }
 
 // With the plan's pieces, some demand of the leaves would have more reserved and made than wanted.
 fn is_too_many(plan: &Plan, leaves: &[FoundLeaf]) -> bool
-    ensures { (at : ℕ → Option DemandOf) → AreDemandsFound at leaves.now →
+    ensures test { (at : ℕ → Option DemandOf) → AreDemandsFound at leaves.now →
         result ≡ list_any (λ leaf. is_over (count_of plan.now.tree leaf.demand) (at leaf.demand)) (leaves_in leaves.now) }
+    ensures room { result ≡ false → All (λ f. IfSome f.demand (HasRoom Reserved (count_of plan.now.tree f.leaf.demand))) leaves.now }
 {
     let [found, more @ ..] = leaves else {
         return false;
@@ -162,4 +171,95 @@ pub fn recounted_rows(
         add_once(&mut rows, recounted(how, count, demand))?;
     }
     Ok(rows)
+}
+
+// The rows of a reservation: the part and the plan are there, the part stands, and no leaf is refused.
+fn reservation(
+    alloc: Global,
+    part: Part,
+    plan: Plan,
+    leaves: &[FoundLeaf],
+    act: u32,
+) -> Result<Change, AllocError>
+    requires leaves { leaves_in leaves.now ≡ plan_leaves plan }
+    requires found { All (HasRow Reserved plan.tree) leaves.now }
+    ensures { IfOk result (λ change. (at : ℕ → Option DemandOf) → AreDemandsFound at leaves.now → IsReservation part plan at act change) }
+{
+    let demands = recounted_rows(alloc, Recount::Reserved, &plan, leaves)?;
+    let mut parts = PartList::new(alloc);
+    parts.push(Part {
+        state: State::Reserved(act),
+        ..part
+    })?;
+    let cuts = plan.cuts();
+    let job = Job {
+        act,
+        part: part.name,
+        kerf: plan.kerf(),
+        plan,
+        state: JobState::Waiting,
+    };
+    Ok(Change {
+        parts,
+        job: Some(job),
+        demands,
+        act: Some(act),
+        ..no_change(alloc, Reply::Reserve { cuts, job: act })
+    })
+}
+
+// Why a plan is refused on a part, if it is.
+fn plan_refusal(part: &Part, plan: &Plan, leaves: &[FoundLeaf], act: u32) -> Option<Refusal>
+    requires leaves { leaves_in leaves.now ≡ plan_leaves plan.now }
+    ensures refusal { (at : ℕ → Option DemandOf) → AreDemandsFound at leaves.now → result ≡ plan_refusal part.now (Some plan.now) at act }
+    ensures found { IfNone result (All (λ f. IsTrue (is_some f.demand)) leaves.now) }
+    ensures room { IfNone result (All (λ f. IfSome f.demand (HasRoom Reserved (count_of plan.now.tree f.leaf.demand))) leaves.now) }
+{
+    if leaves.is_empty() {
+        return Some(Refusal::BadTree);
+    }
+    if let Some(refusal) = leaves_refusal(&part.material, leaves) {
+        return Some(refusal);
+    }
+    if is_too_many(plan, leaves) {
+        return Some(Refusal::TooMany);
+    }
+    if act > MOST_NUMBERS {
+        return Some(Refusal::NumbersSpent);
+    }
+    None
+}
+
+/// Reserves a part for a plan, from the rows of the part and its material, the plan that was read for the part, its leaves
+/// with the rows of their demands, and the next act's number.
+pub fn decide_reserve(
+    alloc: Global,
+    part: Option<Part>,
+    material: Option<Material>,
+    plan: Option<Plan>,
+    leaves: &[FoundLeaf],
+    act: u32,
+) -> Result<Change, Refusal>
+    requires numbered { All IsNumbered leaves.now }
+    requires leaves { IfSome plan (λ p. leaves_in leaves.now ≡ plan_leaves p) }
+    ensures { (at : ℕ → Option DemandOf) → AreDemandsFound at leaves.now →
+        Decides (reserve_refusal part material plan at act) (λ change. MatchOption part ⊥ (λ row. MatchOption plan ⊥ (λ p. IsReservation row p at act change))) result }
+{
+    let Some(part) = part else {
+        return Err(Refusal::NoPart);
+    };
+    if part.state != State::Standing {
+        return Err(Refusal::NotStanding);
+    }
+    if material.is_none() {
+        return Err(Refusal::StoreFault);
+    }
+    let Some(plan) = plan else {
+        return Err(Refusal::BadTree);
+    };
+    if let Some(refusal) = plan_refusal(&part, &plan, leaves, act) {
+        return Err(refusal);
+    }
+    let change = reservation(alloc, part, plan, leaves, act)?;
+    Ok(change)
 }

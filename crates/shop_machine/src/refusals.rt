@@ -1,6 +1,8 @@
 ghost use Rattle.std.specs.Prelude.{◌≡◌};
 ghost use Rattle.shop_machine.specs.Refusals.{number_of, name_of};
 
+use std::alloc::AllocError;
+
 /// Why a message or a query is refused. Each has a number and a name, which never change.
 #[derive(Clone, Copy, Debug, PartialEq, Eq)]
 pub enum Refusal {
@@ -60,6 +62,17 @@ pub enum Refusal {
     NoMemory,
     /// 99: the store failed.
     StoreFault,
+}
+
+impl From<AllocError> for Refusal {
+    ghost use Rattle.std.specs.Prelude.{◌≡◌};
+    ghost use Rattle.shop_machine.specs.declared.refusals.Refusal.TheVariants.{NoMemory};
+
+    ghost from_gives = { λ _ refusal. refusal ≡ NoMemory };
+
+    fn from(_error: AllocError) -> Refusal {
+        Refusal::NoMemory
+    }
 }
 
 impl Refusal {

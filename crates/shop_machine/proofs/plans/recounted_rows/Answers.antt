@@ -1,11 +1,14 @@
 use Rattle.std.proofs.Common.{◌≡◌, ◌≤◌, length, sym, ap, subst, ◌∙◌, arith}
 use Rattle.shop_machine.specs.declared.records.Demand.{Demand}
-use Rattle.shop_machine.specs.Found.{HasRow, IsAddedOnce, recount_by}
+use Rattle.shop_machine.specs.Found.{HasRoom, HasRow, IsAddedOnce, recount_by}
 use Rattle.shop_machine.proofs.Recounts.{added_more, all_added, none_added, row_of}
 use Rattle.shop_machine.proofs.plans.recounted_rows.Goals as goal
 
 pub recounted-requires : goal.recounted-requires
-recounted-requires c = ?
+recounted-requires c =
+    let has : HasRow c.args.how c.args.plan.now.tree c.found-item.result =
+    subst (HasRow c.args.how c.args.plan.now.tree) (sym c.found-item.is) (c.requires.found c.loop-found.found-index c.found-item.result c.loop-found-test.true) in
+    subst (λ n. HasRoom c.args.how n c.in-Some.demand) (sym c.count-count.ensures) (row_of c.args.how c.args.plan.now.tree c.found-item.result c.in-Some.demand has c.in-Some.is).1
 
 pub loop-found-preserved : goal.loop-found-preserved
 loop-found-preserved c =
