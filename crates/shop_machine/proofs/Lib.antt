@@ -3,3 +3,4 @@ pub mod Sums
 pub mod Recounts
 pub mod NewDemands
 pub mod Refused
+pub mod Inside

@@ -21,4 +21,4 @@ new_demands_more order first found i d within =
     ∙ ap (new_demands order first) (map-append (λ (f : FoundLine). f.line) (take i found) (get_or found i d ∷ []))
     ∙ new_demands-push order first (lines_in (take i found)) (get_or found i d).line
     ∙ ap (λ n. new_demands order first (lines_in (take i found)) ++ new_demand order n (get_or found i d).line ∷ [])
-      (ap (λ n. first + n) (length-map (take i found) (λ (f : FoundLine). f.line) ∙ length-take-le i found (omega arith)))
+    (ap (λ n. first + n) (length-map (take i found) (λ (f : FoundLine). f.line) ∙ length-take-le i found (omega arith)))

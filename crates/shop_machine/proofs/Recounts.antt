@@ -1,7 +1,7 @@
 -- The demands of a plan's leaves, each once.
 use Rattle.std.proofs.Common.{◌≡◌, ◌≢◌, ℕ, zero, suc, ◌+◌, ◌-◌, ◌<◌, ◌≤◌, List, [], ◌∷◌, ◌++◌, length, get_or, take, drop, map, Bool, true, false, refl, sym, ap, subst, ◌∙◌, arith, inl, inr, ◌⊎◌}
-use Rattle.std.specs.Prelude.{Option, Some, None, All, Any, AllPairs, count_by, nat_eq, MatchOption, ◌||◌, if◌then◌else◌}
-use Rattle.std.specs.List.{list_any}
+use Rattle.std.specs.Prelude.{Option, Some, None, All, Any, AllPairs, count_by, nat_eq, MatchOption, ◌||◌, ◌&&◌, if◌then◌else◌}
+use Rattle.std.specs.List.{list_any, list_all}
 use Rattle.std.proofs.lemmas.Bool.{cases_lt}
 use Rattle.std.proofs.lemmas.Bool.Decides.{nat_tests}
 use Rattle.std.proofs.lemmas.List.{get_or_append_left, get_or-append_right, get_or_default, length-append, length-map, get_or-map}
@@ -18,7 +18,7 @@ use Rattle.shop_machine.specs.declared.records.Demand.{Demand}
 use Rattle.shop_machine.specs.declared.plans.FoundLeaf.{FoundLeaf}
 use Rattle.shop_machine.specs.declared.plans.Recount.{Recount}
 use Rattle.shop_machine.specs.declared.plans.Recount.TheVariants.{Reserved, Made, Freed}
-use Rattle.shop_machine.specs.Machine.{AreRecounted, plan_leaves, is_over}
+use Rattle.shop_machine.specs.Machine.{AreRecounted, plan_leaves, is_over, has_reserved}
 use Rattle.shop_machine.specs.Found.{AreDemandsFound, leaves_in, recount_by, HasRoom, HasRow, IsAddedOnce}
 
 -- ---- demands over their numbers
@@ -36,6 +36,17 @@ over_more tree at (f ∷ fs) b d some found within e =
     e ∙ ap (λ ls. list_any (λ (leaf : Leaf). is_over (count_of tree leaf.demand) (at leaf.demand)) (leaves_in ls)) (all_behind f fs)
     ∙ ap (λ o. o || list_any (λ (leaf : Leaf). is_over (count_of tree leaf.demand) (at leaf.demand)) (leaves_in fs))
     (sym (ap (is_over (count_of tree f.leaf.demand)) (sym (found 0 d (omega arith))) ∙ within))
+
+-- a first leaf whose pieces are reserved, and the others
+pub reserved_more : (tree : Tree) (at : ℕ → Option Demand) (leaves : List FoundLeaf) (b : Bool) (d : FoundLeaf) → 1 ≤ length leaves → AreDemandsFound at leaves
+    → has_reserved (count_of tree (get_or leaves 0 d).leaf.demand) (get_or leaves 0 d).demand ≡ true
+    → b ≡ list_all (λ (leaf : Leaf). has_reserved (count_of tree leaf.demand) (at leaf.demand)) (leaves_in (take (length leaves - 1) (drop 1 leaves)))
+    → b ≡ list_all (λ (leaf : Leaf). has_reserved (count_of tree leaf.demand) (at leaf.demand)) (leaves_in leaves)
+reserved_more tree at [] b d some found first e = absurd (omega arith)
+reserved_more tree at (f ∷ fs) b d some found first e =
+    e ∙ ap (λ ls. list_all (λ (leaf : Leaf). has_reserved (count_of tree leaf.demand) (at leaf.demand)) (leaves_in ls)) (all_behind f fs)
+    ∙ ap (λ o. o && list_all (λ (leaf : Leaf). has_reserved (count_of tree leaf.demand) (at leaf.demand)) (leaves_in fs))
+    (sym (ap (has_reserved (count_of tree f.leaf.demand)) (sym (found 0 d (omega arith))) ∙ first))
 
 -- ---- counts of what passes a test
 

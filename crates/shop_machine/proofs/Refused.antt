@@ -1,6 +1,15 @@
 -- Why a plan is refused on a part, test by test.
-use Rattle.std.proofs.Common.{◌≡◌, ℕ, nat_eq, nat_lt, ◌≤◌, ◌<◌, arith, Bool, true, false, List, length, [], ◌∷◌, refl, sym, ap, ◌∙◌}
-use Rattle.std.specs.Prelude.{Option, Some, None}
+use Rattle.std.proofs.Common.{◌≡◌, ℕ, nat_eq, nat_lt, ◌≤◌, ◌<◌, arith, Bool, true, false, List, length, map, [], ◌∷◌, refl, sym, ap, subst, ◌∙◌}
+use Rattle.std.specs.Prelude.{Option, Some, None, is_some, not, IfSome, MatchOption}
+use Rattle.cut_measure.specs.Measures.{Rule}
+use Rattle.shop_machine.specs.declared.changes.Change.{Change}
+use Rattle.shop_machine.specs.declared.messages.Reply.{Reply}
+use Rattle.shop_machine.specs.declared.records.State.TheVariants.{Cut}
+use Rattle.shop_machine.specs.declared.records.JobState.TheVariants as job
+use Rattle.cut_tree.specs.declared.lay.Row.{Row}
+use Rattle.shop_machine.specs.declared.records.Material.{Material}
+use Rattle.shop_machine.specs.Columns.{is_free, is_waiting}
+use Rattle.shop_machine.specs.declared.records.Job.{Job}
 use Rattle.std.specs.Option.{option_or}
 use Rattle.std.proofs.lemmas.Bool.Decides.{nat_tests}
 use Rattle.std.proofs.lemmas.List.{length-map}
@@ -10,8 +19,8 @@ use Rattle.cut_tree.specs.Patterns.{Pattern}
 use Rattle.shop_machine.specs.declared.records.Part.{Part}
 use Rattle.shop_machine.specs.declared.records.Demand.{Demand}
 use Rattle.shop_machine.specs.declared.refusals.Refusal.{Refusal}
-use Rattle.shop_machine.specs.declared.refusals.Refusal.TheVariants.{BadTree, TooMany, NumbersSpent}
-use Rattle.shop_machine.specs.Machine.{first_of, plan_refusal, plan_leaves, leaves_refusal, is_too_many, most_numbers}
+use Rattle.shop_machine.specs.declared.refusals.Refusal.TheVariants.{BadTree, TooMany, NumbersSpent, NotStanding, StoreFault, JobOver}
+use Rattle.shop_machine.specs.Machine.{first_of, plan_refusal, reserve_refusal, job_refusal, rests, IsDone, no_change, in_state, row_part, done_reply, done_change, plan_leaves, leaves_refusal, is_too_many, most_numbers}
 
 pub at_most : (most n : ℕ) → nat_lt most n ≡ false → n ≤ most
 at_most most n e = grind (arith, nat_tests)
@@ -34,3 +43,43 @@ plan_refused part plan at act many spent some none m n =
     ∙ ap (λ o. option_or o (first_of ((is_too_many at plan, TooMany) ∷ (nat_lt most_numbers act, NumbersSpent) ∷ []))) none
     ∙ ap (λ b. first_of ((b, TooMany) ∷ (nat_lt most_numbers act, NumbersSpent) ∷ [])) m
     ∙ ap (λ b. first_of ((many, TooMany) ∷ (b, NumbersSpent) ∷ [])) n
+
+-- a reservation that isn't refused
+pub reserve_allowed : (part : Part) (material : Option Material) (plan : Pattern) (at : ℕ → Option Demand) (act : ℕ) → is_free part.state ≡ true → is_some material ≡ true
+    → plan_refusal part (Some plan) at act ≡ None → reserve_refusal (Some part) material (Some plan) at act ≡ None
+reserve_allowed part material plan at act free known none =
+    ap (λ b. option_or (first_of ((not b, NotStanding) ∷ (not (is_some material), StoreFault) ∷ [])) (plan_refusal part (Some plan) at act)) free
+    ∙ ap (λ b. option_or (first_of ((not b, StoreFault) ∷ [])) (plan_refusal part (Some plan) at act)) known ∙ none
+
+-- a waiting job, by whether its rows are there
+pub job_test : (j : Job) (part : Part) (material : Material) (at : ℕ → Option Demand) (b : Bool) → is_waiting j.state ≡ true → rests j (Some part) (Some material) at ≡ b
+    → job_refusal (Some j) (Some part) (Some material) at ≡ first_of ((not b, StoreFault) ∷ [])
+job_test j part material at b waits there =
+    ap (λ w. first_of ((not w, JobOver) ∷ (not (rests j (Some part) (Some material) at), StoreFault) ∷ [])) waits ∙ ap (λ r. first_of ((not r, StoreFault) ∷ [])) there
+
+-- a finished job with the rows on which it rested
+pub done_work : (found : Option Job) (on : Option Part) (of : Option Material) (at : ℕ → Option Demand) (change : Change) (j : Job) (part : Part) (rule : Rule) → found ≡ Some j → on ≡ Some part → IfSome of (λ m. m.limits ≡ rule)
+    → job_refusal found on of at ≡ None → IsDone j part rule at change
+    → MatchOption found ⊥ (λ j. MatchOption on ⊥ (λ p. MatchOption of ⊥ (λ m. IsDone j p m.limits at change)))
+done_work found on None at change j part rule is_j is_p is_m allowed done = absurd (not_allowed found on j part is_j is_p allowed)
+  where
+    by : (b : Bool) → first_of ((b, JobOver) ∷ (true, StoreFault) ∷ []) ≡ None → ⊥
+    by true e = cc
+    by false e = cc
+
+    not_allowed : (found : Option Job) (on : Option Part) (j : Job) (part : Part) → found ≡ Some j → on ≡ Some part → job_refusal found on None at ≡ None → ⊥
+    not_allowed found on j part is_j is_p allowed =
+        by (not (is_waiting j.state)) (subst (λ (o : Option Part). job_refusal (Some j) o None at ≡ None) is_p (subst (λ (o : Option Job). job_refusal o on None at ≡ None) is_j allowed))
+done_work found on (Some m) at change j part rule is_j is_p is_m allowed done =
+    subst (λ (o : Option Job). MatchOption o ⊥ (λ j. MatchOption on ⊥ (λ p. IsDone j p m.limits at change))) (sym is_j)
+    (subst (λ (o : Option Part). MatchOption o ⊥ (λ p. IsDone j p m.limits at change)) (sym is_p) (subst (λ (r : Rule). IsDone j part r at change) (sym is_m) done))
+
+-- the change of a finished job, from its parts
+pub done_made : (j : Job) (part : Part) (rule : Rule) (laid : List Row) (rows : List Demand) (parts : List Part) (answer : Reply) (base : Change) → base ≡ no_change answer
+    → parts ≡ in_state (Cut j.act) part ∷ map (row_part part rule j.act) laid → answer ≡ done_reply j.act (map (row_part part rule j.act) laid)
+    → record base { parts = parts; job = Some (record j { state = job.Done }); demands = rows } ≡ done_change j part rule laid rows
+done_made j part rule laid rows parts answer base e f g =
+    let all = in_state (Cut j.act) part ∷ map (row_part part rule j.act) laid in
+    ap (λ (base : Change). record base { parts = parts; job = Some (record j { state = job.Done }); demands = rows }) e
+    ∙ ap (λ (parts : List Part). record (no_change answer) { parts = parts; job = Some (record j { state = job.Done }); demands = rows }) f
+    ∙ ap (λ (answer : Reply). record (no_change answer) { parts = all; job = Some (record j { state = job.Done }); demands = rows }) g

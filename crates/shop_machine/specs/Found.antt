@@ -10,7 +10,15 @@ use Rattle.shop_machine.specs.declared.orders.FoundLine.{FoundLine}
 use Rattle.shop_machine.specs.declared.plans.FoundLeaf.{FoundLeaf}
 use Rattle.shop_machine.specs.declared.plans.Recount.{Recount}
 use Rattle.shop_machine.specs.declared.plans.Recount.TheVariants.{Reserved, Made, Freed}
-use Rattle.shop_machine.specs.Machine.{plan_leaves, with_reserved, with_made, with_freed}
+use Rattle.cut_measure.specs.Measures.{Rule}
+use Rattle.cut_tree.specs.declared.lay.Row.{Row}
+use Rattle.cut_tree.specs.Cells.{all_made}
+use Rattle.cut_tree.specs.Laying.{IsLaid}
+use Rattle.shop_machine.specs.declared.records.Job.{Job}
+use Rattle.shop_machine.specs.declared.records.Part.{Part}
+use Rattle.shop_machine.specs.declared.records.State.TheVariants.{Cut}
+use Rattle.shop_machine.specs.declared.messages.Reply.{Reply}
+use Rattle.shop_machine.specs.Machine.{in_state, row_part, done_reply, plan_leaves, with_reserved, with_made, with_freed}
 
 abbrev pub lines_in : List FoundLine → List OrderLine
 lines_in found = map (λ (f : FoundLine). f.line) found
@@ -55,3 +63,10 @@ abbrev pub IsAddedOnce : List Demand → Demand → List Demand → Type 0
 IsAddedOnce old row new =
     (Any (λ other. other.number ≡ row.number) old × (new ≡ old))
     ⊎ (All (λ other. other.number ≢ row.number) old × (new ≡ old ++ row ∷ []))
+
+-- the parts of a finished job, the cut one first, and what is told of them
+pub record AreFinished (j : Job) (part : Part) (rule : Rule) (parts : List Part) (answer : Reply) : Type 0 where
+  pub laid : List Row
+  pub is_laid : IsLaid j.plan.tree j.plan.w j.plan.h j.plan.kerf all_made laid
+  pub are : parts ≡ in_state (Cut j.act) part ∷ map (row_part part rule j.act) laid
+  pub told : answer ≡ done_reply j.act (map (row_part part rule j.act) laid)

@@ -292,10 +292,10 @@ abbrev pub has_reserved : ℕ → Option Demand → Bool
 has_reserved n None = false
 has_reserved n (Some demand) = nat_le n demand.reserved && nat_le (demand.reserved + demand.made) demand.wanted
 
--- the part is reserved for the job, has the sides of its plan, and lies in a unit
+-- the job has an act's number, and the part is reserved for it, has the sides of its plan, and lies in a unit
 abbrev pub is_part_of : Job → Part → Bool
 is_part_of j part =
-    is_reserved_for j.act part.state && part.size.w == j.plan.w && part.size.h == j.plan.h
+    nat_le 1 j.act && nat_le j.act most_numbers && is_reserved_for j.act part.state && part.size.w == j.plan.w && part.size.h == j.plan.h
     && nat_le (part.x + part.size.w) 200000 && nat_le (part.y + part.size.h) 60000
 
 -- The rows on which a waiting job rests are there: its part, the part's material, and its pieces' demands. So they are in

@@ -15,6 +15,7 @@ mod refusals;
 
 pub use changes::{Change, DemandList, PartList};
 pub use decisions::{decide_material, decide_receive};
+pub use jobs::{decide_done, decide_release};
 pub use kept_texts::{Kept, KeptMessage, Pair, Text};
 pub use laws::{accepted_changes_fit, histories_have_accounts};
 pub use lists::RowList;

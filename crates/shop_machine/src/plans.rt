@@ -78,7 +78,7 @@ fn leaves_refusal(material: &Code, leaves: &[FoundLeaf]) -> Option<Refusal>
     }
 }
 
-fn wide(n: u32) -> u64
+pub fn wide(n: u32) -> u64
     ensures value { result ≡ n }
     ensures range { result < 2 ^ 32 }
 {
@@ -248,12 +248,12 @@ pub fn decide_reserve(
     let Some(part) = part else {
         return Err(Refusal::NoPart);
     };
-    if part.state != State::Standing {
+    if !part.state.is_free() {
         return Err(Refusal::NotStanding);
     }
-    if material.is_none() {
+    let Some(_) = material else {
         return Err(Refusal::StoreFault);
-    }
+    };
     let Some(plan) = plan else {
         return Err(Refusal::BadTree);
     };

@@ -35,7 +35,24 @@ pub enum StateWord {
 
 impl State {
     ghost use Rattle.std.specs.Prelude.{◌≡◌};
-    ghost use Rattle.shop_machine.specs.Columns.{state_word, state_of};
+    ghost use Rattle.shop_machine.specs.Columns.{is_free, is_reserved_for, state_word, state_of};
+
+    /// Standing and not reserved.
+    pub fn is_free(self) -> bool
+        ensures { result ≡ is_free self }
+    {
+        matches!(self, State::Standing)
+    }
+
+    /// Reserved for this job.
+    pub fn is_reserved_for(self, number: u32) -> bool
+        ensures { result ≡ is_reserved_for number self }
+    {
+        match self {
+            State::Reserved(job) => job == number,
+            _ => false,
+        }
+    }
 
     /// The state without its number.
     pub fn word(self) -> StateWord
@@ -83,6 +100,18 @@ pub enum JobState {
     Done,
     Broken,
     Released,
+}
+
+impl JobState {
+    ghost use Rattle.std.specs.Prelude.{◌≡◌};
+    ghost use Rattle.shop_machine.specs.Columns.{is_waiting};
+
+    /// Reserved, and neither finished nor released.
+    pub fn is_waiting(self) -> bool
+        ensures { result ≡ is_waiting self }
+    {
+        matches!(self, JobState::Waiting)
+    }
 }
 
 /// A part that was reserved for a cutting plan, under the number of the reservation's act.
