@@ -115,7 +115,7 @@ impl JobState {
 }
 
 /// A part that was reserved for a cutting plan, under the number of the reservation's act.
-#[derive(Drop)]
+#[derive(Drop, PartialEq)]
 pub struct Job {
     pub act: u32,
     pub part: PartName,
@@ -133,6 +133,23 @@ impl Job {
         ensures { IfOk result (λ copy. copy ≡ self.now) }
     {
         let plan = self.plan.copy(alloc)?;
+        Ok(Job {
+            act: self.act,
+            part: self.part,
+            kerf: self.kerf,
+            plan,
+            state: self.state,
+        })
+    }
+}
+
+impl Clone for Job {
+    ghost use Rattle.std.specs.Prelude.{◌≡◌};
+
+    ghost is_clone = { λ s t. t ≡ s };
+
+    fn clone(&self) -> Result<Job, AllocError> {
+        let plan = self.plan.clone()?;
         Ok(Job {
             act: self.act,
             part: self.part,

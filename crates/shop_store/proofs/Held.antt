@@ -19,9 +19,8 @@ use Rattle.shop_machine.specs.declared.records.Part.{Part}
 use Rattle.shop_machine.specs.declared.kept_texts.Pair.{Pair}
 use Rattle.shop_machine.specs.declared.kept_texts.Kept.{Kept}
 use Rattle.shop_machine.specs.declared.kept_texts.KeptMessage.{KeptMessage}
-use Rattle.shop_machine.specs.Content.{with_kept, with_act}
-use Rattle.shop_machine.proofs.Runs.{pairs_total}
-use Rattle.shop_store.specs.Memory.{put_kept}
+use Rattle.shop_machine.specs.Content.{with_kept, with_number}
+use Rattle.shop_store.specs.Memory.{put_kept, pairs_total}
 use Rattle.shop_store.specs.Rows.{entries_of, rise, row_at, IsPut}
 use Rattle.std.specs.Bool.{Decides}
 use Rattle.std.specs.Cmp.Lexicographic.{pointwise}
@@ -103,6 +102,6 @@ pub kept_sorted : (message : Option KeptMessage) (old new : List (Pair × Kept))
 kept_sorted None old new up is = ap (is_sorted pair_cmp) is ∙ up
 kept_sorted (Some message) old new up is = sorted_after pair_cmp pairs_total message.pair message.kept old new up is
 
-pub act_after : (act : Option ℕ) (last : ℕ) → unwrap_or act last ≡ with_act act last
-act_after None last = refl
-act_after (Some act) last = refl
+pub number_after : (number : Option ℕ) (last : ℕ) → unwrap_or number last ≡ with_number number last
+number_after None last = refl
+number_after (Some number) last = refl

@@ -1,3 +1,4 @@
 pub mod Places
 pub mod Summed
 pub mod Held
+pub mod Orders

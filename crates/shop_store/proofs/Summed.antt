@@ -18,11 +18,10 @@ use Rattle.shop_machine.specs.declared.records.Column.{Column}
 use Rattle.shop_machine.specs.Columns.{is_counted}
 use Rattle.shop_machine.specs.Content.{of_found, counts_for, cells_in}
 use Rattle.shop_machine.proofs.Sums.{sum-put}
-use Rattle.shop_machine.proofs.Accounts.{names_total}
 use Rattle.shop_store.specs.declared.sums.Sums.{Sums}
 use Rattle.shop_store.specs.Rows.{entries_of, rise, row_at, IsPut}
 use Rattle.shop_store.specs.Sums.{sum_in, sums_key, found_sum, sum_at, counted_cells, cells_for, AreSumsOf, most_cells, all_small}
-use Rattle.shop_store.specs.Memory.{part_key}
+use Rattle.shop_store.specs.Memory.{part_key, names_total}
 use Rattle.shop_store.proofs.Places.{tested}
 
 equal : (o : Ordering) → is_eq o ≡ true → o ≡ Equal

@@ -6,15 +6,21 @@ use Rattle.std.proofs.lemmas.Map.Lookups.{exact_pairs, exact_unsigned}
 use Rattle.std.specs.Ordering.{nat_cmp}
 use Rattle.std.specs.FinMap.{IsAntisymmetric}
 use Rattle.std.specs.Coded.{Coded, code_by, coded×, coded_ℕ, coded_list}
+use Rattle.std.specs.Cmp.{IsTotalOrder, on_total, then_total, nat_cmp_total}
 use Rattle.std.specs.FinMap as map
+use Rattle.std.specs.FinSet as set
 use Rattle.shop_machine.specs.contracts.records.Material as material_type
 use Rattle.shop_machine.specs.contracts.records.Part as part_type
+use Rattle.shop_machine.specs.contracts.records.Job as job_type
+use Rattle.shop_machine.specs.contracts.records.Demand as demand_type
 use Rattle.shop_machine.specs.contracts.kept_texts.Pair as pair_type
 use Rattle.shop_machine.specs.contracts.kept_texts.Kept as kept_type
 use Rattle.cut_measure.specs.Codes.{code_cmp}
 use Rattle.cut_measure.specs.Names.{Name, name_cmp}
 use Rattle.shop_machine.specs.declared.records.Material.{Material}
 use Rattle.shop_machine.specs.declared.records.Part.{Part}
+use Rattle.shop_machine.specs.declared.records.Job.{Job}
+use Rattle.shop_machine.specs.declared.records.Demand.{Demand}
 use Rattle.shop_machine.specs.declared.kept_texts.Pair.{Pair}
 use Rattle.shop_machine.specs.declared.kept_texts.Kept.{Kept}
 use Rattle.shop_machine.specs.declared.kept_texts.KeptMessage.{KeptMessage}
@@ -26,6 +32,22 @@ material_key m = m.code
 
 abbrev pub part_key : Part → Name
 part_key p = p.name
+
+abbrev pub job_key : Job → ℕ
+job_key j = j.act
+
+-- an order is kept as its code
+abbrev pub order_key : List ℕ → List ℕ
+order_key code = code
+
+abbrev pub demand_key : Demand → ℕ
+demand_key d = d.number
+
+pub names_total : IsTotalOrder name_cmp
+names_total = then_total (on_total (λ n. n.act) nat_cmp_total) (on_total (λ n. n.node) nat_cmp_total)
+
+pub pairs_total : IsTotalOrder pair_cmp
+pairs_total = then_total (on_total (λ p. p.terminal) nat_cmp_total) (on_total (λ p. p.number) nat_cmp_total)
 
 -- only equal names tie
 pub names_exact : IsAntisymmetric name_cmp
@@ -42,28 +64,52 @@ name_code = code_by (ℕ × ℕ) (coded× coded_ℕ coded_ℕ) (λ n. (n.act, n.
 
 abbrev pub memory_code : Coded MemoryBook
 memory_code =
-    code_by (map.FinMap code_cmp Material × (map.FinMap name_cmp Part × (map.FinMap pair_cmp Kept × (ℕ × ℕ))))
-    (coded× (map.code (coded_list coded_ℕ) material_type.the_row.coded) (coded× (map.code name_code part_type.the_row.coded) (coded× (map.code pair_type.the_row.coded kept_type.the_row.coded) (coded× coded_ℕ coded_ℕ))))
-    (λ b. (b.content.materials, (b.content.parts, (b.content.kept, (b.content.last_act, b.failures)))))
-    (λ t. record { content = record { materials = t.0; parts = t.1.0; kept = t.1.1.0; last_act = t.1.1.1.0 }; failures = t.1.1.1.1 })
+    code_by
+    (map.FinMap code_cmp Material
+    × (map.FinMap name_cmp Part × (map.FinMap nat_cmp Job × (set.FinSet code_cmp × (map.FinMap nat_cmp Demand × (map.FinMap pair_cmp Kept × (ℕ × (ℕ × ℕ))))))))
+    (coded× (map.code (coded_list coded_ℕ) material_type.the_row.coded)
+    (coded× (map.code name_code part_type.the_row.coded)
+    (coded× (map.code coded_ℕ job_type.the_row.coded)
+    (coded× (set.code (coded_list coded_ℕ))
+    (coded× (map.code coded_ℕ demand_type.the_row.coded)
+    (coded× (map.code pair_type.the_row.coded kept_type.the_row.coded) (coded× coded_ℕ (coded× coded_ℕ coded_ℕ))))))))
+    (λ b. (b.content.materials, (b.content.parts, (b.content.jobs, (b.content.orders, (b.content.demands, (b.content.kept, (b.content.last_act, (b.content.last_demand, b.failures)))))))))
+    (λ p.
+    record {
+      content = record { materials = p.0; parts = p.1.0; jobs = p.1.1.0; orders = p.1.1.1.0; demands = p.1.1.1.1.0; kept = p.1.1.1.1.1.0; last_act = p.1.1.1.1.1.1.0; last_demand = p.1.1.1.1.1.1.1.0 };
+      failures = p.1.1.1.1.1.1.1.1;
+    })
     (λ _. refl)
 
-abbrev pub content_of_rows : List Material → List Part → List (Pair × Kept) → ℕ → Content
-content_of_rows materials parts kept last_act =
-    record {
-      materials = map.from_sorted (entries_of material_key code_cmp materials);
-      parts = map.from_sorted (entries_of part_key name_cmp parts);
-      kept = map.from_sorted kept;
-      last_act = last_act;
-    }
-
-abbrev pub put_kept : Option KeptMessage → List (Pair × Kept) → List (Pair × Kept)
-put_kept None entries = entries
-put_kept (Some message) entries = map.put pair_cmp message.pair message.kept entries
-
--- the maps that rows stand for
+-- the maps that rows stand for, and the set
 abbrev pub materials_of : List Material → map.FinMap code_cmp Material
 materials_of rows = map.from_sorted (entries_of material_key code_cmp rows)
 
 abbrev pub parts_in : List Part → map.FinMap name_cmp Part
 parts_in rows = map.from_sorted (entries_of part_key name_cmp rows)
+
+abbrev pub jobs_in : List Job → map.FinMap nat_cmp Job
+jobs_in rows = map.from_sorted (entries_of job_key nat_cmp rows)
+
+abbrev pub orders_in : List (List ℕ) → set.FinSet code_cmp
+orders_in codes = set.from_list codes
+
+abbrev pub demands_in : List Demand → map.FinMap nat_cmp Demand
+demands_in rows = map.from_sorted (entries_of demand_key nat_cmp rows)
+
+abbrev pub content_of_rows : List Material → List Part → List Job → List (List ℕ) → List Demand → List (Pair × Kept) → ℕ → ℕ → Content
+content_of_rows materials parts jobs orders demands kept last_act last_demand =
+    record {
+      materials = materials_of materials;
+      parts = parts_in parts;
+      jobs = jobs_in jobs;
+      orders = orders_in orders;
+      demands = demands_in demands;
+      kept = map.from_sorted kept;
+      last_act = last_act;
+      last_demand = last_demand;
+    }
+
+abbrev pub put_kept : Option KeptMessage → List (Pair × Kept) → List (Pair × Kept)
+put_kept None entries = entries
+put_kept (Some message) entries = map.put pair_cmp message.pair message.kept entries

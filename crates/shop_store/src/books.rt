@@ -1,10 +1,10 @@
 ghost use Rattle.std.specs.Prelude.{◌≡◌, ◌+◌, ◌≤◌, ◌⊎◌, ℕ, IfOk, OnOk, OnErr};
-ghost use Rattle.shop_machine.specs.Content.{Content, material_at, part_at, kept_at, totals_of, parts_of as listed_parts, changed};
+ghost use Rattle.shop_machine.specs.Content.{Content, material_at, part_at, job_at, has_order, demand_at, kept_at, totals_of, parts_of as listed_parts, changed};
 ghost use Rattle.shop_machine.specs.Soundness.{Fits};
 ghost use Rattle.shop_store.specs.Failures.{CountsFailure};
 
 use cut_measure::{Code, PartName};
-use shop_machine::{Change, Kept, Material, Part, PartList, Refusal, Totals};
+use shop_machine::{Change, Demand, Job, Kept, Material, Part, PartList, Refusal, Totals};
 use std::alloc::{AllocError, Global};
 
 /// Why a book has no answer.
@@ -81,6 +81,30 @@ pub trait Book {
         ensures honest { is_honest self.new → is_honest self.old }
         ensures failures { CountsFailure (failed self.old) result (failed self.new) };
 
+    /// The job under the number of the reservation's act.
+    fn job(&mut self, alloc: Global, number: u32) -> Result<Option<Job>, BookFault>
+        ensures row { is_honest self.new → (m : Content) → holds self.old m → IfOk result (λ row. row ≡ job_at m number) }
+        ensures stays { is_honest self.new → (m : Content) → holds self.old m → holds self.new m }
+        ensures crash { is_honest self.new → (m : Content) → holds self.old m → (left : Left) → may_leave self.new left → may_leave self.old left }
+        ensures honest { is_honest self.new → is_honest self.old }
+        ensures failures { CountsFailure (failed self.old) result (failed self.new) };
+
+    /// Whether there is an order of this code.
+    fn order(&mut self, code: Code) -> Result<bool, BookFault>
+        ensures row { is_honest self.new → (m : Content) → holds self.old m → IfOk result (λ there. there ≡ has_order m code) }
+        ensures stays { is_honest self.new → (m : Content) → holds self.old m → holds self.new m }
+        ensures crash { is_honest self.new → (m : Content) → holds self.old m → (left : Left) → may_leave self.new left → may_leave self.old left }
+        ensures honest { is_honest self.new → is_honest self.old }
+        ensures failures { CountsFailure (failed self.old) result (failed self.new) };
+
+    /// The demand of a number.
+    fn demand(&mut self, number: u32) -> Result<Option<Demand>, BookFault>
+        ensures row { is_honest self.new → (m : Content) → holds self.old m → IfOk result (λ row. row ≡ demand_at m number) }
+        ensures stays { is_honest self.new → (m : Content) → holds self.old m → holds self.new m }
+        ensures crash { is_honest self.new → (m : Content) → holds self.old m → (left : Left) → may_leave self.new left → may_leave self.old left }
+        ensures honest { is_honest self.new → is_honest self.old }
+        ensures failures { CountsFailure (failed self.old) result (failed self.new) };
+
     /// What is kept of the accepted message with this pair.
     fn kept(&mut self, alloc: Global, terminal: u32, number: u32) -> Result<Option<Kept>, BookFault>
         ensures row { is_honest self.new → (m : Content) → holds self.old m
@@ -94,6 +118,15 @@ pub trait Book {
     fn next_act(&mut self) -> Result<u32, BookFault>
         ensures number { is_honest self.new → (m : Content) → holds self.old m → IfOk result (λ act. act ≡ m.last_act + 1) }
         ensures least { IfOk result (λ act. 1 ≤ act) }
+        ensures stays { is_honest self.new → (m : Content) → holds self.old m → holds self.new m }
+        ensures crash { is_honest self.new → (m : Content) → holds self.old m → (left : Left) → may_leave self.new left → may_leave self.old left }
+        ensures honest { is_honest self.new → is_honest self.old }
+        ensures failures { CountsFailure (failed self.old) result (failed self.new) };
+
+    /// The number of the next demand, 1 on a fresh book.
+    fn next_demand(&mut self) -> Result<u32, BookFault>
+        ensures number { is_honest self.new → (m : Content) → holds self.old m → IfOk result (λ demand. demand ≡ m.last_demand + 1) }
+        ensures least { IfOk result (λ demand. 1 ≤ demand) }
         ensures stays { is_honest self.new → (m : Content) → holds self.old m → holds self.new m }
         ensures crash { is_honest self.new → (m : Content) → holds self.old m → (left : Left) → may_leave self.new left → may_leave self.old left }
         ensures honest { is_honest self.new → is_honest self.old }

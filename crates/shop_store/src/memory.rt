@@ -1,19 +1,22 @@
 ghost use Rattle.std.specs.Prelude.{◌≡◌, ◌≢◌, ◌+◌, ◌<◌, ◌≤◌, ◌^◌, ⊤, IfOk, IfErr, IsOk, OnOk, OnErr, IsTrue, List, ℕ, ◌-◌, filter, length, vec_len, vec_capacity};
 ghost use Rattle.cut_measure.specs.Codes.{code_cmp};
 ghost use Rattle.cut_measure.specs.Names.{name_cmp};
-ghost use Rattle.shop_machine.specs.Content.{Content, material_at, part_at, kept_at, totals_of, parts_of as listed_parts, changed, is_listed, with_parts, with_material};
+ghost use Rattle.std.specs.Ordering.{nat_cmp};
+ghost use Rattle.shop_machine.specs.Content.{Content, material_at, part_at, job_at, has_order, demand_at, kept_at, totals_of, parts_of as listed_parts, changed, is_listed, with_parts, with_material, with_job, with_order, with_demands};
 ghost use Rattle.shop_machine.specs.Soundness.{IsInRange};
-ghost use Rattle.shop_store.specs.Memory.{material_key, part_key, put_kept, materials_of, parts_in};
+ghost use Rattle.shop_store.specs.Memory.{material_key, part_key, job_key, order_key, demand_key, put_kept, materials_of, parts_in, jobs_in, orders_in, demands_in};
 ghost use Rattle.std.specs.FinMap.{find as find_entry};
 ghost use Rattle.shop_machine.specs.Content.{pair_cmp};
-ghost use Rattle.shop_store.specs.Rows.{rise, IsPut};
+ghost use Rattle.shop_store.specs.Rows.{rise, row_at, IsPut};
 ghost use Rattle.shop_store.specs.Sums.{sums_key, AreSumsOf, all_small};
 
 use crate::books::{Book, BookFault};
-use crate::rows::{Row, find, put};
+use crate::rows::{Row, at, find, put};
 use crate::sums::{Sums, add_part, take_replaced, totals_in};
 use cut_measure::{Code, PartName};
-use shop_machine::{Change, Kept, KeptMessage, Material, Pair, Part, PartList, Totals};
+use shop_machine::{
+    Change, Demand, Job, Kept, KeptMessage, Material, Pair, Part, PartList, Totals,
+};
 use std::alloc::{AllocError, Global};
 use std::cmp::Ordering;
 use std::collections::BTreeMap;
@@ -46,8 +49,7 @@ impl Row for Material {
 
 impl Row for Part {
     ghost use Rattle.cut_measure.specs.Names.{name_cmp};
-    ghost use Rattle.shop_machine.proofs.Accounts.{names_total};
-    ghost use Rattle.shop_store.specs.Memory.{part_key, names_exact};
+    ghost use Rattle.shop_store.specs.Memory.{part_key, names_total, names_exact};
 
     type Key = PartName;
 
@@ -68,14 +70,93 @@ impl Row for Part {
     ghost exact = { names_exact };
 }
 
+impl Row for Job {
+    ghost use Rattle.std.specs.Ordering.{nat_cmp};
+    ghost use Rattle.std.specs.Cmp.{nat_cmp_total};
+    ghost use Rattle.std.specs.FinMap.{nat_cmp-IsAntisymmetric};
+    ghost use Rattle.shop_store.specs.Memory.{job_key};
+
+    type Key = u32;
+
+    ghost key_of = { job_key };
+
+    ghost cmp = { nat_cmp };
+
+    fn compare(&self, key: u32) -> Ordering {
+        self.act.cmp(&key)
+    }
+
+    fn key(&self) -> u32 {
+        self.act
+    }
+
+    ghost total = { nat_cmp_total };
+
+    ghost exact = { nat_cmp-IsAntisymmetric };
+}
+
+impl Row for Code {
+    ghost use Rattle.cut_measure.specs.Codes.{code_cmp};
+    ghost use Rattle.std.specs.Cmp.Lexicographic.{nat_list_cmp_total};
+    ghost use Rattle.std.specs.FinMap.{slice_cmp-IsAntisymmetric, nat_cmp-IsAntisymmetric};
+    ghost use Rattle.shop_store.specs.Memory.{order_key};
+
+    type Key = Code;
+
+    ghost key_of = { order_key };
+
+    ghost cmp = { code_cmp };
+
+    fn compare(&self, key: Code) -> Ordering {
+        self.order(&key)
+    }
+
+    fn key(&self) -> Code {
+        *self
+    }
+
+    ghost total = { nat_list_cmp_total };
+
+    ghost exact = { slice_cmp-IsAntisymmetric nat_cmp-IsAntisymmetric };
+}
+
+impl Row for Demand {
+    ghost use Rattle.std.specs.Ordering.{nat_cmp};
+    ghost use Rattle.std.specs.Cmp.{nat_cmp_total};
+    ghost use Rattle.std.specs.FinMap.{nat_cmp-IsAntisymmetric};
+    ghost use Rattle.shop_store.specs.Memory.{demand_key};
+
+    type Key = u32;
+
+    ghost key_of = { demand_key };
+
+    ghost cmp = { nat_cmp };
+
+    fn compare(&self, key: u32) -> Ordering {
+        self.number.cmp(&key)
+    }
+
+    fn key(&self) -> u32 {
+        self.number
+    }
+
+    ghost total = { nat_cmp_total };
+
+    ghost exact = { nat_cmp-IsAntisymmetric };
+}
+
 /// A book in memory.
 #[derive(Drop)]
 pub struct MemBook {
     materials: Vec<Material>,
     parts: Vec<Part>,
     totals: Vec<Sums>,
+    jobs: Vec<Job>,
+    orders: Vec<Code>,
+    demands: Vec<Demand>,
     kept: BTreeMap<Pair, Kept>,
     last_act: u32,
+    last_demand: u32,
     failures: u64,
 }
 
@@ -106,8 +187,12 @@ impl MemBook {
             materials: Vec::new(alloc),
             parts: Vec::new(alloc),
             totals: Vec::new(alloc),
+            jobs: Vec::new(alloc),
+            orders: Vec::new(alloc),
+            demands: Vec::new(alloc),
             kept: BTreeMap::new(alloc),
             last_act: 0,
+            last_demand: 0,
             failures: 0,
         }
     }
@@ -123,13 +208,20 @@ impl MemBook {
         let materials = Vec::from_slice(alloc, &self.materials)?;
         let parts = Vec::from_slice(alloc, &self.parts)?;
         let totals = Vec::from_slice(alloc, &self.totals)?;
+        let jobs = self.jobs.clone()?;
+        let orders = Vec::from_slice(alloc, &self.orders)?;
+        let demands = Vec::from_slice(alloc, &self.demands)?;
         let kept = self.kept.clone()?;
         Ok(MemBook {
             materials,
             parts,
             totals,
+            jobs,
+            orders,
+            demands,
             kept,
             last_act: self.last_act,
+            last_demand: self.last_demand,
             failures: self.failures,
         })
     }
@@ -146,6 +238,20 @@ fn listed(alloc: Global, parts: &[Part], material: Code) -> Result<PartList, All
         }
     }
     Ok(rows)
+}
+
+// A copy of the job of a number.
+fn find_job(alloc: Global, jobs: &[Job], number: u32) -> Result<Option<Job>, AllocError>
+    requires { IsTrue (rise job_key nat_cmp jobs.now) }
+    ensures { IfOk result (λ row. row ≡ row_at job_key nat_cmp number jobs.now) }
+{
+    match at(jobs, number) {
+        None => Ok(None),
+        Some(job) => {
+            let copy = job.copy(alloc)?;
+            Ok(Some(copy))
+        }
+    }
 }
 
 // What is kept under a pair.
@@ -221,6 +327,42 @@ fn put_material(materials: &mut Vec<Material>, row: Option<Material>)
     }
 }
 
+// Puts a job, if there is one.
+fn put_job(jobs: &mut Vec<Job>, row: Option<Job>)
+    requires rising { IsTrue (rise job_key nat_cmp jobs.old.items) }
+    requires room { vec_len jobs.old < vec_capacity jobs.old }
+    ensures put { jobs_in jobs.new.items ≡ with_job row (jobs_in jobs.old.items) }
+    ensures rising { IsTrue (rise job_key nat_cmp jobs.new.items) }
+{
+    if let Some(row) = row {
+        let _ = put(jobs, row);
+    }
+}
+
+// Puts the code of an order, if there is one.
+fn put_order(orders: &mut Vec<Code>, code: Option<Code>)
+    requires rising { IsTrue (rise order_key code_cmp orders.old.items) }
+    requires room { vec_len orders.old < vec_capacity orders.old }
+    ensures put { orders_in orders.new.items ≡ with_order code (orders_in orders.old.items) }
+    ensures rising { IsTrue (rise order_key code_cmp orders.new.items) }
+{
+    if let Some(code) = code {
+        let _ = put(orders, code);
+    }
+}
+
+// Puts demands one after another.
+fn put_demands(demands: &mut Vec<Demand>, rows: &[Demand])
+    requires rising { IsTrue (rise demand_key nat_cmp demands.old.items) }
+    requires room { vec_len demands.old + length rows.now ≤ vec_capacity demands.old }
+    ensures put { demands_in demands.new.items ≡ with_demands rows.now (demands_in demands.old.items) }
+    ensures rising { IsTrue (rise demand_key nat_cmp demands.new.items) }
+{
+    for demand in rows {
+        let _ = put(demands, *demand);
+    }
+}
+
 // Keeps a message, if there is one. An `Err` keeps nothing.
 fn keep(kept: &mut BTreeMap<Pair, Kept>, message: Option<KeptMessage>) -> Result<(), AllocError>
     ensures ok { OnOk result (kept.new.entries ≡ put_kept message kept.old.entries) }
@@ -248,6 +390,25 @@ fn reserve(
     materials.reserve(1)?;
     parts.reserve(count)?;
     totals.reserve(count)?;
+    Ok(())
+}
+
+// Makes room for a job, an order and demands.
+fn reserve_orders(
+    jobs: &mut Vec<Job>,
+    orders: &mut Vec<Code>,
+    demands: &mut Vec<Demand>,
+    count: usize,
+) -> Result<(), AllocError>
+    ensures jobs { jobs.new.items ≡ jobs.old.items }
+    ensures orders { orders.new.items ≡ orders.old.items }
+    ensures demands { demands.new.items ≡ demands.old.items }
+    ensures room { OnOk result ((vec_len jobs.new < vec_capacity jobs.new) × (vec_len orders.new < vec_capacity orders.new)
+        × (vec_len demands.new + count ≤ vec_capacity demands.new)) }
+{
+    jobs.reserve(1)?;
+    orders.reserve(1)?;
+    demands.reserve(count)?;
     Ok(())
 }
 
@@ -282,6 +443,24 @@ impl MemBook {
         self.parts == other.parts
     }
 
+    fn has_jobs_of(&self, other: &MemBook) -> bool
+        ensures { IsTrue result ↔ (self.now.content.jobs ≡ other.now.content.jobs) }
+    {
+        self.jobs == other.jobs
+    }
+
+    fn has_orders_of(&self, other: &MemBook) -> bool
+        ensures { IsTrue result ↔ (self.now.content.orders ≡ other.now.content.orders) }
+    {
+        self.orders == other.orders
+    }
+
+    fn has_demands_of(&self, other: &MemBook) -> bool
+        ensures { IsTrue result ↔ (self.now.content.demands ≡ other.now.content.demands) }
+    {
+        self.demands == other.demands
+    }
+
     fn has_kept_of(&self, other: &MemBook) -> bool
         ensures { IsTrue result ↔ (self.now.content.kept ≡ other.now.content.kept) }
     {
@@ -294,8 +473,12 @@ impl MemBook {
     {
         self.has_materials_of(other)
             && self.has_parts_of(other)
+            && self.has_jobs_of(other)
+            && self.has_orders_of(other)
+            && self.has_demands_of(other)
             && self.has_kept_of(other)
             && self.last_act == other.last_act
+            && self.last_demand == other.last_demand
     }
 }
 
@@ -350,6 +533,29 @@ impl Book for MemBook {
         Ok(find(&self.parts, name))
     }
 
+    fn job(&mut self, alloc: Global, number: u32) -> Result<Option<Job>, BookFault>
+        ensures row { IfOk result (λ row. row ≡ job_at self.old.content number) }
+        ensures memory { IfErr result (λ fault. fault ≡ NoMemory) }
+        ensures same { self.new ≡ self.old }
+    {
+        let row = find_job(alloc, &self.jobs, number)?;
+        Ok(row)
+    }
+
+    fn order(&mut self, code: Code) -> Result<bool, BookFault>
+        ensures row { result ≡ Ok (has_order self.old.content code) }
+        ensures same { self.new ≡ self.old }
+    {
+        Ok(find(&self.orders, code).is_some())
+    }
+
+    fn demand(&mut self, number: u32) -> Result<Option<Demand>, BookFault>
+        ensures row { result ≡ Ok (demand_at self.old.content number) }
+        ensures same { self.new ≡ self.old }
+    {
+        Ok(find(&self.demands, number))
+    }
+
     fn kept(&mut self, alloc: Global, terminal: u32, number: u32) -> Result<Option<Kept>, BookFault>
         ensures row { IfOk result (λ row. row ≡ kept_at self.old.content (record { terminal = terminal; number = number })) }
         ensures memory { IfErr result (λ fault. fault ≡ NoMemory) }
@@ -367,6 +573,18 @@ impl Book for MemBook {
     {
         match self.last_act.checked_add(1) {
             Some(act) => Ok(act),
+            None => Err(self.fault()),
+        }
+    }
+
+    fn next_demand(&mut self) -> Result<u32, BookFault>
+        ensures number { IfOk result (λ demand. demand ≡ self.old.content.last_demand + 1) }
+        ensures sure { self.old.content.last_demand < 2 ^ 32 - 1 → IsOk result }
+        ensures content { self.new.content ≡ self.old.content }
+        ensures failures { CountsFailure self.old.failures result self.new.failures }
+    {
+        match self.last_demand.checked_add(1) {
+            Some(demand) => Ok(demand),
             None => Err(self.fault()),
         }
     }
@@ -401,22 +619,36 @@ impl Book for MemBook {
         let Change {
             material,
             parts,
+            job,
+            order,
+            demands,
             act,
+            demand,
             kept,
             reply: _,
         } = change;
         let rows = parts.as_slice();
-        let count = rows.len();
+        let wanted = demands.as_slice();
         reserve(
             &mut self.materials,
             &mut self.parts,
             &mut self.totals,
-            count,
+            rows.len(),
+        )?;
+        reserve_orders(
+            &mut self.jobs,
+            &mut self.orders,
+            &mut self.demands,
+            wanted.len(),
         )?;
         keep(&mut self.kept, kept)?;
         put_material(&mut self.materials, material);
         put_parts(&mut self.parts, &mut self.totals, rows);
+        put_job(&mut self.jobs, job);
+        put_order(&mut self.orders, order);
+        put_demands(&mut self.demands, wanted);
         self.last_act = act.unwrap_or(self.last_act);
+        self.last_demand = demand.unwrap_or(self.last_demand);
         Ok(())
     }
 

@@ -1,12 +1,13 @@
 ghost use Rattle.std.specs.declared.cmp.Ordering.{Ordering};
-ghost use Rattle.std.specs.Prelude.{◌≡◌, ◌+◌, ◌<◌, ◌≤◌, IfSome, IsSome, IsTrue, length, vec_len, vec_capacity};
+ghost use Rattle.std.specs.Prelude.{◌≡◌, ◌+◌, ◌<◌, ◌≤◌, IfSome, IsSome, IsTrue, length, option_copied, vec_len, vec_capacity};
 ghost use Rattle.std.specs.List.Sorted.{IsBinarySearchResult, IsSearchInRange};
 ghost use Rattle.shop_store.specs.Rows.{rise, row_at, IsPut};
 
 use std::cmp::Ordering;
+use std::mem::replace;
 
 /// Rows that are kept in the order of their keys.
-pub trait Row: Copy {
+pub trait Row: Drop {
     ghost use Rattle.std.specs.Cmp.{IsTotalOrder};
     ghost use Rattle.std.specs.FinMap.{IsAntisymmetric};
 
@@ -36,15 +37,27 @@ fn place<R: Row>(rows: &[R], key: R::Key) -> Result<usize, usize>
     rows.binary_search_by(|row| row.compare(key))
 }
 
+/// The row of a key, where it stands.
+pub fn at<R: Row>(rows: &[R], key: R::Key) -> Option<&R>
+    requires { IsTrue (rise R.key_of R.cmp rows.now) }
+    ensures row { option_copied result ≡ row_at R.key_of R.cmp key rows.now }
+    ensures key { IfSome result (λ row. R.key_of row.now ≡ key) }
+{
+    match place(rows, key) {
+        Ok(i) => Some(&rows[i]),
+        Err(_) => None,
+    }
+}
+
 /// The row of a key.
-pub fn find<R: Row>(rows: &[R], key: R::Key) -> Option<R>
+pub fn find<R: Row + Copy>(rows: &[R], key: R::Key) -> Option<R>
     requires { IsTrue (rise R.key_of R.cmp rows.now) }
     ensures row { result ≡ row_at R.key_of R.cmp key rows.now }
     ensures key { IfSome result (λ row. R.key_of row ≡ key) }
 {
-    match place(rows, key) {
-        Ok(i) => Some(rows[i]),
-        Err(_) => None,
+    match at(rows, key) {
+        Some(row) => Some(*row),
+        None => None,
     }
 }
 
@@ -61,8 +74,7 @@ pub fn put<R: Row>(rows: &mut Vec<R>, row: R) -> Option<R>
 {
     match place(rows, row.key()) {
         Ok(i) => {
-            let old = rows[i];
-            rows[i] = row;
+            let old = replace(&mut rows[i], row);
             Some(old)
         }
         Err(i) => {

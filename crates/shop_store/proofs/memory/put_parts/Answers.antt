@@ -3,9 +3,8 @@ use Rattle.std.proofs.Math.Seq.{drop-cons, drop-length}
 use Rattle.cut_measure.specs.Names.{name_cmp}
 use Rattle.shop_machine.specs.declared.records.Part.{Part}
 use Rattle.shop_machine.specs.Content.{with_parts}
-use Rattle.shop_machine.proofs.Accounts.{names_total}
 use Rattle.shop_store.specs.Rows.{entries_of}
-use Rattle.shop_store.specs.Memory.{part_key, parts_in}
+use Rattle.shop_store.specs.Memory.{part_key, parts_in, names_total}
 use Rattle.shop_store.proofs.Held.{put_is_insert}
 use Rattle.shop_store.proofs.memory.put_parts.Goals as goal
 

@@ -1,6 +1,6 @@
 use Rattle.std.proofs.Common.{sym, ap, ◌∙◌}
 use Rattle.shop_store.proofs.Places.{tested, row_found, row_missed}
-use Rattle.shop_store.proofs.rows.find.Goals as goal
+use Rattle.shop_store.proofs.rows.at.Goals as goal
 
 pub returns-in-Ok-clause-row : goal.returns-in-Ok-clause-row
 returns-in-Ok-clause-row g c =
