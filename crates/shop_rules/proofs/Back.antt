@@ -24,7 +24,7 @@ use Rattle.serde_json.proofs.Numbers.{number_of-decimal}
 use Rattle.json.specs.Token.{Token}
 use Rattle.serde_json.proofs.Texts.{print-outline}
 use Rattle.shop_rules.specs.Forms.{message_of, sent_of, from_one, command_of, material_command, receive_command, query_of, asked_of, reply_of, made_of, message_data, reply_data, json_texts, kept_reply_of, word_of}
-use Rattle.shop_rules.proofs.Fields.{number_there, code_there, kind_there, text_there}
+use Rattle.shop_rules.proofs.FieldFacts.{number_there, code_there, kind_there, text_there}
 
 -- ---- values
 

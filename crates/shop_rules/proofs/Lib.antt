@@ -1,2 +1,2 @@
-pub mod Fields
+pub mod FieldFacts
 pub mod Back

@@ -9,7 +9,7 @@ use Rattle.serde_json.specs.Find.{get, as_number, as_u64, as_str, as_object}
 use Rattle.serde_json.specs.Events.{members_len}
 use Rattle.serde_json.specs.View.{members_view}
 use Rattle.serde_json.proofs.Views.{Entry, members_len-members_view}
-use Rattle.shop_rules.specs.Forms.{small, number_at, text_at, code_at, kind_at, kind_of, word_of, has_keys}
+use Rattle.shop_rules.specs.Fields.{small, number_at, text_at, code_at, kind_at, kind_of, word_of, has_keys}
 
 pub keys_counted : (es : List Entry) (d : Data) (n len : ℕ) → Some (members_view es) ≡ as_object d → len ≡ length es → nat_eq len n ≡ has_keys n d
 keys_counted es d n len is counted =
