@@ -1,5 +1,6 @@
 -- Messages, queries and replies as JSON values: what a value stands for, and what is printed.
 use Rattle.std.specs.Prelude.{ℕ, List, map, nat_le, if◌then◌else◌, Option, Some, None, option_map, option_and_then, codes, bytes_eq}
+use Rattle.cut_measure.specs.Names.{name_text}
 use Rattle.shop_machine.specs.declared.messages.Command.{Command}
 use Rattle.shop_machine.specs.declared.messages.Command.TheVariants.{AddMaterial, Receive, AddOrder, Reserve, Done, Release}
 use Rattle.shop_machine.specs.declared.messages.Message.{Message}
@@ -179,6 +180,12 @@ abbrev pub message_data : Message → Data
 message_data message =
     object (put (codes "terminal") (number (unsigned message.terminal)) (put (codes "number") (number (unsigned message.number)) (command_members message.command)))
 
+abbrev pub trace_data : (batch part root state : List ℕ) (h of w x y : ℕ) → Data
+trace_data batch part root state h of w x y =
+    object (text_member (codes "batch") batch (number_member (codes "h") h (number_member (codes "of") of (text_member (codes "ok") (codes "trace")
+    (text_member (codes "part") part (text_member (codes "root") root (text_member (codes "state") state
+    (number_member (codes "w") w (number_member (codes "x") x (number_member (codes "y") y no_members))))))))))
+
 -- a reply as an object, its keys in byte order
 abbrev pub reply_data : Reply → Data
 reply_data (reply.AddMaterial material) =
@@ -199,10 +206,7 @@ reply_data (reply.Totals material received stock rack pieces kerf scrap) =
     object (number_member (codes "kerf") kerf (text_member (codes "material") material (text_member (codes "ok") (codes "totals")
     (number_member (codes "pieces") pieces (number_member (codes "rack") rack (number_member (codes "received") received
     (number_member (codes "scrap") scrap (number_member (codes "stock") stock no_members))))))))
-reply_data (reply.Trace batch h of part root state w x y) =
-    object (text_member (codes "batch") batch (number_member (codes "h") h (number_member (codes "of") of (text_member (codes "ok") (codes "trace")
-    (name_member (codes "part") part (name_member (codes "root") root (text_member (codes "state") (state_text state)
-    (number_member (codes "w") w (number_member (codes "x") x (number_member (codes "y") y no_members))))))))))
+reply_data (reply.Trace batch h of part root state w x y) = trace_data batch (name_text part) (name_text root) (state_text state) h of w x y
 reply_data (reply.Demand demand line made material order reserved wanted) =
     object (number_member (codes "demand") demand (number_member (codes "line") line (number_member (codes "made") made
     (text_member (codes "material") material (text_member (codes "ok") (codes "demand") (text_member (codes "order") order

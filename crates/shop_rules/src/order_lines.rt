@@ -42,8 +42,8 @@ fn read_line(value: &Value) -> Option<OrderLine>
 }
 
 // The lines that the values stand for, where each stands for one.
-fn read_lines(alloc: Global, values: &Vec<Value>) -> Result<Option<LineList>, AllocError>
-    ensures { IfOk result (λ lines. lines ≡ all_of form.line_of (map view values.now.items)) }
+fn read_lines(alloc: Global, values: &[Value]) -> Result<Option<LineList>, AllocError>
+    ensures { IfOk result (λ lines. lines ≡ all_of form.line_of (map view values.now)) }
 {
     let mut lines = LineList::new(alloc);
     for value in values {
@@ -89,7 +89,7 @@ fn line_value(alloc: Global, line: &OrderLine) -> Result<Value, AllocError>
     })
 }
 
-/// An order's lines as a list of objects.
+// An order's lines as a list of objects.
 pub(crate) fn lines_value(alloc: Global, lines: &[OrderLine]) -> Result<Value, AllocError>
     ensures { IfOk result (λ value. view value ≡ form.lines_data lines.now) }
 {
@@ -114,7 +114,7 @@ fn see_line(line: &OrderLine)
     let _material = line.material.as_str();
 }
 
-/// Reads each line, so that all are known to be in range.
+// Reads each line, so that all are known to be in range.
 pub(crate) fn see_lines(lines: &[OrderLine])
     ensures { All IsLine lines.now }
 {

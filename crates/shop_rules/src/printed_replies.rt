@@ -1,7 +1,7 @@
 ghost use Rattle.std.specs.Prelude.{◌≡◌, IfOk};
 ghost use Rattle.serde_json.specs.View.{view};
 ghost use Rattle.shop_machine.specs.declared.messages.Reply.TheVariants as reply;
-ghost use Rattle.shop_rules.specs.Forms.{reply_data};
+ghost use Rattle.shop_rules.specs.Forms.{reply_data, trace_data};
 
 use crate::words::{part_text, state_word, wide};
 use cut_measure::PartName;
@@ -36,11 +36,38 @@ fn done_reply(
 }
 
 // The place of a part: its sides, and where it begins.
+#[derive(Clone, Copy)]
 struct Place {
     w: u64,
     h: u64,
     x: u64,
     y: u64,
+}
+
+// The object that tells of a part, by the texts of its names and its state.
+fn trace_value(
+    alloc: Global,
+    batch: &str,
+    of: u64,
+    part: &str,
+    root: &str,
+    state: &str,
+    place: Place,
+) -> Result<Value, AllocError>
+    ensures { IfOk result (λ value. view value ≡ trace_data batch.now part.now root.now state.now place.h of place.w place.x place.y) }
+{
+    json!(in alloc; {
+        "batch": batch,
+        "h": place.h,
+        "of": of,
+        "ok": "trace",
+        "part": part,
+        "root": root,
+        "state": state,
+        "w": place.w,
+        "x": place.x,
+        "y": place.y
+    })
 }
 
 fn trace_reply(
@@ -56,21 +83,20 @@ fn trace_reply(
 {
     let part = part_text(alloc, part)?;
     let root = part_text(alloc, root)?;
-    json!(in alloc; {
-        "batch": batch,
-        "h": place.h,
-        "of": of,
-        "ok": "trace",
-        "part": part.as_str(),
-        "root": root.as_str(),
-        "state": state_word(state),
-        "w": place.w,
-        "x": place.x,
-        "y": place.y
-    })
+    let value = trace_value(
+        alloc,
+        batch,
+        of,
+        part.as_str(),
+        root.as_str(),
+        state_word(state),
+        place,
+    )?;
+    Ok(value)
 }
 
 // What is wanted, and of that reserved and made.
+#[derive(Clone, Copy)]
 struct Counts {
     wanted: u64,
     reserved: u64,
