@@ -26,7 +26,7 @@ first_of_both c x a b same = cc
 rest_of_both : (c x : ℕ) (a b : List ℕ) → c ∷ a ≡ x ∷ b → a ≡ b
 rest_of_both c x a b same = cc
 
-lacks_rest : (c x : ℕ) (xs : List ℕ) → Lacks c (x ∷ xs) → Lacks c xs
+pub lacks_rest : (c x : ℕ) (xs : List ℕ) → Lacks c (x ∷ xs) → Lacks c xs
 lacks_rest c x xs none = λ i h e. none (suc i) (omega arith) e
 
 -- only one place divides

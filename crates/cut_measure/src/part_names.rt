@@ -1,3 +1,5 @@
+ghost use Rattle.cut_measure.specs.Names.{IsNameOf};
+
 use crate::numbers::read_number;
 use std::alloc::AllocError;
 use std::cmp::Ordering;
@@ -23,9 +25,22 @@ impl Model for PartName {
     ghost inverse = { λ n. record { act = n.act; node = n.node } };
 }
 
+// The part that a text names.
+fn named(text: &str) -> Option<PartName>
+    ensures { IsNameOf result text.now }
+{
+    let (act, node) = text.split_once('/')?;
+    let act = read_number(act.as_bytes())?;
+    let node = read_number(node.as_bytes())?;
+    if act < 1 || act > 2147483647 {
+        return None;
+    }
+    Some(PartName { act, node })
+}
+
 impl PartName {
     ghost use Rattle.std.specs.Prelude.{◌≡◌, ◌≤◌, ◌++◌, OnOk, OnErr, string_bytes};
-    ghost use Rattle.cut_measure.specs.Names.{name_cmp, name_text, IsNameOf};
+    ghost use Rattle.cut_measure.specs.Names.{name_cmp, name_text, name_of, IsNameOf};
 
     /// The name of a node of an act.
     pub fn new(act: u32, node: u32) -> PartName
@@ -38,15 +53,10 @@ impl PartName {
 
     /// The part that a text names: its act and its node in decimal digits without leading zeros, joined by a slash.
     pub fn read(text: &str) -> Option<PartName>
-        ensures { IsNameOf result text.now }
+        ensures named { IsNameOf result text.now }
+        ensures value { result ≡ name_of text.now }
     {
-        let (act, node) = text.split_once('/')?;
-        let act = read_number(act.as_bytes())?;
-        let node = read_number(node.as_bytes())?;
-        if act < 1 || act > 2147483647 {
-            return None;
-        }
-        Some(PartName { act, node })
+        named(text)
     }
 
     /// Appends its text, or leaves the string as it was.

@@ -16,7 +16,8 @@ impl Model for Text {
 }
 
 impl Text {
-    ghost use Rattle.std.specs.Prelude.{◌≡◌, ◌++◌, [], OnOk, OnErr, IfOk, string_bytes};
+    ghost use Rattle.std.specs.Prelude.{◌≡◌, ◌++◌, [], IsTrue, OnOk, OnErr, IfOk, string_bytes};
+    ghost use Rattle.std.specs.Str.{is_utf8};
 
     /// The empty text.
     pub fn new(alloc: Global) -> Text
@@ -34,6 +35,14 @@ impl Text {
         Text { string }
     }
 
+    /// The same text in memory of its own.
+    pub fn from_str(alloc: Global, text: &str) -> Result<Text, AllocError>
+        ensures { IfOk result (λ copy. copy ≡ text.now) }
+    {
+        let string = String::from_str(alloc, text)?;
+        Ok(Text { string })
+    }
+
     /// Appends, or changes nothing.
     pub fn push(&mut self, more: &str) -> Result<(), AllocError>
         ensures ok { OnOk result (self.new ≡ self.old ++ more.now) }
@@ -45,7 +54,8 @@ impl Text {
 
     /// Its bytes.
     pub fn as_str(&self) -> &str
-        ensures { result.now ≡ self.now }
+        ensures value { result.now ≡ self.now }
+        ensures utf8 { IsTrue (is_utf8 self.now) }
     {
         self.string.as_str()
     }

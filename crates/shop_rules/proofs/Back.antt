@@ -1,15 +1,18 @@
 -- What is printed is read back.
-use Rattle.std.proofs.Common.{◌≡◌, ℕ, ◌<◌, ◌≤◌, ◌^◌, List, [], append-nil, Bool, true, false, Option, Some, None, refl, sym, ap, ◌∙◌, arith, le-leb, codes}
-use Rattle.std.specs.Prelude.{IsTrue, option_map, option_and_then, if◌then◌else◌, is_some}
+use Rattle.std.proofs.Common.{◌≡◌, ℕ, suc, ◌<◌, ◌≤◌, ◌^◌, List, [], append-nil, Bool, true, false, Option, Some, None, refl, sym, ap, ◌∙◌, arith, le-leb, codes}
+use Rattle.std.specs.Prelude.{◌||◌, IsTrue, max, option_map, option_and_then, if◌then◌else◌, is_some}
 use Rattle.cut_measure.specs.declared.sizes.Kind.{Kind}
 use Rattle.cut_measure.specs.Codes.{is_code}
+use Rattle.cut_measure.specs.Names.{Name, name_text}
 use Rattle.shop_machine.specs.declared.messages.Command.{Command}
-use Rattle.shop_machine.specs.declared.messages.Command.TheVariants.{AddMaterial, Receive}
+use Rattle.shop_machine.specs.declared.messages.Command.TheVariants.{AddMaterial, Receive, AddOrder, Reserve, Done, Release}
 use Rattle.shop_machine.specs.declared.messages.Message.{Message}
+use Rattle.shop_machine.specs.declared.messages.OrderLine.{OrderLine}
 use Rattle.shop_machine.specs.declared.messages.Query.{Query}
 use Rattle.shop_machine.specs.declared.messages.Reply.{Reply}
 use Rattle.shop_machine.specs.declared.messages.Reply.TheVariants as reply
 use Rattle.shop_machine.specs.Messages.{IsMessage, IsCommand, IsMade, IsNumber}
+use Rattle.std.proofs.Math.Nat.{max-le}
 use Rattle.json.proofs.Printed.Decimals.{IsNumber-decimal}
 use Rattle.json.proofs.Printed.Tokens.{tokens-print}
 use Rattle.json.proofs.Printed.Trees.{value-json_tokens, ArePrintable-json_tokens}
@@ -19,12 +22,13 @@ use Rattle.json.specs.Tree.{HasNumbers, depth, json_tokens}
 use Rattle.serde_json.specs.Data.{Data, object, number, string, unsigned}
 use Rattle.serde_json.specs.Find.{get, as_str}
 use Rattle.serde_json.specs.Read.{read, of_json, max_depth}
-use Rattle.serde_json.specs.Written.{compact_text, outline}
+use Rattle.serde_json.specs.Written.{compact_text, outline, has_float}
 use Rattle.serde_json.proofs.Numbers.{number_of-decimal}
 use Rattle.json.specs.Token.{Token}
 use Rattle.serde_json.proofs.Texts.{print-outline}
-use Rattle.shop_rules.specs.Forms.{message_of, sent_of, from_one, command_of, material_command, receive_command, query_of, asked_of, reply_of, made_of, message_data, reply_data, json_texts, kept_reply_of, word_of}
-use Rattle.shop_rules.proofs.Fields.{number_there, code_there, kind_there, text_there}
+use Rattle.shop_rules.specs.Forms.{message_of, head_of, sent_of, from_one, command_of, material_command, receive_command, order_command, reserve_command, query_of, asked_of, reply_of, made_of, order_reply, reserve_reply, done_reply, line_data, lines_data, message_data, reply_data, json_texts, kept_reply_of, word_of}
+use Rattle.shop_rules.proofs.FieldFacts.{number_there, wide_there, code_there, kind_there, name_there, text_there}
+use Rattle.shop_rules.proofs.Lists.{lines_there, lines_numbers, lines_shallow, lines_json, lines_no_float}
 
 -- ---- values
 
@@ -42,6 +46,16 @@ read_receive : (d : Data) (material batch : List ℕ) (w h count : ℕ)
 read_receive d material batch w h count p q r s t c =
     rw (code_there (codes "material") d material p c.0, code_there (codes "batch") d batch q c.1, number_there (codes "w") d w r c.2, number_there (codes "h") d h s c.3, number_there (codes "count") d count t c.4) refl
 
+read_order : (d : Data) (order : List ℕ) (lines : List OrderLine)
+    → get (codes "order") d ≡ Some (string order) → get (codes "lines") d ≡ Some (lines_data lines)
+    → IsCommand (AddOrder order lines) → order_command d ≡ Some (AddOrder order lines)
+read_order d order lines p q h = rw (code_there (codes "order") d order p h.0, lines_there (codes "lines") d lines q h.1) refl
+
+read_reserve : (d : Data) (part : Name) (tree : List ℕ)
+    → get (codes "part") d ≡ Some (string (name_text part)) → get (codes "tree") d ≡ Some (string tree)
+    → IsCommand (Reserve part tree) → reserve_command d ≡ Some (Reserve part tree)
+read_reserve d part tree p q h = rw (name_there (codes "part") d part p h.0, text_there (codes "tree") d tree q) refl
+
 read_sent : (d : Data) (word : List ℕ) (terminal n : ℕ) (command : Command)
     → get (codes "ask") d ≡ None → get (codes "do") d ≡ Some (string word) → get (codes "terminal") d ≡ Some (number (unsigned terminal)) → get (codes "number") d ≡ Some (number (unsigned n))
     → IsNumber terminal → IsNumber n → command_of word d ≡ Some command → sent_of d ≡ Some (record { terminal = terminal; number = n; command = command })
@@ -58,6 +72,18 @@ sent_back_by terminal n (Receive material batch w h count) p q c =
     let d = message_data (record { terminal = terminal; number = n; command = Receive material batch w h count }) in
     read_sent d (codes "receive") terminal n (Receive material batch w h count) refl refl refl refl p q
     (read_receive d material batch w h count refl refl refl refl refl c)
+sent_back_by terminal n (AddOrder order lines) p q h =
+    let d = message_data (record { terminal = terminal; number = n; command = AddOrder order lines }) in
+    read_sent d (codes "order") terminal n (AddOrder order lines) refl refl refl refl p q (read_order d order lines refl refl h)
+sent_back_by terminal n (Reserve part tree) p q h =
+    let d = message_data (record { terminal = terminal; number = n; command = Reserve part tree }) in
+    read_sent d (codes "reserve") terminal n (Reserve part tree) refl refl refl refl p q (read_reserve d part tree refl refl h)
+sent_back_by terminal n (Done job) p q h =
+    let d = message_data (record { terminal = terminal; number = n; command = Done job }) in
+    read_sent d (codes "done") terminal n (Done job) refl refl refl refl p q (ap (option_map Done) (number_there (codes "job") d job refl h))
+sent_back_by terminal n (Release job) p q h =
+    let d = message_data (record { terminal = terminal; number = n; command = Release job }) in
+    read_sent d (codes "release") terminal n (Release job) refl refl refl refl p q (ap (option_map Release) (number_there (codes "job") d job refl h))
 
 pub sent_back : (message : Message) → IsMessage message → sent_of (message_data message) ≡ Some message
 sent_back message h = sent_back_by message.terminal message.number message.command h.terminal h.number h.command
@@ -70,16 +96,53 @@ read_receipt : (d : Data) (act count : ℕ) → get (codes "ok") d ≡ Some (str
     → made_of (codes "receive") d ≡ Some (reply.Receive act count) → reply_of d ≡ Some (reply.Receive act count)
 read_receipt d act count p q r is = rw (text_there (codes "ok") d (codes "receive") p) is
 
+read_order_reply : (d : Data) (count first : ℕ) (order : List ℕ)
+    → get (codes "count") d ≡ Some (number (unsigned count)) → get (codes "first") d ≡ Some (number (unsigned first)) → get (codes "order") d ≡ Some (string order)
+    → IsMade (reply.AddOrder count first order) → order_reply d ≡ Some (reply.AddOrder count first order)
+read_order_reply d count first order p q r h =
+    rw (number_there (codes "count") d count p h.0, number_there (codes "first") d first q h.1, code_there (codes "order") d order r h.2) refl
+
+read_reserve_reply : (d : Data) (cuts job : ℕ)
+    → get (codes "cuts") d ≡ Some (number (unsigned cuts)) → get (codes "job") d ≡ Some (number (unsigned job))
+    → IsMade (reply.Reserve cuts job) → reserve_reply d ≡ Some (reply.Reserve cuts job)
+read_reserve_reply d cuts job p q h = rw (number_there (codes "cuts") d cuts p h.0, number_there (codes "job") d job q h.1) refl
+
+read_done_reply : (d : Data) (job kerf pieces rack scrap : ℕ)
+    → get (codes "job") d ≡ Some (number (unsigned job)) → get (codes "kerf") d ≡ Some (number (unsigned kerf)) → get (codes "pieces") d ≡ Some (number (unsigned pieces))
+    → get (codes "rack") d ≡ Some (number (unsigned rack)) → get (codes "scrap") d ≡ Some (number (unsigned scrap))
+    → IsMade (reply.Done job kerf pieces rack scrap) → done_reply d ≡ Some (reply.Done job kerf pieces rack scrap)
+read_done_reply d job kerf pieces rack scrap p q r s t h =
+    rw (number_there (codes "job") d job p h.0, wide_there (codes "kerf") d kerf q, wide_there (codes "pieces") d pieces r, wide_there (codes "rack") d rack s, wide_there (codes "scrap") d scrap t) refl
+
 pub reply_back : (answer : Reply) → IsMade answer → reply_of (reply_data answer) ≡ Some answer
 reply_back (reply.AddMaterial material) h =
     ap (option_map reply.AddMaterial) (code_there (codes "material") (reply_data (reply.AddMaterial material)) material refl h)
 reply_back (reply.Receive act count) h =
     let d = reply_data (reply.Receive act count) in
     rw (number_there (codes "act") d act refl h.0, number_there (codes "count") d count refl h.1) refl
+reply_back (reply.AddOrder count first order) h =
+    read_order_reply (reply_data (reply.AddOrder count first order)) count first order refl refl refl h
+reply_back (reply.Reserve cuts job) h = read_reserve_reply (reply_data (reply.Reserve cuts job)) cuts job refl refl h
+reply_back (reply.Done job kerf pieces rack scrap) h =
+    read_done_reply (reply_data (reply.Done job kerf pieces rack scrap)) job kerf pieces rack scrap refl refl refl refl refl h
+reply_back (reply.Release job) h = ap (option_map reply.Release) (number_there (codes "job") (reply_data (reply.Release job)) job refl h)
 reply_back (reply.Totals material received stock rack pieces kerf scrap) h = absurd h
+reply_back (reply.Trace batch h of part root state w x y) made = absurd made
+reply_back (reply.Demand demand line made material order reserved wanted) h = absurd h
 reply_back (reply.Refused refusal) h = absurd h
 
 -- ---- texts
+
+no_float_by : (terminal n : ℕ) (command : Command) → has_float (message_data (record { terminal = terminal; number = n; command = command })) ≡ false
+no_float_by terminal n (AddMaterial material kind kerf min_long min_short) = refl
+no_float_by terminal n (Receive material batch w h count) = refl
+no_float_by terminal n (AddOrder order lines) = ap (λ (b : Bool). b || false) (lines_no_float lines)
+no_float_by terminal n (Reserve part tree) = refl
+no_float_by terminal n (Done job) = refl
+no_float_by terminal n (Release job) = refl
+
+pub message_no_float : (message : Message) → has_float (message_data message) ≡ false
+message_no_float message = no_float_by message.terminal message.number message.command
 
 -- the text of a value whose numbers are read back is read as the value
 read-compact : (d : Data) → HasNumbers (outline d) → depth (outline d) ≤ max_depth → of_json (outline d) ≡ Some d → read (compact_text d) ≡ Some d
@@ -90,6 +153,10 @@ read-compact d numbers shallow back =
 
 wide : (n : ℕ) → n < 2 ^ 32 → n < 2 ^ 64
 wide n h = omega arith
+
+-- an object with one list of objects
+shallow : (n : ℕ) → n ≤ 1 → suc (max 0 (max (suc n) (max 0 (max 0 (max 0 0))))) ≤ 127
+shallow n h = let e : max 0 (max (suc n) (max 0 (max 0 (max 0 0)))) ≤ 126 = max-le (omega arith) (max-le (omega (arith, h)) (omega arith)) in omega (arith, e)
 
 text_read_by : (terminal n : ℕ) (command : Command) → IsNumber terminal → IsNumber n → IsCommand command
     → let d = message_data (record { terminal = terminal; number = n; command = command }) in read (compact_text d) ≡ Some d
@@ -120,6 +187,22 @@ text_read_by terminal n (Receive material batch w h count) p q c =
     read-compact d
     (tt, (IsNumber-decimal count (wide count c.4), (tt, (IsNumber-decimal h (wide h c.3), (tt, (IsNumber-decimal n (wide n q), (IsNumber-decimal terminal (wide terminal p), (IsNumber-decimal w (wide w c.2), tt)))))))) (omega arith)
     (rw (number_of-decimal count (wide count c.4), number_of-decimal h (wide h c.3), number_of-decimal n (wide n q), number_of-decimal terminal (wide terminal p), number_of-decimal w (wide w c.2)) refl)
+text_read_by terminal n (AddOrder order lines) p q h =
+    let d = message_data (record { terminal = terminal; number = n; command = AddOrder order lines }) in
+    read-compact d (tt, (lines_numbers lines h.1, (IsNumber-decimal n (wide n q), (tt, (IsNumber-decimal terminal (wide terminal p), tt))))) (shallow _ (lines_shallow lines))
+    (rw (lines_json lines h.1, number_of-decimal n (wide n q), number_of-decimal terminal (wide terminal p)) refl)
+text_read_by terminal n (Reserve part tree) p q h =
+    let d = message_data (record { terminal = terminal; number = n; command = Reserve part tree }) in
+    read-compact d (tt, (IsNumber-decimal n (wide n q), (tt, (IsNumber-decimal terminal (wide terminal p), (tt, tt))))) (omega arith)
+    (rw (number_of-decimal n (wide n q), number_of-decimal terminal (wide terminal p)) refl)
+text_read_by terminal n (Done job) p q h =
+    let d = message_data (record { terminal = terminal; number = n; command = Done job }) in
+    read-compact d (tt, (IsNumber-decimal job (wide job h), (IsNumber-decimal n (wide n q), (IsNumber-decimal terminal (wide terminal p), tt)))) (omega arith)
+    (rw (number_of-decimal job (wide job h), number_of-decimal n (wide n q), number_of-decimal terminal (wide terminal p)) refl)
+text_read_by terminal n (Release job) p q h =
+    let d = message_data (record { terminal = terminal; number = n; command = Release job }) in
+    read-compact d (tt, (IsNumber-decimal job (wide job h), (IsNumber-decimal n (wide n q), (IsNumber-decimal terminal (wide terminal p), tt)))) (omega arith)
+    (rw (number_of-decimal job (wide job h), number_of-decimal n (wide n q), number_of-decimal terminal (wide terminal p)) refl)
 
 pub message_text_read : (message : Message) → IsMessage message → read (json_texts.of_message message) ≡ Some (message_data message)
 unfolding json_texts
@@ -131,7 +214,21 @@ reply_text_read (reply.AddMaterial material) h = read-compact (reply_data (reply
 reply_text_read (reply.Receive act count) h =
     read-compact (reply_data (reply.Receive act count)) (IsNumber-decimal act (wide act h.0), (IsNumber-decimal count (wide count h.1), (tt, tt))) (omega arith)
     (rw (number_of-decimal act (wide act h.0), number_of-decimal count (wide count h.1)) refl)
+reply_text_read (reply.AddOrder count first order) h =
+    read-compact (reply_data (reply.AddOrder count first order)) (IsNumber-decimal count (wide count h.0), (IsNumber-decimal first (wide first h.1), (tt, (tt, tt)))) (omega arith)
+    (rw (number_of-decimal count (wide count h.0), number_of-decimal first (wide first h.1)) refl)
+reply_text_read (reply.Reserve cuts job) h =
+    read-compact (reply_data (reply.Reserve cuts job)) (IsNumber-decimal cuts (wide cuts h.0), (IsNumber-decimal job (wide job h.1), (tt, tt))) (omega arith)
+    (rw (number_of-decimal cuts (wide cuts h.0), number_of-decimal job (wide job h.1)) refl)
+reply_text_read (reply.Done job kerf pieces rack scrap) h =
+    read-compact (reply_data (reply.Done job kerf pieces rack scrap))
+    (IsNumber-decimal job (wide job h.0), (IsNumber-decimal kerf h.1, (tt, (IsNumber-decimal pieces h.2, (IsNumber-decimal rack h.3, (IsNumber-decimal scrap h.4, tt)))))) (omega arith)
+    (rw (number_of-decimal job (wide job h.0), number_of-decimal kerf h.1, number_of-decimal pieces h.2, number_of-decimal rack h.3, number_of-decimal scrap h.4) refl)
+reply_text_read (reply.Release job) h =
+    read-compact (reply_data (reply.Release job)) (IsNumber-decimal job (wide job h), (tt, tt)) (omega arith) (rw (number_of-decimal job (wide job h)) refl)
 reply_text_read (reply.Totals material received stock rack pieces kerf scrap) h = absurd h
+reply_text_read (reply.Trace batch h of part root state w x y) made = absurd made
+reply_text_read (reply.Demand demand line made material order reserved wanted) h = absurd h
 reply_text_read (reply.Refused refusal) h = absurd h
 
 same_some : {A : Type 0} (a b : A) → Some a ≡ Some b → a ≡ b
@@ -170,6 +267,7 @@ one_word (Some a) (Some b) w v p q = cc p
 pub never_both : (d : Data) (message : Message) (query : Query) → message_of d ≡ Some message → query_of d ≡ Some query → ⊥
 never_both d message query p q =
     let sent = some_under from_one (sent_of d) message p in
-    let done = some_under _ _ sent.0 sent.1 in
+    let head = some_under _ (head_of d) sent.0 sent.1 in
+    let done = some_under _ _ head.0 head.1 in
     let asked = some_under (λ word. asked_of word d) _ query q in
     one_word (get (codes "do") d) (get (codes "ask") d) done.0 asked.0 done.1 asked.1

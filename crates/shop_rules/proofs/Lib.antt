@@ -1,2 +1,3 @@
-pub mod Fields
+pub mod FieldFacts
+pub mod Lists
 pub mod Back

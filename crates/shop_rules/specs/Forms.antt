@@ -1,55 +1,22 @@
 -- Messages, queries and replies as JSON values: what a value stands for, and what is printed.
-use Rattle.std.specs.Prelude.{ℕ, ◌^◌, ◌==◌, List, Bool, true, false, nat_lt, nat_le, if◌then◌else◌, Option, Some, None, is_some, option_map, option_and_then, unwrap_or, codes, bytes_eq}
-use Rattle.cut_measure.specs.declared.sizes.Kind.{Kind}
-use Rattle.cut_measure.specs.declared.sizes.Kind.TheVariants.{Bar, Sheet}
-use Rattle.cut_measure.specs.Codes.{code_of}
+use Rattle.std.specs.Prelude.{ℕ, List, map, nat_le, if◌then◌else◌, Option, Some, None, option_map, option_and_then, codes, bytes_eq}
+use Rattle.cut_measure.specs.Names.{name_text}
 use Rattle.shop_machine.specs.declared.messages.Command.{Command}
-use Rattle.shop_machine.specs.declared.messages.Command.TheVariants.{AddMaterial, Receive}
+use Rattle.shop_machine.specs.declared.messages.Command.TheVariants.{AddMaterial, Receive, AddOrder, Reserve, Done, Release}
 use Rattle.shop_machine.specs.declared.messages.Message.{Message}
+use Rattle.shop_machine.specs.declared.messages.OrderLine.{OrderLine}
 use Rattle.shop_machine.specs.declared.messages.Query.{Query}
 use Rattle.shop_machine.specs.declared.messages.Query.TheVariants as query
 use Rattle.shop_machine.specs.declared.messages.Reply.{Reply}
 use Rattle.shop_machine.specs.declared.messages.Reply.TheVariants as reply
 use Rattle.shop_machine.specs.Refusals.{number_of, name_of}
 use Rattle.shop_machine.specs.Messages.{Texts}
-use Rattle.serde_json.specs.Data.{Data, object, number, string, unsigned, Members, member, no_members, put}
-use Rattle.serde_json.specs.Find.{get, as_number, as_u64, as_str, as_object}
-use Rattle.serde_json.specs.Events.{members_len}
+use Rattle.serde_json.specs.Data.{Data, array, object, number, unsigned, Members, member, no_members, put}
 use Rattle.serde_json.specs.Read.{read}
+use Rattle.serde_json.specs.View.{items_of}
 use Rattle.serde_json.specs.Written.{compact_text}
-
--- ---- the fields of an object
-
-abbrev pub small : ℕ → Option ℕ
-small n = if nat_lt n (2 ^ 32) then Some n else None
-
--- a whole number of 32 bits
-abbrev pub number_at : List ℕ → Data → Option ℕ
-number_at key d = option_and_then small (option_and_then as_u64 (option_and_then as_number (get key d)))
-
-abbrev pub text_at : List ℕ → Data → Option (List ℕ)
-text_at key d = option_and_then as_str (get key d)
-
-abbrev pub code_at : List ℕ → Data → Option (List ℕ)
-code_at key d = option_and_then code_of (text_at key d)
-
-abbrev pub kind_of : List ℕ → Option Kind
-kind_of text = if bytes_eq text (codes "bar") then Some Bar else (if bytes_eq text (codes "sheet") then Some Sheet else None)
-
-abbrev pub kind_at : List ℕ → Data → Option Kind
-kind_at key d = option_and_then kind_of (text_at key d)
-
--- the text at a key, where there is nothing at the other key
-abbrev pub word_at : List ℕ → List ℕ → Data → Option (List ℕ)
-word_at key other d = if is_some (get other d) then None else text_at key d
-
--- so many keys: an object has each key once, so where each key of a row is there, these are exactly the row's
-abbrev pub has_keys : ℕ → Data → Bool
-has_keys n d = unwrap_or (option_map (λ members. members_len members == n) (as_object d)) false
-
--- a row: its number of keys, and what its fields stand for
-abbrev pub row : {T : Type 0} → ℕ → (Data → Option T) → Data → Option T
-row n fields d = if has_keys n d then fields d else None
+use Rattle.shop_rules.specs.Fields.{number_at, wide_at, flag_at, text_at, code_at, name_at, kind_at, word_at, elements_at, all_of, row, state_text, text_member, number_member, name_member, flag_member}
+pub use Rattle.shop_rules.specs.Fields.{word_of}
 
 -- ---- messages
 
@@ -65,18 +32,51 @@ receive_command d =
     Receive material batch w h count)
     (number_at (codes "count") d)) (number_at (codes "h") d)) (number_at (codes "w") d)) (code_at (codes "batch") d)) (code_at (codes "material") d)
 
+abbrev pub line_fields : Data → Option OrderLine
+line_fields d =
+    option_and_then (λ line. option_and_then (λ material. option_and_then (λ w. option_and_then (λ h. option_and_then (λ turn. option_and_then (λ count. option_map (λ worth.
+    record { line = line; material = material; w = w; h = h; turn = turn; count = count; worth = worth })
+    (number_at (codes "worth") d)) (number_at (codes "count") d)) (flag_at (codes "turn") d)) (number_at (codes "h") d)) (number_at (codes "w") d)) (code_at (codes "material") d)) (number_at (codes "line") d)
+
+-- an element of an order's lines
+abbrev pub line_of : Data → Option OrderLine
+line_of d = row 7 line_fields d
+
+abbrev pub lines_at : List ℕ → Data → Option (List OrderLine)
+lines_at key d = option_and_then (all_of line_of) (elements_at key d)
+
+abbrev pub order_command : Data → Option Command
+order_command d = option_and_then (λ order. option_map (λ lines. AddOrder order lines) (lines_at (codes "lines") d)) (code_at (codes "order") d)
+
+abbrev pub reserve_command : Data → Option Command
+reserve_command d = option_and_then (λ part. option_map (λ tree. Reserve part tree) (text_at (codes "tree") d)) (name_at (codes "part") d)
+
+abbrev pub done_command : Data → Option Command
+done_command d = option_map Done (number_at (codes "job") d)
+
+abbrev pub release_command : Data → Option Command
+release_command d = option_map Release (number_at (codes "job") d)
+
 -- the rows by the word of `do`, each with `do`, `terminal` and `number`
 abbrev pub command_of : List ℕ → Data → Option Command
 command_of word d =
     if bytes_eq word (codes "material") then row 8 material_command d
-    else (if bytes_eq word (codes "receive") then row 8 receive_command d else None)
+    else (if bytes_eq word (codes "receive") then row 8 receive_command d
+    else (if bytes_eq word (codes "order") then row 5 order_command d
+    else (if bytes_eq word (codes "reserve") then row 5 reserve_command d
+    else (if bytes_eq word (codes "done") then row 4 done_command d
+    else (if bytes_eq word (codes "release") then row 4 release_command d else None)))))
+
+-- the word of `do`, the terminal and the number
+abbrev pub head_of : Data → Option (List ℕ × ℕ × ℕ)
+head_of d =
+    option_and_then (λ word. option_and_then (λ terminal. option_map (λ number. (word, terminal, number))
+    (number_at (codes "number") d)) (number_at (codes "terminal") d)) (word_at (codes "do") (codes "ask") d)
 
 -- a message of any terminal
 abbrev pub sent_of : Data → Option Message
 sent_of d =
-    option_and_then (λ word. option_and_then (λ terminal. option_and_then (λ number. option_map (λ command.
-    record { terminal = terminal; number = number; command = command })
-    (command_of word d)) (number_at (codes "number") d)) (number_at (codes "terminal") d)) (word_at (codes "do") (codes "ask") d)
+    option_and_then (λ head. option_map (λ command. record { terminal = head.1; number = head.2; command = command }) (command_of head.0 d)) (head_of d)
 
 -- terminal 0 sends nothing
 abbrev pub from_one : Message → Option Message
@@ -90,9 +90,18 @@ message_of d = option_and_then from_one (sent_of d)
 abbrev pub totals_query : Data → Option Query
 totals_query d = option_map query.Totals (code_at (codes "material") d)
 
+abbrev pub trace_query : Data → Option Query
+trace_query d = option_map query.Trace (name_at (codes "part") d)
+
+abbrev pub demand_query : Data → Option Query
+demand_query d = option_map query.Demand (number_at (codes "demand") d)
+
 -- the rows by the word of `ask`, each with `ask`
 abbrev pub asked_of : List ℕ → Data → Option Query
-asked_of word d = if bytes_eq word (codes "totals") then row 2 totals_query d else None
+asked_of word d =
+    if bytes_eq word (codes "totals") then row 2 totals_query d
+    else (if bytes_eq word (codes "trace") then row 2 trace_query d
+    else (if bytes_eq word (codes "demand") then row 2 demand_query d else None))
 
 abbrev pub query_of : Data → Option Query
 query_of d = option_and_then (λ word. asked_of word d) (word_at (codes "ask") (codes "do") d)
@@ -106,26 +115,48 @@ abbrev pub receive_reply : Data → Option Reply
 receive_reply d =
     option_and_then (λ act. option_map (λ count. reply.Receive act count) (number_at (codes "count") d)) (number_at (codes "act") d)
 
+abbrev pub order_reply : Data → Option Reply
+order_reply d =
+    option_and_then (λ count. option_and_then (λ first. option_map (λ order. reply.AddOrder count first order)
+    (code_at (codes "order") d)) (number_at (codes "first") d)) (number_at (codes "count") d)
+
+abbrev pub reserve_reply : Data → Option Reply
+reserve_reply d =
+    option_and_then (λ cuts. option_map (λ job. reply.Reserve cuts job) (number_at (codes "job") d)) (number_at (codes "cuts") d)
+
+abbrev pub done_reply : Data → Option Reply
+done_reply d =
+    option_and_then (λ job. option_and_then (λ kerf. option_and_then (λ pieces. option_and_then (λ rack. option_map (λ scrap.
+    reply.Done job kerf pieces rack scrap)
+    (wide_at (codes "scrap") d)) (wide_at (codes "rack") d)) (wide_at (codes "pieces") d)) (wide_at (codes "kerf") d)) (number_at (codes "job") d)
+
+abbrev pub release_reply : Data → Option Reply
+release_reply d = option_map reply.Release (number_at (codes "job") d)
+
 -- the rows by the word of `ok`, each with `ok`
 abbrev pub made_of : List ℕ → Data → Option Reply
 made_of word d =
     if bytes_eq word (codes "material") then row 2 material_reply d
-    else (if bytes_eq word (codes "receive") then row 3 receive_reply d else None)
+    else (if bytes_eq word (codes "receive") then row 3 receive_reply d
+    else (if bytes_eq word (codes "order") then row 4 order_reply d
+    else (if bytes_eq word (codes "reserve") then row 3 reserve_reply d
+    else (if bytes_eq word (codes "done") then row 6 done_reply d
+    else (if bytes_eq word (codes "release") then row 2 release_reply d else None)))))
 
 abbrev pub reply_of : Data → Option Reply
 reply_of d = option_and_then (λ word. made_of word d) (text_at (codes "ok") d)
 
 -- ---- what is printed
 
-abbrev pub word_of : Kind → List ℕ
-word_of Bar = codes "bar"
-word_of Sheet = codes "sheet"
+-- an order's line as an object, its keys in byte order
+abbrev pub line_data : OrderLine → Data
+line_data l =
+    object (number_member (codes "count") l.count (number_member (codes "h") l.h (number_member (codes "line") l.line
+    (text_member (codes "material") l.material (flag_member (codes "turn") l.turn (number_member (codes "w") l.w
+    (number_member (codes "worth") l.worth no_members)))))))
 
-abbrev pub text_member : List ℕ → List ℕ → Members → Members
-text_member key text more = member key (string text) more
-
-abbrev pub number_member : List ℕ → ℕ → Members → Members
-number_member key n more = member key (number (unsigned n)) more
+abbrev pub lines_data : List OrderLine → Data
+lines_data lines = array (items_of (map line_data lines))
 
 -- the keys of a command's row but `terminal` and `number`, in byte order
 abbrev pub command_members : Command → Members
@@ -135,11 +166,25 @@ command_members (AddMaterial material kind kerf min_long min_short) =
 command_members (Receive material batch w h count) =
     text_member (codes "batch") batch (number_member (codes "count") count (text_member (codes "do") (codes "receive")
     (number_member (codes "h") h (text_member (codes "material") material (number_member (codes "w") w no_members)))))
+command_members (AddOrder order lines) =
+    text_member (codes "do") (codes "order") (member (codes "lines") (lines_data lines) (text_member (codes "order") order no_members))
+command_members (Reserve part tree) =
+    text_member (codes "do") (codes "reserve") (name_member (codes "part") part (text_member (codes "tree") tree no_members))
+command_members (Done job) =
+    text_member (codes "do") (codes "done") (number_member (codes "job") job no_members)
+command_members (Release job) =
+    text_member (codes "do") (codes "release") (number_member (codes "job") job no_members)
 
 -- a message as an object, its keys in byte order
 abbrev pub message_data : Message → Data
 message_data message =
     object (put (codes "terminal") (number (unsigned message.terminal)) (put (codes "number") (number (unsigned message.number)) (command_members message.command)))
+
+abbrev pub trace_data : (batch part root state : List ℕ) (h of w x y : ℕ) → Data
+trace_data batch part root state h of w x y =
+    object (text_member (codes "batch") batch (number_member (codes "h") h (number_member (codes "of") of (text_member (codes "ok") (codes "trace")
+    (text_member (codes "part") part (text_member (codes "root") root (text_member (codes "state") state
+    (number_member (codes "w") w (number_member (codes "x") x (number_member (codes "y") y no_members))))))))))
 
 -- a reply as an object, its keys in byte order
 abbrev pub reply_data : Reply → Data
@@ -147,10 +192,25 @@ reply_data (reply.AddMaterial material) =
     object (text_member (codes "material") material (text_member (codes "ok") (codes "material") no_members))
 reply_data (reply.Receive act count) =
     object (number_member (codes "act") act (number_member (codes "count") count (text_member (codes "ok") (codes "receive") no_members)))
+reply_data (reply.AddOrder count first order) =
+    object (number_member (codes "count") count (number_member (codes "first") first (text_member (codes "ok") (codes "order")
+    (text_member (codes "order") order no_members))))
+reply_data (reply.Reserve cuts job) =
+    object (number_member (codes "cuts") cuts (number_member (codes "job") job (text_member (codes "ok") (codes "reserve") no_members)))
+reply_data (reply.Done job kerf pieces rack scrap) =
+    object (number_member (codes "job") job (number_member (codes "kerf") kerf (text_member (codes "ok") (codes "done")
+    (number_member (codes "pieces") pieces (number_member (codes "rack") rack (number_member (codes "scrap") scrap no_members))))))
+reply_data (reply.Release job) =
+    object (number_member (codes "job") job (text_member (codes "ok") (codes "release") no_members))
 reply_data (reply.Totals material received stock rack pieces kerf scrap) =
     object (number_member (codes "kerf") kerf (text_member (codes "material") material (text_member (codes "ok") (codes "totals")
     (number_member (codes "pieces") pieces (number_member (codes "rack") rack (number_member (codes "received") received
     (number_member (codes "scrap") scrap (number_member (codes "stock") stock no_members))))))))
+reply_data (reply.Trace batch h of part root state w x y) = trace_data batch (name_text part) (name_text root) (state_text state) h of w x y
+reply_data (reply.Demand demand line made material order reserved wanted) =
+    object (number_member (codes "demand") demand (number_member (codes "line") line (number_member (codes "made") made
+    (text_member (codes "material") material (text_member (codes "ok") (codes "demand") (text_member (codes "order") order
+    (number_member (codes "reserved") reserved (number_member (codes "wanted") wanted no_members))))))))
 reply_data (reply.Refused refusal) =
     object (text_member (codes "name") (name_of refusal) (number_member (codes "refused") (number_of refusal) no_members))
 

@@ -1,3 +1,4 @@
+pub mod Fields
 pub mod Forms
 pub use Rattle.cut_measure.specs.Codes
 pub use Rattle.cut_measure.specs.Measures

@@ -1,169 +1,77 @@
-ghost use Rattle.std.specs.Prelude.{◌≡◌, ℕ, IfOk, codes, Some, option_map};
+ghost use Rattle.std.specs.Prelude.{◌≡◌, ◌≢◌, IfOk, IfErr, Some, None};
 ghost use Rattle.std.specs.Option.{ok_or};
 ghost use Rattle.shop_machine.specs.Messages.{IsMade};
 ghost use Rattle.shop_machine.specs.declared.messages.Reply.{Reply as ReplyOf};
-ghost use Rattle.shop_machine.specs.declared.refusals.Refusal.TheVariants.{BadMessage};
+ghost use Rattle.shop_machine.specs.declared.refusals.Refusal.TheVariants.{BadMessage, NoMemory};
 ghost use Rattle.serde_json.specs.View.{view};
+ghost use Rattle.shop_rules.specs.Fields.{row};
 ghost use Rattle.shop_rules.specs.Forms as form;
 
-use cut_measure::{Code, Kind};
+use crate::commands::sent;
+use crate::fields::{code_at, has_keys, name_at, number_at, word_at};
+use crate::replies::made;
 use serde_json::Value;
-use shop_machine::{Command, Message, Query, Refusal, Reply};
+use shop_machine::{Message, Query, Refusal, Reply};
 use std::alloc::{AllocError, Global};
 
-// A whole number of 32 bits.
-fn number_at(value: &Value, key: &str) -> Option<u32>
-    ensures { result ≡ form.number_at key.now (view value.now) }
+/// The message that a value stands for; refused `BadMessage` where it stands for none, and where its terminal is 0, and
+/// `NoMemory` where memory runs out.
+pub fn read_message(alloc: Global, value: &Value) -> Result<Message, Refusal>
+    ensures ok { IfOk result (λ message. form.message_of (view value.now) ≡ Some message) }
+    ensures err { IfErr result (λ refusal. refusal ≢ NoMemory → (refusal ≡ BadMessage) × (form.message_of (view value.now) ≡ None)) }
 {
-    let number = value.get(key)?.as_u64()?;
-    if number < 4_294_967_296 {
-        Some(number as u32)
-    } else {
-        None
-    }
-}
-
-fn text_at<'a>(value: &'a Value, key: &str) -> Option<&'a str>
-    ensures { option_map (λ text. text.now) result ≡ form.text_at key.now (view value.now) }
-{
-    value.get(key)?.as_str()
-}
-
-fn code_at(value: &Value, key: &str) -> Option<Code>
-    ensures { result ≡ form.code_at key.now (view value.now) }
-{
-    Code::read(text_at(value, key)?)
-}
-
-fn kind_at(value: &Value, key: &str) -> Option<Kind>
-    ensures { result ≡ form.kind_at key.now (view value.now) }
-{
-    let text = text_at(value, key)?;
-    if text == "bar" {
-        Some(Kind::Bar)
-    } else if text == "sheet" {
-        Some(Kind::Sheet)
-    } else {
-        None
-    }
-}
-
-// The text at a key of an object without the other key.
-fn word_at<'a>(value: &'a Value, key: &str, other: &str) -> Option<&'a str>
-    ensures { option_map (λ text. text.now) result ≡ form.word_at key.now other.now (view value.now) }
-{
-    match value.get(other) {
-        Some(_) => None,
-        None => text_at(value, key),
-    }
-}
-
-fn has_keys(value: &Value, count: usize) -> bool
-    ensures { result ≡ form.has_keys count (view value.now) }
-{
-    match value.as_object() {
-        Some(members) => members.len() == count,
-        None => false,
-    }
-}
-
-fn material_command(value: &Value) -> Option<Command>
-    ensures { result ≡ form.material_command (view value.now) }
-{
-    let material = code_at(value, "material")?;
-    let kind = kind_at(value, "kind")?;
-    let kerf = number_at(value, "kerf")?;
-    let min_long = number_at(value, "min_long")?;
-    let min_short = number_at(value, "min_short")?;
-    Some(Command::AddMaterial {
-        material,
-        kind,
-        kerf,
-        min_long,
-        min_short,
-    })
-}
-
-fn receive_command(value: &Value) -> Option<Command>
-    ensures { result ≡ form.receive_command (view value.now) }
-{
-    let material = code_at(value, "material")?;
-    let batch = code_at(value, "batch")?;
-    let w = number_at(value, "w")?;
-    let h = number_at(value, "h")?;
-    let count = number_at(value, "count")?;
-    Some(Command::Receive {
-        material,
-        batch,
-        w,
-        h,
-        count,
-    })
-}
-
-fn command(value: &Value, word: &str) -> Option<Command>
-    ensures { result ≡ form.command_of word.now (view value.now) }
-{
-    if word == "material" {
-        if has_keys(value, 8) {
-            material_command(value)
-        } else {
-            None
-        }
-    } else if word == "receive" {
-        if has_keys(value, 8) {
-            receive_command(value)
-        } else {
-            None
-        }
-    } else {
-        None
-    }
-}
-
-// A message of any terminal.
-fn sent(value: &Value) -> Option<Message>
-    ensures { result ≡ form.sent_of (view value.now) }
-{
-    let word = word_at(value, "do", "ask")?;
-    let terminal = number_at(value, "terminal")?;
-    let number = number_at(value, "number")?;
-    let command = command(value, word)?;
-    Some(Message {
-        terminal,
-        number,
-        command,
-    })
-}
-
-/// The message that a value stands for; refused `BadMessage` where it stands for none, and where its terminal is 0.
-pub fn read_message(value: &Value) -> Result<Message, Refusal>
-    ensures { result ≡ ok_or (form.message_of (view value.now)) BadMessage }
-{
-    match sent(value) {
-        Some(message) => {
+    match sent(alloc, value) {
+        Ok(Some(message)) => {
             if message.terminal < 1 {
                 return Err(Refusal::BadMessage);
             }
             Ok(message)
         }
-        None => Err(Refusal::BadMessage),
+        Ok(None) => Err(Refusal::BadMessage),
+        Err(_) => Err(Refusal::NoMemory),
     }
 }
 
 fn totals_query(value: &Value) -> Option<Query>
-    ensures { result ≡ form.totals_query (view value.now) }
+    ensures { result ≡ row 2 form.totals_query (view value.now) }
 {
+    if !has_keys(value, 2) {
+        return None;
+    }
     let material = code_at(value, "material")?;
     Some(Query::Totals { material })
+}
+
+fn trace_query(value: &Value) -> Option<Query>
+    ensures { result ≡ row 2 form.trace_query (view value.now) }
+{
+    if !has_keys(value, 2) {
+        return None;
+    }
+    let part = name_at(value, "part")?;
+    Some(Query::Trace { part })
+}
+
+fn demand_query(value: &Value) -> Option<Query>
+    ensures { result ≡ row 2 form.demand_query (view value.now) }
+{
+    if !has_keys(value, 2) {
+        return None;
+    }
+    let demand = number_at(value, "demand")?;
+    Some(Query::Demand { demand })
 }
 
 fn asked(value: &Value) -> Option<Query>
     ensures { result ≡ form.query_of (view value.now) }
 {
     let word = word_at(value, "ask", "do")?;
-    if word == "totals" && has_keys(value, 2) {
+    if word == "totals" {
         totals_query(value)
+    } else if word == "trace" {
+        trace_query(value)
+    } else if word == "demand" {
+        demand_query(value)
     } else {
         None
     }
@@ -174,42 +82,6 @@ pub fn read_query(value: &Value) -> Result<Query, Refusal>
     ensures { result ≡ ok_or (form.query_of (view value.now)) BadMessage }
 {
     asked(value).ok_or(Refusal::BadMessage)
-}
-
-fn material_reply(value: &Value) -> Option<Reply>
-    ensures { result ≡ form.material_reply (view value.now) }
-{
-    let material = code_at(value, "material")?;
-    Some(Reply::AddMaterial { material })
-}
-
-fn receive_reply(value: &Value) -> Option<Reply>
-    ensures { result ≡ form.receive_reply (view value.now) }
-{
-    let act = number_at(value, "act")?;
-    let count = number_at(value, "count")?;
-    Some(Reply::Receive { act, count })
-}
-
-fn made(value: &Value) -> Option<Reply>
-    ensures { result ≡ form.reply_of (view value.now) }
-{
-    let word = text_at(value, "ok")?;
-    if word == "material" {
-        if has_keys(value, 2) {
-            material_reply(value)
-        } else {
-            None
-        }
-    } else if word == "receive" {
-        if has_keys(value, 3) {
-            receive_reply(value)
-        } else {
-            None
-        }
-    } else {
-        None
-    }
 }
 
 /// The reply of an accepted message that a value stands for; refused `BadMessage` where it stands for none.

@@ -2,7 +2,7 @@ use Rattle.std.proofs.Common.{sym, ap, ◌∙◌}
 use Rattle.std.specs.Prelude.{option_and_then}
 use Rattle.shop_rules.specs.Forms.{reply_of, kept_reply_of}
 use Rattle.shop_rules.proofs.Back.{kept_back}
-use Rattle.shop_rules.proofs.Fields.{not_memory}
+use Rattle.shop_rules.proofs.FieldFacts.{not_memory}
 use Rattle.shop_rules.proofs.reading.kept_reply.Goals as goal
 
 pub returns-in-Ok-clause-back : goal.returns-in-Ok-clause-back

@@ -1,4 +1,4 @@
-use Rattle.shop_rules.proofs.printing.message_value.Goals as goal
+use Rattle.shop_rules.proofs.printed_messages.message_value.Goals as goal
 
 pub returns-in-AddMaterial-clause-message : goal.returns-in-AddMaterial-clause-message
 returns-in-AddMaterial-clause-message c = record {
