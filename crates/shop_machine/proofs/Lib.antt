@@ -1,2 +1,5 @@
 pub mod Units
 pub mod Sums
+pub mod Puts
+pub mod Allowed
+pub mod Sound
