@@ -11,6 +11,9 @@ use Rattle.shop_machine.specs.Machine.{Reads, refusal_of, Makes, keeping}
 use Rattle.shop_machine.specs.History.{Entry, Gives}
 use Rattle.shop_machine.specs.Soundness.{IsSound, Fits}
 use Rattle.shop_machine.proofs.Puts.{all_in}
+use Rattle.shop_machine.proofs.Grown.{Grows}
+use Rattle.shop_machine.proofs.AddedUp.{adds_up}
+use Rattle.shop_machine.proofs.Moved.{no_made}
 use Rattle.shop_machine.proofs.Allowed.{receipt_of}
 
 pub fits_accepted : (texts : Texts) (m : Content) (message : Message) (read : Option Pattern) (change : Change) → IsSound texts m → Reads m message.command read
