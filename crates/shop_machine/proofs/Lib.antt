@@ -5,4 +5,7 @@ pub mod Allowed
 pub mod Grown
 pub mod AddedUp
 pub mod Moved
+pub mod MaterialStep
+pub mod ReceiveStep
+pub mod OrderStep
 pub mod Sound

@@ -186,6 +186,10 @@ module _ {K X : Type 0} {R : K → K → Ordering} (o : IsTotalOrder R) (exact :
   pub get_other : (m : FinMap R X) (k : K) (v : X) (q : K) → (q ≡ k → ⊥) → get (insert m k v) q ≡ get m q
   get_other m k v q h = get-insert o m k v q ∙ ap (λ b. cond b (Some v) (get m q)) (other_key o exact q k h)
 
+  -- what was found before a new row was put
+  pub still_there : (m : FinMap R X) (k : K) (v : X) (q : K) (x : X) → get m k ≡ None → get m q ≡ Some x → get (insert m k v) q ≡ Some x
+  still_there m k v q x none is = get_other m k v q (λ e. none_some (get m q) x (ap (λ n. get m n) e ∙ none) is) ∙ is
+
   -- what is found after a row was put
   pub found_one : (m : FinMap R X) (k : K) (v : X) (q : K) (x : X) → get (insert m k v) q ≡ Some x
       → ((q ≡ k) × (x ≡ v)) ⊎ ((q ≡ k → ⊥) × (get m q ≡ Some x))
