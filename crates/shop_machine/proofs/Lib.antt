@@ -8,4 +8,5 @@ pub mod Moved
 pub mod MaterialStep
 pub mod ReceiveStep
 pub mod OrderStep
+pub mod PartStep
 pub mod Sound

@@ -36,7 +36,7 @@ module _ (old : FinMap nat_cmp Demand) (recount : ℕ → Demand → Demand) (tr
     pub was : get old number ≡ Some before
     pub now : demand ≡ recount (count_of tree number) before
 
-  row_recount : (x : Demand) (number : ℕ) → IsIn x rows → x.number ≡ number → IsRecount number x
+  pub row_recount : (x : Demand) (number : ℕ) → IsIn x rows → x.number ≡ number → IsRecount number x
   row_recount x number i e =
       let only = all_in (λ row. (before : Demand) × (get old row.number ≡ Some before) × (1 ≤ count_of tree row.number) × (row ≡ recount (count_of tree row.number) before)) rows r.only x i in
       record { before = only.0; was = ap (λ n. get old n) (sym e) ∙ only.1; now = only.3 ∙ ap (λ n. recount (count_of tree n) only.0) e }
