@@ -9,4 +9,5 @@ pub mod MaterialStep
 pub mod ReceiveStep
 pub mod OrderStep
 pub mod PartStep
+pub mod ReserveStep
 pub mod Sound
