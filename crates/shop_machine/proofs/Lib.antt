@@ -10,4 +10,5 @@ pub mod ReceiveStep
 pub mod OrderStep
 pub mod PartStep
 pub mod ReserveStep
+pub mod JobEnds
 pub mod Sound

@@ -18,6 +18,7 @@ use Rattle.shop_machine.proofs.ReceiveStep.{receive_stock}
 use Rattle.shop_machine.proofs.OrderStep.{order_stock}
 use Rattle.shop_machine.proofs.PartStep.{IsPartStep}
 use Rattle.shop_machine.proofs.ReserveStep.{reserve_stock}
+use Rattle.shop_machine.proofs.JobEnds.{done_stock}
 use Rattle.shop_machine.proofs.Allowed.{receipt_of}
 
 pub fits_accepted : (texts : Texts) (m : Content) (message : Message) (read : Option Pattern) (change : Change) → IsSound texts m → Reads m message.command read
