@@ -1,3 +1,4 @@
 pub mod Units
 pub mod Sums
 pub mod Basics
+pub mod Cells
