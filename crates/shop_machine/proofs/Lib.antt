@@ -2,3 +2,4 @@ pub mod Units
 pub mod Sums
 pub mod Basics
 pub mod Cells
+pub mod Accounts
