@@ -92,10 +92,10 @@ pub unit_acts : (history : List Entry) (u : ReceivedUnit) → IsIn u (units_of h
 unit_acts [] u i = absurd i
 unit_acts (entry ∷ earlier) u i = unit_acts_by earlier entry.message.command (unit_acts earlier) u i
 
-if_yes : {X : Type 0} (m n : ℕ) (a b : X) → m ≡ n → (if nat_eq m n then a else b) ≡ a
+pub if_yes : {X : Type 0} (m n : ℕ) (a b : X) → m ≡ n → (if nat_eq m n then a else b) ≡ a
 if_yes m n a b e = elim (nat_cases m n) [ inl y ↦ ap (λ t. if t then a else b) y.1 | inr off ↦ absurd (off.0 e) ]
 
-if_no : {X : Type 0} (m n : ℕ) (a b : X) → (m ≡ n → ⊥) → (if nat_eq m n then a else b) ≡ b
+pub if_no : {X : Type 0} (m n : ℕ) (a b : X) → (m ≡ n → ⊥) → (if nat_eq m n then a else b) ≡ b
 if_no m n a b e = elim (nat_cases m n) [ inl y ↦ absurd (e y.0) | inr off ↦ ap (λ t. if t then a else b) off.1 ]
 
 unit_material_by : (earlier : List Entry) (command : Command) → ((u : ReceivedUnit) → IsIn u (units_of earlier) → unit_material earlier u.name ≡ u.material)
@@ -120,7 +120,7 @@ pub material_is : (history : List Entry) (u : ReceivedUnit) → IsIn u (units_of
 material_is [] u i = absurd i
 material_is (entry ∷ earlier) u i = unit_material_by earlier entry.message.command (material_is earlier) u i
 
-row_later : (entry : Entry) (earlier : List Entry) (p : Part) → IsRow earlier p → IsRow (entry ∷ earlier) p
+pub row_later : (entry : Entry) (earlier : List Entry) (p : Part) → IsRow earlier p → IsRow (entry ∷ earlier) p
 row_later entry earlier p r = record {
   unit = r.unit;
   received = in_later r.unit (units_in (acts_of earlier + 1) entry.message.command) (units_of earlier) r.received;
@@ -130,17 +130,17 @@ row_later entry earlier p r = record {
   down = r.down;
 }
 
-row_restated : (history : List Entry) (p : Part) (s : State) → IsRow history p → IsRow history (in_state s p)
+pub row_restated : (history : List Entry) (p : Part) (s : State) → IsRow history p → IsRow history (in_state s p)
 row_restated history p s r = record { unit = r.unit; received = r.received; root = r.root; material = r.material; across = r.across; down = r.down }
 
-stands_yes : (p : Name) (w : Owner) → w.name ≡ p → w.state ≡ Standing → stands_as p w ≡ true
+pub stands_yes : (p : Name) (w : Owner) → w.name ≡ p → w.state ≡ Standing → stands_as p w ≡ true
 stands_yes p w e s =
     elim (name_cases w.name p) [
       | inl y ↦ ap (λ b. b && is_free w.state) y.1 ∙ ap is_free s
       | inr n ↦ absurd (n.0 e)
     ]
 
-stands_no : (p : Name) (w : Owner) → (w.name ≡ p → ⊥) → stands_as p w ≡ false
+pub stands_no : (p : Name) (w : Owner) → (w.name ≡ p → ⊥) → stands_as p w ≡ false
 stands_no p w e =
     elim (name_cases w.name p) [
       | inl y ↦ absurd (e y.0)
@@ -156,12 +156,12 @@ not_refused false refusal rest e = cc
 waits_still : (j : Job) (part : Option Part) (material : Option Material) (at : ℕ → Option Demand) → job_refusal (Some j) part material at ≡ None → is_waiting j.state ≡ true
 waits_still j part material at e = not_refused (is_waiting j.state) JobOver (first_of ((not (rests j part material at), StoreFault) ∷ [])) e
 
-job_waits : (old : Content) (number : ℕ) (j : Job) → job_at old number ≡ Some j → end_refusal old (job_at old number) ≡ None → is_waiting j.state ≡ true
+pub job_waits : (old : Content) (number : ℕ) (j : Job) → job_at old number ≡ Some j → end_refusal old (job_at old number) ≡ None → is_waiting j.state ≡ true
 job_waits old number j found allowed =
     waits_still j (part_of old (Some j)) (material_of old (part_of old (Some j))) (demand_at old)
     (subst (λ (o : Option Job). end_refusal old o ≡ None) found allowed)
 
-free_stands : (s : State) → is_free s ≡ true → s ≡ Standing
+pub free_stands : (s : State) → is_free s ≡ true → s ≡ Standing
 free_stands Standing e = refl
 free_stands (Reserved job) e = absurd (true≢false (sym e))
 free_stands (Cut job) e = absurd (true≢false (sym e))
@@ -190,6 +190,6 @@ second_refused true b first second e = not_refused b second None e
 second_refused false b first second e = cc
 
 -- a material that is added again is the same
-known_rule : (m : Material) (kind : Kind) (rule : Rule) → material_refusal (Some m) kind rule ≡ None → m.limits ≡ rule
+pub known_rule : (m : Material) (kind : Kind) (rule : Rule) → material_refusal (Some m) kind rule ≡ None → m.limits ≡ rule
 known_rule m kind rule e =
     same_rules m.limits rule (two_true (same_kind m.kind kind) (same_rule m.limits rule) (second_refused _ (same_kind m.kind kind && same_rule m.limits rule) BadMaterial MaterialExists e)).1

@@ -3,3 +3,4 @@ pub mod Sums
 pub mod Basics
 pub mod Cells
 pub mod Accounts
+pub mod Steps
