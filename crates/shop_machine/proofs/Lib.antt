@@ -4,3 +4,4 @@ pub mod Basics
 pub mod Cells
 pub mod Accounts
 pub mod Steps
+pub mod Given

@@ -84,7 +84,7 @@ module _ (texts : Texts) (message : Message) (terminal number : ℕ) (earlier : 
     abbrev with_state : Job
     with_state = record j { state = s }
 
-    job_restated : (k : ℕ) (job : Job) → get (insert old.jobs j.act with_state) k ≡ Some job → job_of earlier k ≡ Some (reservation job)
+    pub job_restated : (k : ℕ) (job : Job) → get (insert old.jobs j.act with_state) k ≡ Some job → job_of earlier k ≡ Some (reservation job)
     job_restated k job g =
         elim (nat_cases k j.act) [
           | inl y ↦ (
