@@ -5,3 +5,4 @@ pub mod Cells
 pub mod Accounts
 pub mod Steps
 pub mod Given
+pub mod Marks
