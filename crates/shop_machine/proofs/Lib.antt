@@ -6,3 +6,5 @@ pub mod Accounts
 pub mod Steps
 pub mod Given
 pub mod Marks
+pub mod CellCounts
+pub mod Owners
