@@ -1,40 +1,25 @@
 -- What holds of each history and the content that it gives.
-use Rattle.std.proofs.Common.{◌≡◌, ℕ, ◌+◌, ◌<◌, ◌≤◌, List, [], ◌∷◌, ◌++◌, map, Bool, true, false, not, nat_eq, refl, sym, ap, subst, ◌∙◌, arith, inl, inr, ◌⊎◌, true≢false}
+use Rattle.std.proofs.Common.{◌≡◌, ℕ, ◌+◌, ◌≤◌, List, [], ◌∷◌, ◌++◌, map, Bool, true, false, not, nat_eq, refl, sym, ap, subst, ◌∙◌, arith, inl, inr, true≢false}
 use Rattle.std.specs.Prelude.{Option, Some, None, if◌then◌else◌, ◌&&◌}
-use Rattle.std.specs.Ordering.{nat_cmp, is_eq}
-use Rattle.std.specs.Cmp.{nat_cmp_total}
-use Rattle.std.specs.FinMap.{FinMap, get, insert, get-empty, nat_cmp-IsAntisymmetric}
+use Rattle.std.specs.FinMap.{FinMap, get}
 use Rattle.cut_measure.specs.declared.sizes.Kind.{Kind}
-use Rattle.cut_measure.specs.declared.sizes.Kind.TheVariants.{Bar, Sheet}
-use Rattle.cut_measure.specs.Codes.{code_cmp}
 use Rattle.cut_measure.specs.Names.{Name, name_cmp}
 use Rattle.cut_measure.specs.Measures.{Extent, Rule, below}
-use Rattle.cut_tree.specs.declared.lay.Row.{Row}
-use Rattle.cut_tree.specs.Patterns.{Pattern}
-use Rattle.cut_tree.specs.Cells.{Outcome, all_made, spot_of}
-use Rattle.cut_tree.specs.Laying.{IsLaid}
 use Rattle.shop_machine.specs.declared.records.Material.{Material}
 use Rattle.shop_machine.specs.declared.records.Part.{Part}
 use Rattle.shop_machine.specs.declared.records.State.{State}
 use Rattle.shop_machine.specs.declared.records.State.TheVariants.{Standing, Reserved, Cut, Piece, Kerf, Scrap}
 use Rattle.shop_machine.specs.declared.records.Job.{Job}
-use Rattle.shop_machine.specs.declared.records.JobState.TheVariants as job_state
 use Rattle.shop_machine.specs.declared.records.Demand.{Demand}
 use Rattle.shop_machine.specs.declared.refusals.Refusal.{Refusal}
 use Rattle.shop_machine.specs.declared.refusals.Refusal.TheVariants.{BadMaterial, MaterialExists, JobOver, StoreFault}
-use Rattle.shop_machine.specs.declared.changes.Change.{Change}
-use Rattle.shop_machine.specs.declared.messages.Message.{Message}
-use Rattle.shop_machine.specs.declared.messages.OrderLine.{OrderLine}
 use Rattle.shop_machine.specs.declared.messages.Command.{Command}
 use Rattle.shop_machine.specs.declared.messages.Command.TheVariants.{AddMaterial, Receive, AddOrder, Reserve, Done, Release}
-use Rattle.shop_machine.specs.Columns.{same_name, is_free, is_waiting}
-use Rattle.shop_machine.specs.Messages.{Texts}
-use Rattle.shop_machine.specs.Content.{Content, fresh, material_at, part_at, job_at, demand_at, with_parts, changed}
-use Rattle.shop_machine.specs.Machine.{first_of, same_kind, same_rule, is_other, material_refusal, material_change, receive_change, unit_part, unit_parts, order_change, Reads, reserve_change, in_state, job_refusal, rests, row_part, done_change, release_change, part_of, material_of, end_refusal, refusal_of, Makes, Accepts, keeping, same_code}
-use Rattle.shop_machine.specs.Soundness.{IsSound, IsWaiting}
-use Rattle.shop_machine.specs.History.{Entry, Gives, ReceivedUnit, acts_in, acts_of, units_in, units_of, material_by, unit_material, rule_by, material_rule, Reservation, job_by, job_of, Owner, stands_as, owner_at, cut_owner, owner_by, owner_of, is_cut, standing_as, IsOwner, HasOwner, OneOwner, IsIn, EachCellIsOwned}
-use Rattle.shop_machine.proofs.Basics.{names_total, names_same, codes_total, codes_same, nat_cases, name_cases, key_cases, same_some, none_some, get_same, get_other, in_append, in_later, in_first, in_map, map_in}
-use Rattle.shop_machine.proofs.Cells.{Named, restated, found_cases, found_cut, kept_old, row_inside, cut_up, after_receipt, received_cases, found_unit, kept_before, still_owned, new_owned}
+use Rattle.shop_machine.specs.Columns.{is_free, is_waiting}
+use Rattle.shop_machine.specs.Content.{Content, material_at, part_at, job_at, demand_at}
+use Rattle.shop_machine.specs.Machine.{first_of, same_kind, same_rule, material_refusal, in_state, job_refusal, rests, part_of, material_of, end_refusal}
+use Rattle.shop_machine.specs.History.{Entry, ReceivedUnit, acts_in, acts_of, units_in, units_of, material_by, unit_material, material_rule, Reservation, job_of, Owner, stands_as, IsIn, EachCellIsOwned}
+use Rattle.shop_machine.proofs.Basics.{nat_cases, name_cases, in_append, in_later, in_map}
 
 -- ---- what a history says
 
@@ -169,7 +154,7 @@ free_stands (Piece demand) e = absurd (true≢false (sym e))
 free_stands Kerf e = absurd (true≢false (sym e))
 free_stands Scrap e = absurd (true≢false (sym e))
 
-two_true : (a b : Bool) → a && b ≡ true → (a ≡ true) × (b ≡ true)
+pub two_true : (a b : Bool) → a && b ≡ true → (a ≡ true) × (b ≡ true)
 two_true true b e = (refl, e)
 two_true false b e = absurd (true≢false (sym e))
 

@@ -1,6 +1,6 @@
 -- The sums over part rows are the counts of cells.
-use Rattle.std.proofs.Common.{◌≡◌, ℕ, zero, suc, ◌+◌, ◌*◌, ◌<◌, ◌≤◌, Bool, true, false, not, cond, nat_eq, List, [], ◌∷◌, ◌++◌, map, refl, ap, subst, sym, ◌∙◌, arith, inl, inr, true≢false}
-use Rattle.std.specs.Prelude.{sum_by, count_by, if◌then◌else◌, ◌&&◌, Option, Some}
+use Rattle.std.proofs.Common.{◌≡◌, ℕ, zero, suc, ◌+◌, ◌*◌, ◌<◌, ◌≤◌, Bool, true, false, not, cond, List, [], ◌∷◌, ◌++◌, map, refl, ap, subst, sym, ◌∙◌, arith, inl, inr, true≢false}
+use Rattle.std.specs.Prelude.{sum_by, if◌then◌else◌, ◌&&◌, Some}
 use Rattle.std.specs.Ordering.{is_eq}
 use Rattle.std.specs.FinMap.{values}
 use Rattle.std.proofs.lemmas.List.{map-append}
@@ -19,9 +19,9 @@ use Rattle.shop_machine.specs.Columns.{same_name, is_whole, is_there, is_piece, 
 use Rattle.shop_machine.specs.Messages.{Texts}
 use Rattle.shop_machine.specs.Content.{Content, cells_in}
 use Rattle.shop_machine.specs.Soundness.{IsSound}
-use Rattle.shop_machine.specs.History.{Entry, acts_of, ReceivedUnit, units_in, units_of, Owner, owner_of, is_cut, standing_as, IsOwner, OneOwner, IsIn, counts, cells_of_units, count_of, TotalsAreCounts}
+use Rattle.shop_machine.specs.History.{Entry, acts_of, ReceivedUnit, units_in, units_of, Owner, owner_of, is_cut, standing_as, IsOwner, OneOwner, IsIn, counts, count_of, TotalsAreCounts}
 use Rattle.shop_machine.proofs.Basics.{name_cases, in_append, in_map}
-use Rattle.shop_machine.proofs.Accounts.{IsRow, IsWhole, Follows, unit_of, unit_acts}
+use Rattle.shop_machine.proofs.Accounts.{IsRow, IsWhole, Follows, unit_of, unit_acts, two_true}
 use Rattle.shop_machine.proofs.Marks.{sum_cells, bit, sum_cells-same, sum_cells-add, sum_cells-zero, mark, sum_mark, mark_in, mark_out, sum_by-same, sum_by-add, sum_by-none, sum_by-one, Apart, apart_append, sum_values-one, each_value, sum_by-units}
 
 abbrev unit_name : ReceivedUnit → Name
@@ -195,14 +195,6 @@ scrap_whole (Piece demand) e = refl
 scrap_whole Kerf e = refl
 scrap_whole Scrap e = refl
 
-first_true : (a b : Bool) → a && b ≡ true → a ≡ true
-first_true true b e = refl
-first_true false b e = e
-
-second_true : (a b : Bool) → a && b ≡ true → b ≡ true
-second_true true b e = e
-second_true false b e = absurd (true≢false (sym e))
-
 there_as : (s : State) → is_there s ≡ is_there (standing_as s)
 there_as Standing = refl
 there_as (Reserved job) = refl
@@ -241,30 +233,30 @@ record IsByOwner (c : Column) : Type 0 where
   as_owner : (u : Name) (i j : ℕ) (w : Owner) (r : Part) → r.root ≡ u → IsOwner w i j r → is_counted c r ≡ counts c u (Some w)
 
 same_whole : (u : Name) (i j : ℕ) (w : Owner) (r : Part) → r.root ≡ u → IsOwner w i j r → same_name r.name r.root ≡ same_name w.name u
-same_whole u i j w r e o = ap (λ n. same_name r.name n) e ∙ ap (λ n. same_name n u) (o.name)
+same_whole u i j w r e o = ap (λ n. same_name r.name n) e ∙ ap (λ n. same_name n u) o.name
 
 stock_by : IsByOwner column.Stock
 stock_by = record {
-  uncut = λ r e. there_whole r.state (first_true (is_there r.state) (is_whole r) e);
+  uncut = λ r e. there_whole r.state (two_true (is_there r.state) (is_whole r) e).0;
   as_owner = λ u i j w r e o.
-      ap (λ b. b && is_whole r) (there_as r.state ∙ ap is_there (o.state)) ∙ ap (λ b. is_there w.state && b) (same_whole u i j w r e o);
+      ap (λ b. b && is_whole r) (there_as r.state ∙ ap is_there o.state) ∙ ap (λ b. is_there w.state && b) (same_whole u i j w r e o);
 }
 
 rack_by : IsByOwner column.Rack
 rack_by = record {
-  uncut = λ r e. there_whole r.state (first_true (is_there r.state) (not (is_whole r)) e);
+  uncut = λ r e. there_whole r.state (two_true (is_there r.state) (not (is_whole r)) e).0;
   as_owner = λ u i j w r e o.
-      ap (λ b. b && not (is_whole r)) (there_as r.state ∙ ap is_there (o.state)) ∙ ap (λ b. is_there w.state && not b) (same_whole u i j w r e o);
+      ap (λ b. b && not (is_whole r)) (there_as r.state ∙ ap is_there o.state) ∙ ap (λ b. is_there w.state && not b) (same_whole u i j w r e o);
 }
 
 pieces_by : IsByOwner column.Pieces
-pieces_by = record { uncut = λ r e. piece_whole r.state e; as_owner = λ u i j w r e o. piece_as r.state ∙ ap is_piece (o.state) }
+pieces_by = record { uncut = λ r e. piece_whole r.state e; as_owner = λ u i j w r e o. piece_as r.state ∙ ap is_piece o.state }
 
 kerf_by : IsByOwner column.Kerf
-kerf_by = record { uncut = λ r e. kerf_whole r.state e; as_owner = λ u i j w r e o. kerf_as r.state ∙ ap is_kerf (o.state) }
+kerf_by = record { uncut = λ r e. kerf_whole r.state e; as_owner = λ u i j w r e o. kerf_as r.state ∙ ap is_kerf o.state }
 
 scrap_by : IsByOwner column.Scrap
-scrap_by = record { uncut = λ r e. scrap_whole r.state e; as_owner = λ u i j w r e o. scrap_as r.state ∙ ap is_scrap (o.state) }
+scrap_by = record { uncut = λ r e. scrap_whole r.state e; as_owner = λ u i j w r e o. scrap_as r.state ∙ ap is_scrap o.state }
 
 -- ---- each total
 
@@ -284,8 +276,8 @@ module _ (texts : Texts) (history : List Entry) (content : Content) (sound : IsS
       let p : Part = o.part in
       sum_values-one content.parts (λ v. mark (is_counted c v && same_name v.root u.name) v x y) p.name p o.kept
       (λ k r g other. mark_out (is_counted c r && same_name r.root u.name) r x y (λ t left right top bottom.
-      let root : r.root ≡ u.name = same_is r.root u.name (second_true (is_counted c r) (same_name r.root u.name) t) in
-      let same : r ≡ p = o.alone k r g (record { root = root; whole = by.uncut r (first_true (is_counted c r) (same_name r.root u.name) t); right = left; left = right; below = top; above = bottom }) in
+      let root : r.root ≡ u.name = same_is r.root u.name (two_true (is_counted c r) (same_name r.root u.name) t).1 in
+      let same : r ≡ p = o.alone k r g (record { root = root; whole = by.uncut r (two_true (is_counted c r) (same_name r.root u.name) t).0; right = left; left = right; below = top; above = bottom }) in
       other (sym (sound.parts k r g).named ∙ ap (λ (v : Part). v.name) same)))
       ∙ mark_in (is_counted c p && same_name p.root u.name) p x y o.holds.right o.holds.left o.holds.below o.holds.above
       ∙ ap bit (and_yes (is_counted c p) (same_name p.root u.name) (same_yes p.root u.name o.holds.root) ∙ by.as_owner u.name x y o.owner p o.holds.root o.same ∙ ap (counts c u.name) (sym o.owned))
@@ -299,8 +291,8 @@ module _ (texts : Texts) (history : List Entry) (content : Content) (sound : IsS
       let name : p.name ≡ u.name = (sound.parts u.name p whole.kept).named in
       sum_values-one content.parts (λ v. mark (is_whole v && same_name v.root u.name) v x y) u.name p whole.kept
       (λ k r g other. mark_out (is_whole r && same_name r.root u.name) r x y (λ t left right top bottom.
-      let root : r.root ≡ u.name = same_is r.root u.name (second_true (is_whole r) (same_name r.root u.name) t) in
-      let own : r.name ≡ r.root = same_is r.name r.root (first_true (is_whole r) (same_name r.root u.name) t) in
+      let root : r.root ≡ u.name = same_is r.root u.name (two_true (is_whole r) (same_name r.root u.name) t).1 in
+      let own : r.name ≡ r.root = same_is r.name r.root (two_true (is_whole r) (same_name r.root u.name) t).0 in
       other (sym (sound.parts k r g).named ∙ own ∙ root)))
       ∙ mark_in (is_whole p && same_name p.root u.name) p x y (omega arith) (omega arith) (omega arith) (omega arith)
       ∙ ap bit (and_yes (is_whole p) (same_name p.root u.name) (same_yes p.root u.name whole.root) ∙ same_yes p.name p.root (name ∙ sym whole.root) ∙ ap (counts column.Received u.name) (sym o.owned))

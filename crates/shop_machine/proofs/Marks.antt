@@ -1,6 +1,6 @@
 -- Sums over cells, and over lists whose keys differ.
 use Rattle.std.proofs.Common.{◌≡◌, ℕ, zero, suc, ◌+◌, ◌-◌, ◌*◌, ◌<◌, ◌≤◌, min, Bool, true, false, cond, List, [], ◌∷◌, ◌++◌, map, refl, ap, subst, sym, ◌∙◌, arith, inl, inr, lt-ltb, mul_assoc, true≢false}
-use Rattle.std.specs.Prelude.{sum_by, count_by, T, ◌&&◌, Some, if◌then◌else◌}
+use Rattle.std.specs.Prelude.{sum_by, T, ◌&&◌, Some, if◌then◌else◌}
 use Rattle.std.specs.declared.cmp.Ordering.{Ordering}
 use Rattle.std.specs.declared.cmp.Ordering.TheVariants.{Less, Equal, Greater}
 use Rattle.std.specs.Ordering.{is_eq, is_lt}

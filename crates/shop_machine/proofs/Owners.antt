@@ -1,5 +1,5 @@
 -- The account of a history, where each content that a history gives is sound.
-use Rattle.std.proofs.Common.{ℕ, List}
+use Rattle.std.proofs.Common.{List}
 use Rattle.shop_machine.specs.Messages.{Texts}
 use Rattle.shop_machine.specs.Content.{Content}
 use Rattle.shop_machine.specs.Soundness.{IsSound}

@@ -1,42 +1,33 @@
 -- What a history says of its content stays so with each message that is accepted.
-use Rattle.std.proofs.Common.{◌≡◌, ℕ, ◌+◌, ◌<◌, ◌≤◌, List, [], ◌∷◌, ◌++◌, map, Bool, true, false, not, nat_eq, refl, sym, ap, subst, ◌∙◌, arith, inl, inr, ◌⊎◌, true≢false}
-use Rattle.std.specs.Prelude.{Option, Some, None, if◌then◌else◌, ◌&&◌}
-use Rattle.std.specs.Ordering.{nat_cmp, is_eq}
+use Rattle.std.proofs.Common.{◌≡◌, ℕ, ◌+◌, ◌<◌, ◌≤◌, List, ◌∷◌, map, refl, sym, ap, subst, ◌∙◌, arith, inl, inr}
+use Rattle.std.specs.Prelude.{Option, Some, None, if◌then◌else◌}
 use Rattle.std.specs.Cmp.{nat_cmp_total}
-use Rattle.std.specs.FinMap.{FinMap, get, insert, get-empty, nat_cmp-IsAntisymmetric}
+use Rattle.std.specs.FinMap.{FinMap, get, insert, nat_cmp-IsAntisymmetric}
 use Rattle.cut_measure.specs.declared.sizes.Kind.{Kind}
-use Rattle.cut_measure.specs.declared.sizes.Kind.TheVariants.{Bar, Sheet}
-use Rattle.cut_measure.specs.Codes.{code_cmp}
 use Rattle.cut_measure.specs.Names.{Name, name_cmp}
 use Rattle.cut_measure.specs.Measures.{Extent, Rule, below}
-use Rattle.cut_tree.specs.declared.lay.Row.{Row}
 use Rattle.cut_tree.specs.Patterns.{Pattern}
-use Rattle.cut_tree.specs.Cells.{Outcome, all_made, spot_of}
-use Rattle.cut_tree.specs.Laying.{IsLaid}
 use Rattle.shop_machine.specs.declared.records.Material.{Material}
 use Rattle.shop_machine.specs.declared.records.Part.{Part}
 use Rattle.shop_machine.specs.declared.records.State.{State}
-use Rattle.shop_machine.specs.declared.records.State.TheVariants.{Standing, Reserved, Cut, Piece, Kerf, Scrap}
+use Rattle.shop_machine.specs.declared.records.State.TheVariants.{Standing, Reserved}
 use Rattle.shop_machine.specs.declared.records.Job.{Job}
-use Rattle.shop_machine.specs.declared.records.JobState as job_states
+use Rattle.shop_machine.specs.declared.records.JobState.{JobState}
 use Rattle.shop_machine.specs.declared.records.JobState.TheVariants as job_state
 use Rattle.shop_machine.specs.declared.records.Demand.{Demand}
-use Rattle.shop_machine.specs.declared.refusals.Refusal.{Refusal}
-use Rattle.shop_machine.specs.declared.refusals.Refusal.TheVariants.{BadMaterial, MaterialExists, JobOver, StoreFault}
 use Rattle.shop_machine.specs.declared.changes.Change.{Change}
 use Rattle.shop_machine.specs.declared.messages.Message.{Message}
 use Rattle.shop_machine.specs.declared.messages.OrderLine.{OrderLine}
 use Rattle.shop_machine.specs.declared.messages.Command.{Command}
-use Rattle.shop_machine.specs.declared.messages.Command.TheVariants.{AddMaterial, Receive, AddOrder, Reserve, Done, Release}
-use Rattle.shop_machine.specs.Columns.{same_name, is_free, is_waiting}
+use Rattle.shop_machine.specs.declared.messages.Command.TheVariants.{AddMaterial, Receive, AddOrder, Reserve, Release}
 use Rattle.shop_machine.specs.Messages.{Texts}
-use Rattle.shop_machine.specs.Content.{Content, fresh, material_at, part_at, job_at, demand_at, with_parts, changed}
-use Rattle.shop_machine.specs.Machine.{first_of, same_kind, same_rule, is_other, material_refusal, material_change, receive_change, unit_part, unit_parts, order_change, Reads, reserve_change, in_state, job_refusal, rests, row_part, done_change, release_change, part_of, material_of, end_refusal, refusal_of, Makes, Accepts, keeping, same_code}
-use Rattle.shop_machine.specs.Soundness.{IsSound, IsWaiting}
-use Rattle.shop_machine.specs.History.{Entry, Gives, ReceivedUnit, acts_in, acts_of, units_in, units_of, material_by, unit_material, rule_by, material_rule, Reservation, job_by, job_of, Owner, stands_as, owner_at, cut_owner, owner_by, owner_of, is_cut, standing_as, IsOwner, HasOwner, OneOwner, IsIn, EachCellIsOwned}
-use Rattle.shop_machine.proofs.Basics.{names_total, names_same, codes_total, codes_same, nat_cases, name_cases, key_cases, same_some, none_some, get_same, get_other, in_append, in_later, in_first, in_map, map_in}
-use Rattle.shop_machine.proofs.Cells.{Named, restated, found_cases, found_cut, kept_old, row_inside, cut_up, after_receipt, received_cases, found_unit, kept_before, still_owned, new_owned}
-use Rattle.shop_machine.proofs.Accounts.{IsRow, IsWhole, reservation, Follows, unit_of, unit_acts, if_yes, if_no, material_is, row_later, row_restated, stands_yes, stands_no, job_waits, free_stands, known_rule}
+use Rattle.shop_machine.specs.Content.{Content, material_at, part_at, job_at, changed}
+use Rattle.shop_machine.specs.Machine.{material_refusal, material_change, receive_change, unit_part, order_change, reserve_change, in_state, release_change, keeping}
+use Rattle.shop_machine.specs.Soundness.{IsSound}
+use Rattle.shop_machine.specs.History.{Entry, ReceivedUnit, acts_of, units_of, material_rule, job_of, owner_by, owner_of, is_cut, standing_as, HasOwner}
+use Rattle.shop_machine.proofs.Basics.{names_total, names_same, codes_total, codes_same, nat_cases, name_cases, key_cases, same_some, get_same, get_other, in_append, in_first, in_map, map_in}
+use Rattle.shop_machine.proofs.Cells.{Named, restated, after_receipt, received_cases, found_unit, kept_before, still_owned, new_owned}
+use Rattle.shop_machine.proofs.Accounts.{IsRow, IsWhole, reservation, Follows, unit_of, unit_acts, if_yes, if_no, row_later, row_restated, known_rule}
 
 abbrev pub entry_of : ℕ → ℕ → Command → Option Pattern → Entry
 entry_of terminal number command read = record { message = record { terminal = terminal; number = number; command = command }; read = read }
@@ -80,7 +71,7 @@ module _ (texts : Texts) (message : Message) (terminal number : ℕ) (earlier : 
         ]
 
   -- a job whose state changes
-  module _ (j : Job) (s : job_states.JobState) (found : job_at old j.act ≡ Some j) where
+  module _ (j : Job) (s : JobState) (found : job_at old j.act ≡ Some j) where
     abbrev with_state : Job
     with_state = record j { state = s }
 
