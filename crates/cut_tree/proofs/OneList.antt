@@ -77,20 +77,30 @@ one_row_at r s v x y p q =
     let top : r.y ≡ s.y = same_place r.y s.y y v.y v.y p.y q.y refl in
     λ i. record { node = node i; x = left i; y = top i; w = w i; h = h i; owner = owner i }
 
+held : (r s : Row) (x y : ℕ) → r ≡ s → Holds s x y → Holds r x y
+held r s x y e h = subst (λ (v : Row). Holds v x y) (sym e) h
+
+in_same : (r s : Row) (rows : List Row) → r ≡ s → In r rows → In s rows
+in_same r s rows e p = subst (λ (v : Row). In v rows) e p
+
 module _ (t : Tree) (w h k : ℕ) (outcome : ℕ → Outcome) where
-  in_both : (rows more : List Row) → IsLaid t w h k outcome rows → IsLaid t w h k outcome more → (r : Row) → In r rows → In r more
-  in_both rows more p q r i =
-      let at = place r rows i in
-      let here : Row = get_or rows at.0 r in
-      let some : (0 < here.w) × (0 < here.h) = p.some_cell at.0 r at.1 in
+  -- each row of one list is in the other
+  row_there : (rows more : List Row) → IsLaid t w h k outcome rows → IsLaid t w h k outcome more → (n : ℕ) (d : Row) → n < length rows → In (get_or rows n d) more
+  row_there rows more p q n d l =
+      let here : Row = get_or rows n d in
+      let some : (0 < here.w) × (0 < here.h) = p.some_cell n d l in
       let wide : 0 < here.w = some.0 in let high : 0 < here.h = some.1 in
       let corner : Holds here here.x here.y = record { left = omega arith; right = omega arith; top = omega arith; bottom = omega arith } in
-      let owns : Owns t w h k outcome here.node here.owner here.x here.y = (p.own_cells at.0 r at.1 here.x here.y).0 corner in
+      let owns : Owns t w h k outcome here.node here.owner here.x here.y = (p.own_cells n d l here.x here.y).0 corner in
       let a : Any (λ s. Holds s here.x here.y) more = q.each_cell here.x here.y owns.inside_width owns.inside_height in
       let there : Row = get_or more a.0 a.1 in
-      let holds : Holds there here.x here.y = subst (λ (v : Row). Holds v here.x here.y) (sym a.3) a.4 in
-      let same : there ≡ here = one_row_at there here (spot_of t w h k outcome 0 0 here.x here.y) here.x here.y (q.own_place a.0 a.1 a.2 here.x here.y holds) (p.own_place at.0 r at.1 here.x here.y corner) in
-      subst (λ (v : Row). In v more) (same ∙ at.2) (element more a.0 a.1 a.2)
+      let holds : Holds there here.x here.y = held there a.1 here.x here.y a.3 a.4 in
+      in_same there here more
+      (one_row_at there here (spot_of t w h k outcome 0 0 here.x here.y) here.x here.y (q.own_place a.0 a.1 a.2 here.x here.y holds) (p.own_place n d l here.x here.y corner))
+      (element more a.0 a.1 a.2)
+
+  in_both : (rows more : List Row) → IsLaid t w h k outcome rows → IsLaid t w h k outcome more → (r : Row) → In r rows → In r more
+  in_both rows more p q r i = let at = place r rows i in in_same (get_or rows at.0 r) r more at.2 (row_there rows more p q at.0 r at.1)
 
   -- rows that are laid for one tree
   pub one_laid : (rows more : List Row) → IsLaid t w h k outcome rows → IsLaid t w h k outcome more → rows ≡ more

@@ -191,6 +191,40 @@ impl Plan {
     }
 }
 
+/// The same plan in memory of its own.
+impl Clone for Plan {
+    ghost use Rattle.std.specs.Prelude.{◌≡◌};
+
+    ghost is_clone = { λ s t. t ≡ s };
+
+    fn clone(&self) -> Result<Plan, AllocError> {
+        let Plan { root, size, kerf } = self;
+        let root = root.clone()?;
+        Ok(Plan {
+            root,
+            size: *size,
+            kerf: *kerf,
+        })
+    }
+}
+
+/// Two plans are equal exactly where their trees, sizes and kerfs are.
+impl PartialEq for Plan {
+    ghost use Rattle.std.specs.Prelude.{◌≡◌, ◌↔◌, IsTrue};
+    ghost use Rattle.cut_tree.specs.SamePatterns.{same_pattern, same_pattern_laws};
+
+    ghost eq = { same_pattern };
+
+    ghost laws = { same_pattern_laws };
+
+    fn eq(&self, other: &Plan) -> bool
+        ensures test { result ≡ same_pattern self.now other.now }
+        ensures same { IsTrue result ↔ (self.now ≡ other.now) }
+    {
+        self.is(other)
+    }
+}
+
 /// The plan of a bar from which pieces, each a demand and a length of at least 1, are cut off in the list's order. A
 /// last piece that fills its part needs no cut, and what is left is a rest. The faults come in the order of `BarFault`.
 pub fn bar_plan(

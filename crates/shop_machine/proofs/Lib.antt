@@ -8,3 +8,15 @@ pub mod Given
 pub mod Marks
 pub mod CellCounts
 pub mod Owners
+pub mod Puts
+pub mod Allowed
+pub mod Grown
+pub mod AddedUp
+pub mod Moved
+pub mod MaterialStep
+pub mod ReceiveStep
+pub mod OrderStep
+pub mod PartStep
+pub mod ReserveStep
+pub mod JobEnds
+pub mod Sound
