@@ -1,5 +1,13 @@
 pub mod Units
 pub mod Sums
+pub mod Basics
+pub mod Cells
+pub mod Accounts
+pub mod Steps
+pub mod Given
+pub mod Marks
+pub mod CellCounts
+pub mod Owners
 pub mod Puts
 pub mod Allowed
 pub mod Grown
