@@ -3,6 +3,7 @@ use Rattle.std.specs.Prelude.{◌≡◌, ◌≢◌, ℕ, ◌+◌, ◌<◌, ◌�
 use Rattle.std.specs.declared.cmp.Ordering.TheVariants.{Less}
 use Rattle.std.specs.FinMap as map
 use Rattle.cut_measure.specs.Names.{Name, name_cmp}
+use Rattle.cut_measure.specs.Measures.{is_rule}
 use Rattle.cut_tree.specs.Tree.{count_of}
 use Rattle.cut_tree.specs.Patterns.{IsPlan}
 use Rattle.shop_machine.specs.declared.records.Material.{Material}
@@ -37,14 +38,22 @@ pub record IsKept (texts : Texts) (pair : Pair) (row : Kept) : Type 0 where
   pub of_pair : pair_of message ≡ pair
   pub keeps : Keeps texts row message answer
 
--- a part stands under its own name, is of a known material, has a cell and lies in a unit
+-- a material stands under its own code, and is cut by a rule that there may be
+pub record IsKnown (code : List ℕ) (material : Material) : Type 0 where
+  pub coded : material.code ≡ code
+  pub ruled : is_rule material.kind material.limits.kerf material.limits.min_long material.limits.min_short ≡ true
+
+-- A part stands under its own name, is no older than its unit, is of a known material, has a cell and lies in a unit; the
+-- demand of a piece is there.
 pub record IsPlaced (content : Content) (name : Name) (part : Part) : Type 0 where
   pub named : part.name ≡ name
+  pub rooted : part.root.act ≤ part.name.act
   pub known : IsSome (material_at content part.material)
   pub some_width : 1 ≤ part.size.w
   pub some_height : 1 ≤ part.size.h
   pub right : part.x + part.size.w ≤ 200000
   pub bottom : part.y + part.size.h ≤ 60000
+  pub asked : (number : ℕ) → is_piece_of number part.state ≡ true → IsSome (demand_at content number)
 
 -- A waiting job's part is reserved for it, is older than it, and has the sides of its plan and a material of its kerf; its
 -- pieces' demands are there, and no part is named after it yet.
@@ -85,15 +94,17 @@ pub record IsCounted (content : Content) (number : ℕ) (demand : Demand) : Type
   pub reserved : demand.reserved ≡ reserved_in number content
   pub made : demand.made ≡ made_in number content
 
--- a demand stands under its own number, one that was given
+-- a demand stands under its own number, one that was given, and is of a known material
 pub record IsDemand (content : Content) (number : ℕ) (demand : Demand) : Type 0 where
   pub numbered : demand.number ≡ number
   pub so_far : number ≤ content.last_demand
+  pub known : IsSome (material_at content demand.material)
   pub counted : IsCounted content number demand
 
 -- a content as histories give it
 pub record IsSound (texts : Texts) (content : Content) : Type 0 where
   pub in_range : IsInRange content
+  pub materials : (code : List ℕ) (material : Material) → material_at content code ≡ Some material → IsKnown code material
   pub parts : (name : Name) (part : Part) → part_at content name ≡ Some part → IsPlaced content name part
   pub jobs : (number : ℕ) (job : Job) → job_at content number ≡ Some job → IsJob content number job
   pub demands : (number : ℕ) (demand : Demand) → demand_at content number ≡ Some demand → IsDemand content number demand

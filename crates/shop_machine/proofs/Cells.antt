@@ -1,0 +1,328 @@
+-- Whose a cell is after parts changed.
+use Rattle.std.proofs.Common.{◌≡◌, ℕ, ◌+◌, ◌-◌, ◌<◌, ◌≤◌, List, map, Bool, true, false, refl, sym, ap, subst, ◌∙◌, arith, inl, inr, ◌⊎◌, true≢false}
+use Rattle.std.specs.Prelude.{Option, Some, None, ◌↔◌, if◌then◌else◌}
+use Rattle.std.specs.FinMap.{FinMap, get, insert}
+use Rattle.cut_measure.specs.Names.{Name, name_cmp}
+use Rattle.cut_measure.specs.Measures.{Extent, Rule, is_kept, below}
+use Rattle.cut_tree.specs.declared.lay.Owner as of_row
+use Rattle.cut_tree.specs.declared.lay.Owner.TheVariants as owner
+use Rattle.cut_tree.specs.declared.lay.Row.{Row}
+use Rattle.cut_tree.specs.Tree.{Tree}
+use Rattle.cut_tree.specs.Cells.{Outcome, Spot, spot_of}
+use Rattle.cut_tree.specs.Laying as lay
+use Rattle.cut_tree.specs.Laying.{Owns, IsSpot, IsLaid}
+use Rattle.shop_machine.specs.declared.records.Part.{Part}
+use Rattle.shop_machine.specs.declared.records.State.{State}
+use Rattle.shop_machine.specs.declared.records.State.TheVariants.{Standing, Cut, Scrap}
+use Rattle.shop_machine.specs.Content.{with_parts}
+use Rattle.shop_machine.specs.Machine.{in_state, row_part, fate, unit_part, unit_parts}
+use Rattle.shop_machine.specs.History.{Owner, owner_at, is_cut, standing_as, Holds, IsOwner, HasOwner, IsIn}
+use Rattle.shop_machine.proofs.Basics.{names_total, names_same, names_equal, name_cases, same_some, none_some, get_same, get_other, all_in, any_in, pair_in, in_map, map_in, put_cases}
+
+-- each row is kept under its name
+abbrev pub Named : FinMap name_cmp Part → Type 0
+Named m = (n : Name) (p : Part) → get m n ≡ Some p → p.name ≡ n
+
+sizes_equal : (a b : Extent) → a.w ≡ b.w → a.h ≡ b.h → a ≡ b
+sizes_equal a b p q = λ i. record { w = p i; h = q i }
+
+-- ---- a part whose state changes, not being cut before or after
+
+module _ (m : FinMap name_cmp Part) (named : Named m) (p : Name) (row : Part) (kept : get m p ≡ Some row) (whole : is_cut row.state ≡ false) where
+  -- a cell of the part
+  in_part : (found : Option Owner) (u : Name) (x y : ℕ) (o : HasOwner m found u x y) → o.part.name ≡ p → o.part ≡ row
+  in_part found u x y o e = same_some o.part row (sym o.kept ∙ ap (get m) e ∙ kept)
+
+  pub restated : (s : State) → is_cut s ≡ false → standing_as s ≡ standing_as row.state
+      → (found : Option Owner) (u : Name) (x y : ℕ) → HasOwner m found u x y → HasOwner (insert m p (in_state s row)) found u x y
+  restated s open' stays found u x y o =
+      let new = insert m p (in_state s row) in
+      let here : get new p ≡ Some (in_state s row) = get_same names_total names_same m p (in_state s row) in
+      let other : (q : Name) → (q ≡ p → ⊥) → get new q ≡ get m q = λ q n. get_other names_total names_same m p (in_state s row) q n in
+      elim (name_cases o.part.name p) [
+        | inl e ↦ (
+            let is : o.part ≡ row = in_part found u x y o e.0 in
+            let h : Holds u x y row = subst (Holds u x y) is o.holds in
+            let w : IsOwner o.owner x y row = subst (IsOwner o.owner x y) is o.same in
+            record {
+              part = in_state s row;
+              owner = o.owner;
+              kept = ap (get new) (named p row kept) ∙ here;
+              holds = record { root = h.root; whole = open'; right = h.right; left = h.left; below = h.below; above = h.above };
+              owned = o.owned;
+              same = record { name = w.name; state = stays ∙ w.state; size = w.size; across = w.across; down = w.down };
+              alone = λ n q k g. elim (name_cases n p) [
+                | inl f ↦ same_some q (in_state s row) (sym k ∙ ap (get new) f.0 ∙ here)
+                | inr f ↦ (
+                    let old : get m n ≡ Some q = sym (other n f.0) ∙ k in
+                    let same : q ≡ o.part = o.alone n q old g in
+                    absurd (f.0 (sym (named n q old) ∙ ap (λ (r : Part). r.name) same ∙ e.0)))
+              ];
+            })
+        | inr e ↦ record {
+          part = o.part;
+          owner = o.owner;
+          kept = other o.part.name e.0 ∙ o.kept;
+          holds = o.holds;
+          owned = o.owned;
+          same = o.same;
+          alone = λ n q k g. elim (name_cases n p) [
+            | inl f ↦ (
+                let is : q ≡ in_state s row = same_some q (in_state s row) (sym k ∙ ap (get new) f.0 ∙ here) in
+                let h : Holds u x y (in_state s row) = subst (Holds u x y) is g in
+                let before : row ≡ o.part = o.alone p row kept (record { root = h.root; whole = whole; right = h.right; left = h.left; below = h.below; above = h.above }) in
+                absurd (e.0 (ap (λ (r : Part). r.name) (sym before) ∙ named p row kept)))
+            | inr f ↦ o.alone n q (sym (other n f.0) ∙ k) g
+          ];
+        }
+      ]
+
+-- ---- a part that is cut
+
+kept_or_not : (b : Bool) → is_cut (if b then Standing else Scrap) ≡ false
+kept_or_not true = refl
+kept_or_not false = refl
+
+kept_stands : (b : Bool) → standing_as (if b then Standing else Scrap) ≡ (if b then Standing else Scrap)
+kept_stands true = refl
+kept_stands false = refl
+
+fate_whole : (rule : Rule) (of : of_row.Owner) (size : Extent) → is_cut (fate rule of size) ≡ false
+fate_whole rule (owner.Piece demand) size = refl
+fate_whole rule owner.Rest size = kept_or_not (is_kept rule size)
+fate_whole rule owner.Kerf size = refl
+fate_whole rule owner.Uncut size = kept_or_not (is_kept rule size)
+fate_whole rule owner.Lost size = refl
+
+fate_stands : (rule : Rule) (of : of_row.Owner) (size : Extent) → standing_as (fate rule of size) ≡ fate rule of size
+fate_stands rule (owner.Piece demand) size = refl
+fate_stands rule owner.Rest size = kept_stands (is_kept rule size)
+fate_stands rule owner.Kerf size = refl
+fate_stands rule owner.Uncut size = kept_stands (is_kept rule size)
+fate_stands rule owner.Lost size = refl
+
+module _ (m : FinMap name_cmp Part) (named : Named m) (p : Name) (row : Part) (kept : get m p ≡ Some row) (whole : is_cut row.state ≡ false) (stands : standing_as row.state ≡ Standing)
+    (job : ℕ) (unused : (node : ℕ) → get m (record { act = job; node = node }) ≡ None)
+    (rule : Rule) (tree : Tree) (outcome : ℕ → Outcome) (rows : List Row) (laid : IsLaid tree row.size.w row.size.h rule.kerf outcome rows) where
+  abbrev pub after_cuts : FinMap name_cmp Part
+  after_cuts = with_parts (map (row_part row rule job) rows) (insert m p (in_state (Cut job) row))
+
+  unused_name : (n : Name) → n.act ≡ job → get m n ≡ None
+  unused_name n e = ap (get m) (names_equal n (record { act = job; node = n.node }) e refl) ∙ unused n.node
+
+  one_row : (r s : Row) → IsIn r rows → IsIn s rows → r.node ≡ s.node → r ≡ s
+  one_row r s i j e =
+      elim (pair_in (λ (a b : Row). a.node < b.node) rows laid.rising r s i j) [
+        | inl is ↦ is
+        | inr lt ↦ elim lt [ inl l ↦ absurd (omega arith) | inr l ↦ absurd (omega arith) ]
+      ]
+
+  pub found_new : (r : Row) → IsIn r rows → get after_cuts (record { act = job; node = r.node }) ≡ Some (row_part row rule job r)
+  found_new r i =
+      elim (put_cases (map (row_part row rule job) rows) (insert m p (in_state (Cut job) row)) (record { act = job; node = r.node })) [
+        | inl f ↦ (
+            let s = in_map (row_part row rule job) rows f.0 f.1 in
+            let name : s.0.node ≡ r.node = ap (λ (q : Part). q.name.node) (sym s.2) ∙ ap (λ (n : Name). n.node) f.2 in
+            f.3 ∙ ap Some s.2 ∙ ap (λ (t : Row). Some (row_part row rule job t)) (one_row s.0 r s.1 i name))
+        | inr f ↦ absurd (f.0 (row_part row rule job r) (map_in (row_part row rule job) rows r i) refl)
+      ]
+
+  pub found_cases : (n : Name) (q : Part) → get after_cuts n ≡ Some q
+      → ((r : Row) × IsIn r rows × (q ≡ row_part row rule job r) × (q.name ≡ n)) ⊎ (((n ≡ p) × (q ≡ in_state (Cut job) row)) ⊎ ((n ≡ p → ⊥) × (get m n ≡ Some q)))
+  found_cases n q k =
+      elim (put_cases (map (row_part row rule job) rows) (insert m p (in_state (Cut job) row)) n) [
+        | inl f ↦ (
+            let s = in_map (row_part row rule job) rows f.0 f.1 in
+            let is : q ≡ f.0 = same_some q f.0 (sym k ∙ f.3) in
+            inl (s.0, s.1, is ∙ s.2, ap (λ (v : Part). v.name) is ∙ f.2))
+        | inr f ↦ elim (name_cases n p) [
+          | inl e ↦ inr (inl (e.0, same_some q (in_state (Cut job) row) (sym k ∙ f.1 ∙ ap (get (insert m p (in_state (Cut job) row))) e.0 ∙ get_same names_total names_same m p (in_state (Cut job) row))))
+          | inr e ↦ inr (inr (e.0, sym (get_other names_total names_same m p (in_state (Cut job) row) n e.0) ∙ sym f.1 ∙ k))
+        ]
+      ]
+
+  pub kept_old : (n : Name) (q : Part) → get m n ≡ Some q → (n ≡ p → ⊥) → get after_cuts n ≡ Some q
+  kept_old n q k ne =
+      elim (put_cases (map (row_part row rule job) rows) (insert m p (in_state (Cut job) row)) n) [
+        | inl f ↦ (
+            let s = in_map (row_part row rule job) rows f.0 f.1 in
+            let act : n.act ≡ job = ap (λ (v : Name). v.act) (sym f.2) ∙ ap (λ (v : Part). v.name.act) s.2 in
+            absurd (none_some q (sym (unused_name n act) ∙ k)))
+        | inr f ↦ f.1 ∙ get_other names_total names_same m p (in_state (Cut job) row) n ne ∙ k
+      ]
+
+  pub found_cut : get after_cuts p ≡ Some (in_state (Cut job) row)
+  found_cut =
+      elim (put_cases (map (row_part row rule job) rows) (insert m p (in_state (Cut job) row)) p) [
+        | inl f ↦ (
+            let s = in_map (row_part row rule job) rows f.0 f.1 in
+            let act : p.act ≡ job = ap (λ (v : Name). v.act) (sym f.2) ∙ ap (λ (v : Part). v.name.act) s.2 in
+            absurd (none_some row (sym (unused_name p act) ∙ kept)))
+        | inr f ↦ f.1 ∙ get_same names_total names_same m p (in_state (Cut job) row)
+      ]
+
+  -- a cell of a new part was one of the part that was cut
+  pub was_in : (u : Name) (x y : ℕ) (r : Row) → IsIn r rows → Holds u x y (row_part row rule job r) → lay.Holds r (x - row.x) (y - row.y) × Holds u x y row
+  was_in u x y r i h =
+      let a : row.x + r.x ≤ x = h.right in let b : x < (row.x + r.x) + r.w = h.left in
+      let c : row.y + r.y ≤ y = h.below in let d : y < (row.y + r.y) + r.h = h.above in
+      let held : lay.Holds r (x - row.x) (y - row.y) = record { left = omega arith; right = omega arith; top = omega arith; bottom = omega arith } in
+      let owns : Owns tree row.size.w row.size.h rule.kerf outcome r.node r.owner (x - row.x) (y - row.y) =
+      (all_in (λ (s : Row). (k l : ℕ) → lay.Holds s k l ↔ Owns tree row.size.w row.size.h rule.kerf outcome s.node s.owner k l) rows laid.own_cells r i (x - row.x) (y - row.y)).0 held in
+      let wide : x - row.x < row.size.w = owns.inside_width in let high : y - row.y < row.size.h = owns.inside_height in
+      (held, record { root = h.root; whole = whole; right = omega arith; left = omega arith; below = omega arith; above = omega arith })
+
+  pub row_inside : (r : Row) → IsIn r rows → (0 < r.w) × (0 < r.h) × (r.x + r.w ≤ row.size.w) × (r.y + r.h ≤ row.size.h)
+  row_inside r i =
+      let some : (0 < r.w) × (0 < r.h) = all_in (λ (r : Row). (0 < r.w) × (0 < r.h)) rows laid.some_cell r i in
+      let wp : 0 < r.w = some.0 in let hp : 0 < r.h = some.1 in
+      let last : lay.Holds r (r.x + r.w - 1) (r.y + r.h - 1) = record { left = omega arith; right = omega arith; top = omega arith; bottom = omega arith } in
+      let owns : Owns tree row.size.w row.size.h rule.kerf outcome r.node r.owner (r.x + r.w - 1) (r.y + r.h - 1) =
+      (all_in (λ (s : Row). (k l : ℕ) → lay.Holds s k l ↔ Owns tree row.size.w row.size.h rule.kerf outcome s.node s.owner k l) rows laid.own_cells r i (r.x + r.w - 1) (r.y + r.h - 1)).0 last in
+      let a : r.x + r.w - 1 < row.size.w = owns.inside_width in let b : r.y + r.h - 1 < row.size.h = owns.inside_height in
+      (wp, hp, omega arith, omega arith)
+
+  no_cell : (u : Name) (x y : ℕ) (q : Part) → q ≡ in_state (Cut job) row → Holds u x y q → ⊥
+  no_cell u x y q e h = true≢false (ap (λ (v : Part). is_cut v.state) (sym e) ∙ h.whole)
+
+  pub cut_up : (found after : Option Owner) (u : Name) (x y : ℕ)
+      → ((w : Owner) → row.root ≡ u → found ≡ Some w → w.name ≡ p → w.state ≡ Standing
+      → after ≡ Some (owner_at rule job (spot_of tree w.size.w w.size.h rule.kerf outcome 0 0 w.x w.y)))
+      → ((w : Owner) → found ≡ Some w → (w.name ≡ p → ⊥) → after ≡ Some w)
+      → HasOwner m found u x y → HasOwner after_cuts after u x y
+  cut_up found after u x y there elsewhere o =
+      elim (name_cases o.part.name p) [
+        | inl e ↦ (
+            let is : o.part ≡ row = same_some o.part row (sym o.kept ∙ ap (get m) e.0 ∙ kept) in
+            let h : Holds u x y row = subst (Holds u x y) is o.holds in
+            let w : Owner = o.owner in
+            let ws : IsOwner w x y row = subst (IsOwner w x y) is o.same in
+            let across : row.x + w.x ≡ x = ws.across in let down : row.y + w.y ≡ y = ws.down in
+            let right : x < row.x + row.size.w = h.left in let bottom : y < row.y + row.size.h = h.above in
+            let s : Spot = spot_of tree row.size.w row.size.h rule.kerf outcome 0 0 w.x w.y in
+            let spots : spot_of tree w.size.w w.size.h rule.kerf outcome 0 0 w.x w.y ≡ s =
+            ap (λ (e : Extent). spot_of tree e.w e.h rule.kerf outcome 0 0 w.x w.y) (sym ws.size) in
+            let held = any_in (λ (r : Row). lay.Holds r w.x w.y) rows (laid.each_cell w.x w.y (omega arith) (omega arith)) in
+            let r : Row = held.0 in
+            let in_row : lay.Holds r w.x w.y = held.2 in
+            let places = all_in (λ (r : Row). (i j : ℕ) → lay.Holds r i j → IsSpot r (spot_of tree row.size.w row.size.h rule.kerf outcome 0 0 i j) i j) rows laid.own_place in
+            let place : IsSpot r s w.x w.y = places r held.1 w.x w.y in_row in
+            let left' : r.x ≤ w.x = in_row.left in let right' : w.x < r.x + r.w = in_row.right in
+            let top' : r.y ≤ w.y = in_row.top in let bottom' : w.y < r.y + r.h = in_row.bottom in
+            let px : r.x + s.x ≡ w.x = place.x in let py : r.y + s.y ≡ w.y = place.y in
+            let mine : Extent = record { w = r.w; h = r.h } in
+            let its : Extent = record { w = s.w; h = s.h } in
+            let sizes : mine ≡ its = sizes_equal mine its (sym place.w) (sym place.h) in
+            record {
+              part = row_part row rule job r;
+              owner = owner_at rule job s;
+              kept = found_new r held.1;
+              holds = record { root = h.root; whole = fate_whole rule r.owner mine; right = omega arith; left = omega arith; below = omega arith; above = omega arith };
+              owned = there w h.root o.owned (sym ws.name ∙ named p row kept) (sym ws.state ∙ stands) ∙ ap (λ (t : Spot). Some (owner_at rule job t)) spots;
+              same = record {
+                name = ap (λ n. record { act = job; node = n }) (sym place.node);
+                state = fate_stands rule r.owner mine ∙ ap (λ v. fate rule v mine) (sym place.owner) ∙ ap (λ v. fate rule s.owner v) sizes;
+                size = sizes;
+                across = omega arith;
+                down = omega arith;
+              };
+              alone = λ n q k g. elim (found_cases n q k) [
+                | inl f ↦ (
+                    let t : Row = f.0 in
+                    let held' : lay.Holds t (x - row.x) (y - row.y) = (was_in u x y t f.1 (subst (Holds u x y) f.2 g)).0 in
+                    let ex : x - row.x ≡ w.x = omega arith in let ey : y - row.y ≡ w.y = omega arith in
+                    let held'' : lay.Holds t w.x w.y = subst (λ b. lay.Holds t w.x b) ey (subst (λ a. lay.Holds t a (y - row.y)) ex held') in
+                    let place' : IsSpot t s w.x w.y = places t f.1 w.x w.y held'' in
+                    f.2 ∙ ap (row_part row rule job) (one_row t r f.1 held.1 (sym place'.node ∙ place.node)))
+                | inr f ↦ elim f [
+                  | inl c ↦ absurd (no_cell u x y q c.1 g)
+                  | inr c ↦ absurd (c.0 (sym (named n q c.1) ∙ ap (λ (v : Part). v.name) (o.alone n q c.1 g) ∙ e.0))
+                ]
+              ];
+            })
+        | inr e ↦ record {
+          part = o.part;
+          owner = o.owner;
+          kept = kept_old o.part.name o.part o.kept e.0;
+          holds = o.holds;
+          owned = elsewhere o.owner o.owned (λ f. e.0 (o.same.name ∙ f));
+          same = o.same;
+          alone = λ n q k g. elim (found_cases n q k) [
+            | inl f ↦ (
+                let h : Holds u x y row = (was_in u x y f.0 f.1 (subst (Holds u x y) f.2 g)).1 in
+                absurd (e.0 (ap (λ (v : Part). v.name) (sym (o.alone p row kept h)) ∙ named p row kept)))
+            | inr f ↦ elim f [
+              | inl c ↦ absurd (no_cell u x y q c.1 g)
+              | inr c ↦ o.alone n q c.1 g
+            ]
+          ];
+        }
+      ]
+
+-- ---- units that are received
+
+module _ (m : FinMap name_cmp Part) (material batch : List ℕ) (size : Extent) (act count : ℕ)
+    (older : (n : Name) (p : Part) → get m n ≡ Some p → (n.act ≡ act → ⊥) × (p.root.act ≡ act → ⊥)) where
+  abbrev pub after_receipt : FinMap name_cmp Part
+  after_receipt = with_parts (unit_parts material batch size act count) m
+
+  pub received_cases : (n : Name) (q : Part) → get after_receipt n ≡ Some q
+      → ((i : ℕ) × IsIn i (below count) × (q ≡ unit_part material batch size act i) × (q.name ≡ n)) ⊎ (get m n ≡ Some q)
+  received_cases n q k =
+      elim (put_cases (map (unit_part material batch size act) (below count)) m n) [
+        | inl f ↦ (
+            let s = in_map (unit_part material batch size act) (below count) f.0 f.1 in
+            let is : q ≡ f.0 = same_some q f.0 (sym k ∙ f.3) in
+            inl (s.0, s.1, is ∙ s.2, ap (λ (v : Part). v.name) is ∙ f.2))
+        | inr f ↦ inr (sym f.1 ∙ k)
+      ]
+
+  pub found_unit : (i : ℕ) → IsIn i (below count) → get after_receipt (record { act = act; node = i }) ≡ Some (unit_part material batch size act i)
+  found_unit i is =
+      elim (put_cases (map (unit_part material batch size act) (below count)) m (record { act = act; node = i })) [
+        | inl f ↦ (
+            let s = in_map (unit_part material batch size act) (below count) f.0 f.1 in
+            let node : s.0 ≡ i = ap (λ (q : Part). q.name.node) (sym s.2) ∙ ap (λ (n : Name). n.node) f.2 in
+            f.3 ∙ ap Some s.2 ∙ ap (λ t. Some (unit_part material batch size act t)) node)
+        | inr f ↦ absurd (f.0 (unit_part material batch size act i) (map_in (unit_part material batch size act) (below count) i is) refl)
+      ]
+
+  pub kept_before : (n : Name) (q : Part) → get m n ≡ Some q → get after_receipt n ≡ Some q
+  kept_before n q k =
+      elim (put_cases (map (unit_part material batch size act) (below count)) m n) [
+        | inl f ↦ (
+            let s = in_map (unit_part material batch size act) (below count) f.0 f.1 in
+            absurd ((older n q k).0 (ap (λ (v : Name). v.act) (sym f.2) ∙ ap (λ (v : Part). v.name.act) s.2)))
+        | inr f ↦ f.1 ∙ k
+      ]
+
+  pub still_owned : (found after : Option Owner) (u : Name) (x y : ℕ) → (u.act ≡ act → ⊥) → after ≡ found → HasOwner m found u x y → HasOwner after_receipt after u x y
+  still_owned found after u x y old same o = record {
+    part = o.part;
+    owner = o.owner;
+    kept = kept_before o.part.name o.part o.kept;
+    holds = o.holds;
+    owned = same ∙ o.owned;
+    same = o.same;
+    alone = λ n q k g. elim (received_cases n q k) [
+      | inl f ↦ absurd (old (sym (ap (λ (v : Part). v.root.act) (sym f.2) ∙ ap (λ (v : Name). v.act) g.root)))
+      | inr f ↦ o.alone n q f g
+    ];
+  }
+
+  pub new_owned : (i : ℕ) (after : Option Owner) (x y : ℕ) → IsIn i (below count) → x < size.w → y < size.h
+      → after ≡ Some (record { state = Standing; name = record { act = act; node = i }; size = size; x = x; y = y }) → HasOwner after_receipt after (record { act = act; node = i }) x y
+  new_owned i after x y is across down e = record {
+    part = unit_part material batch size act i;
+    owner = record { state = Standing; name = record { act = act; node = i }; size = size; x = x; y = y };
+    kept = found_unit i is;
+    holds = record { root = refl; whole = refl; right = omega arith; left = omega arith; below = omega arith; above = omega arith };
+    owned = e;
+    same = record { name = refl; state = refl; size = refl; across = omega arith; down = omega arith };
+    alone = λ n q k g. elim (received_cases n q k) [
+      | inl f ↦ (
+          let node : f.0 ≡ i = ap (λ (v : Part). v.root.node) (sym f.2) ∙ ap (λ (v : Name). v.node) g.root in
+          f.2 ∙ ap (unit_part material batch size act) node)
+      | inr f ↦ absurd ((older n q f).1 (ap (λ (v : Name). v.act) g.root))
+    ];
+  }

@@ -1,0 +1,105 @@
+-- A content after a material was added.
+use Rattle.std.proofs.Common.{◌≡◌, ℕ, ◌≤◌, inl, inr, List, [], ◌∷◌, Bool, true, false, refl, sym, ap, subst, ◌∙◌, arith}
+use Rattle.std.specs.Prelude.{Option, Some, None, All, AllPairs, IsSome, not}
+use Rattle.std.specs.declared.cmp.Ordering.TheVariants.{Less}
+use Rattle.std.specs.Cmp.{IsTotalOrder}
+use Rattle.std.specs.Cmp.Lexicographic.{nat_list_cmp_total}
+use Rattle.std.proofs.lemmas.List.Elements.{All-nil}
+use Rattle.cut_measure.specs.declared.sizes.Kind.{Kind}
+use Rattle.cut_measure.specs.Codes.{code_cmp}
+use Rattle.cut_measure.specs.Names.{name_cmp}
+use Rattle.cut_measure.specs.Measures.{Rule, is_rule}
+use Rattle.shop_machine.specs.declared.records.Material.{Material}
+use Rattle.shop_machine.specs.declared.records.Part.{Part}
+use Rattle.shop_machine.specs.declared.records.Demand.{Demand}
+use Rattle.shop_machine.specs.declared.messages.Message.{Message}
+use Rattle.shop_machine.specs.declared.changes.Change.{Change}
+use Rattle.shop_machine.specs.declared.refusals.Refusal.TheVariants.{BadMaterial}
+use Rattle.shop_machine.specs.Messages.{Texts, pair_of}
+use Rattle.shop_machine.specs.Content.{Content, material_at, kept_at, changed}
+use Rattle.shop_machine.specs.Machine.{material_refusal, material_change, keeping}
+use Rattle.shop_machine.specs.Soundness.{IsKnown, IsDemand, IsCounted, IsSound, PartFits, DemandFits, Fits}
+use Rattle.shop_machine.proofs.Puts.{codes_exact, found_one, still_there}
+use Rattle.shop_machine.proofs.Allowed.{none_of, holds}
+use Rattle.shop_machine.proofs.Grown.{IsStock, Grows, placed_more, job_more, known_more}
+
+pub codes_total : IsTotalOrder code_cmp
+codes_total = nat_list_cmp_total
+
+-- a demand whose counts are as they were
+pub demand_more : (old new : Content) → Grows old new → old.last_demand ≤ new.last_demand → (number : ℕ) (demand : Demand) → IsDemand old number demand → IsCounted new number demand → IsDemand new number demand
+demand_more old new grows more number demand d counted =
+    let so_far = d.so_far in
+    record { numbered = d.numbered; so_far = omega (arith, so_far, more); known = known_more old new grows demand.material d.known; counted = counted }
+
+pub no_pairs : {X : Type 0} (R : X → X → Type 0) → AllPairs R []
+no_pairs R i j d before within = absurd (omega arith)
+
+module _ (texts : Texts) (message : Message) (m : Content) (code : List ℕ) (kind : Kind) (rule : Rule) where
+  abbrev after : Option Material → Content
+  after known = changed m (keeping texts message (material_change known code kind rule))
+
+  pub material_stock : (known : Option Material) → material_at m code ≡ known → material_refusal known kind rule ≡ None → IsStock m → IsStock (after known)
+  material_stock (Some row) is allowed stock =
+      let grows : Grows m (after (Some row)) = record { materials = λ code x is. is; demands = λ number h. h; acts = omega arith } in
+      record {
+        in_range = record { acts = stock.in_range.acts; last = stock.in_range.last; last_demand = stock.in_range.last_demand; received = stock.in_range.received; adds_up = stock.in_range.adds_up };
+        materials = stock.materials;
+        parts = λ name part is. placed_more m (after (Some row)) grows name part (stock.parts name part is);
+        jobs = λ number j is. job_more m (after (Some row)) grows number j (λ w. record { same = refl; none_yet = w.none_yet }) (stock.jobs number j is);
+        demands = λ number d is.
+            let old = stock.demands number d is in
+            demand_more m (after (Some row)) grows (omega arith) number d old (record { few = old.counted.few; reserved = old.counted.reserved; made = old.counted.made });
+      }
+  material_stock None is allowed stock =
+      let row : Material = record { code = code; kind = kind; limits = rule } in
+      let grows : Grows m (after None) = record {
+        materials = λ c x found. still_there codes_total codes_exact m.materials code row c x is found;
+        demands = λ number h. h;
+        acts = omega arith;
+      } in
+      record {
+        in_range = record { acts = stock.in_range.acts; last = stock.in_range.last; last_demand = stock.in_range.last_demand; received = stock.in_range.received; adds_up = stock.in_range.adds_up };
+        materials = λ c x found.
+            elim (found_one codes_total codes_exact m.materials code row c x found) [
+              | inl p ↦ subst (IsKnown c) (sym p.1)
+                  (record { coded = sym p.0; ruled = holds (is_rule kind rule.kerf rule.min_long rule.min_short) (none_of (not (is_rule kind rule.kerf rule.min_long rule.min_short)) BadMaterial _ allowed).0 })
+              | inr q ↦ stock.materials c x q.1
+            ];
+        parts = λ name part is. placed_more m (after None) grows name part (stock.parts name part is);
+        jobs = λ number j is. job_more m (after None) grows number j (λ w. record { same = refl; none_yet = w.none_yet }) (stock.jobs number j is);
+        demands = λ number d is.
+            let old = stock.demands number d is in
+            demand_more m (after None) grows (omega arith) number d old (record { few = old.counted.few; reserved = old.counted.reserved; made = old.counted.made });
+      }
+
+  pub material_fits : (known : Option Material) → material_at m code ≡ known → kept_at m (pair_of message) ≡ None
+      → Fits m (keeping texts message (material_change known code kind rule))
+  material_fits None is new = record {
+    material = is;
+    parts = All-nil _;
+    known = All-nil _;
+    rising = no_pairs (λ (a b : Part). name_cmp a.name b.name ≡ Less);
+    job = tt;
+    order = tt;
+    demands = All-nil _;
+    wanted = All-nil _;
+    once = no_pairs (λ (a b : Demand). a.number ≡ b.number → ⊥);
+    act = tt;
+    demand = tt;
+    kept = new;
+  }
+  material_fits (Some row) is new = record {
+    material = tt;
+    parts = All-nil _;
+    known = All-nil _;
+    rising = no_pairs (λ (a b : Part). name_cmp a.name b.name ≡ Less);
+    job = tt;
+    order = tt;
+    demands = All-nil _;
+    wanted = All-nil _;
+    once = no_pairs (λ (a b : Demand). a.number ≡ b.number → ⊥);
+    act = tt;
+    demand = tt;
+    kept = new;
+  }

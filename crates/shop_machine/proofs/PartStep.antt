@@ -1,0 +1,235 @@
+-- A content after a part got another state, with new parts beside it, a job, and recounted demands.
+use Rattle.std.proofs.Common.{◌≡◌, ℕ, zero, suc, ◌+◌, ◌-◌, ◌*◌, ◌≤◌, ◌<◌, ◌⊎◌, inl, inr, List, [], ◌∷◌, length, Bool, true, false, refl, sym, ap, subst, ◌∙◌, arith}
+use Rattle.std.specs.Prelude.{Option, Some, None, All, AllPairs, IsSome, IfSome, MatchOption, ⊤, sum_by, count_by, ◌&&◌, if◌then◌else◌}
+use Rattle.std.specs.declared.cmp.Ordering.{Ordering}
+use Rattle.std.specs.declared.cmp.Ordering.TheVariants.{Less, Equal}
+use Rattle.std.specs.Ordering.{is_eq}
+use Rattle.std.specs.Cmp.{nat_cmp_total}
+use Rattle.std.specs.FinMap.{FinMap, get, insert, values, nat_cmp-IsAntisymmetric}
+use Rattle.std.proofs.lemmas.List.Elements.{All-nil}
+use Rattle.cut_measure.specs.Codes.{code_cmp}
+use Rattle.cut_measure.specs.Names.{Name, name_cmp}
+use Rattle.cut_tree.specs.Tree.{Tree, count_of}
+use Rattle.shop_machine.specs.declared.records.Part.{Part}
+use Rattle.shop_machine.specs.declared.records.State.{State}
+use Rattle.shop_machine.specs.declared.records.State.TheVariants as state
+use Rattle.shop_machine.specs.declared.records.Job.{Job}
+use Rattle.shop_machine.specs.declared.records.Demand.{Demand}
+use Rattle.shop_machine.specs.declared.records.Column.TheVariants.{Received}
+use Rattle.shop_machine.specs.declared.changes.Change.{Change}
+use Rattle.shop_machine.specs.declared.messages.Message.{Message}
+use Rattle.shop_machine.specs.declared.messages.Reply.{Reply}
+use Rattle.shop_machine.specs.Messages.{Texts, pair_of}
+use Rattle.shop_machine.specs.Columns.{is_there, is_piece_of, is_waiting}
+use Rattle.shop_machine.specs.Content.{Content, material_at, part_at, job_at, demand_at, kept_at, changed, with_number}
+use Rattle.shop_machine.specs.Machine.{AreRecounted, in_state, keeping, most_received, most_numbers}
+use Rattle.shop_machine.specs.History.{IsIn}
+use Rattle.shop_machine.specs.Soundness.{IsPlaced, IsWaiting, IsJob, IsDemand, IsCounted, PartFits, JobFits, DemandFits, Fits}
+use Rattle.shop_machine.proofs.Puts.{Pairwise, all_from, pairs_from, pairs_more, some_is, none_some, is_known, names_total, ties, names_exact, found_one}
+use Rattle.shop_machine.proofs.AddedUp.{cells_as, cells_left, is_uncut}
+use Rattle.shop_machine.proofs.Moved.{IsRecount, row_recount, recount_of, demand_there, found_moved, other_moved, received_moved, adds_up_moved, made_moved}
+use Rattle.shop_machine.proofs.Grown.{IsStock, Grows, Untouched, placed_more, job_more}
+
+pub standing_no_piece : (s : State) → is_there s ≡ true → (number : ℕ) → is_piece_of number s ≡ false
+standing_no_piece state.Standing e number = refl
+standing_no_piece (state.Reserved job) e number = refl
+standing_no_piece (state.Cut job) e number = cc
+standing_no_piece (state.Piece demand) e number = cc
+standing_no_piece state.Kerf e number = cc
+standing_no_piece state.Scrap e number = cc
+
+pub standing_uncut : (s : State) → is_there s ≡ true → is_uncut s ≡ true
+standing_uncut state.Standing e = refl
+standing_uncut (state.Reserved job) e = refl
+standing_uncut (state.Cut job) e = cc
+standing_uncut (state.Piece demand) e = refl
+standing_uncut state.Kerf e = refl
+standing_uncut state.Scrap e = refl
+
+pub less_apart : (a b : Name) → name_cmp a b ≡ Less → a ≡ b → ⊥
+less_apart a b less e =
+    let equal : name_cmp a b ≡ Equal = ap (λ n. name_cmp a n) (sym e) ∙ ties names_total names_exact a in
+    let same : Less ≡ Equal = sym less ∙ equal in cc
+
+-- what holds of the part, its new state, the new parts and the act's number
+pub record IsPartStep (m : Content) (row : Part) (s : State) (made : List Part) (act : Option ℕ) : Type 0 where
+  pub there : part_at m row.name ≡ Some row
+  pub stands : is_there row.state ≡ true
+  pub plain : (number : ℕ) → is_piece_of number s ≡ false
+  pub new : (x : Part) → IsIn x made → part_at m x.name ≡ None
+  pub rising : Pairwise (λ (a b : Part). name_cmp a.name b.name ≡ Less) (in_state s row ∷ made)
+  pub placed : (x : Part) → IsIn x made → IsPlaced m x.name x
+  pub named : (x : Part) → IsIn x made → x.name.act ≤ with_number act m.last_act
+  pub more : m.last_act ≤ with_number act m.last_act
+  pub numbers : IfSome act (λ a. (m.last_act < a) × (a ≤ most_numbers))
+  pub received : (code : List ℕ) → sum_by (cells_as Received code) made ≡ 0
+  pub left : (code : List ℕ) → cells_left code row ≡ cells_left code (in_state s row) + sum_by (cells_left code) made
+
+few_numbers : (act : Option ℕ) (last : ℕ) → last ≤ most_numbers → IfSome act (λ a. (last < a) × (a ≤ most_numbers)) → with_number act last ≤ most_numbers
+few_numbers None last few h = few
+few_numbers (Some a) last few h = h.1
+
+module _ (m : Content) (stock : IsStock m) (row : Part) (s : State) (made : List Part) (act : Option ℕ) (job : Job) (step : IsPartStep m row s made act)
+    (recount : ℕ → Demand → Demand) (none : (d : Demand) → recount 0 d ≡ d)
+    (keeps : (n : ℕ) (d : Demand) → recount n d ≡ record d { reserved = (recount n d).reserved; made = (recount n d).made })
+    (tree : Tree) (rows : List Demand) (recounted : AreRecounted (demand_at m) recount tree rows) (texts : Texts) (message : Message) (answer : Reply) where
+  abbrev pub step_change : Change
+  step_change = record {
+    material = None;
+    parts = in_state s row ∷ made;
+    job = Some job;
+    order = None;
+    demands = rows;
+    act = act;
+    demand = None;
+    kept = None;
+    reply = answer;
+  }
+
+  abbrev pub after : Content
+  after = changed m (keeping texts message step_change)
+
+  apart : Pairwise (λ (a b : Part). a.name ≡ b.name → ⊥) made
+  apart = pairs_more (λ (a b : Part). name_cmp a.name b.name ≡ Less) (λ (a b : Part). a.name ≡ b.name → ⊥) (λ a b. less_apart a.name b.name) made step.rising.1
+
+  pub grows : Grows m after
+  grows = record { materials = λ code x is. is; demands = demand_there m.demands recount tree rows recounted none; acts = step.more }
+
+  -- a waiting job stays as it is where the part isn't its own, and no new part is named after it
+  pub untouched : (j : Job) → IsWaiting m j → (row.state ≡ state.Reserved j.act → ⊥) → ((x : Part) → IsIn x made → x.name.act ≡ j.act → ⊥) → Untouched m after grows j
+  untouched j w other names = record {
+    same = other_moved m.parts row s made step.there step.new apart j.part
+        (λ e. other (ap (λ (p : Part). p.state) (some_is row w.row (sym step.there ∙ ap (λ n. part_at m n) (sym e) ∙ w.found)) ∙ w.reserved))
+        (λ x i e. none_some (part_at m x.name) w.row (step.new x i) (ap (λ n. part_at m n) e ∙ w.found));
+    none_yet = λ node.
+        other_moved m.parts row s made step.there step.new apart (record { act = j.act; node = node })
+        (λ e. none_some (part_at m (record { act = j.act; node = node })) row (w.none_yet node) (ap (λ n. part_at m n) e ∙ step.there))
+        (λ x i e. names x i (ap (λ (n : Name). n.act) e)) ∙ w.none_yet node;
+  }
+
+  pub made_after : (number : ℕ) → count_by (λ (p : Part). is_piece_of number p.state) (values after.parts)
+      ≡ count_by (λ (p : Part). is_piece_of number p.state) (values m.parts) + count_by (λ (p : Part). is_piece_of number p.state) made
+  made_after number = made_moved m.parts row s made step.there step.new apart number (standing_no_piece row.state step.stands number) (step.plain number)
+
+  row_placed : IsPlaced after row.name (in_state s row)
+  row_placed =
+      let old = stock.parts row.name row step.there in
+      record {
+        named = refl;
+        rooted = old.rooted;
+        known = old.known;
+        some_width = old.some_width;
+        some_height = old.some_height;
+        right = old.right;
+        bottom = old.bottom;
+        asked = λ number piece. absurd (let no : true ≡ false = sym piece ∙ step.plain number in cc);
+      }
+
+  module _ (new_job : IsJob after job.act job)
+      (others : (number : ℕ) (j : Job) → job_at m number ≡ Some j → (number ≡ job.act → ⊥) → IsWaiting m j → Untouched m after grows j)
+      (counts : (number : ℕ) (before : Demand) → demand_at m number ≡ Some before → IsCounted after number (recount (count_of tree number) before)) where
+    demand_after : (number : ℕ) (d : Demand) → IsRecount m.demands recount tree rows recounted none number d → IsDemand after number d
+    demand_after number d r =
+        let old = stock.demands number r.before r.was in
+        let c = count_of tree number in
+        let is : d ≡ record r.before { reserved = (recount c r.before).reserved; made = (recount c r.before).made } = r.now ∙ keeps c r.before in
+        record {
+          numbered = ap (λ (x : Demand). x.number) is ∙ old.numbered;
+          so_far = old.so_far;
+          known = subst (λ (code : List ℕ). IsSome (material_at m code)) (sym (ap (λ (x : Demand). x.material) is)) old.known;
+          counted = subst (IsCounted after number) (sym r.now) (counts number r.before r.was);
+        }
+
+    pub step_stock : IsStock after
+    step_stock = record {
+      in_range = record {
+        acts = λ name p is.
+            let more = step.more in
+            elim (found_moved m.parts row s made step.there step.new apart name p is) [
+              | inl q ↦
+                  let old = stock.in_range.acts row.name row step.there in
+                  let same : name.act ≡ row.name.act = ap (λ (n : Name). n.act) q.1 in
+                  omega (arith, old, same, more)
+              | inr r ↦
+                  elim r [
+                    | inl q ↦
+                        let le = step.named p q.0 in
+                        let same : p.name.act ≡ name.act = ap (λ (n : Name). n.act) q.1 in
+                        omega (arith, le, same)
+                    | inr q ↦ let old = stock.in_range.acts name p q.1 in omega (arith, old, more)
+                  ]
+            ];
+        last = few_numbers act m.last_act stock.in_range.last step.numbers;
+        last_demand = stock.in_range.last_demand;
+        received = λ code.
+            let same = received_moved m.parts row s made step.there step.new apart code (step.received code) in
+            let old = stock.in_range.received code in
+            omega (arith, same, old);
+        adds_up = λ code. adds_up_moved m.parts row s made step.there step.new apart code (step.received code) (step.left code) (stock.in_range.adds_up code);
+      };
+      materials = stock.materials;
+      parts = λ name p is.
+          elim (found_moved m.parts row s made step.there step.new apart name p is) [
+            | inl q ↦ subst (λ (n : Name). IsPlaced after n p) (sym q.1) (subst (IsPlaced after row.name) (sym q.0) row_placed)
+            | inr r ↦
+                elim r [
+                  | inl q ↦ subst (λ (n : Name). IsPlaced after n p) q.1 (placed_more m after grows p.name p (step.placed p q.0))
+                  | inr q ↦ placed_more m after grows name p (stock.parts name p q.1)
+                ]
+          ];
+      jobs = λ number j is.
+          elim (found_one nat_cmp_total nat_cmp-IsAntisymmetric m.jobs job.act job number j is) [
+            | inl q ↦ subst (λ n. IsJob after n j) (sym q.0) (subst (IsJob after job.act) (sym q.1) new_job)
+            | inr q ↦ job_more m after grows number j (others number j q.1 q.0) (stock.jobs number j q.1)
+          ];
+      demands = λ number d is. demand_after number d (recount_of m.demands recount tree rows recounted none number d is);
+    }
+
+  module _ (job_fits : JobFits m job) (counts : (number : ℕ) (before : Demand) → demand_at m number ≡ Some before → IsCounted after number (recount (count_of tree number) before)) where
+    abbrev full : Change
+    full = keeping texts message step_change
+
+    row_fits : PartFits m (in_state s row)
+    row_fits = subst (λ o. MatchOption o ⊤ (λ old. in_state s row ≡ in_state s old)) (sym step.there) refl
+
+    new_fits : (x : Part) → IsIn x made → PartFits m x
+    new_fits x i = subst (λ o. MatchOption o ⊤ (λ old. x ≡ in_state x.state old)) (sym (step.new x i)) tt
+
+    part_fits : (x : Part) → IsIn x (in_state s row ∷ made) → PartFits m x
+    part_fits x (inl e) = subst (PartFits m) (sym e) row_fits
+    part_fits x (inr i) = new_fits x i
+
+    part_known : (x : Part) → IsIn x (in_state s row ∷ made) → IsSome (material_at m x.material)
+    part_known x (inl e) = subst (λ (p : Part). IsSome (material_at m p.material)) (sym e) (stock.parts row.name row step.there).known
+    part_known x (inr i) = (step.placed x i).known
+
+    demand_fits : (x : Demand) → IsRecount m.demands recount tree rows recounted none x.number x → DemandFits m full x
+    demand_fits x r =
+        let c = count_of tree x.number in
+        let is : x ≡ record r.before { reserved = (recount c r.before).reserved; made = (recount c r.before).made } = r.now ∙ keeps c r.before in
+        subst (λ o. MatchOption o ((m.last_demand < x.number) × (None ≡ Some x.order)) (λ old. x ≡ record old { reserved = x.reserved; made = x.made })) (sym r.was)
+        (is ∙ (λ i. record r.before { reserved = (sym (ap (λ (d : Demand). d.reserved) r.now)) i; made = (sym (ap (λ (d : Demand). d.made) r.now)) i }))
+
+    demand_wanted : (x : Demand) → IsRecount m.demands recount tree rows recounted none x.number x → IsSome (material_at m x.material) × (x.reserved + x.made ≤ x.wanted)
+    demand_wanted x r =
+        let c = count_of tree x.number in
+        let is : x ≡ record r.before { reserved = (recount c r.before).reserved; made = (recount c r.before).made } = r.now ∙ keeps c r.before in
+        (subst (λ (code : List ℕ). IsSome (material_at m code)) (sym (ap (λ (d : Demand). d.material) is)) (stock.demands x.number r.before r.was).known,
+        subst (λ (d : Demand). d.reserved + d.made ≤ d.wanted) (sym r.now) (counts x.number r.before r.was).few)
+
+    pub step_fits : kept_at m (pair_of message) ≡ None → Fits m full
+    step_fits new = record {
+      material = tt;
+      parts = all_from (PartFits m) (in_state s row ∷ made) part_fits;
+      known = all_from (λ (part : Part). IsSome (material_at m part.material)) (in_state s row ∷ made) part_known;
+      rising = pairs_from (λ (a b : Part). name_cmp a.name b.name ≡ Less) (in_state s row ∷ made) step.rising;
+      job = job_fits;
+      order = tt;
+      demands = all_from (DemandFits m full) rows (λ x i. demand_fits x (row_recount m.demands recount tree rows recounted none x x.number i refl));
+      wanted = all_from (λ (d : Demand). IsSome (material_at m d.material) × (d.reserved + d.made ≤ d.wanted)) rows
+          (λ x i. demand_wanted x (row_recount m.demands recount tree rows recounted none x x.number i refl));
+      once = recounted.once;
+      act = step.numbers;
+      demand = tt;
+      kept = new;
+    }

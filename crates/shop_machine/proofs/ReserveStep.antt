@@ -1,0 +1,200 @@
+-- A content after a part was reserved.
+use Rattle.std.proofs.Common.{◌≡◌, ℕ, zero, suc, ◌+◌, ◌-◌, ◌*◌, ◌≤◌, ◌<◌, ◌⊎◌, inl, inr, List, [], ◌∷◌, ◌++◌, Bool, true, false, refl, sym, ap, subst, ◌∙◌, arith}
+use Rattle.std.specs.Prelude.{Option, Some, None, IsSome, MatchOption, ⊤, sum_by, ◌&&◌, if◌then◌else◌}
+use Rattle.std.specs.Ordering.{is_eq}
+use Rattle.std.specs.Cmp.{nat_cmp_total}
+use Rattle.std.specs.FinMap.{FinMap, get, insert, values, nat_cmp-IsAntisymmetric}
+use Rattle.cut_measure.specs.Codes.{code_cmp}
+use Rattle.cut_measure.specs.Names.{Name}
+use Rattle.cut_tree.specs.declared.token.Token.{Token}
+use Rattle.cut_tree.specs.Tree.{Tree, Piece, Rest, Trim, Cut, count_of, cut_count}
+use Rattle.cut_tree.specs.Patterns.{Pattern, HasDemands, IsPlan}
+use Rattle.cut_tree.specs.Spelling.{AllTokens, tokens}
+use Rattle.shop_machine.specs.declared.records.Part.{Part}
+use Rattle.shop_machine.specs.declared.records.State.{State}
+use Rattle.shop_machine.specs.declared.records.State.TheVariants as state
+use Rattle.shop_machine.specs.declared.records.Job.{Job}
+use Rattle.shop_machine.specs.declared.records.JobState.TheVariants as job
+use Rattle.shop_machine.specs.declared.records.Demand.{Demand}
+use Rattle.shop_machine.specs.declared.messages.Message.{Message}
+use Rattle.shop_machine.specs.declared.messages.Reply.TheVariants as reply
+use Rattle.shop_machine.specs.Messages.{Texts, pair_of}
+use Rattle.shop_machine.specs.Columns.{is_there, is_free, is_waiting}
+use Rattle.shop_machine.specs.Content.{Content, material_at, part_at, job_at, demand_at, kept_at, changed}
+use Rattle.shop_machine.specs.Machine.{AreRecounted, IsReading, in_state, with_reserved, reserve_change, keeping}
+use Rattle.shop_machine.specs.Soundness.{IsWaiting, IsJob, IsCounted, JobFits, Fits, reserved_in, made_in}
+use Rattle.shop_machine.proofs.Puts.{some_is, none_some, not_some, is_known, names_total, names_exact, get_same, sum_new}
+use Rattle.shop_machine.proofs.Allowed.{IsFitting, HasRoom, narrow}
+use Rattle.shop_machine.proofs.AddedUp.{cells_left, is_uncut}
+use Rattle.shop_machine.proofs.Moved.{demand_there, found_moved, no_reserved}
+use Rattle.shop_machine.proofs.Grown.{IsStock, none_later}
+use Rattle.shop_machine.proofs.PartStep.{IsPartStep, standing_uncut, step_stock, step_fits, untouched, made_after}
+
+-- ---- plans that are spelled
+
+tokens_of_two : (ts us : List Token) → AllTokens (ts ++ us) → AllTokens ts × AllTokens us
+tokens_of_two [] us h = (tt, h)
+tokens_of_two (t ∷ ts) us h = let r = tokens_of_two ts us h.1 in ((h.0, r.0), r.1)
+
+demands_in_range : (t : Tree) → AllTokens (tokens t) → HasDemands t
+demands_in_range (Piece d b) h = h.0
+demands_in_range Rest h = tt
+demands_in_range (Trim axis a f) h = demands_in_range f h.1
+demands_in_range (Cut axis a f s) h = let r = tokens_of_two (tokens f) (tokens s) h.1 in (demands_in_range f r.0, demands_in_range s r.1)
+
+-- ---- states
+
+pub free_stands : (s : State) → is_free s ≡ true → is_there s ≡ true
+free_stands state.Standing e = refl
+free_stands (state.Reserved job) e = cc
+free_stands (state.Cut job) e = cc
+free_stands (state.Piece demand) e = cc
+free_stands state.Kerf e = cc
+free_stands state.Scrap e = cc
+
+free_unreserved : (s : State) (number : ℕ) → is_free s ≡ true → s ≡ state.Reserved number → ⊥
+free_unreserved s number e f = let no : false ≡ true = ap is_free (sym f) ∙ e in cc
+
+-- a part that stands keeps its cells
+pub left_as_before : (code : List ℕ) (row : Part) (s : State) → is_there row.state ≡ true → is_uncut s ≡ true → cells_left code row ≡ cells_left code (in_state s row) + 0
+left_as_before code row s stands uncut =
+    ap (λ b. if is_eq (code_cmp row.material code) && b then row.size.w * row.size.h else 0) (standing_uncut row.state stands ∙ sym uncut) ∙ omega arith
+
+module _ (m : Content) (stock : IsStock m) (name : Name) (text : List ℕ) (row : Part) (plan : Pattern) (there : part_at m name ≡ Some row) (reading : IsReading m name text plan)
+    (fitting : IsFitting row (material_at m row.material) plan (demand_at m) (m.last_act + 1))
+    (rows : List Demand) (recounted : AreRecounted (demand_at m) with_reserved plan.tree rows) (texts : Texts) (message : Message) where
+  abbrev act : ℕ
+  act = m.last_act + 1
+
+  abbrev new_job : Job
+  new_job = record { act = act; part = row.name; kerf = plan.kerf; plan = plan; state = job.Waiting }
+
+  abbrev after : Content
+  after = changed m (keeping texts message (reserve_change row plan act rows))
+
+  same_row : reading.row ≡ row
+  same_row = some_is reading.row row (sym reading.found ∙ there)
+
+  named : row.name ≡ name
+  named = (stock.parts name row there).named
+
+  here : part_at m row.name ≡ Some row
+  here = ap (λ n. part_at m n) named ∙ there
+
+  older : row.name.act < act
+  older = let le = stock.in_range.acts row.name row here in omega (arith, le)
+
+  known : material_at m row.material ≡ Some reading.material
+  known = ap (λ (p : Part). material_at m p.material) (sym same_row) ∙ reading.known
+
+  step : IsPartStep m row (state.Reserved act) [] (Some act)
+  step = record {
+    there = here;
+    stands = free_stands row.state fitting.free;
+    plain = λ number. refl;
+    new = λ x i. absurd i;
+    rising = (λ y i. absurd i, tt);
+    placed = λ x i. absurd i;
+    named = λ x i. absurd i;
+    more = omega arith;
+    numbers = (omega arith, fitting.number);
+    received = λ code. refl;
+    left = λ code. left_as_before code row (state.Reserved act) (free_stands row.state fitting.free) refl;
+  }
+
+  keeps : (n : ℕ) (d : Demand) → with_reserved n d ≡ record d { reserved = (with_reserved n d).reserved; made = (with_reserved n d).made }
+  keeps n d = refl
+
+  no_job : job_at m act ≡ None
+  no_job = not_some (job_at m act) (λ j is. let le = (stock.jobs act j is).so_far in omega (arith, le))
+
+  reserved_after : (number : ℕ) → reserved_in number after ≡ reserved_in number m + count_of plan.tree number
+  reserved_after number =
+      sum_new nat_cmp_total nat_cmp-IsAntisymmetric (λ (j : Job). if is_waiting j.state then count_of j.plan.tree number else 0) m.jobs act new_job no_job
+
+  made_same : (number : ℕ) → made_in number after ≡ made_in number m
+  made_same number =
+      let sum = made_after m stock row (state.Reserved act) [] (Some act) new_job step with_reserved no_reserved keeps plan.tree rows recounted texts message (reply.Reserve (cut_count plan.tree) act) number in
+      sum ∙ omega arith
+
+  few_after : (number : ℕ) (before : Demand) → demand_at m number ≡ Some before → (c : ℕ) → count_of plan.tree number ≡ c → before.reserved + c + before.made ≤ before.wanted
+  few_after number before is zero e = let few = (stock.demands number before is).counted.few in omega (arith, few)
+  few_after number before is (suc c) e =
+      let has = fitting.demands number (omega (arith, e)) in
+      let same : has.demand ≡ before = some_is has.demand before (sym has.found ∙ is) in
+      let room : before.reserved + before.made + count_of plan.tree number ≤ before.wanted =
+      subst (λ (d : Demand). d.reserved + d.made + count_of plan.tree number ≤ d.wanted) same has.room in
+      omega (arith, room, e)
+
+  counts : (number : ℕ) (before : Demand) → demand_at m number ≡ Some before → IsCounted after number (with_reserved (count_of plan.tree number) before)
+  counts number before is =
+      let old = (stock.demands number before is).counted in
+      record {
+        few = few_after number before is (count_of plan.tree number) refl;
+        reserved = ap (λ n. n + count_of plan.tree number) old.reserved ∙ sym (reserved_after number);
+        made = old.made ∙ sym (made_same number);
+      }
+
+  is_plan : IsPlan plan
+  is_plan =
+      let placed = stock.parts name row there in
+      let width : plan.w ≡ row.size.w = reading.width ∙ ap (λ (p : Part). p.size.w) same_row in
+      let height : plan.h ≡ row.size.h = reading.height ∙ ap (λ (p : Part). p.size.h) same_row in
+      let kerf = reading.kerf in
+      let wide = placed.some_width in
+      let high = placed.some_height in
+      let right = placed.right in
+      let bottom = placed.bottom in
+      let ruled = (stock.materials row.material reading.material known).ruled in
+      let thin = narrow reading.material.kind reading.material.limits.kerf reading.material.limits.min_long reading.material.limits.min_short ruled in
+      record {
+        shaped = reading.spelled.shaped;
+        few_cuts = reading.few_cuts;
+        demands = demands_in_range plan.tree reading.spelled.numbers;
+        some_width = omega (arith, wide, width);
+        width_in_range = omega (arith, right, width);
+        some_height = omega (arith, high, height);
+        height_in_range = omega (arith, bottom, height);
+        narrow = omega (arith, thin, kerf);
+      }
+
+  waiting : IsWaiting after new_job
+  waiting = record {
+    row = in_state (state.Reserved act) row;
+    found = get_same names_total names_exact m.parts row.name (in_state (state.Reserved act) row);
+    reserved = refl;
+    older = older;
+    material = reading.material;
+    known = known;
+    width = reading.width ∙ ap (λ (p : Part). p.size.w) same_row;
+    height = reading.height ∙ ap (λ (p : Part). p.size.h) same_row;
+    kerf = reading.kerf;
+    demands = λ number some.
+        let has = fitting.demands number some in
+        demand_there m.demands with_reserved plan.tree rows recounted no_reserved number (is_known (demand_at m number) has.demand has.found);
+    none_yet = λ node.
+        not_some (part_at after (record { act = act; node = node })) (λ p is. by node p (found_moved m.parts row (state.Reserved act) [] here (λ x i. absurd i) tt (record { act = act; node = node }) p is));
+  }
+    where
+      by : (node : ℕ) (p : Part) → ((p ≡ in_state (state.Reserved act) row) × ((record { act = act; node = node }) ≡ row.name)) ⊎ ((⊥ × (p.name ≡ (record { act = act; node = node }))) ⊎ (((record { act = act; node = node }) ≡ row.name → ⊥) × (part_at m (record { act = act; node = node }) ≡ Some p))) → ⊥
+      by node p (inl q) = let same : act ≡ row.name.act = ap (λ (n : Name). n.act) q.1 in let less = older in omega (arith, same, less)
+      by node p (inr (inl q)) = q.0
+      by node p (inr (inr q)) = none_some (part_at m (record { act = act; node = node })) p (none_later m stock.in_range (record { act = act; node = node }) (omega arith)) q.1
+
+  job_after : IsJob after act new_job
+  job_after = record { numbered = refl; least = omega arith; so_far = omega arith; plan = is_plan; kerf = refl; waits = λ is. waiting }
+
+  pub reserve_stock : IsStock after
+  reserve_stock =
+      step_stock m stock row (state.Reserved act) [] (Some act) new_job step with_reserved no_reserved keeps plan.tree rows recounted texts message (reply.Reserve (cut_count plan.tree) act)
+      job_after
+      (λ number j is other w.
+          untouched m stock row (state.Reserved act) [] (Some act) new_job step with_reserved no_reserved keeps plan.tree rows recounted texts message (reply.Reserve (cut_count plan.tree) act)
+          j w (free_unreserved row.state j.act fitting.free) (λ x i e. i))
+      counts
+
+  pub reserve_fits : kept_at m (pair_of message) ≡ None → Fits m (keeping texts message (reserve_change row plan act rows))
+  reserve_fits =
+      step_fits m stock row (state.Reserved act) [] (Some act) new_job step with_reserved no_reserved keeps plan.tree rows recounted texts message (reply.Reserve (cut_count plan.tree) act)
+      (record { fits = subst (λ o. MatchOption o ⊤ (λ old. new_job ≡ record old { state = job.Waiting })) (sym no_job) tt; part = is_known (part_at m row.name) row here })
+      counts
