@@ -19,4 +19,6 @@ pub mod OrderStep
 pub mod PartStep
 pub mod ReserveStep
 pub mod JobEnds
+pub mod Told
+pub mod Agreeing
 pub mod Sound
