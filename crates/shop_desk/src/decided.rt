@@ -1,25 +1,198 @@
-ghost use Rattle.std.specs.Prelude.{◌≡◌, IfOk, IsTrue, Some};
-ghost use Rattle.shop_machine.specs.History.{is_accepted};
-ghost use Rattle.shop_machine.specs.Content.{Content};
-ghost use Rattle.shop_machine.specs.Machine.{DecidesOrFails, refusal_of, change_of};
+ghost use Rattle.std.specs.Prelude.{◌≡◌, ◌⊎◌, IfOk, IfSome, All, Some};
+ghost use Rattle.cut_measure.specs.Names.{Name};
+ghost use Rattle.shop_machine.specs.Content.{Content, demand_at};
+ghost use Rattle.shop_machine.specs.Machine.{plan_leaves};
+ghost use Rattle.shop_machine.specs.Found.{AreDemandsFound, IsNumbered, leaves_in};
+ghost use Rattle.shop_desk.specs.Faults.{CountsDecision};
+ghost use Rattle.shop_machine.specs.declared.messages.Command.TheVariants.{AddMaterial, Receive, AddOrder, Reserve, Done, Release};
 ghost use Rattle.shop_machine.specs.declared.messages.Reply.TheVariants.{Refused};
 ghost use Rattle.shop_machine.specs.declared.refusals.Refusal.TheVariants.{BadMessage};
-ghost use Rattle.shop_desk.specs.Faults.{CountsDecision};
+ghost use Rattle.shop_desk.specs.Decided.{IsDecided, BlamesStore, CountsOrDisagrees};
 
-use shop_rules::{Change, Command, KeptMessage, Refusal, Reply, decide_material, decide_receive};
+use crate::found::{found_leaves, found_lines, material_for, part_for, plan_for};
+use cut_measure::{Kind, PartName};
+use cut_tree::Plan;
+use shop_rules::{
+    Change, Code, Command, FoundLeaf, Job, KeptMessage, LineList, Refusal, Reply, Text,
+    decide_done, decide_material, decide_order, decide_receive, decide_release, decide_reserve,
+};
 use shop_store::Book;
 use std::alloc::Global;
 
-#[tactic(auto, using(crate::proofs::Counted::counts_sure))]
-/// What is decided on a command, from the rows that it needs.
-pub fn decide<B: Book>(alloc: Global, book: &mut B, command: &Command) -> Result<Change, Refusal>
-    ensures decision { B.is_honest book.new → (m : Content) → B.holds book.old m
-        → DecidesOrFails (refusal_of m command.now) (change_of m command.now) result }
+// Adds a material.
+fn add_material<B: Book>(
+    alloc: Global,
+    book: &mut B,
+    material: Code,
+    kind: Kind,
+    kerf: u32,
+    min_long: u32,
+    min_short: u32,
+) -> Result<Change, Refusal>
+    ensures decision { B.is_honest book.new → (m : Content) → B.holds book.old m → IsDecided m (AddMaterial material kind kerf min_long min_short) result }
+    ensures blame { B.is_honest book.new → (m : Content) → B.holds book.old m → BlamesStore m (AddMaterial material kind kerf min_long min_short) (B.failed book.old) result (B.failed book.new) }
     ensures stays { B.is_honest book.new → (m : Content) → B.holds book.old m → B.holds book.new m }
     ensures crash { B.is_honest book.new → (m : Content) → B.holds book.old m → (left : B.Left) → B.may_leave book.new left → B.may_leave book.old left }
     ensures honest { B.is_honest book.new → B.is_honest book.old }
-    ensures told { IfOk result (λ change. IsTrue (is_accepted change.reply)) }
+    ensures failures { CountsOrDisagrees (B.failed book.old) result (B.failed book.new) }
+{
+    let known = book.material(material)?;
+    decide_material(alloc, known, material, kind, kerf, min_long, min_short)
+}
+
+// Receives units.
+fn receive<B: Book>(
+    alloc: Global,
+    book: &mut B,
+    material: Code,
+    batch: Code,
+    w: u32,
+    h: u32,
+    count: u32,
+) -> Result<Change, Refusal>
+    ensures decision { B.is_honest book.new → (m : Content) → B.holds book.old m → IsDecided m (Receive material batch w h count) result }
+    ensures blame { B.is_honest book.new → (m : Content) → B.holds book.old m → BlamesStore m (Receive material batch w h count) (B.failed book.old) result (B.failed book.new) }
+    ensures stays { B.is_honest book.new → (m : Content) → B.holds book.old m → B.holds book.new m }
+    ensures crash { B.is_honest book.new → (m : Content) → B.holds book.old m → (left : B.Left) → B.may_leave book.new left → B.may_leave book.old left }
+    ensures honest { B.is_honest book.new → B.is_honest book.old }
+    ensures failures { CountsOrDisagrees (B.failed book.old) result (B.failed book.new) }
+{
+    let known = book.material(material)?;
+    let received = book.totals(material)?.received;
+    let act = book.next_act()?;
+    decide_receive(alloc, known, received, act, material, batch, w, h, count)
+}
+
+// Adds an order.
+fn add_order<B: Book>(
+    alloc: Global,
+    book: &mut B,
+    order: Code,
+    lines: &LineList,
+) -> Result<Change, Refusal>
+    ensures decision { B.is_honest book.new → (m : Content) → B.holds book.old m → IsDecided m (AddOrder order lines.now) result }
+    ensures blame { B.is_honest book.new → (m : Content) → B.holds book.old m → BlamesStore m (AddOrder order lines.now) (B.failed book.old) result (B.failed book.new) }
+    ensures stays { B.is_honest book.new → (m : Content) → B.holds book.old m → B.holds book.new m }
+    ensures crash { B.is_honest book.new → (m : Content) → B.holds book.old m → (left : B.Left) → B.may_leave book.new left → B.may_leave book.old left }
+    ensures honest { B.is_honest book.new → B.is_honest book.old }
+    ensures failures { CountsOrDisagrees (B.failed book.old) result (B.failed book.new) }
+{
+    let used = book.order(order)?;
+    let found = found_lines(alloc, book, lines.as_slice())?;
+    let first = book.next_demand()?;
+    decide_order(alloc, used, order, &found, first)
+}
+
+// The piece leaves of a plan that was read, with the rows of their demands.
+fn leaves_for<B: Book>(
+    alloc: Global,
+    book: &mut B,
+    plan: &Option<Plan>,
+) -> Result<Vec<FoundLeaf>, Refusal>
+    ensures found { B.is_honest book.new → (m : Content) → B.holds book.old m → IfOk result (λ found. AreDemandsFound (demand_at m) found.items) }
+    ensures leaves { IfOk result (λ found. IfSome plan.now (λ p. leaves_in found.items ≡ plan_leaves p)) }
+    ensures numbered { IfOk result (λ found. All IsNumbered found.items) }
+    ensures stays { B.is_honest book.new → (m : Content) → B.holds book.old m → B.holds book.new m }
+    ensures crash { B.is_honest book.new → (m : Content) → B.holds book.old m → (left : B.Left) → B.may_leave book.new left → B.may_leave book.old left }
+    ensures honest { B.is_honest book.new → B.is_honest book.old }
     ensures failures { CountsDecision (B.failed book.old) result (B.failed book.new) }
+{
+    match plan {
+        Some(plan) => found_leaves(alloc, book, plan),
+        None => Ok(Vec::new(alloc)),
+    }
+}
+
+// The same of the plan of a job that was found.
+fn job_leaves<B: Book>(
+    alloc: Global,
+    book: &mut B,
+    job: &Option<Job>,
+) -> Result<Vec<FoundLeaf>, Refusal>
+    ensures found { B.is_honest book.new → (m : Content) → B.holds book.old m → IfOk result (λ found. AreDemandsFound (demand_at m) found.items) }
+    ensures leaves { IfOk result (λ found. IfSome job.now (λ j. leaves_in found.items ≡ plan_leaves j.plan)) }
+    ensures numbered { IfOk result (λ found. All IsNumbered found.items) }
+    ensures stays { B.is_honest book.new → (m : Content) → B.holds book.old m → B.holds book.new m }
+    ensures crash { B.is_honest book.new → (m : Content) → B.holds book.old m → (left : B.Left) → B.may_leave book.new left → B.may_leave book.old left }
+    ensures honest { B.is_honest book.new → B.is_honest book.old }
+    ensures failures { CountsDecision (B.failed book.old) result (B.failed book.new) }
+{
+    match job {
+        Some(job) => found_leaves(alloc, book, &job.plan),
+        None => Ok(Vec::new(alloc)),
+    }
+}
+
+// Reserves a part.
+fn reserve<B: Book>(
+    alloc: Global,
+    book: &mut B,
+    part: PartName,
+    tree: &Text,
+) -> Result<Change, Refusal>
+    ensures decision { B.is_honest book.new → (m : Content) → B.holds book.old m → IsDecided m (Reserve part tree.now) result }
+    ensures blame { B.is_honest book.new → (m : Content) → B.holds book.old m → BlamesStore m (Reserve part tree.now) (B.failed book.old) result (B.failed book.new) }
+    ensures stays { B.is_honest book.new → (m : Content) → B.holds book.old m → B.holds book.new m }
+    ensures crash { B.is_honest book.new → (m : Content) → B.holds book.old m → (left : B.Left) → B.may_leave book.new left → B.may_leave book.old left }
+    ensures honest { B.is_honest book.new → B.is_honest book.old }
+    ensures failures { CountsOrDisagrees (B.failed book.old) result (B.failed book.new) }
+{
+    let row = book.part(part)?;
+    let material = material_for(book, &row)?;
+    let plan = plan_for(alloc, &row, &material, tree.as_str())?;
+    let leaves = leaves_for(alloc, book, &plan)?;
+    let act = book.next_act()?;
+    decide_reserve(alloc, row, material, plan, &leaves, act)
+}
+
+// Finishes a job.
+fn done<B: Book>(
+    alloc: Global,
+    book: &mut B,
+    number: u32,
+) -> Result<Change, Refusal>
+    ensures decision { B.is_honest book.new → (m : Content) → B.holds book.old m → IsDecided m (Done number) result }
+    ensures blame { B.is_honest book.new → (m : Content) → B.holds book.old m → BlamesStore m (Done number) (B.failed book.old) result (B.failed book.new) }
+    ensures stays { B.is_honest book.new → (m : Content) → B.holds book.old m → B.holds book.new m }
+    ensures crash { B.is_honest book.new → (m : Content) → B.holds book.old m → (left : B.Left) → B.may_leave book.new left → B.may_leave book.old left }
+    ensures honest { B.is_honest book.new → B.is_honest book.old }
+    ensures failures { CountsOrDisagrees (B.failed book.old) result (B.failed book.new) }
+{
+    let job = book.job(alloc, number)?;
+    let part = part_for(book, &job)?;
+    let material = material_for(book, &part)?;
+    let leaves = job_leaves(alloc, book, &job)?;
+    decide_done(alloc, job, part, material, &leaves)
+}
+
+// Releases a job.
+fn release<B: Book>(
+    alloc: Global,
+    book: &mut B,
+    number: u32,
+) -> Result<Change, Refusal>
+    ensures decision { B.is_honest book.new → (m : Content) → B.holds book.old m → IsDecided m (Release number) result }
+    ensures blame { B.is_honest book.new → (m : Content) → B.holds book.old m → BlamesStore m (Release number) (B.failed book.old) result (B.failed book.new) }
+    ensures stays { B.is_honest book.new → (m : Content) → B.holds book.old m → B.holds book.new m }
+    ensures crash { B.is_honest book.new → (m : Content) → B.holds book.old m → (left : B.Left) → B.may_leave book.new left → B.may_leave book.old left }
+    ensures honest { B.is_honest book.new → B.is_honest book.old }
+    ensures failures { CountsOrDisagrees (B.failed book.old) result (B.failed book.new) }
+{
+    let job = book.job(alloc, number)?;
+    let part = part_for(book, &job)?;
+    let material = material_for(book, &part)?;
+    let leaves = job_leaves(alloc, book, &job)?;
+    decide_release(alloc, job, part, material, &leaves)
+}
+
+/// What is decided on a command, from the rows that it needs.
+pub fn decide<B: Book>(alloc: Global, book: &mut B, command: &Command) -> Result<Change, Refusal>
+    ensures decision { B.is_honest book.new → (m : Content) → B.holds book.old m → IsDecided m command.now result }
+    ensures blame { B.is_honest book.new → (m : Content) → B.holds book.old m → BlamesStore m command.now (B.failed book.old) result (B.failed book.new) }
+    ensures stays { B.is_honest book.new → (m : Content) → B.holds book.old m → B.holds book.new m }
+    ensures crash { B.is_honest book.new → (m : Content) → B.holds book.old m → (left : B.Left) → B.may_leave book.new left → B.may_leave book.old left }
+    ensures honest { B.is_honest book.new → B.is_honest book.old }
+    ensures failures { CountsOrDisagrees (B.failed book.old) result (B.failed book.new) }
 {
     match command {
         Command::AddMaterial {
@@ -28,24 +201,18 @@ pub fn decide<B: Book>(alloc: Global, book: &mut B, command: &Command) -> Result
             kerf,
             min_long,
             min_short,
-        } => {
-            let known = book.material(*material)?;
-            decide_material(alloc, known, *material, *kind, *kerf, *min_long, *min_short)
-        }
+        } => add_material(alloc, book, *material, *kind, *kerf, *min_long, *min_short),
         Command::Receive {
             material,
             batch,
             w,
             h,
             count,
-        } => {
-            let known = book.material(*material)?;
-            let received = book.totals(*material)?.received;
-            let act = book.next_act()?;
-            decide_receive(
-                alloc, known, received, act, *material, *batch, *w, *h, *count,
-            )
-        }
+        } => receive(alloc, book, *material, *batch, *w, *h, *count),
+        Command::AddOrder { order, lines } => add_order(alloc, book, *order, lines),
+        Command::Reserve { part, tree } => reserve(alloc, book, *part, tree),
+        Command::Done { job } => done(alloc, book, *job),
+        Command::Release { job } => release(alloc, book, *job),
     }
 }
 
@@ -57,14 +224,22 @@ pub fn keeping_message(change: Change, message: KeptMessage) -> (Change, Reply)
     let Change {
         material,
         parts,
+        job,
+        order,
+        demands,
         act,
+        demand,
         kept: _,
         reply,
     } = change;
     let kept = Change {
         material,
         parts,
+        job,
+        order,
+        demands,
         act,
+        demand,
         kept: Some(message),
         reply: Reply::Refused(Refusal::BadMessage),
     };

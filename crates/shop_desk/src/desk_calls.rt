@@ -5,6 +5,7 @@ ghost use Rattle.shop_machine.specs.Machine.{Answers, StepAgain};
 ghost use Rattle.shop_machine.specs.Soundness.{IsSound, IsKept};
 ghost use Rattle.shop_machine.specs.declared.kept_texts.Pair.{Pair as PairOf};
 ghost use Rattle.shop_machine.specs.declared.messages.Message.{Message as MessageOf};
+ghost use Rattle.shop_machine.specs.declared.messages.Query.TheVariants.{Totals, Trace, Demand};
 ghost use Rattle.shop_machine.specs.declared.messages.Reply.TheVariants.{Refused};
 ghost use Rattle.shop_machine.specs.declared.refusals.Refusal.TheVariants.{StoreFault};
 ghost use Rattle.shop_rules.specs.Forms.{json_texts};
@@ -12,8 +13,9 @@ ghost use Rattle.shop_desk.specs.Faults.{CountsReply, CountsOrContradicts, Store
 ghost use Rattle.shop_desk.specs.Handled.{IsHandled, HasRun};
 
 use crate::decided::{decide, keeping_message};
+use cut_measure::PartName;
 use shop_rules::{
-    Kept, KeptMessage, Message, Pair, Query, Refusal, Reply, Text, kept_reply, message_text,
+    Code, Kept, KeptMessage, Message, Pair, Query, Refusal, Reply, Text, kept_reply, message_text,
     reply_text,
 };
 use shop_store::Book;
@@ -40,7 +42,9 @@ fn handle_new<B: Book>(alloc: Global, book: &mut B, message: &Message, text: Tex
         → IsSound json_texts m → kept_at m (pair_of message.now) ≡ None
         → IsHandled json_texts B.stands (B.may_leave book.old) (B.may_leave book.new) (B.holds book.new) m message.now result }
     ensures honest { B.is_honest book.new → B.is_honest book.old }
-    ensures failures { CountsReply (B.failed book.old) result (B.failed book.new) }
+    ensures failures { CountsOrContradicts (B.failed book.old) result (B.failed book.new) }
+    ensures store_fault { IsMessage message.now → B.is_honest book.new → (m : Content) → B.holds book.old m → IsSound json_texts m
+        → result ≡ Refused StoreFault → StoreFailed (B.failed book.old) (B.failed book.new) }
 {
     let change = match decide(alloc, book, &message.command) {
         Ok(change) => change,
@@ -85,6 +89,80 @@ pub fn handle<B: Book>(alloc: Global, book: &mut B, message: &Message) -> Reply
     }
 }
 
+// The cells of a material.
+fn totals<B: Book>(book: &mut B, material: Code) -> Reply
+    ensures answer { B.is_honest book.new → (m : Content) → B.holds book.old m → Answers m (Totals material) result }
+    ensures stays { B.is_honest book.new → (m : Content) → B.holds book.old m → B.holds book.new m }
+    ensures crash { B.is_honest book.new → (m : Content) → B.holds book.old m → (left : B.Left) → B.may_leave book.new left → B.may_leave book.old left }
+    ensures honest { B.is_honest book.new → B.is_honest book.old }
+    ensures failures { CountsReply (B.failed book.old) result (B.failed book.new) }
+{
+    match book.material(material) {
+        Err(fault) => Reply::Refused(Refusal::from(fault)),
+        Ok(None) => Reply::Refused(Refusal::NoMaterial),
+        Ok(Some(_)) => match book.totals(material) {
+            Err(fault) => Reply::Refused(Refusal::from(fault)),
+            Ok(totals) => Reply::Totals {
+                material,
+                received: totals.received,
+                stock: totals.stock,
+                rack: totals.rack,
+                pieces: totals.pieces,
+                kerf: totals.kerf,
+                scrap: totals.scrap,
+            },
+        },
+    }
+}
+
+// What became of a part.
+fn trace<B: Book>(book: &mut B, part: PartName) -> Reply
+    ensures answer { B.is_honest book.new → (m : Content) → B.holds book.old m → Answers m (Trace part) result }
+    ensures stays { B.is_honest book.new → (m : Content) → B.holds book.old m → B.holds book.new m }
+    ensures crash { B.is_honest book.new → (m : Content) → B.holds book.old m → (left : B.Left) → B.may_leave book.new left → B.may_leave book.old left }
+    ensures honest { B.is_honest book.new → B.is_honest book.old }
+    ensures failures { CountsReply (B.failed book.old) result (B.failed book.new) }
+{
+    match book.part(part) {
+        Err(fault) => Reply::Refused(Refusal::from(fault)),
+        Ok(None) => Reply::Refused(Refusal::NoPart),
+        Ok(Some(part)) => Reply::Trace {
+            batch: part.batch,
+            h: part.size.h(),
+            of: part.state.of(),
+            part: part.name,
+            root: part.root,
+            state: part.state.word(),
+            w: part.size.w(),
+            x: part.x,
+            y: part.y,
+        },
+    }
+}
+
+// How a demand stands.
+fn demand<B: Book>(book: &mut B, number: u32) -> Reply
+    ensures answer { B.is_honest book.new → (m : Content) → B.holds book.old m → Answers m (Demand number) result }
+    ensures stays { B.is_honest book.new → (m : Content) → B.holds book.old m → B.holds book.new m }
+    ensures crash { B.is_honest book.new → (m : Content) → B.holds book.old m → (left : B.Left) → B.may_leave book.new left → B.may_leave book.old left }
+    ensures honest { B.is_honest book.new → B.is_honest book.old }
+    ensures failures { CountsReply (B.failed book.old) result (B.failed book.new) }
+{
+    match book.demand(number) {
+        Err(fault) => Reply::Refused(Refusal::from(fault)),
+        Ok(None) => Reply::Refused(Refusal::NoDemand),
+        Ok(Some(demand)) => Reply::Demand {
+            demand: demand.number,
+            line: demand.line,
+            made: demand.made,
+            material: demand.material,
+            order: demand.order,
+            reserved: demand.reserved,
+            wanted: demand.wanted,
+        },
+    }
+}
+
 /// Answers a query, and changes nothing.
 pub fn ask<B: Book>(_alloc: Global, book: &mut B, query: &Query) -> Reply
     ensures answer { B.is_honest book.new → (m : Content) → B.holds book.old m → Answers m query.now result }
@@ -94,23 +172,10 @@ pub fn ask<B: Book>(_alloc: Global, book: &mut B, query: &Query) -> Reply
     ensures failures { CountsReply (B.failed book.old) result (B.failed book.new) }
     ensures store_fault { result ≡ Refused StoreFault → StoreFailed (B.failed book.old) (B.failed book.new) }
 {
-    match *query {
-        Query::Totals { material } => match book.material(material) {
-            Err(fault) => Reply::Refused(Refusal::from(fault)),
-            Ok(None) => Reply::Refused(Refusal::NoMaterial),
-            Ok(Some(_)) => match book.totals(material) {
-                Err(fault) => Reply::Refused(Refusal::from(fault)),
-                Ok(totals) => Reply::Totals {
-                    material,
-                    received: totals.received,
-                    stock: totals.stock,
-                    rack: totals.rack,
-                    pieces: totals.pieces,
-                    kerf: totals.kerf,
-                    scrap: totals.scrap,
-                },
-            },
-        },
+    match query {
+        Query::Totals { material } => totals(book, *material),
+        Query::Trace { part } => trace(book, *part),
+        Query::Demand { demand: number } => demand(book, *number),
     }
 }
 

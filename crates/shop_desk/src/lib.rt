@@ -3,6 +3,7 @@
 
 mod decided;
 mod desk_calls;
+mod found;
 #[cfg(test)]
 mod tests;
 

@@ -1,4 +1,4 @@
-ghost use Rattle.std.specs.Prelude.{◌≡◌, ◌+◌, ◌≤◌, ◌⊎◌, ℕ, IfOk, OnOk, OnErr};
+ghost use Rattle.std.specs.Prelude.{◌≡◌, ◌+◌, ◌≤◌, ◌⊎◌, ℕ, IfOk, IfSome, OnOk, OnErr};
 ghost use Rattle.shop_machine.specs.Content.{Content, material_at, part_at, job_at, has_order, demand_at, kept_at, totals_of, parts_of as listed_parts, changed};
 ghost use Rattle.shop_machine.specs.Soundness.{Fits};
 ghost use Rattle.shop_store.specs.Failures.{CountsFailure};
@@ -100,6 +100,7 @@ pub trait Book {
     /// The demand of a number.
     fn demand(&mut self, number: u32) -> Result<Option<Demand>, BookFault>
         ensures row { is_honest self.new → (m : Content) → holds self.old m → IfOk result (λ row. row ≡ demand_at m number) }
+        ensures key { IfOk result (λ row. IfSome row (λ demand. demand.number ≡ number)) }
         ensures stays { is_honest self.new → (m : Content) → holds self.old m → holds self.new m }
         ensures crash { is_honest self.new → (m : Content) → holds self.old m → (left : Left) → may_leave self.new left → may_leave self.old left }
         ensures honest { is_honest self.new → is_honest self.old }

@@ -1,0 +1,30 @@
+-- What is decided on a command, over the content that a book holds.
+use Rattle.std.specs.Prelude.{◌≡◌, ◌≢◌, ◌⊎◌, ℕ, Option, Some, None, Result, Ok, Err, IfErr}
+use Rattle.cut_tree.specs.Patterns.{Pattern}
+use Rattle.shop_machine.specs.declared.changes.Change.{Change}
+use Rattle.shop_machine.specs.declared.messages.Command.{Command}
+use Rattle.shop_machine.specs.declared.refusals.Refusal.{Refusal}
+use Rattle.shop_machine.specs.declared.refusals.Refusal.TheVariants.{StoreFault}
+use Rattle.shop_machine.specs.Content.{Content}
+use Rattle.shop_machine.specs.Machine.{Reads, refusal_of, Makes, Refuses}
+use Rattle.shop_desk.specs.Faults.{StoreFailed, CountsDecision}
+
+-- The command is allowed and the change is its own, what its text stands for being read; or it is refused.
+abbrev pub IsDecided : Content → Command → Result Change Refusal → Type 0
+IsDecided m command (Ok change) =
+    (read : Option Pattern) × Reads m command read × (refusal_of m command read ≡ None) × Makes m command read change
+IsDecided m command (Err refusal) = Refuses m command refusal
+
+-- rows of the content contradict each other
+abbrev pub Contradicts : Content → Command → Type 0
+Contradicts m command = (read : Option Pattern) × Reads m command read × (refusal_of m command read ≡ Some StoreFault)
+
+-- a decision tells of a failed store only where the store failed, or where rows contradict each other
+abbrev pub BlamesStore : Content → Command → ℕ → Result Change Refusal → ℕ → Type 0
+BlamesStore m command before result after =
+    IfErr result (λ refusal. refusal ≡ StoreFault → StoreFailed before after ⊎ Contradicts m command)
+
+-- the failures that a decision goes with: where rows contradict each other the store didn't fail, and none is counted
+abbrev pub CountsOrDisagrees : ℕ → Result Change Refusal → ℕ → Type 0
+CountsOrDisagrees before result after =
+    CountsDecision before result after ⊎ ((result ≡ Err StoreFault) × (after ≡ before))

@@ -1,0 +1,154 @@
+ghost use Rattle.std.specs.Prelude.{◌≡◌, ◌≤◌, ℕ, IfOk, IfSome, IsTrue, List, MatchOption, All, None, Some, OnOk, ◌++◌, ◌∷◌, []};
+ghost use Rattle.cut_tree.specs.Tree.{Tree, cut_count};
+ghost use Rattle.cut_tree.specs.Patterns.{Pattern};
+ghost use Rattle.cut_tree.specs.Spelling.{IsSpelling};
+ghost use Rattle.cut_measure.specs.Names.{Name};
+ghost use Rattle.shop_machine.specs.declared.messages.Command.TheVariants.{Reserve};
+ghost use Rattle.shop_machine.specs.Content.{Content, material_at, part_at, demand_at};
+ghost use Rattle.shop_machine.specs.Machine.{Reads, material_of, part_of, plan_leaves};
+ghost use Rattle.shop_machine.specs.Found.{AreMaterialsFound, AreDemandsFound, IsNumbered, leaves_in, lines_in};
+ghost use Rattle.shop_store.specs.Failures.{CountsFailure};
+ghost use Rattle.shop_desk.specs.Faults.{CountsDecision};
+
+use cut_tree::{Cause, Leaf, Plan};
+use shop_rules::{Demand, FoundLeaf, FoundLine, Job, Material, OrderLine, Part, Refusal};
+use shop_store::{Book, BookFault};
+use std::alloc::{AllocError, Global};
+
+/// The material of a part that was found.
+pub fn material_for<B: Book>(
+    book: &mut B,
+    part: &Option<Part>,
+) -> Result<Option<Material>, BookFault>
+    ensures row { B.is_honest book.new → (m : Content) → B.holds book.old m → IfOk result (λ row. row ≡ material_of m part.now) }
+    ensures stays { B.is_honest book.new → (m : Content) → B.holds book.old m → B.holds book.new m }
+    ensures crash { B.is_honest book.new → (m : Content) → B.holds book.old m → (left : B.Left) → B.may_leave book.new left → B.may_leave book.old left }
+    ensures honest { B.is_honest book.new → B.is_honest book.old }
+    ensures failures { CountsFailure (B.failed book.old) result (B.failed book.new) }
+{
+    match part {
+        Some(part) => book.material(part.material),
+        None => Ok(None),
+    }
+}
+
+/// The part of a job that was found.
+pub fn part_for<B: Book>(book: &mut B, job: &Option<Job>) -> Result<Option<Part>, BookFault>
+    ensures row { B.is_honest book.new → (m : Content) → B.holds book.old m → IfOk result (λ row. row ≡ part_of m job.now) }
+    ensures stays { B.is_honest book.new → (m : Content) → B.holds book.old m → B.holds book.new m }
+    ensures crash { B.is_honest book.new → (m : Content) → B.holds book.old m → (left : B.Left) → B.may_leave book.new left → B.may_leave book.old left }
+    ensures honest { B.is_honest book.new → B.is_honest book.old }
+    ensures failures { CountsFailure (B.failed book.old) result (B.failed book.new) }
+{
+    match job {
+        Some(job) => book.part(job.part),
+        None => Ok(None),
+    }
+}
+
+// The plan that a text spells on a part of this material, if it spells one.
+fn read_plan(
+    alloc: Global,
+    part: &Part,
+    material: &Material,
+    tree: &str,
+) -> Result<Option<Plan>, AllocError>
+    ensures plan { IfOk result (λ read. IfSome read (λ plan. (plan.w ≡ part.now.size.w) × (plan.h ≡ part.now.size.h) × (plan.kerf ≡ material.now.limits.kerf)
+        × IsSpelling tree.now plan.tree part.now.size.w part.now.size.h material.now.limits.kerf × (cut_count plan.tree ≤ 255))) }
+    ensures none { IfOk result (λ read. read ≡ None → (t : Tree) → IsSpelling tree.now t part.now.size.w part.now.size.h material.now.limits.kerf → cut_count t ≤ 255 → ⊥) }
+{
+    match Plan::read(alloc, tree, part.size, material.limits.kerf()) {
+        Ok(plan) => {
+            let _few = plan.cuts();
+            Ok(Some(plan))
+        }
+        Err(fault) => match fault.cause {
+            Cause::NoMemory => Err(AllocError),
+            _ => Ok(None),
+        },
+    }
+}
+
+/// The plan that the text of a reservation stands for: it is read where the part stands.
+pub fn plan_for(
+    alloc: Global,
+    part: &Option<Part>,
+    material: &Option<Material>,
+    tree: &str,
+) -> Result<Option<Plan>, AllocError>
+    ensures { IfOk result (λ read. (m : Content) → (name : Name) → part.now ≡ part_at m name → material.now ≡ material_of m part.now → Reads m (Reserve name tree.now) read) }
+{
+    let (Some(part), Some(material)) = (part, material) else {
+        return Ok(None);
+    };
+    if !part.state.is_free() {
+        return Ok(None);
+    }
+    read_plan(alloc, part, material, tree)
+}
+
+fn push_leaf(
+    found: &mut Vec<FoundLeaf>,
+    leaf: Leaf,
+    demand: Option<Demand>,
+) -> Result<(), AllocError>
+    ensures { OnOk result (found.new.items ≡ found.old.items ++ record { leaf = leaf; demand = demand } ∷ []) }
+{
+    found.push(FoundLeaf { leaf, demand })?;
+    Ok(())
+}
+
+fn push_line(
+    found: &mut Vec<FoundLine>,
+    line: OrderLine,
+    material: Option<Material>,
+) -> Result<(), AllocError>
+    ensures { OnOk result (found.new.items ≡ found.old.items ++ record { line = line; material = material } ∷ []) }
+{
+    found.push(FoundLine { line, material })?;
+    Ok(())
+}
+
+/// The piece leaves of a plan, with the rows of their demands.
+pub fn found_leaves<B: Book>(
+    alloc: Global,
+    book: &mut B,
+    plan: &Plan,
+) -> Result<Vec<FoundLeaf>, Refusal>
+    ensures found { B.is_honest book.new → (m : Content) → B.holds book.old m → IfOk result (λ found. AreDemandsFound (demand_at m) found.items) }
+    ensures leaves { IfOk result (λ found. leaves_in found.items ≡ plan_leaves plan.now) }
+    ensures numbered { IfOk result (λ found. All IsNumbered found.items) }
+    ensures stays { B.is_honest book.new → (m : Content) → B.holds book.old m → B.holds book.new m }
+    ensures crash { B.is_honest book.new → (m : Content) → B.holds book.old m → (left : B.Left) → B.may_leave book.new left → B.may_leave book.old left }
+    ensures honest { B.is_honest book.new → B.is_honest book.old }
+    ensures failures { CountsDecision (B.failed book.old) result (B.failed book.new) }
+{
+    let leaves = plan.leaves(alloc)?;
+    let mut found = Vec::new(alloc);
+    for leaf in &leaves {
+        let demand = book.demand(leaf.demand)?;
+        push_leaf(&mut found, *leaf, demand)?;
+    }
+    Ok(found)
+}
+
+/// The lines of an order, with the rows of their materials.
+pub fn found_lines<B: Book>(
+    alloc: Global,
+    book: &mut B,
+    lines: &[OrderLine],
+) -> Result<Vec<FoundLine>, Refusal>
+    ensures found { B.is_honest book.new → (m : Content) → B.holds book.old m → IfOk result (λ found. AreMaterialsFound (material_at m) found.items) }
+    ensures lines { IfOk result (λ found. lines_in found.items ≡ lines.now) }
+    ensures stays { B.is_honest book.new → (m : Content) → B.holds book.old m → B.holds book.new m }
+    ensures crash { B.is_honest book.new → (m : Content) → B.holds book.old m → (left : B.Left) → B.may_leave book.new left → B.may_leave book.old left }
+    ensures honest { B.is_honest book.new → B.is_honest book.old }
+    ensures failures { CountsDecision (B.failed book.old) result (B.failed book.new) }
+{
+    let mut found = Vec::new(alloc);
+    for line in lines {
+        let material = book.material(line.material)?;
+        push_line(&mut found, *line, material)?;
+    }
+    Ok(found)
+}
