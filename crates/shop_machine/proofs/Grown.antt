@@ -10,7 +10,8 @@ use Rattle.shop_machine.specs.declared.records.Demand.{Demand}
 use Rattle.shop_machine.specs.Columns.{is_waiting}
 use Rattle.shop_machine.specs.Content.{Content, material_at, part_at, job_at, demand_at}
 use Rattle.shop_machine.specs.Soundness.{IsInRange, IsKnown, IsPlaced, IsWaiting, IsJob, IsDemand, IsCounted, IsSound}
-use Rattle.shop_machine.proofs.Puts.{some_known, is_known, some_is, not_some}
+use Rattle.shop_machine.proofs.Basics.{same_some, none_at}
+use Rattle.shop_machine.proofs.Puts.{some_known, is_known}
 
 -- materials and demands that were there are there
 pub record Grows (old new : Content) : Type 0 where
@@ -77,4 +78,4 @@ module _ (old new : Content) (grows : Grows old new) where
 
 -- no part is named after an act to come
 pub none_later : (content : Content) → IsInRange content → (name : Name) → content.last_act < name.act → part_at content name ≡ None
-none_later content range name later = not_some (part_at content name) (λ part is. let le = range.acts name part is in omega (arith, le, later))
+none_later content range name later = none_at (part_at content name) (λ part is. let le = range.acts name part is in omega (arith, le, later))

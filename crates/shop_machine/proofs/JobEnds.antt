@@ -36,7 +36,8 @@ use Rattle.shop_machine.specs.Content.{Content, material_at, part_at, job_at, de
 use Rattle.shop_machine.specs.Machine.{AreRecounted, IsWork, in_state, with_made, with_freed, fate, row_part, done_reply, done_change, release_change, keeping}
 use Rattle.shop_machine.specs.History.{IsIn}
 use Rattle.shop_machine.specs.Soundness.{IsPlaced, IsWaiting, IsJob, IsCounted, JobFits, Fits, reserved_in, made_in}
-use Rattle.shop_machine.proofs.Puts.{Pairwise, all_in, pairs_in, pairs_more, map_pairs, in_map, in_counted, sum_map, sum_as, sum_none, some_is, none_some, is_known, sum_over}
+use Rattle.shop_machine.proofs.Basics.{all_in, in_map, same_some, map_in}
+use Rattle.shop_machine.proofs.Puts.{Pairwise, pairs_in, pairs_more, map_pairs, in_counted, sum_map, sum_as, sum_none, not_both, is_known, sum_over}
 use Rattle.shop_machine.proofs.AddedUp.{cells_as, cells_left, is_uncut}
 use Rattle.shop_machine.proofs.Moved.{no_made, no_freed}
 use Rattle.shop_machine.proofs.Grown.{IsStock}
@@ -115,7 +116,7 @@ module _ (m : Content) (stock : IsStock m) (number : ℕ) (j : Job) (part : Part
   waiting = is_job.waits waits
 
   pub same_part : waiting.row ≡ part
-  same_part = some_is waiting.row part (sym waiting.found ∙ work.on)
+  same_part = same_some waiting.row part (sym waiting.found ∙ work.on)
 
   pub reserved : part.state ≡ state.Reserved j.act
   reserved = ap (λ (p : Part). p.state) (sym same_part) ∙ waiting.reserved
@@ -292,18 +293,10 @@ module _ (m : Content) (stock : IsStock m) (number : ℕ) (j : Job) (part : Part
         right = omega (arith, right, wide, most_right);
         bottom = omega (arith, bottom, high, most_bottom);
         asked = λ d piece.
-            let one = in_counted (λ (p : Part). is_piece_of d p.state) made (row_part part material.limits j.act r) (in_made r i) piece in
+            let one = in_counted (λ (p : Part). is_piece_of d p.state) made (row_part part material.limits j.act r) (map_in (row_part part material.limits j.act) laid r i) piece in
             let count = pieces_made d in
             (waiting m stock number j part material work waits).demands d (omega (arith, one, count));
       }
-    where
-      in_list : (r : Row) (rs : List Row) → IsIn r rs → IsIn (row_part part material.limits j.act r) (map (row_part part material.limits j.act) rs)
-      in_list r [] i = i
-      in_list r (s ∷ rs) (inl e) = inl (ap (row_part part material.limits j.act) e)
-      in_list r (s ∷ rs) (inr i) = inr (in_list r rs i)
-
-      in_made : (r : Row) → IsIn r laid → IsIn (row_part part material.limits j.act r) made
-      in_made r i = in_list r laid i
 
   not_whole : (r : Row) → same_name (record { act = j.act; node = r.node }) part.root ≡ false
   not_whole r =

@@ -18,7 +18,8 @@ use Rattle.shop_machine.specs.Content.{Content, material_at, part_at, job_at, ha
 use Rattle.shop_machine.specs.Machine.{new_demand, new_demands, order_change, keeping, most_numbers}
 use Rattle.shop_machine.specs.History.{IsIn}
 use Rattle.shop_machine.specs.Soundness.{IsWaiting, IsJob, IsDemand, IsCounted, DemandFits, Fits, reserved_in, made_in}
-use Rattle.shop_machine.proofs.Puts.{Pairwise, all_from, pairs_from, some_is, none_some, not_some, is_known, some_known, names_total, names_exact, puts, found, sum_no_rows, with_demands_puts}
+use Rattle.shop_machine.proofs.Basics.{names_total, names_same, same_some, none_at, demand_cases}
+use Rattle.shop_machine.proofs.Puts.{Pairwise, all_from, pairs_from, not_both, is_known, some_known, sum_no_rows}
 use Rattle.shop_machine.proofs.Allowed.{IsOrder}
 use Rattle.shop_machine.proofs.Grown.{IsStock, Grows, placed_more, job_more}
 use Rattle.shop_machine.proofs.MaterialStep.{demand_more, no_pairs}
@@ -83,36 +84,36 @@ module _ (m : Content) (stock : IsStock m) (order : List ℕ) (lines : List Orde
 
   -- a number to come is no demand's yet
   none_later : (number : ℕ) → m.last_demand < number → demand_at m number ≡ None
-  none_later number later = not_some (demand_at m number) (λ d is. let le = (stock.demands number d is).so_far in omega (arith, le, later))
+  none_later number later = none_at (demand_at m number) (λ d is. let le = (stock.demands number d is).so_far in omega (arith, le, later))
 
   none_reserved_yet : (number : ℕ) → m.last_demand < number → reserved_in number m ≡ 0
   none_reserved_yet number later =
       sum_no_rows nat_cmp_total nat_cmp-IsAntisymmetric (λ (job : Job). if is_waiting job.state then count_of job.plan.tree number else 0) m.jobs
       (λ k j is. none_reserved number j (λ waits some.
           let there = some_known (demand_at m number) (((stock.jobs k j is).waits waits).demands number some) in
-          none_some (demand_at m number) there.0 (none_later number later) there.1))
+          not_both (demand_at m number) there.0 (none_later number later) there.1))
 
   none_made_yet : (number : ℕ) → m.last_demand < number → made_in number m ≡ 0
   none_made_yet number later =
-      sum_no_rows names_total names_exact (λ (p : Part). if is_piece_of number p.state then 1 else 0) m.parts
+      sum_no_rows names_total names_same (λ (p : Part). if is_piece_of number p.state then 1 else 0) m.parts
       (λ k p is. none_counted number p (λ piece.
           let there = some_known (demand_at m number) ((stock.parts k p is).asked number piece) in
-          none_some (demand_at m number) there.0 (none_later number later) there.1))
+          not_both (demand_at m number) there.0 (none_later number later) there.1))
 
   found_after : (number : ℕ) (d : Demand) → demand_at after number ≡ Some d → (IsNew order first lines d × (d.number ≡ number)) ⊎ (demand_at m number ≡ Some d)
   found_after number d is =
-      elim (found nat_cmp_total nat_cmp-IsAntisymmetric (λ d. d.number) rows m.demands number) [
+      elim (demand_cases rows m.demands number) [
         | inl q ↦
-            let same : q.0 ≡ d = some_is q.0 d (sym q.3 ∙ ap (λ m. get m number) (sym (with_demands_puts rows m.demands)) ∙ is) in
+            let same : q.0 ≡ d = same_some q.0 d (sym q.3 ∙ is) in
             inl (subst (IsNew order first lines) same (new_in order first lines q.0 q.1), ap (λ (x : Demand). x.number) (sym same) ∙ q.2)
-        | inr q ↦ inr (sym q.1 ∙ ap (λ m. get m number) (sym (with_demands_puts rows m.demands)) ∙ is)
+        | inr q ↦ inr (sym q.1 ∙ is)
       ]
 
   there_after : (number : ℕ) → IsSome (demand_at m number) → IsSome (demand_at after number)
   there_after number h =
-      elim (found nat_cmp_total nat_cmp-IsAntisymmetric (λ d. d.number) rows m.demands number) [
-        | inl q ↦ is_known (demand_at after number) q.0 (ap (λ m. get m number) (with_demands_puts rows m.demands) ∙ q.3)
-        | inr q ↦ subst (λ (o : Option Demand). IsSome o) (sym (ap (λ m. get m number) (with_demands_puts rows m.demands) ∙ q.1)) h
+      elim (demand_cases rows m.demands number) [
+        | inl q ↦ is_known (demand_at after number) q.0 q.3
+        | inr q ↦ subst (λ (o : Option Demand). IsSome o) (sym q.1) h
       ]
 
   grows : Grows m after

@@ -4,7 +4,7 @@ use Rattle.std.specs.Prelude.{Option, Some, None, All, AllPairs, IsSome, IfSome,
 use Rattle.std.specs.declared.cmp.Ordering.{Ordering}
 use Rattle.std.specs.declared.cmp.Ordering.TheVariants.{Less, Equal}
 use Rattle.std.specs.Ordering.{is_eq}
-use Rattle.std.specs.Cmp.{nat_cmp_total}
+use Rattle.std.specs.Cmp.{nat_cmp_total, tied_itself}
 use Rattle.std.specs.FinMap.{FinMap, get, insert, values, nat_cmp-IsAntisymmetric}
 use Rattle.std.proofs.lemmas.List.Elements.{All-nil}
 use Rattle.cut_measure.specs.Codes.{code_cmp}
@@ -25,7 +25,8 @@ use Rattle.shop_machine.specs.Content.{Content, material_at, part_at, job_at, de
 use Rattle.shop_machine.specs.Machine.{AreRecounted, in_state, keeping, most_received, most_numbers}
 use Rattle.shop_machine.specs.History.{IsIn}
 use Rattle.shop_machine.specs.Soundness.{IsPlaced, IsWaiting, IsJob, IsDemand, IsCounted, PartFits, JobFits, DemandFits, Fits}
-use Rattle.shop_machine.proofs.Puts.{Pairwise, all_from, pairs_from, pairs_more, some_is, none_some, is_known, names_total, ties, names_exact, found_one}
+use Rattle.shop_machine.proofs.Basics.{names_total, names_same, same_some}
+use Rattle.shop_machine.proofs.Puts.{Pairwise, all_from, pairs_from, pairs_more, not_both, is_known, found_one}
 use Rattle.shop_machine.proofs.AddedUp.{cells_as, cells_left, is_uncut}
 use Rattle.shop_machine.proofs.Moved.{IsRecount, row_recount, recount_of, demand_there, found_moved, other_moved, received_moved, adds_up_moved, made_moved}
 use Rattle.shop_machine.proofs.Grown.{IsStock, Grows, Untouched, placed_more, job_more}
@@ -48,7 +49,7 @@ standing_uncut state.Scrap e = refl
 
 pub less_apart : (a b : Name) → name_cmp a b ≡ Less → a ≡ b → ⊥
 less_apart a b less e =
-    let equal : name_cmp a b ≡ Equal = ap (λ n. name_cmp a n) (sym e) ∙ ties names_total names_exact a in
+    let equal : name_cmp a b ≡ Equal = ap (λ n. name_cmp a n) (sym e) ∙ tied_itself names_total a in
     let same : Less ≡ Equal = sym less ∙ equal in cc
 
 -- what holds of the part, its new state, the new parts and the act's number
@@ -99,11 +100,11 @@ module _ (m : Content) (stock : IsStock m) (row : Part) (s : State) (made : List
   pub untouched : (j : Job) → IsWaiting m j → (row.state ≡ state.Reserved j.act → ⊥) → ((x : Part) → IsIn x made → x.name.act ≡ j.act → ⊥) → Untouched m after grows j
   untouched j w other names = record {
     same = other_moved m.parts row s made step.there step.new apart j.part
-        (λ e. other (ap (λ (p : Part). p.state) (some_is row w.row (sym step.there ∙ ap (λ n. part_at m n) (sym e) ∙ w.found)) ∙ w.reserved))
-        (λ x i e. none_some (part_at m x.name) w.row (step.new x i) (ap (λ n. part_at m n) e ∙ w.found));
+        (λ e. other (ap (λ (p : Part). p.state) (same_some row w.row (sym step.there ∙ ap (λ n. part_at m n) (sym e) ∙ w.found)) ∙ w.reserved))
+        (λ x i e. not_both (part_at m x.name) w.row (step.new x i) (ap (λ n. part_at m n) e ∙ w.found));
     none_yet = λ node.
         other_moved m.parts row s made step.there step.new apart (record { act = j.act; node = node })
-        (λ e. none_some (part_at m (record { act = j.act; node = node })) row (w.none_yet node) (ap (λ n. part_at m n) e ∙ step.there))
+        (λ e. not_both (part_at m (record { act = j.act; node = node })) row (w.none_yet node) (ap (λ n. part_at m n) e ∙ step.there))
         (λ x i e. names x i (ap (λ (n : Name). n.act) e)) ∙ w.none_yet node;
   }
 
