@@ -1,5 +1,5 @@
 -- Rows of a sound content never contradict each other.
-use Rattle.std.proofs.Common.{◌≡◌, ◌≢◌, ℕ, ◌+◌, ◌*◌, ◌≤◌, ◌<◌, inl, inr, List, [], ◌∷◌, length, Bool, true, false, refl, sym, ap, subst, ◌∙◌, arith}
+use Rattle.std.proofs.Common.{◌≡◌, ◌≢◌, ℕ, ◌+◌, ◌*◌, ◌≤◌, List, [], ◌∷◌, length, Bool, true, false, refl, sym, ap, subst, ◌∙◌}
 use Rattle.std.specs.Prelude.{Option, Some, None, IsSome, is_some, nat_le, nat_lt, ◌&&◌, ◌==◌, not, if◌then◌else◌}
 use Rattle.std.specs.List.{list_all}
 use Rattle.std.specs.Option.{option_or}
@@ -19,9 +19,7 @@ use Rattle.shop_machine.specs.declared.refusals.Refusal.{Refusal}
 use Rattle.shop_machine.specs.declared.refusals.Refusal.TheVariants.{JobOver, StoreFault}
 use Rattle.shop_machine.specs.Columns.{is_free, is_waiting, is_reserved_for}
 use Rattle.shop_machine.specs.Content.{Content, material_at, part_at, job_at, demand_at}
-use Rattle.shop_machine.specs.Machine.{Reads, IsWork, refusal_of, first_of, material_refusal, is_other, receive_refusal, most_received, most_numbers, is_good_line, line_refusal, lines_refusal, order_refusal, plan_leaves, same_code, fits_demand, leaf_refusal, leaves_refusal, is_too_many, is_empty, plan_refusal, reserve_refusal, material_of, part_of, has_reserved, is_part_of, rests, job_refusal, end_refusal}
-use Rattle.shop_machine.specs.History.{IsIn}
-use Rattle.shop_machine.specs.Soundness.{IsWaiting, IsPlaced}
+use Rattle.shop_machine.specs.Machine.{IsWork, refusal_of, material_refusal, is_other, receive_refusal, most_received, most_numbers, is_good_line, line_refusal, lines_refusal, order_refusal, plan_leaves, same_code, fits_demand, leaf_refusal, leaves_refusal, is_too_many, is_empty, plan_refusal, reserve_refusal, material_of, part_of, has_reserved, rests, job_refusal, end_refusal}
 use Rattle.shop_machine.proofs.Puts.{some_known}
 use Rattle.shop_machine.proofs.Allowed.{le_true, eq_true, all_true, leaf_counts}
 use Rattle.shop_machine.proofs.Grown.{IsStock}

@@ -1,5 +1,5 @@
 -- What is known of a command that isn't refused.
-use Rattle.std.proofs.Common.{◌≡◌, ℕ, zero, suc, ◌+◌, ◌*◌, ◌<◌, ◌≤◌, inl, inr, List, [], ◌∷◌, length, Bool, true, false, refl, sym, ap, subst, ◌∙◌, arith}
+use Rattle.std.proofs.Common.{◌≡◌, ℕ, ◌+◌, ◌*◌, ◌≤◌, inl, inr, List, [], ◌∷◌, length, Bool, true, false, refl, sym, ap, subst, ◌∙◌, arith}
 use Rattle.std.specs.Prelude.{Option, Some, None, IsSome, is_some, nat_le, nat_lt, nat_eq, ◌==◌, ◌&&◌, ◌||◌, not, if◌then◌else◌}
 use Rattle.std.specs.List.{list_any, list_all}
 use Rattle.std.specs.Option.{option_or}
@@ -8,7 +8,7 @@ use Rattle.cut_measure.specs.declared.sizes.Kind.{Kind}
 use Rattle.cut_measure.specs.declared.sizes.Kind.TheVariants.{Bar, Sheet}
 use Rattle.cut_measure.specs.Measures.{is_size, is_rule}
 use Rattle.cut_tree.specs.declared.leaves.Leaf.{Leaf}
-use Rattle.cut_tree.specs.Tree.{Tree, count_of}
+use Rattle.cut_tree.specs.Tree.{count_of}
 use Rattle.cut_tree.specs.Patterns.{Pattern}
 use Rattle.cut_tree.proofs.LeafCounts.{counted}
 use Rattle.shop_machine.specs.declared.records.Material.{Material}
@@ -17,9 +17,9 @@ use Rattle.shop_machine.specs.declared.records.Job.{Job}
 use Rattle.shop_machine.specs.declared.records.Demand.{Demand}
 use Rattle.shop_machine.specs.declared.messages.OrderLine.{OrderLine}
 use Rattle.shop_machine.specs.declared.refusals.Refusal.{Refusal}
-use Rattle.shop_machine.specs.declared.refusals.Refusal.TheVariants.{NumberReused, NoMaterial, MaterialExists, BadMaterial, BadSize, BadCount, TooMuch, NumbersSpent, OrderExists, BadLine, NoDemand, NoPart, NotStanding, BadTree, WrongMaterial, WrongSize, TooMany, NoJob, JobOver, StoreFault}
+use Rattle.shop_machine.specs.declared.refusals.Refusal.TheVariants.{BadSize, BadCount, TooMuch, NumbersSpent, OrderExists, BadLine, NotStanding, BadTree, WrongMaterial, TooMany, JobOver, StoreFault}
 use Rattle.shop_machine.specs.Columns.{is_free, is_waiting}
-use Rattle.shop_machine.specs.Machine.{first_of, receive_refusal, order_refusal, line_refusal, lines_refusal, is_good_line, reserve_refusal, plan_refusal, leaf_refusal, leaves_refusal, is_too_many, is_over, is_empty, plan_leaves, same_code, fits_demand, job_refusal, rests, most_received, most_numbers}
+use Rattle.shop_machine.specs.Machine.{first_of, receive_refusal, order_refusal, line_refusal, lines_refusal, reserve_refusal, plan_refusal, leaf_refusal, leaves_refusal, is_too_many, is_over, is_empty, plan_leaves, same_code, job_refusal, most_received, most_numbers}
 use Rattle.shop_machine.specs.History.{IsIn}
 use Rattle.shop_machine.proofs.Puts.{counted_in, in_counted}
 

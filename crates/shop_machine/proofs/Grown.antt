@@ -1,16 +1,14 @@
 -- What stays true of parts, jobs and demands when a content grows.
-use Rattle.std.proofs.Common.{◌≡◌, ℕ, ◌+◌, ◌≤◌, ◌<◌, List, true, false, refl, sym, ap, subst, ◌∙◌, arith}
-use Rattle.std.specs.Prelude.{Option, Some, None, IsSome}
+use Rattle.std.proofs.Common.{◌≡◌, ℕ, ◌≤◌, ◌<◌, List, ◌∙◌, arith}
+use Rattle.std.specs.Prelude.{Some, None, IsSome}
 use Rattle.cut_measure.specs.Names.{Name}
-use Rattle.cut_tree.specs.Tree.{count_of}
 use Rattle.shop_machine.specs.declared.records.Material.{Material}
 use Rattle.shop_machine.specs.declared.records.Part.{Part}
 use Rattle.shop_machine.specs.declared.records.Job.{Job}
 use Rattle.shop_machine.specs.declared.records.Demand.{Demand}
-use Rattle.shop_machine.specs.Columns.{is_waiting}
 use Rattle.shop_machine.specs.Content.{Content, material_at, part_at, job_at, demand_at}
-use Rattle.shop_machine.specs.Soundness.{IsInRange, IsKnown, IsPlaced, IsWaiting, IsJob, IsDemand, IsCounted, IsSound}
-use Rattle.shop_machine.proofs.Basics.{same_some, none_at}
+use Rattle.shop_machine.specs.Soundness.{IsInRange, IsKnown, IsPlaced, IsWaiting, IsJob, IsDemand}
+use Rattle.shop_machine.proofs.Basics.{none_at}
 use Rattle.shop_machine.proofs.Puts.{some_known, is_known}
 
 -- materials and demands that were there are there

@@ -1,11 +1,11 @@
 -- Waiting jobs, and contents after their ends.
-use Rattle.std.proofs.Common.{◌≡◌, ℕ, zero, suc, ◌+◌, ◌-◌, ◌*◌, ◌≤◌, ◌<◌, ◌⊎◌, inl, inr, List, [], ◌∷◌, map, Bool, true, false, refl, sym, ap, subst, ◌∙◌, arith}
+use Rattle.std.proofs.Common.{◌≡◌, ℕ, ◌+◌, ◌-◌, ◌*◌, ◌≤◌, ◌<◌, List, [], map, Bool, true, false, refl, sym, ap, subst, ◌∙◌, arith}
 use Rattle.std.proofs.lemmas.Bool.Decides.{nat_tests}
-use Rattle.std.specs.Prelude.{◌↔◌, nat_eq, Option, Some, None, IsSome, MatchOption, ⊤, sum_by, count_by, ◌&&◌, if◌then◌else◌}
+use Rattle.std.specs.Prelude.{◌↔◌, nat_eq, Some, None, MatchOption, ⊤, sum_by, count_by, ◌&&◌, if◌then◌else◌}
 use Rattle.std.specs.declared.cmp.Ordering.TheVariants.{Less}
 use Rattle.std.specs.Ordering.{is_eq}
 use Rattle.std.specs.Cmp.{nat_cmp_total}
-use Rattle.std.specs.FinMap.{FinMap, get, insert, values, nat_cmp-IsAntisymmetric}
+use Rattle.std.specs.FinMap.{insert, values, nat_cmp-IsAntisymmetric}
 use Rattle.cut_measure.specs.Codes.{code_cmp}
 use Rattle.cut_measure.specs.Names.{Name, name_cmp}
 use Rattle.cut_measure.specs.Measures.{Rule, Extent, is_kept}
@@ -13,7 +13,6 @@ use Rattle.cut_tree.specs.declared.lay.Owner.{Owner}
 use Rattle.cut_tree.specs.declared.lay.Owner.TheVariants as owner
 use Rattle.cut_tree.specs.declared.lay.Row.{Row}
 use Rattle.cut_tree.specs.Tree.{Tree, count_of}
-use Rattle.cut_tree.specs.Patterns.{Pattern, IsPlan}
 use Rattle.cut_tree.specs.Cells.{all_made}
 use Rattle.cut_tree.specs.Laying.{IsLaid, Holds, Owns}
 use Rattle.cut_tree.specs.Counting.{is_piece_of as is_owner_of}
@@ -21,7 +20,6 @@ use Rattle.cut_tree.proofs.OneList.{laid_all}
 use Rattle.cut_tree.proofs.Counting.{add_up, count_all}
 use Rattle.shop_machine.specs.declared.records.Material.{Material}
 use Rattle.shop_machine.specs.declared.records.Part.{Part}
-use Rattle.shop_machine.specs.declared.records.State.{State}
 use Rattle.shop_machine.specs.declared.records.State.TheVariants as state
 use Rattle.shop_machine.specs.declared.records.Job.{Job}
 use Rattle.shop_machine.specs.declared.records.JobState.{JobState}
@@ -32,12 +30,12 @@ use Rattle.shop_machine.specs.declared.messages.Message.{Message}
 use Rattle.shop_machine.specs.declared.messages.Reply.TheVariants as reply
 use Rattle.shop_machine.specs.Messages.{Texts, pair_of}
 use Rattle.shop_machine.specs.Columns.{same_name, is_there, is_piece_of, is_waiting, state_of}
-use Rattle.shop_machine.specs.Content.{Content, material_at, part_at, job_at, demand_at, kept_at, changed}
+use Rattle.shop_machine.specs.Content.{Content, part_at, job_at, demand_at, kept_at, changed}
 use Rattle.shop_machine.specs.Machine.{AreRecounted, IsWork, in_state, with_made, with_freed, fate, row_part, done_reply, done_change, release_change, keeping}
 use Rattle.shop_machine.specs.History.{IsIn}
-use Rattle.shop_machine.specs.Soundness.{IsPlaced, IsWaiting, IsJob, IsCounted, JobFits, Fits, reserved_in, made_in}
+use Rattle.shop_machine.specs.Soundness.{IsPlaced, IsWaiting, IsJob, IsCounted, JobFits, Fits, reserved_in}
 use Rattle.shop_machine.proofs.Basics.{all_in, in_map, same_some, map_in}
-use Rattle.shop_machine.proofs.Puts.{Pairwise, pairs_in, pairs_more, map_pairs, in_counted, sum_map, sum_as, sum_none, not_both, is_known, sum_over}
+use Rattle.shop_machine.proofs.Puts.{pairs_in, pairs_more, map_pairs, in_counted, sum_map, sum_as, sum_none, is_known, sum_over}
 use Rattle.shop_machine.proofs.AddedUp.{cells_as, cells_left, is_uncut}
 use Rattle.shop_machine.proofs.Moved.{no_made, no_freed}
 use Rattle.shop_machine.proofs.Grown.{IsStock}

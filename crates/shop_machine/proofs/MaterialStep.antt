@@ -1,24 +1,20 @@
 -- A content after a material was added.
-use Rattle.std.proofs.Common.{◌≡◌, ℕ, ◌≤◌, inl, inr, List, [], ◌∷◌, Bool, true, false, refl, sym, ap, subst, ◌∙◌, arith}
-use Rattle.std.specs.Prelude.{Option, Some, None, All, AllPairs, IsSome, not}
+use Rattle.std.proofs.Common.{◌≡◌, ℕ, ◌≤◌, inl, inr, List, [], refl, sym, subst, arith}
+use Rattle.std.specs.Prelude.{Option, Some, None, AllPairs, not}
 use Rattle.std.specs.declared.cmp.Ordering.TheVariants.{Less}
-use Rattle.std.specs.Cmp.{IsTotalOrder}
-use Rattle.std.specs.Cmp.Lexicographic.{nat_list_cmp_total}
 use Rattle.std.proofs.lemmas.List.Elements.{All-nil}
 use Rattle.cut_measure.specs.declared.sizes.Kind.{Kind}
-use Rattle.cut_measure.specs.Codes.{code_cmp}
 use Rattle.cut_measure.specs.Names.{name_cmp}
 use Rattle.cut_measure.specs.Measures.{Rule, is_rule}
 use Rattle.shop_machine.specs.declared.records.Material.{Material}
 use Rattle.shop_machine.specs.declared.records.Part.{Part}
 use Rattle.shop_machine.specs.declared.records.Demand.{Demand}
 use Rattle.shop_machine.specs.declared.messages.Message.{Message}
-use Rattle.shop_machine.specs.declared.changes.Change.{Change}
 use Rattle.shop_machine.specs.declared.refusals.Refusal.TheVariants.{BadMaterial}
 use Rattle.shop_machine.specs.Messages.{Texts, pair_of}
 use Rattle.shop_machine.specs.Content.{Content, material_at, kept_at, changed}
 use Rattle.shop_machine.specs.Machine.{material_refusal, material_change, keeping}
-use Rattle.shop_machine.specs.Soundness.{IsKnown, IsDemand, IsCounted, IsSound, PartFits, DemandFits, Fits}
+use Rattle.shop_machine.specs.Soundness.{IsKnown, IsDemand, IsCounted, Fits}
 use Rattle.shop_machine.proofs.Basics.{codes_total, codes_same}
 use Rattle.shop_machine.proofs.Puts.{found_one, still_there}
 use Rattle.shop_machine.proofs.Allowed.{none_of, holds}

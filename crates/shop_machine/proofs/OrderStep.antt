@@ -1,11 +1,11 @@
 -- A content after an order was added.
-use Rattle.std.proofs.Common.{◌≡◌, ℕ, zero, suc, ◌+◌, ◌-◌, ◌*◌, ◌≤◌, ◌<◌, ◌⊎◌, inl, inr, List, [], ◌∷◌, length, Bool, true, false, refl, sym, ap, subst, ◌∙◌, arith}
-use Rattle.std.specs.Prelude.{Option, Some, None, All, AllPairs, IsSome, MatchOption, ⊤, sum_by, count_by, if◌then◌else◌, is_some}
+use Rattle.std.proofs.Common.{◌≡◌, ℕ, zero, suc, ◌+◌, ◌≤◌, ◌<◌, ◌⊎◌, inl, inr, List, [], ◌∷◌, length, Bool, true, false, refl, sym, ap, subst, ◌∙◌, arith}
+use Rattle.std.specs.Prelude.{Option, Some, None, IsSome, MatchOption, if◌then◌else◌}
 use Rattle.std.specs.declared.cmp.Ordering.TheVariants.{Less}
 use Rattle.std.specs.Cmp.{nat_cmp_total}
-use Rattle.std.specs.FinMap.{FinMap, get, values, nat_cmp-IsAntisymmetric}
+use Rattle.std.specs.FinMap.{nat_cmp-IsAntisymmetric}
 use Rattle.std.proofs.lemmas.List.Elements.{All-nil}
-use Rattle.cut_measure.specs.Names.{Name, name_cmp}
+use Rattle.cut_measure.specs.Names.{name_cmp}
 use Rattle.cut_tree.specs.Tree.{count_of}
 use Rattle.shop_machine.specs.declared.records.Part.{Part}
 use Rattle.shop_machine.specs.declared.records.Job.{Job}
@@ -14,10 +14,10 @@ use Rattle.shop_machine.specs.declared.messages.Message.{Message}
 use Rattle.shop_machine.specs.declared.messages.OrderLine.{OrderLine}
 use Rattle.shop_machine.specs.Messages.{Texts, pair_of}
 use Rattle.shop_machine.specs.Columns.{is_piece_of, is_waiting}
-use Rattle.shop_machine.specs.Content.{Content, material_at, part_at, job_at, has_order, demand_at, kept_at, changed, with_demands}
-use Rattle.shop_machine.specs.Machine.{new_demand, new_demands, order_change, keeping, most_numbers}
+use Rattle.shop_machine.specs.Content.{Content, material_at, has_order, demand_at, kept_at, changed}
+use Rattle.shop_machine.specs.Machine.{new_demand, new_demands, order_change, keeping}
 use Rattle.shop_machine.specs.History.{IsIn}
-use Rattle.shop_machine.specs.Soundness.{IsWaiting, IsJob, IsDemand, IsCounted, DemandFits, Fits, reserved_in, made_in}
+use Rattle.shop_machine.specs.Soundness.{IsDemand, DemandFits, Fits, reserved_in, made_in}
 use Rattle.shop_machine.proofs.Basics.{names_total, names_same, same_some, none_at, demand_cases}
 use Rattle.shop_machine.proofs.Puts.{Pairwise, all_from, pairs_from, not_both, is_known, some_known, sum_no_rows}
 use Rattle.shop_machine.proofs.Allowed.{IsOrder}

@@ -1,11 +1,11 @@
 -- A content after units were received.
-use Rattle.std.proofs.Common.{◌≡◌, ℕ, zero, suc, ◌+◌, ◌*◌, ◌≤◌, ◌<◌, inl, inr, List, [], ◌∷◌, ◌++◌, length, map, Bool, true, false, refl, sym, ap, subst, ◌∙◌, arith}
-use Rattle.std.specs.Prelude.{Option, Some, None, All, AllPairs, IsSome, MatchOption, ⊤, ◌⊎◌, sum_by, count_by, ◌&&◌, ◌==◌, not, if◌then◌else◌}
+use Rattle.std.proofs.Common.{◌≡◌, ℕ, zero, suc, ◌+◌, ◌*◌, ◌≤◌, ◌<◌, inl, inr, List, [], ◌∷◌, ◌++◌, length, Bool, true, false, refl, sym, ap, subst, ◌∙◌, arith}
+use Rattle.std.specs.Prelude.{Some, None, IsSome, MatchOption, ⊤, ◌⊎◌, sum_by, ◌&&◌, ◌==◌, if◌then◌else◌}
 use Rattle.std.specs.declared.cmp.Ordering.{Ordering}
 use Rattle.std.specs.declared.cmp.Ordering.TheVariants.{Less, Equal}
 use Rattle.std.specs.Ordering.{is_eq, nat_cmp, ordering_then}
 use Rattle.std.specs.Cmp.{nat_cmp_is}
-use Rattle.std.specs.FinMap.{FinMap, get, values}
+use Rattle.std.specs.FinMap.{values}
 use Rattle.std.proofs.lemmas.List.{length-map}
 use Rattle.std.proofs.lemmas.List.Sums.{sum_by-cons}
 use Rattle.std.proofs.lemmas.List.Elements.{All-nil}
@@ -13,22 +13,21 @@ use Rattle.cut_measure.proofs.Cells.{length-below}
 use Rattle.cut_measure.specs.Codes.{code_cmp}
 use Rattle.cut_measure.specs.Names.{Name, name_cmp}
 use Rattle.cut_measure.specs.Measures.{Extent, below}
-use Rattle.shop_machine.specs.declared.records.Material.{Material}
 use Rattle.shop_machine.specs.declared.records.Part.{Part}
 use Rattle.shop_machine.specs.declared.records.Demand.{Demand}
 use Rattle.shop_machine.specs.declared.records.Column.TheVariants.{Received}
 use Rattle.shop_machine.specs.declared.messages.Message.{Message}
 use Rattle.shop_machine.specs.Messages.{Texts, pair_of}
 use Rattle.shop_machine.specs.Columns.{same_name, is_piece_of}
-use Rattle.shop_machine.specs.Content.{Content, material_at, part_at, kept_at, changed, with_parts, cells_in, totals_in, totals_of, AddsUp}
+use Rattle.shop_machine.specs.Content.{Content, material_at, part_at, kept_at, changed, cells_in, totals_in, totals_of, AddsUp}
 use Rattle.shop_machine.specs.Machine.{in_state, unit_part, unit_parts, receive_change, keeping, most_received}
 use Rattle.shop_machine.specs.History.{IsIn}
-use Rattle.shop_machine.specs.Soundness.{IsPlaced, IsCounted, PartFits, Fits, made_in}
+use Rattle.shop_machine.specs.Soundness.{IsPlaced, PartFits, Fits, made_in}
 use Rattle.shop_machine.proofs.Basics.{in_map, in_append, codes_same, same_some, put_cases}
-use Rattle.shop_machine.proofs.Puts.{Pairwise, all_from, pairs_from, pairs_more, map_pairs, sum_as, sum_of_none, is_known, equal, put_other, not_both, sum_parts}
+use Rattle.shop_machine.proofs.Puts.{Pairwise, all_from, pairs_from, pairs_more, map_pairs, sum_as, is_known, equal, put_other, sum_parts}
 use Rattle.shop_machine.proofs.Allowed.{IsReceipt, eq_true}
 use Rattle.shop_machine.proofs.AddedUp.{cells_as, cells_left, adds_up, adds_up_so}
-use Rattle.shop_machine.proofs.Grown.{IsStock, Grows, Untouched, placed_more, job_more, none_later}
+use Rattle.shop_machine.proofs.Grown.{IsStock, Grows, placed_more, job_more, none_later}
 use Rattle.shop_machine.proofs.MaterialStep.{demand_more, no_pairs}
 
 -- ---- numbers below n

@@ -1,9 +1,9 @@
 -- A content after a part was reserved.
-use Rattle.std.proofs.Common.{◌≡◌, ℕ, zero, suc, ◌+◌, ◌-◌, ◌*◌, ◌≤◌, ◌<◌, ◌⊎◌, inl, inr, List, [], ◌∷◌, ◌++◌, Bool, true, false, refl, sym, ap, subst, ◌∙◌, arith}
-use Rattle.std.specs.Prelude.{Option, Some, None, IsSome, MatchOption, ⊤, sum_by, ◌&&◌, if◌then◌else◌}
+use Rattle.std.proofs.Common.{◌≡◌, ℕ, zero, suc, ◌+◌, ◌*◌, ◌≤◌, ◌<◌, ◌⊎◌, inl, inr, List, [], ◌∷◌, ◌++◌, true, false, refl, sym, ap, subst, ◌∙◌, arith}
+use Rattle.std.specs.Prelude.{Some, None, MatchOption, ⊤, ◌&&◌, if◌then◌else◌}
 use Rattle.std.specs.Ordering.{is_eq}
 use Rattle.std.specs.Cmp.{nat_cmp_total}
-use Rattle.std.specs.FinMap.{FinMap, get, insert, values, nat_cmp-IsAntisymmetric}
+use Rattle.std.specs.FinMap.{nat_cmp-IsAntisymmetric}
 use Rattle.cut_measure.specs.Codes.{code_cmp}
 use Rattle.cut_measure.specs.Names.{Name}
 use Rattle.cut_tree.specs.declared.token.Token.{Token}
@@ -22,10 +22,10 @@ use Rattle.shop_machine.specs.Messages.{Texts, pair_of}
 use Rattle.shop_machine.specs.Columns.{is_there, is_free, is_waiting}
 use Rattle.shop_machine.specs.Content.{Content, material_at, part_at, job_at, demand_at, kept_at, changed}
 use Rattle.shop_machine.specs.Machine.{AreRecounted, IsReading, in_state, with_reserved, reserve_change, keeping}
-use Rattle.shop_machine.specs.Soundness.{IsWaiting, IsJob, IsCounted, JobFits, Fits, reserved_in, made_in}
+use Rattle.shop_machine.specs.Soundness.{IsWaiting, IsJob, IsCounted, Fits, reserved_in, made_in}
 use Rattle.shop_machine.proofs.Basics.{names_total, names_same, same_some, none_at, get_same}
 use Rattle.shop_machine.proofs.Puts.{not_both, is_known, sum_new}
-use Rattle.shop_machine.proofs.Allowed.{IsFitting, HasRoom, narrow}
+use Rattle.shop_machine.proofs.Allowed.{IsFitting, narrow}
 use Rattle.shop_machine.proofs.AddedUp.{cells_left, is_uncut}
 use Rattle.shop_machine.proofs.Moved.{demand_there, found_moved, no_reserved}
 use Rattle.shop_machine.proofs.Grown.{IsStock, none_later}
