@@ -129,16 +129,16 @@ module _ (m : Content) (stock : IsStock m) where
       (le_true (row.y + row.size.h) 60000 old.bottom))
       ∙ all_true (λ (leaf : Leaf). has_reserved (count_of j.plan.tree leaf.demand) (demand_at m leaf.demand)) (plan_leaves j.plan)
       (λ leaf i.
-          let there = some_known (demand_at m leaf.demand) (w.demands leaf.demand (leaf_counts j.plan leaf i)) in
-          has_enough (count_of j.plan.tree leaf.demand) (demand_at m leaf.demand) there.0 there.1
-          (enough m stock number j row material work waits leaf.demand there.0 there.1)
-          (stock.demands leaf.demand there.0 there.1).counted.few)))
+      let there = some_known (demand_at m leaf.demand) (w.demands leaf.demand (leaf_counts j.plan leaf i)) in
+      has_enough (count_of j.plan.tree leaf.demand) (demand_at m leaf.demand) there.0 there.1
+      (enough m stock number j row material work waits leaf.demand there.0 there.1)
+      (stock.demands leaf.demand there.0 there.1).counted.few)))
 
   end_agrees : (number : ℕ) → NoFault (end_refusal m (job_at m number))
   end_agrees number =
       job_agrees (job_at m number) (part_of m (job_at m number)) (material_of m (part_of m (job_at m number))) (demand_at m)
       (λ j found waits.
-          subst (λ o. rests j (part_of m o) (material_of m (part_of m o)) (demand_at m) ≡ true) (sym found) (waiting_rests number j found waits))
+      subst (λ o. rests j (part_of m o) (material_of m (part_of m o)) (demand_at m) ≡ true) (sym found) (waiting_rests number j found waits))
 
   pub agrees_by : (command : Command) (read : Option Pattern) → refusal_of m command read ≢ Some StoreFault
   agrees_by (AddMaterial material kind kerf min_long min_short) read = material_agrees (material_at m material) kind _

@@ -238,8 +238,8 @@ module _ (m : Content) (stock : IsStock m) (number : ℕ) (j : Job) (part : Part
       step_stock m stock part state.Standing [] None released release_step with_freed no_freed freed_keeps j.plan.tree rows recounted texts message (reply.Release j.act)
       (job_over m stock number j part material work waits job.Released refl after_release refl)
       (λ n other is apart w.
-          untouched m stock part state.Standing [] None released release_step with_freed no_freed freed_keeps j.plan.tree rows recounted texts message (reply.Release j.act)
-          other w (not_other m stock number j part material work waits n other is apart) (λ x i e. i))
+      untouched m stock part state.Standing [] None released release_step with_freed no_freed freed_keeps j.plan.tree rows recounted texts message (reply.Release j.act)
+      other w (not_other m stock number j part material work waits n other is apart) (λ x i e. i))
       released_counts
 
   pub release_fits : kept_at m (pair_of message) ≡ None → Fits m (keeping texts message (release_change j part rows))
@@ -336,13 +336,14 @@ module _ (m : Content) (stock : IsStock m) (number : ℕ) (j : Job) (part : Part
     stands = stands m stock number j part material work waits;
     plain = λ number. refl;
     new = λ x i. let r = made_of x i in subst (λ (p : Part). part_at m p.name ≡ None) (sym r.2) ((waiting m stock number j part material work waits).none_yet r.0.node);
-    rising =
-        (λ x i. let r = made_of x i in
-        subst (λ (p : Part). name_cmp part.name p.name ≡ Less) (sym r.2)
-        (earlier_act part.name (record { act = j.act; node = r.0.node }) (older m stock number j part material work waits)),
-        map_pairs (λ (a b : Part). name_cmp a.name b.name ≡ Less) (row_part part material.limits j.act) laid
-        (pairs_more (λ (r s : Row). r.node < s.node) _ (λ r s less. earlier_node (record { act = j.act; node = r.node }) (record { act = j.act; node = s.node }) refl less) laid
-        (pairs_in (λ (r s : Row). r.node < s.node) laid is_laid.rising)));
+    rising = (
+      λ x i. let r = made_of x i in
+          subst (λ (p : Part). name_cmp part.name p.name ≡ Less) (sym r.2)
+          (earlier_act part.name (record { act = j.act; node = r.0.node }) (older m stock number j part material work waits)),
+      map_pairs (λ (a b : Part). name_cmp a.name b.name ≡ Less) (row_part part material.limits j.act) laid
+          (pairs_more (λ (r s : Row). r.node < s.node) _ (λ r s less. earlier_node (record { act = j.act; node = r.node }) (record { act = j.act; node = s.node }) refl less) laid
+          (pairs_in (λ (r s : Row). r.node < s.node) laid is_laid.rising)),
+    );
     placed = λ x i. let r = made_of x i in subst (λ (p : Part). IsPlaced m p.name p) (sym r.2) (row_placed r.0 r.1);
     named = λ x i.
         let r = made_of x i in
@@ -405,9 +406,9 @@ module _ (m : Content) (stock : IsStock m) (number : ℕ) (j : Job) (part : Part
         step_stock m stock part (state.Cut j.act) made None done done_step with_made no_made made_keeps j.plan.tree rows recounted texts message (done_reply j.act made)
         (job_over m stock number j part material work waits job.Done refl after_done refl)
         (λ n other is apart w.
-            untouched m stock part (state.Cut j.act) made None done done_step with_made no_made made_keeps j.plan.tree rows recounted texts message (done_reply j.act made)
-            other w (not_other m stock number j part material work waits n other is apart)
-            (λ x i e. other_act m stock number j part material work waits n other is apart (sym (ap (λ (p : Part). p.name.act) (made_of x i).2) ∙ e)))
+        untouched m stock part (state.Cut j.act) made None done done_step with_made no_made made_keeps j.plan.tree rows recounted texts message (done_reply j.act made)
+        other w (not_other m stock number j part material work waits n other is apart)
+        (λ x i e. other_act m stock number j part material work waits n other is apart (sym (ap (λ (p : Part). p.name.act) (made_of x i).2) ∙ e)))
         done_counts
 
     pub done_fits : kept_at m (pair_of message) ≡ None → Fits m (keeping texts message (done_change j part material.limits laid rows))

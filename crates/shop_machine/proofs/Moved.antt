@@ -109,7 +109,7 @@ module _ (m : FinMap name_cmp Part) (part : Part) (s : State) (made : List Part)
   sum_moved f =
       let over = sum_over names_total names_same f m part.name part (in_state s part) there in
       let more = sum_parts f made (insert m part.name (in_state s part)) apart
-          (λ x i. get_other names_total names_same m part.name (in_state s part) x.name (apart_of x i) ∙ new x i) in
+      (λ x i. get_other names_total names_same m part.name (in_state s part) x.name (apart_of x i) ∙ new x i) in
       omega (arith, over, more)
 
   pub received_moved : (code : List ℕ) → sum_by (cells_as Received code) made ≡ 0 → cells_in Received code (values moved) ≡ cells_in Received code (values m)

@@ -44,13 +44,14 @@ new_in order first (l ∷ lines) x (inr i) =
 
 new_apart : (order : List ℕ) (first : ℕ) (lines : List OrderLine) → Pairwise (λ (a b : Demand). a.number ≡ b.number → ⊥) (new_demands order first lines)
 new_apart order first [] = tt
-new_apart order first (l ∷ lines) =
-    (λ y i e.
-        let r = new_in order (suc first) lines y i in
-        let least = r.least in
-        let same : y.number ≡ r.number = ap (λ (d : Demand). d.number) r.is in
-        omega (arith, least, same, e),
-    new_apart order (suc first) lines)
+new_apart order first (l ∷ lines) = (
+  λ y i e.
+      let r = new_in order (suc first) lines y i in
+      let least = r.least in
+      let same : y.number ≡ r.number = ap (λ (d : Demand). d.number) r.is in
+      omega (arith, least, same, e),
+  new_apart order (suc first) lines,
+)
 
 -- 1 where it holds, and else 0: 0 is none
 none_counted : (number : ℕ) (p : Part) → (is_piece_of number p.state ≡ true → ⊥) → ◌≡◌ {A = ℕ} (if is_piece_of number p.state then 1 else 0) 0
@@ -90,15 +91,15 @@ module _ (m : Content) (stock : IsStock m) (order : List ℕ) (lines : List Orde
   none_reserved_yet number later =
       sum_no_rows nat_cmp_total nat_cmp-IsAntisymmetric (λ (job : Job). if is_waiting job.state then count_of job.plan.tree number else 0) m.jobs
       (λ k j is. none_reserved number j (λ waits some.
-          let there = some_known (demand_at m number) (((stock.jobs k j is).waits waits).demands number some) in
-          not_both (demand_at m number) there.0 (none_later number later) there.1))
+      let there = some_known (demand_at m number) (((stock.jobs k j is).waits waits).demands number some) in
+      not_both (demand_at m number) there.0 (none_later number later) there.1))
 
   none_made_yet : (number : ℕ) → m.last_demand < number → made_in number m ≡ 0
   none_made_yet number later =
       sum_no_rows names_total names_same (λ (p : Part). if is_piece_of number p.state then 1 else 0) m.parts
       (λ k p is. none_counted number p (λ piece.
-          let there = some_known (demand_at m number) ((stock.parts k p is).asked number piece) in
-          not_both (demand_at m number) there.0 (none_later number later) there.1))
+      let there = some_known (demand_at m number) ((stock.parts k p is).asked number piece) in
+      not_both (demand_at m number) there.0 (none_later number later) there.1))
 
   found_after : (number : ℕ) (d : Demand) → demand_at after number ≡ Some d → (IsNew order first lines d × (d.number ≡ number)) ⊎ (demand_at m number ≡ Some d)
   found_after number d is =

@@ -210,9 +210,10 @@ module _ (m : Content) (stock : IsStock m) (row : Part) (s : State) (made : List
     demand_wanted : (x : Demand) → IsRecount m.demands recount tree rows recounted none x.number x → IsSome (material_at m x.material) × (x.reserved + x.made ≤ x.wanted)
     demand_wanted x r =
         let c = count_of tree x.number in
-        let is : x ≡ record r.before { reserved = (recount c r.before).reserved; made = (recount c r.before).made } = r.now ∙ keeps c r.before in
-        (subst (λ (code : List ℕ). IsSome (material_at m code)) (sym (ap (λ (d : Demand). d.material) is)) (stock.demands x.number r.before r.was).known,
-        subst (λ (d : Demand). d.reserved + d.made ≤ d.wanted) (sym r.now) (counts x.number r.before r.was).few)
+        let is : x ≡ record r.before { reserved = (recount c r.before).reserved; made = (recount c r.before).made } = r.now ∙ keeps c r.before in (
+          subst (λ (code : List ℕ). IsSome (material_at m code)) (sym (ap (λ (d : Demand). d.material) is)) (stock.demands x.number r.before r.was).known,
+          subst (λ (d : Demand). d.reserved + d.made ≤ d.wanted) (sym r.now) (counts x.number r.before r.was).few,
+        )
 
     pub step_fits : kept_at m (pair_of message) ≡ None → Fits m full
     step_fits new = record {

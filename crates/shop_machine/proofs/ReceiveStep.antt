@@ -219,11 +219,11 @@ module _ (m : Content) (stock : IsStock m) (material batch : List ℕ) (w h coun
         let so_far = old.so_far in
         job_more m after grows number j
         (λ w.
-            let older = w.older in
-            record {
-              same = other_after j.part (λ e. omega (arith, older, named, so_far, e));
-              none_yet = λ node. other_after (record { act = j.act; node = node }) (λ e. omega (arith, named, so_far, e)) ∙ w.none_yet node;
-            }) old;
+        let older = w.older in
+        record {
+          same = other_after j.part (λ e. omega (arith, older, named, so_far, e));
+          none_yet = λ node. other_after (record { act = j.act; node = node }) (λ e. omega (arith, named, so_far, e)) ∙ w.none_yet node;
+        }) old;
     demands = λ number d is.
         let old = stock.demands number d is in
         demand_more m after grows (omega arith) number d old

@@ -190,8 +190,8 @@ module _ (m : Content) (stock : IsStock m) (name : Name) (text : List ℕ) (row 
       step_stock m stock row (state.Reserved act) [] (Some act) new_job step with_reserved no_reserved keeps plan.tree rows recounted texts message (reply.Reserve (cut_count plan.tree) act)
       job_after
       (λ number j is other w.
-          untouched m stock row (state.Reserved act) [] (Some act) new_job step with_reserved no_reserved keeps plan.tree rows recounted texts message (reply.Reserve (cut_count plan.tree) act)
-          j w (free_unreserved row.state j.act fitting.free) (λ x i e. i))
+      untouched m stock row (state.Reserved act) [] (Some act) new_job step with_reserved no_reserved keeps plan.tree rows recounted texts message (reply.Reserve (cut_count plan.tree) act)
+      j w (free_unreserved row.state j.act fitting.free) (λ x i e. i))
       counts
 
   pub reserve_fits : kept_at m (pair_of message) ≡ None → Fits m (keeping texts message (reserve_change row plan act rows))

@@ -82,7 +82,6 @@ module _ (m : Content) (stock : IsStock m) (number : ℕ) (j : Job) (part : Part
       let last = stock.in_range.last in
       (omega (arith, le, last), cells_few is_kerf, cells_few is_piece, cells_few is_free, cells_few is_scrap)
 
-
 made_material : (known : Option Material) (code : List ℕ) (kind : Kind) (rule : Rule) → IsTrue (is_code code) → IsMade (material_change known code kind rule).reply
 made_material None code kind rule is = is
 made_material (Some m) code kind rule is = is
