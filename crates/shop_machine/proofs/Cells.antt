@@ -185,6 +185,66 @@ module _ (m : FinMap name_cmp Part) (named : Named m) (p : Name) (row : Part) (k
   no_cell : (u : Name) (x y : ℕ) (q : Part) → q ≡ in_state (Cut job) row → Holds u x y q → ⊥
   no_cell u x y q e h = true≢false (ap (λ (v : Part). is_cut v.state) (sym e) ∙ h.whole)
 
+  abbrev spot_at : ℕ → ℕ → Spot
+  spot_at i j = spot_of tree row.size.w row.size.h rule.kerf outcome 0 0 i j
+
+  placed : (r : Row) → IsIn r rows → (i j : ℕ) → lay.Holds r i j → IsSpot r (spot_at i j) i j
+  placed r i = all_in (λ (r : Row). (i j : ℕ) → lay.Holds r i j → IsSpot r (spot_at i j) i j) rows laid.own_place r i
+
+  -- the part of a row is the owner's at the spot
+  row_owner : (r : Row) (s : Spot) (i j x y : ℕ) → IsSpot r s i j → row.x + i ≡ x → row.y + j ≡ y → IsOwner (owner_at rule job s) x y (row_part row rule job r)
+  row_owner r s i j x y place across down =
+      let mine : Extent = record { w = r.w; h = r.h } in
+      let its : Extent = record { w = s.w; h = s.h } in
+      let sizes : mine ≡ its = sizes_equal mine its (sym place.w) (sym place.h) in
+      let px : r.x + s.x ≡ i = place.x in let py : r.y + s.y ≡ j = place.y in
+      record {
+        name = ap (λ n. record { act = job; node = n }) (sym place.node);
+        state = fate_stands rule r.owner mine ∙ ap (λ v. fate rule v mine) (sym place.owner) ∙ ap (λ v. fate rule s.owner v) sizes;
+        size = sizes;
+        across = omega arith;
+        down = omega arith;
+      }
+
+  -- two rows with one cell
+  same_place : (r t : Row) → IsIn r rows → IsIn t rows → (i j : ℕ) → lay.Holds r i j → lay.Holds t i j → t ≡ r
+  same_place r t a b i j p q = one_row t r b a (sym (placed t b i j q).node ∙ (placed r a i j p).node)
+
+  here : (u : Name) (x y : ℕ) (r : Row) (i : ℕ) (j : ℕ) → lay.Holds r i j → row.x + i ≡ x → row.y + j ≡ y → Holds u x y row → Holds u x y (row_part row rule job r)
+  here u x y r i j held across down h =
+      let a : r.x ≤ i = held.left in let b : i < r.x + r.w = held.right in
+      let c : r.y ≤ j = held.top in let d : j < r.y + r.h = held.bottom in
+      record { root = h.root; whole = fate_whole rule r.owner (record { w = r.w; h = r.h }); right = omega arith; left = omega arith; below = omega arith; above = omega arith }
+
+  moved : (t : Row) (i j x y : ℕ) → row.x + i ≡ x → row.y + j ≡ y → lay.Holds t (x - row.x) (y - row.y) → lay.Holds t i j
+  moved t i j x y across down held =
+      let ex : x - row.x ≡ i = omega arith in let ey : y - row.y ≡ j = omega arith in
+      subst (λ b. lay.Holds t i b) ey (subst (λ a. lay.Holds t a (y - row.y)) ex held)
+
+  -- a cell of the part that is cut belongs to the row that has it
+  in_new : (w : Owner) (after : Option Owner) (u : Name) (x y : ℕ) (r : Row) → IsIn r rows → lay.Holds r w.x w.y → row.x + w.x ≡ x → row.y + w.y ≡ y → Holds u x y row
+      → after ≡ Some (owner_at rule job (spot_at w.x w.y)) → ((n : Name) (q : Part) → get m n ≡ Some q → Holds u x y q → n ≡ p) → HasOwner after_cuts after u x y
+  in_new w after u x y r i held across down h owned only = record {
+    part = row_part row rule job r;
+    owner = owner_at rule job (spot_at w.x w.y);
+    kept = found_new r i;
+    holds = here u x y r w.x w.y held across down h;
+    owned = owned;
+    same = row_owner r (spot_at w.x w.y) w.x w.y x y (placed r i w.x w.y held) across down;
+    alone = λ n q k g. elim (found_cases n q k) [
+      | inl f ↦ f.2 ∙ ap (row_part row rule job) (same_place r f.0 i f.1 w.x w.y held (moved f.0 w.x w.y x y across down (was_in u x y f.0 f.1 (subst (Holds u x y) f.2 g)).0))
+      | inr f ↦ elim f [
+        | inl c ↦ absurd (no_cell u x y q c.1 g)
+        | inr c ↦ absurd (c.0 (only n q c.1 g))
+      ]
+    ];
+  }
+
+  held_row : (u : Name) (x y i j : ℕ) → row.x + i ≡ x → row.y + j ≡ y → Holds u x y row → (r : Row) × IsIn r rows × lay.Holds r i j
+  held_row u x y i j across down h =
+      let right : x < row.x + row.size.w = h.left in let bottom : y < row.y + row.size.h = h.above in
+      any_in (λ (r : Row). lay.Holds r i j) rows (laid.each_cell i j (omega arith) (omega arith))
+
   pub cut_up : (found after : Option Owner) (u : Name) (x y : ℕ)
       → ((w : Owner) → row.root ≡ u → found ≡ Some w → w.name ≡ p → w.state ≡ Standing
       → after ≡ Some (owner_at rule job (spot_of tree w.size.w w.size.h rule.kerf outcome 0 0 w.x w.y)))
@@ -195,51 +255,12 @@ module _ (m : FinMap name_cmp Part) (named : Named m) (p : Name) (row : Part) (k
         | inl e ↦ (
             let is : o.part ≡ row = same_some o.part row (sym o.kept ∙ ap (get m) e.0 ∙ kept) in
             let h : Holds u x y row = subst (Holds u x y) is o.holds in
-            let w : Owner = o.owner in
-            let ws : IsOwner w x y row = subst (IsOwner w x y) is o.same in
-            let across : row.x + w.x ≡ x = ws.across in let down : row.y + w.y ≡ y = ws.down in
-            let right : x < row.x + row.size.w = h.left in let bottom : y < row.y + row.size.h = h.above in
-            let s : Spot = spot_of tree row.size.w row.size.h rule.kerf outcome 0 0 w.x w.y in
-            let spots : spot_of tree w.size.w w.size.h rule.kerf outcome 0 0 w.x w.y ≡ s =
-            ap (λ (e : Extent). spot_of tree e.w e.h rule.kerf outcome 0 0 w.x w.y) (sym ws.size) in
-            let held = any_in (λ (r : Row). lay.Holds r w.x w.y) rows (laid.each_cell w.x w.y (omega arith) (omega arith)) in
-            let r : Row = held.0 in
-            let in_row : lay.Holds r w.x w.y = held.2 in
-            let places = all_in (λ (r : Row). (i j : ℕ) → lay.Holds r i j → IsSpot r (spot_of tree row.size.w row.size.h rule.kerf outcome 0 0 i j) i j) rows laid.own_place in
-            let place : IsSpot r s w.x w.y = places r held.1 w.x w.y in_row in
-            let left' : r.x ≤ w.x = in_row.left in let right' : w.x < r.x + r.w = in_row.right in
-            let top' : r.y ≤ w.y = in_row.top in let bottom' : w.y < r.y + r.h = in_row.bottom in
-            let px : r.x + s.x ≡ w.x = place.x in let py : r.y + s.y ≡ w.y = place.y in
-            let mine : Extent = record { w = r.w; h = r.h } in
-            let its : Extent = record { w = s.w; h = s.h } in
-            let sizes : mine ≡ its = sizes_equal mine its (sym place.w) (sym place.h) in
-            record {
-              part = row_part row rule job r;
-              owner = owner_at rule job s;
-              kept = found_new r held.1;
-              holds = record { root = h.root; whole = fate_whole rule r.owner mine; right = omega arith; left = omega arith; below = omega arith; above = omega arith };
-              owned = there w h.root o.owned (sym ws.name ∙ named p row kept) (sym ws.state ∙ stands) ∙ ap (λ (t : Spot). Some (owner_at rule job t)) spots;
-              same = record {
-                name = ap (λ n. record { act = job; node = n }) (sym place.node);
-                state = fate_stands rule r.owner mine ∙ ap (λ v. fate rule v mine) (sym place.owner) ∙ ap (λ v. fate rule s.owner v) sizes;
-                size = sizes;
-                across = omega arith;
-                down = omega arith;
-              };
-              alone = λ n q k g. elim (found_cases n q k) [
-                | inl f ↦ (
-                    let t : Row = f.0 in
-                    let held' : lay.Holds t (x - row.x) (y - row.y) = (was_in u x y t f.1 (subst (Holds u x y) f.2 g)).0 in
-                    let ex : x - row.x ≡ w.x = omega arith in let ey : y - row.y ≡ w.y = omega arith in
-                    let held'' : lay.Holds t w.x w.y = subst (λ b. lay.Holds t w.x b) ey (subst (λ a. lay.Holds t a (y - row.y)) ex held') in
-                    let place' : IsSpot t s w.x w.y = places t f.1 w.x w.y held'' in
-                    f.2 ∙ ap (row_part row rule job) (one_row t r f.1 held.1 (sym place'.node ∙ place.node)))
-                | inr f ↦ elim f [
-                  | inl c ↦ absurd (no_cell u x y q c.1 g)
-                  | inr c ↦ absurd (c.0 (sym (named n q c.1) ∙ ap (λ (v : Part). v.name) (o.alone n q c.1 g) ∙ e.0))
-                ]
-              ];
-            })
+            let ws : IsOwner o.owner x y row = subst (IsOwner o.owner x y) is o.same in
+            let row' = held_row u x y o.owner.x o.owner.y ws.across ws.down h in
+            in_new o.owner after u x y row'.0 row'.1 row'.2 ws.across ws.down h
+            (there o.owner h.root o.owned (sym ws.name ∙ named p row kept) (sym ws.state ∙ stands)
+            ∙ ap (λ (e : Extent). Some (owner_at rule job (spot_of tree e.w e.h rule.kerf outcome 0 0 o.owner.x o.owner.y))) (sym ws.size))
+            (λ n q k g. sym (named n q k) ∙ ap (λ (v : Part). v.name) (o.alone n q k g) ∙ e.0))
         | inr e ↦ record {
           part = o.part;
           owner = o.owner;

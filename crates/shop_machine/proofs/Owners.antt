@@ -1,13 +1,15 @@
--- The account of a history, where each content that a history gives is sound.
+-- The account of a history.
 use Rattle.std.proofs.Common.{List}
 use Rattle.shop_machine.specs.Messages.{Texts}
 use Rattle.shop_machine.specs.Content.{Content}
 use Rattle.shop_machine.specs.Soundness.{IsSound}
 use Rattle.shop_machine.specs.History.{Entry, Gives, IsAccountOf}
+use Rattle.shop_machine.proofs.Sound.{gives_sound}
 use Rattle.shop_machine.proofs.Accounts.{Follows}
 use Rattle.shop_machine.proofs.Given.{follows}
 use Rattle.shop_machine.proofs.CellCounts.{totals_counted}
 
+-- where each content that a history gives is sound
 pub account_from : ((texts : Texts) (history : List Entry) (content : Content) → Gives texts history content → IsSound texts content)
     → (texts : Texts) (history : List Entry) (content : Content) → Gives texts history content → IsAccountOf texts history content
 account_from sound texts history content given =
@@ -20,3 +22,7 @@ account_from sound texts history content given =
       adds_up = is.in_range.adds_up;
       demands = λ number demand found. (is.demands number demand found).counted;
     }
+
+-- the account of any history
+pub account_of : (texts : Texts) (history : List Entry) (content : Content) → Gives texts history content → IsAccountOf texts history content
+account_of = account_from gives_sound
