@@ -46,7 +46,7 @@ module _ (old new : Content) (grows : Grows old new) where
     pub same : part_at new job.part ≡ part_at old job.part
     pub none_yet : (node : ℕ) → part_at new (record { act = job.act; node = node }) ≡ None
 
-  pub waiting_more : (job : Job) → Untouched job → IsWaiting old job → IsWaiting new job
+  waiting_more : (job : Job) → Untouched job → IsWaiting old job → IsWaiting new job
   waiting_more job u w = record {
     row = w.row;
     found = u.same ∙ w.found;

@@ -107,13 +107,13 @@ module _ (tree : Tree) (w h kerf : ℕ) (laid : List Row) (is_laid : IsLaid tree
 -- ---- a waiting job
 
 module _ (m : Content) (stock : IsStock m) (number : ℕ) (j : Job) (part : Part) (material : Material) (work : IsWork m number j part material) (waits : is_waiting j.state ≡ true) where
-  pub is_job : IsJob m number j
+  is_job : IsJob m number j
   is_job = stock.jobs number j work.found
 
   pub waiting : IsWaiting m j
   waiting = is_job.waits waits
 
-  pub same_part : waiting.row ≡ part
+  same_part : waiting.row ≡ part
   same_part = same_some waiting.row part (sym waiting.found ∙ work.on)
 
   pub reserved : part.state ≡ state.Reserved j.act
@@ -137,7 +137,7 @@ module _ (m : Content) (stock : IsStock m) (number : ℕ) (j : Job) (part : Part
   pub so_far : j.act ≤ m.last_act
   so_far = let named = is_job.numbered in let le = is_job.so_far in omega (arith, named, le)
 
-  pub job_here : job_at m j.act ≡ Some j
+  job_here : job_at m j.act ≡ Some j
   job_here = ap (λ n. job_at m n) is_job.numbered ∙ work.found
 
   pub width : j.plan.w ≡ part.size.w
@@ -147,15 +147,15 @@ module _ (m : Content) (stock : IsStock m) (number : ℕ) (j : Job) (part : Part
   height = waiting.height ∙ ap (λ (p : Part). p.size.h) same_part
 
   -- another job's part is another one
-  pub not_other : (n : ℕ) (other : Job) → job_at m n ≡ Some other → (n ≡ j.act → ⊥) → part.state ≡ state.Reserved other.act → ⊥
+  not_other : (n : ℕ) (other : Job) → job_at m n ≡ Some other → (n ≡ j.act → ⊥) → part.state ≡ state.Reserved other.act → ⊥
   not_other n other is apart e =
       apart (sym (stock.jobs n other is).numbered ∙ ap state_of (sym e ∙ reserved))
 
-  pub other_act : (n : ℕ) (other : Job) → job_at m n ≡ Some other → (n ≡ j.act → ⊥) → j.act ≡ other.act → ⊥
+  other_act : (n : ℕ) (other : Job) → job_at m n ≡ Some other → (n ≡ j.act → ⊥) → j.act ≡ other.act → ⊥
   other_act n other is apart e = apart (sym (stock.jobs n other is).numbered ∙ sym e)
 
   module _ (over : JobState) (no_wait : is_waiting over ≡ false) where
-    abbrev pub ended : Job
+    abbrev ended : Job
     ended = record j { state = over }
 
     pub job_fits : JobFits m ended
@@ -165,7 +165,7 @@ module _ (m : Content) (stock : IsStock m) (number : ℕ) (j : Job) (part : Part
     }
 
     -- the pieces of the job are no longer reserved
-    pub reserved_less : (d : ℕ)
+    reserved_less : (d : ℕ)
         → sum_by (λ (job : Job). if is_waiting job.state then count_of job.plan.tree d else 0) (values (insert m.jobs j.act ended)) + count_of j.plan.tree d ≡ reserved_in d m
     reserved_less d =
         let over = sum_over nat_cmp_total nat_cmp-IsAntisymmetric (λ (job : Job). if is_waiting job.state then count_of job.plan.tree d else 0) m.jobs j.act j ended job_here in
@@ -173,7 +173,7 @@ module _ (m : Content) (stock : IsStock m) (number : ℕ) (j : Job) (part : Part
         let later : ◌≡◌ {A = ℕ} (if is_waiting ended.state then count_of j.plan.tree d else 0) 0 = ap {B = ℕ} (λ b. if b then count_of j.plan.tree d else 0) no_wait in
         omega (arith, over, before, later)
 
-    pub job_over : (after : Content) → after.last_act ≡ m.last_act → IsJob after j.act ended
+    job_over : (after : Content) → after.last_act ≡ m.last_act → IsJob after j.act ended
     job_over after same =
         let least = is_job.least in
         let named = is_job.numbered in
@@ -254,7 +254,7 @@ module _ (m : Content) (stock : IsStock m) (number : ℕ) (j : Job) (part : Part
   abbrev pub made : List Part
   made = map (row_part part material.limits j.act) laid
 
-  pub made_of : (x : Part) → IsIn x made → (r : Row) × IsIn r laid × (x ≡ row_part part material.limits j.act r)
+  made_of : (x : Part) → IsIn x made → (r : Row) × IsIn r laid × (x ≡ row_part part material.limits j.act r)
   made_of x i = in_map (row_part part material.limits j.act) laid x i
 
   pub all_cells : sum_by (λ (r : Row). r.w * r.h) laid ≡ part.size.w * part.size.h
@@ -262,7 +262,7 @@ module _ (m : Content) (stock : IsStock m) (number : ℕ) (j : Job) (part : Part
       add_up j.plan.tree j.plan.w j.plan.h j.plan.kerf all_made laid is_laid (λ n o a b. true) ∙ count_all j.plan.w j.plan.h
       ∙ ap (λ n. n * j.plan.h) (width m stock number j part material work waits) ∙ ap (λ n. part.size.w * n) (height m stock number j part material work waits)
 
-  pub pieces_made : (d : ℕ) → count_by (λ (p : Part). is_piece_of d p.state) made ≡ count_of j.plan.tree d
+  pieces_made : (d : ℕ) → count_by (λ (p : Part). is_piece_of d p.state) made ≡ count_of j.plan.tree d
   pieces_made d =
       let plan = (is_job m stock number j part material work waits).plan in
       sum_map (λ (p : Part). if is_piece_of d p.state then 1 else 0) (row_part part material.limits j.act) laid

@@ -53,7 +53,7 @@ new_apart order first (l ∷ lines) = (
   new_apart order (suc first) lines,
 )
 
--- 1 where it holds, and else 0: 0 is none
+-- what isn't a piece of a demand counts as none
 none_counted : (number : ℕ) (p : Part) → (is_piece_of number p.state ≡ true → ⊥) → ◌≡◌ {A = ℕ} (if is_piece_of number p.state then 1 else 0) 0
 none_counted number p h = by (is_piece_of number p.state) refl
   where

@@ -27,7 +27,7 @@ use Rattle.shop_machine.proofs.AddedUp.{cells_as, cells_left, is_uncut}
 use Rattle.shop_machine.proofs.Moved.{IsRecount, row_recount, recount_of, demand_there, found_moved, other_moved, received_moved, adds_up_moved, made_moved}
 use Rattle.shop_machine.proofs.Grown.{IsStock, Grows, Untouched, placed_more, job_more}
 
-pub standing_no_piece : (s : State) → is_there s ≡ true → (number : ℕ) → is_piece_of number s ≡ false
+standing_no_piece : (s : State) → is_there s ≡ true → (number : ℕ) → is_piece_of number s ≡ false
 standing_no_piece state.Standing e number = refl
 standing_no_piece (state.Reserved job) e number = refl
 standing_no_piece (state.Cut job) e number = cc
@@ -43,7 +43,7 @@ standing_uncut (state.Piece demand) e = refl
 standing_uncut state.Kerf e = refl
 standing_uncut state.Scrap e = refl
 
-pub less_apart : (a b : Name) → name_cmp a b ≡ Less → a ≡ b → ⊥
+less_apart : (a b : Name) → name_cmp a b ≡ Less → a ≡ b → ⊥
 less_apart a b less e =
     let equal : name_cmp a b ≡ Equal = ap (λ n. name_cmp a n) (sym e) ∙ tied_itself names_total a in
     let same : Less ≡ Equal = sym less ∙ equal in cc
@@ -70,7 +70,7 @@ module _ (m : Content) (stock : IsStock m) (row : Part) (s : State) (made : List
     (recount : ℕ → Demand → Demand) (none : (d : Demand) → recount 0 d ≡ d)
     (keeps : (n : ℕ) (d : Demand) → recount n d ≡ record d { reserved = (recount n d).reserved; made = (recount n d).made })
     (tree : Tree) (rows : List Demand) (recounted : AreRecounted (demand_at m) recount tree rows) (texts : Texts) (message : Message) (answer : Reply) where
-  abbrev pub step_change : Change
+  abbrev step_change : Change
   step_change = record {
     material = None;
     parts = in_state s row ∷ made;

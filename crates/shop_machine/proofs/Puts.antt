@@ -59,14 +59,14 @@ sum_as f g (x ∷ xs) h =
     let here = h x (inl refl) in
     omega (arith, sum_by-cons f x xs, sum_by-cons g x xs, here, sum_as f g xs (λ y i. h y (inr i)))
 
-pub sum_of_none : {X : Type 0} (xs : List X) → sum_by (λ x. 0) xs ≡ 0
+sum_of_none : {X : Type 0} (xs : List X) → sum_by (λ x. 0) xs ≡ 0
 sum_of_none [] = refl
 sum_of_none (x ∷ xs) = omega (arith, sum_by-cons (λ x. 0) x xs, sum_of_none xs)
 
 pub sum_none : {X : Type 0} (f : X → ℕ) (xs : List X) → ((x : X) → IsIn x xs → f x ≡ 0) → sum_by f xs ≡ 0
 sum_none f xs h = sum_as f (λ x. 0) xs h ∙ sum_of_none xs
 
-pub in_sum : {X : Type 0} (f : X → ℕ) (xs : List X) (x : X) → IsIn x xs → f x ≤ sum_by f xs
+in_sum : {X : Type 0} (f : X → ℕ) (xs : List X) (x : X) → IsIn x xs → f x ≤ sum_by f xs
 in_sum f [] x i = absurd i
 in_sum f (y ∷ ys) x (inl e) = let same : f x ≡ f y = ap f e in omega (arith, sum_by-cons f y ys, same)
 in_sum f (y ∷ ys) x (inr i) = let more = in_sum f ys x i in omega (arith, sum_by-cons f y ys, more)
@@ -137,13 +137,6 @@ module _ {K X : Type 0} {R : K → K → Ordering} (o : IsTotalOrder R) (exact :
       by false e =
           inr (λ same. absurd (true≢false (sym (tied o exact q k same) ∙ e)), sym (ap (λ b. cond b (Some v) (get m q)) e) ∙ sym (get-insert o m k v q) ∙ is)
 
-  pub some_more : (m : FinMap R X) (k : K) (v : X) (q : K) → IsSome (get m q) → IsSome (get (insert m k v) q)
-  some_more m k v q h = ap is_some (get-insert o m k v q) ∙ by (eq_by_cmp R q k)
-    where
-      by : (b : Bool) → is_some (cond b (Some v) (get m q)) ≡ true
-      by true = refl
-      by false = h
-
   find_first : (e : K × X) (es : List (K × X)) → find R e.0 (e ∷ es) ≡ Some e.1
   find_first e es = ap (λ r. cond (is_eq r) (Some e.1) (find R e.0 es)) (tied_itself o e.0)
 
@@ -156,14 +149,14 @@ module _ {K X : Type 0} {R : K → K → Ordering} (o : IsTotalOrder R) (exact :
   sum_entries f [] s h = refl
   sum_entries f (e ∷ es) s h =
       let here : f e.1 ≡ 0 = h e.0 e.1 (find_first e es) in
-      let sorted : T (is_sorted R es) = second _ _ s in
+      let sorted : T (is_sorted R es) = second (below_all R e.0 es) (is_sorted R es) s in
       let rest : sum_by f (map (λ e. e.1) es) ≡ 0 = sum_entries f es sorted (λ k v is. h k v (later k v is (R k e.0) refl)) in
       omega (arith, sum_by-cons f e.1 (map (λ e. e.1) es), here, rest)
     where
       later : (k : K) (v : X) → find R k es ≡ Some v → (r : Ordering) → R k e.0 ≡ r → find R k (e ∷ es) ≡ Some v
       later k v is Less p = ap (λ r. cond (is_eq r) (Some e.1) (find R k es)) p ∙ is
       later k v is Equal p =
-          absurd (not_both (find R k es) v (subst (λ q. find R q es ≡ None) (sym (exact k e.0 p)) (none_after e.0 es (first _ _ s))) is)
+          absurd (not_both (find R k es) v (subst (λ q. find R q es ≡ None) (sym (exact k e.0 p)) (none_after e.0 es (first (below_all R e.0 es) (is_sorted R es) s))) is)
       later k v is Greater p = ap (λ r. cond (is_eq r) (Some e.1) (find R k es)) p ∙ is
 
   -- where f is 0 of each row, the sum is 0
@@ -178,13 +171,9 @@ module _ {K X : Type 0} {R : K → K → Ordering} (o : IsTotalOrder R) (exact :
   sum_new f m k v is =
       let none : of_found f (get m k) ≡ 0 = ap (of_found f) is in omega (arith, none, sum-insert o f m k v)
 
-  -- a row's number is at most the sum
-  pub row_in_sum : (f : X → ℕ) (m : FinMap R X) (k : K) (v : X) (zero_at : X) → f zero_at ≡ 0 → get m k ≡ Some v → f v ≤ sum_by f (values m)
-  row_in_sum f m k v zero_at none is = let over = sum_over f m k v zero_at is in omega (arith, over, none)
-
   module _ (key : X → K) where
     -- the sum after new rows were put
-    pub sum_rows : (f : X → ℕ) (xs : List X) (m : FinMap R X) → Pairwise (λ x y. key x ≡ key y → ⊥) xs → ((x : X) → IsIn x xs → get m (key x) ≡ None)
+    sum_rows : (f : X → ℕ) (xs : List X) (m : FinMap R X) → Pairwise (λ x y. key x ≡ key y → ⊥) xs → ((x : X) → IsIn x xs → get m (key x) ≡ None)
         → sum_by f (values (with_rows key xs m)) ≡ sum_by f (values m) + sum_by f xs
     sum_rows f [] m d new = omega arith
     sum_rows f (x ∷ xs) m d new =

@@ -57,7 +57,7 @@ below_rises (suc n) = append_pairs (λ (a b : ℕ). a < b) (below n) n (below_ri
 
 -- ---- names
 
-pub same_self : (name : Name) → same_name name name ≡ true
+same_self : (name : Name) → same_name name name ≡ true
 same_self name = ap (λ b. b && (name.node == name.node)) (eq_true name.act name.act refl) ∙ eq_true name.node name.node refl
 
 pub earlier_act : (a b : Name) → a.act < b.act → name_cmp a b ≡ Less

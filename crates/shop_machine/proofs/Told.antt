@@ -76,7 +76,7 @@ module _ (m : Content) (stock : IsStock m) (number : ℕ) (j : Job) (part : Part
       by true n = omega arith
       by false n = omega arith
 
-  pub done_told : IsMade (done_reply j.act parts)
+  done_told : IsMade (done_reply j.act parts)
   done_told =
       let le = so_far m stock number j part material work waits in
       let last = stock.in_range.last in
