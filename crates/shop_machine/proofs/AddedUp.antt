@@ -1,5 +1,5 @@
 -- Totals of parts as sums: what was received, and what became of it.
-use Rattle.std.proofs.Common.{◌≡◌, ℕ, ◌+◌, ◌*◌, ◌≤◌, ◌<◌, List, [], ◌∷◌, Bool, true, false, refl, sym, ap, subst, ◌∙◌, arith}
+use Rattle.std.proofs.Common.{◌≡◌, ℕ, ◌+◌, ◌*◌, List, [], ◌∷◌, Bool, true, false, refl, sym, ◌∙◌, arith}
 use Rattle.std.specs.Prelude.{sum_by, ◌&&◌, not, if◌then◌else◌}
 use Rattle.std.specs.Ordering.{is_eq}
 use Rattle.std.proofs.lemmas.List.Sums.{sum_by-cons}
@@ -9,7 +9,7 @@ use Rattle.shop_machine.specs.declared.records.State.{State}
 use Rattle.shop_machine.specs.declared.records.State.TheVariants as state
 use Rattle.shop_machine.specs.declared.records.Column.{Column}
 use Rattle.shop_machine.specs.declared.records.Column.TheVariants.{Received, Stock, Rack, Pieces, Kerf, Scrap}
-use Rattle.shop_machine.specs.Columns.{is_whole, is_counted, is_there, is_piece, is_kerf, is_scrap}
+use Rattle.shop_machine.specs.Columns.{is_whole, is_there, is_piece, is_kerf, is_scrap}
 use Rattle.shop_machine.specs.Content.{counts_for, cells_in, totals_in, AddsUp}
 
 abbrev pub cells_as : Column → List ℕ → Part → ℕ

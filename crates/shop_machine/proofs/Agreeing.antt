@@ -1,5 +1,5 @@
 -- Rows of a sound content never contradict each other.
-use Rattle.std.proofs.Common.{◌≡◌, ◌≢◌, ℕ, ◌+◌, ◌*◌, ◌≤◌, ◌<◌, inl, inr, List, [], ◌∷◌, length, Bool, true, false, refl, sym, ap, subst, ◌∙◌, arith}
+use Rattle.std.proofs.Common.{◌≡◌, ◌≢◌, ℕ, ◌+◌, ◌*◌, ◌≤◌, List, [], ◌∷◌, length, Bool, true, false, refl, sym, ap, subst, ◌∙◌}
 use Rattle.std.specs.Prelude.{Option, Some, None, IsSome, is_some, nat_le, nat_lt, ◌&&◌, ◌==◌, not, if◌then◌else◌}
 use Rattle.std.specs.List.{list_all}
 use Rattle.std.specs.Option.{option_or}
@@ -19,9 +19,7 @@ use Rattle.shop_machine.specs.declared.refusals.Refusal.{Refusal}
 use Rattle.shop_machine.specs.declared.refusals.Refusal.TheVariants.{JobOver, StoreFault}
 use Rattle.shop_machine.specs.Columns.{is_free, is_waiting, is_reserved_for}
 use Rattle.shop_machine.specs.Content.{Content, material_at, part_at, job_at, demand_at}
-use Rattle.shop_machine.specs.Machine.{Reads, IsWork, refusal_of, first_of, material_refusal, is_other, receive_refusal, most_received, most_numbers, is_good_line, line_refusal, lines_refusal, order_refusal, plan_leaves, same_code, fits_demand, leaf_refusal, leaves_refusal, is_too_many, is_empty, plan_refusal, reserve_refusal, material_of, part_of, has_reserved, is_part_of, rests, job_refusal, end_refusal}
-use Rattle.shop_machine.specs.History.{IsIn}
-use Rattle.shop_machine.specs.Soundness.{IsWaiting, IsPlaced}
+use Rattle.shop_machine.specs.Machine.{IsWork, refusal_of, material_refusal, is_other, receive_refusal, most_received, most_numbers, is_good_line, line_refusal, lines_refusal, order_refusal, plan_leaves, same_code, fits_demand, leaf_refusal, leaves_refusal, is_too_many, is_empty, plan_refusal, reserve_refusal, material_of, part_of, has_reserved, rests, job_refusal, end_refusal}
 use Rattle.shop_machine.proofs.Puts.{some_known}
 use Rattle.shop_machine.proofs.Allowed.{le_true, eq_true, all_true, leaf_counts}
 use Rattle.shop_machine.proofs.Grown.{IsStock}
@@ -131,16 +129,16 @@ module _ (m : Content) (stock : IsStock m) where
       (le_true (row.y + row.size.h) 60000 old.bottom))
       ∙ all_true (λ (leaf : Leaf). has_reserved (count_of j.plan.tree leaf.demand) (demand_at m leaf.demand)) (plan_leaves j.plan)
       (λ leaf i.
-          let there = some_known (demand_at m leaf.demand) (w.demands leaf.demand (leaf_counts j.plan leaf i)) in
-          has_enough (count_of j.plan.tree leaf.demand) (demand_at m leaf.demand) there.0 there.1
-          (enough m stock number j row material work waits leaf.demand there.0 there.1)
-          (stock.demands leaf.demand there.0 there.1).counted.few)))
+      let there = some_known (demand_at m leaf.demand) (w.demands leaf.demand (leaf_counts j.plan leaf i)) in
+      has_enough (count_of j.plan.tree leaf.demand) (demand_at m leaf.demand) there.0 there.1
+      (enough m stock number j row material work waits leaf.demand there.0 there.1)
+      (stock.demands leaf.demand there.0 there.1).counted.few)))
 
   end_agrees : (number : ℕ) → NoFault (end_refusal m (job_at m number))
   end_agrees number =
       job_agrees (job_at m number) (part_of m (job_at m number)) (material_of m (part_of m (job_at m number))) (demand_at m)
       (λ j found waits.
-          subst (λ o. rests j (part_of m o) (material_of m (part_of m o)) (demand_at m) ≡ true) (sym found) (waiting_rests number j found waits))
+      subst (λ o. rests j (part_of m o) (material_of m (part_of m o)) (demand_at m) ≡ true) (sym found) (waiting_rests number j found waits))
 
   pub agrees_by : (command : Command) (read : Option Pattern) → refusal_of m command read ≢ Some StoreFault
   agrees_by (AddMaterial material kind kerf min_long min_short) read = material_agrees (material_at m material) kind _

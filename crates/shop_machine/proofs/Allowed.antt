@@ -1,5 +1,5 @@
 -- What is known of a command that isn't refused.
-use Rattle.std.proofs.Common.{◌≡◌, ℕ, zero, suc, ◌+◌, ◌*◌, ◌<◌, ◌≤◌, inl, inr, List, [], ◌∷◌, length, Bool, true, false, refl, sym, ap, subst, ◌∙◌, arith}
+use Rattle.std.proofs.Common.{◌≡◌, ℕ, ◌+◌, ◌*◌, ◌≤◌, inl, inr, List, [], ◌∷◌, length, Bool, true, false, refl, sym, ap, subst, ◌∙◌, arith}
 use Rattle.std.specs.Prelude.{Option, Some, None, IsSome, is_some, nat_le, nat_lt, nat_eq, ◌==◌, ◌&&◌, ◌||◌, not, if◌then◌else◌}
 use Rattle.std.specs.List.{list_any, list_all}
 use Rattle.std.specs.Option.{option_or}
@@ -8,7 +8,7 @@ use Rattle.cut_measure.specs.declared.sizes.Kind.{Kind}
 use Rattle.cut_measure.specs.declared.sizes.Kind.TheVariants.{Bar, Sheet}
 use Rattle.cut_measure.specs.Measures.{is_size, is_rule}
 use Rattle.cut_tree.specs.declared.leaves.Leaf.{Leaf}
-use Rattle.cut_tree.specs.Tree.{Tree, count_of}
+use Rattle.cut_tree.specs.Tree.{count_of}
 use Rattle.cut_tree.specs.Patterns.{Pattern}
 use Rattle.cut_tree.proofs.LeafCounts.{counted}
 use Rattle.shop_machine.specs.declared.records.Material.{Material}
@@ -17,9 +17,9 @@ use Rattle.shop_machine.specs.declared.records.Job.{Job}
 use Rattle.shop_machine.specs.declared.records.Demand.{Demand}
 use Rattle.shop_machine.specs.declared.messages.OrderLine.{OrderLine}
 use Rattle.shop_machine.specs.declared.refusals.Refusal.{Refusal}
-use Rattle.shop_machine.specs.declared.refusals.Refusal.TheVariants.{NumberReused, NoMaterial, MaterialExists, BadMaterial, BadSize, BadCount, TooMuch, NumbersSpent, OrderExists, BadLine, NoDemand, NoPart, NotStanding, BadTree, WrongMaterial, WrongSize, TooMany, NoJob, JobOver, StoreFault}
+use Rattle.shop_machine.specs.declared.refusals.Refusal.TheVariants.{BadSize, BadCount, TooMuch, NumbersSpent, OrderExists, BadLine, NotStanding, BadTree, WrongMaterial, TooMany, JobOver, StoreFault}
 use Rattle.shop_machine.specs.Columns.{is_free, is_waiting}
-use Rattle.shop_machine.specs.Machine.{first_of, receive_refusal, order_refusal, line_refusal, lines_refusal, is_good_line, reserve_refusal, plan_refusal, leaf_refusal, leaves_refusal, is_too_many, is_over, is_empty, plan_leaves, same_code, fits_demand, job_refusal, rests, most_received, most_numbers}
+use Rattle.shop_machine.specs.Machine.{first_of, receive_refusal, order_refusal, line_refusal, lines_refusal, reserve_refusal, plan_refusal, leaf_refusal, leaves_refusal, is_too_many, is_over, is_empty, plan_leaves, same_code, job_refusal, most_received, most_numbers}
 use Rattle.shop_machine.specs.History.{IsIn}
 use Rattle.shop_machine.proofs.Puts.{counted_in, in_counted}
 
@@ -29,7 +29,7 @@ pub none_of : (b : Bool) (r : Refusal) (o : Option Refusal) → (if b then Some 
 none_of true r o e = cc
 none_of false r o e = (refl, e)
 
-pub or_none : {X : Type 0} (o p : Option X) → option_or o p ≡ None → (o ≡ None) × (p ≡ None)
+or_none : {X : Type 0} (o p : Option X) → option_or o p ≡ None → (o ≡ None) × (p ≡ None)
 or_none None p e = (refl, e)
 or_none (Some x) p e = cc
 
@@ -41,16 +41,16 @@ pub holds : (b : Bool) → not b ≡ false → b ≡ true
 holds true e = refl
 holds false e = cc
 
-pub at_most : (most n : ℕ) → nat_lt most n ≡ false → n ≤ most
+at_most : (most n : ℕ) → nat_lt most n ≡ false → n ≤ most
 at_most most n e = grind (arith, nat_tests)
 
-pub le_of : (a b : ℕ) → nat_le a b ≡ true → a ≤ b
+le_of : (a b : ℕ) → nat_le a b ≡ true → a ≤ b
 le_of a b e = grind (arith, nat_tests)
 
 pub le_true : (a b : ℕ) → a ≤ b → nat_le a b ≡ true
 le_true a b h = grind (arith, nat_tests)
 
-pub eq_of : (a b : ℕ) → nat_eq a b ≡ true → a ≡ b
+eq_of : (a b : ℕ) → nat_eq a b ≡ true → a ≡ b
 eq_of a b e = grind (arith, nat_tests)
 
 pub eq_true : (a b : ℕ) → a ≡ b → nat_eq a b ≡ true
@@ -60,7 +60,7 @@ neither : (a b : Bool) → (a || b) ≡ false → (a ≡ false) × (b ≡ false)
 neither true b e = cc
 neither false b e = (refl, e)
 
-pub any_none : {X : Type 0} (p : X → Bool) (xs : List X) → list_any p xs ≡ false → (x : X) → IsIn x xs → p x ≡ false
+any_none : {X : Type 0} (p : X → Bool) (xs : List X) → list_any p xs ≡ false → (x : X) → IsIn x xs → p x ≡ false
 any_none p [] e x i = absurd i
 any_none p (y ∷ ys) e x (inl s) = ap p s ∙ (neither (p y) (list_any p ys) e).0
 any_none p (y ∷ ys) e x (inr i) = any_none p ys (neither (p y) (list_any p ys) e).1 x i
@@ -77,7 +77,7 @@ pub record IsSized (w h : ℕ) : Type 0 where
   pub some_height : 1 ≤ h
   pub height : h ≤ 60000
 
-pub sized : (kind : Kind) (w h : ℕ) → is_size kind w h ≡ true → IsSized w h
+sized : (kind : Kind) (w h : ℕ) → is_size kind w h ≡ true → IsSized w h
 sized Bar w h e =
     let p = both (nat_le 1 w && nat_le w 200000) (h == 1) e in
     let q = both (nat_le 1 w) (nat_le w 200000) p.0 in
@@ -165,7 +165,7 @@ order_of used at lines first e =
 -- ---- reservations
 
 -- a demand of which a plan has pieces is one of its leaves'
-pub leaf_with : (plan : Pattern) (number : ℕ) → 1 ≤ count_of plan.tree number → (leaf : Leaf) × IsIn leaf (plan_leaves plan) × (leaf.demand ≡ number)
+leaf_with : (plan : Pattern) (number : ℕ) → 1 ≤ count_of plan.tree number → (leaf : Leaf) × IsIn leaf (plan_leaves plan) × (leaf.demand ≡ number)
 leaf_with plan number h =
     let e : count_of plan.tree number ≡ _ = counted plan.tree plan.w plan.h plan.kerf number in
     let r = counted_in (λ (l : Leaf). l.demand == number) (plan_leaves plan) (subst (λ n. 1 ≤ n) e h) in
@@ -226,16 +226,3 @@ fitting_of row material plan at act e =
 
 pub waiting_of : (j : Job) (part : Option Part) (material : Option Material) (at : ℕ → Option Demand) → job_refusal (Some j) part material at ≡ None → is_waiting j.state ≡ true
 waiting_of j part material at e = holds (is_waiting j.state) (none_of (not (is_waiting j.state)) JobOver _ e).0
-
--- ---- no fault of the store
-
-pub no_fault_or : (o p : Option Refusal) → (o ≡ Some StoreFault → ⊥) → (p ≡ Some StoreFault → ⊥) → option_or o p ≡ Some StoreFault → ⊥
-no_fault_or None p f g e = g e
-no_fault_or (Some r) p f g e = f e
-
-pub no_fault_first : (b : Bool) (r : Refusal) (cs : List (Bool × Refusal)) → (Some r ≡ Some StoreFault → ⊥) → (first_of cs ≡ Some StoreFault → ⊥) → first_of ((b, r) ∷ cs) ≡ Some StoreFault → ⊥
-no_fault_first true r cs f g e = f e
-no_fault_first false r cs f g e = g e
-
-pub no_fault_none : first_of [] ≡ Some StoreFault → ⊥
-no_fault_none e = cc

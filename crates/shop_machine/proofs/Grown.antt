@@ -1,16 +1,15 @@
 -- What stays true of parts, jobs and demands when a content grows.
-use Rattle.std.proofs.Common.{◌≡◌, ℕ, ◌+◌, ◌≤◌, ◌<◌, List, true, false, refl, sym, ap, subst, ◌∙◌, arith}
-use Rattle.std.specs.Prelude.{Option, Some, None, IsSome}
+use Rattle.std.proofs.Common.{◌≡◌, ℕ, ◌≤◌, ◌<◌, List, ◌∙◌, arith}
+use Rattle.std.specs.Prelude.{Some, None, IsSome}
 use Rattle.cut_measure.specs.Names.{Name}
-use Rattle.cut_tree.specs.Tree.{count_of}
 use Rattle.shop_machine.specs.declared.records.Material.{Material}
 use Rattle.shop_machine.specs.declared.records.Part.{Part}
 use Rattle.shop_machine.specs.declared.records.Job.{Job}
 use Rattle.shop_machine.specs.declared.records.Demand.{Demand}
-use Rattle.shop_machine.specs.Columns.{is_waiting}
 use Rattle.shop_machine.specs.Content.{Content, material_at, part_at, job_at, demand_at}
-use Rattle.shop_machine.specs.Soundness.{IsInRange, IsKnown, IsPlaced, IsWaiting, IsJob, IsDemand, IsCounted, IsSound}
-use Rattle.shop_machine.proofs.Puts.{some_known, is_known, some_is, not_some}
+use Rattle.shop_machine.specs.Soundness.{IsInRange, IsKnown, IsPlaced, IsWaiting, IsJob, IsDemand}
+use Rattle.shop_machine.proofs.Basics.{none_at}
+use Rattle.shop_machine.proofs.Puts.{some_known, is_known}
 
 -- materials and demands that were there are there
 pub record Grows (old new : Content) : Type 0 where
@@ -47,7 +46,7 @@ module _ (old new : Content) (grows : Grows old new) where
     pub same : part_at new job.part ≡ part_at old job.part
     pub none_yet : (node : ℕ) → part_at new (record { act = job.act; node = node }) ≡ None
 
-  pub waiting_more : (job : Job) → Untouched job → IsWaiting old job → IsWaiting new job
+  waiting_more : (job : Job) → Untouched job → IsWaiting old job → IsWaiting new job
   waiting_more job u w = record {
     row = w.row;
     found = u.same ∙ w.found;
@@ -77,4 +76,4 @@ module _ (old new : Content) (grows : Grows old new) where
 
 -- no part is named after an act to come
 pub none_later : (content : Content) → IsInRange content → (name : Name) → content.last_act < name.act → part_at content name ≡ None
-none_later content range name later = not_some (part_at content name) (λ part is. let le = range.acts name part is in omega (arith, le, later))
+none_later content range name later = none_at (part_at content name) (λ part is. let le = range.acts name part is in omega (arith, le, later))

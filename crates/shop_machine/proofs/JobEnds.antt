@@ -1,11 +1,11 @@
 -- Waiting jobs, and contents after their ends.
-use Rattle.std.proofs.Common.{◌≡◌, ℕ, zero, suc, ◌+◌, ◌-◌, ◌*◌, ◌≤◌, ◌<◌, ◌⊎◌, inl, inr, List, [], ◌∷◌, map, Bool, true, false, refl, sym, ap, subst, ◌∙◌, arith}
+use Rattle.std.proofs.Common.{◌≡◌, ℕ, ◌+◌, ◌-◌, ◌*◌, ◌≤◌, ◌<◌, List, [], map, Bool, true, false, refl, sym, ap, subst, ◌∙◌, arith}
 use Rattle.std.proofs.lemmas.Bool.Decides.{nat_tests}
-use Rattle.std.specs.Prelude.{◌↔◌, nat_eq, Option, Some, None, IsSome, MatchOption, ⊤, sum_by, count_by, ◌&&◌, if◌then◌else◌}
+use Rattle.std.specs.Prelude.{◌↔◌, nat_eq, Some, None, MatchOption, ⊤, sum_by, count_by, ◌&&◌, if◌then◌else◌}
 use Rattle.std.specs.declared.cmp.Ordering.TheVariants.{Less}
 use Rattle.std.specs.Ordering.{is_eq}
 use Rattle.std.specs.Cmp.{nat_cmp_total}
-use Rattle.std.specs.FinMap.{FinMap, get, insert, values, nat_cmp-IsAntisymmetric}
+use Rattle.std.specs.FinMap.{insert, values, nat_cmp-IsAntisymmetric}
 use Rattle.cut_measure.specs.Codes.{code_cmp}
 use Rattle.cut_measure.specs.Names.{Name, name_cmp}
 use Rattle.cut_measure.specs.Measures.{Rule, Extent, is_kept}
@@ -13,7 +13,6 @@ use Rattle.cut_tree.specs.declared.lay.Owner.{Owner}
 use Rattle.cut_tree.specs.declared.lay.Owner.TheVariants as owner
 use Rattle.cut_tree.specs.declared.lay.Row.{Row}
 use Rattle.cut_tree.specs.Tree.{Tree, count_of}
-use Rattle.cut_tree.specs.Patterns.{Pattern, IsPlan}
 use Rattle.cut_tree.specs.Cells.{all_made}
 use Rattle.cut_tree.specs.Laying.{IsLaid, Holds, Owns}
 use Rattle.cut_tree.specs.Counting.{is_piece_of as is_owner_of}
@@ -21,7 +20,6 @@ use Rattle.cut_tree.proofs.OneList.{laid_all}
 use Rattle.cut_tree.proofs.Counting.{add_up, count_all}
 use Rattle.shop_machine.specs.declared.records.Material.{Material}
 use Rattle.shop_machine.specs.declared.records.Part.{Part}
-use Rattle.shop_machine.specs.declared.records.State.{State}
 use Rattle.shop_machine.specs.declared.records.State.TheVariants as state
 use Rattle.shop_machine.specs.declared.records.Job.{Job}
 use Rattle.shop_machine.specs.declared.records.JobState.{JobState}
@@ -32,11 +30,12 @@ use Rattle.shop_machine.specs.declared.messages.Message.{Message}
 use Rattle.shop_machine.specs.declared.messages.Reply.TheVariants as reply
 use Rattle.shop_machine.specs.Messages.{Texts, pair_of}
 use Rattle.shop_machine.specs.Columns.{same_name, is_there, is_piece_of, is_waiting, state_of}
-use Rattle.shop_machine.specs.Content.{Content, material_at, part_at, job_at, demand_at, kept_at, changed}
+use Rattle.shop_machine.specs.Content.{Content, part_at, job_at, demand_at, kept_at, changed}
 use Rattle.shop_machine.specs.Machine.{AreRecounted, IsWork, in_state, with_made, with_freed, fate, row_part, done_reply, done_change, release_change, keeping}
 use Rattle.shop_machine.specs.History.{IsIn}
-use Rattle.shop_machine.specs.Soundness.{IsPlaced, IsWaiting, IsJob, IsCounted, JobFits, Fits, reserved_in, made_in}
-use Rattle.shop_machine.proofs.Puts.{Pairwise, all_in, pairs_in, pairs_more, map_pairs, in_map, in_counted, sum_map, sum_as, sum_none, some_is, none_some, is_known, sum_over}
+use Rattle.shop_machine.specs.Soundness.{IsPlaced, IsWaiting, IsJob, IsCounted, JobFits, Fits, reserved_in}
+use Rattle.shop_machine.proofs.Basics.{all_in, in_map, same_some, map_in}
+use Rattle.shop_machine.proofs.Puts.{pairs_in, pairs_more, map_pairs, in_counted, sum_map, sum_as, sum_none, is_known, sum_over}
 use Rattle.shop_machine.proofs.AddedUp.{cells_as, cells_left, is_uncut}
 use Rattle.shop_machine.proofs.Moved.{no_made, no_freed}
 use Rattle.shop_machine.proofs.Grown.{IsStock}
@@ -108,14 +107,14 @@ module _ (tree : Tree) (w h kerf : ℕ) (laid : List Row) (is_laid : IsLaid tree
 -- ---- a waiting job
 
 module _ (m : Content) (stock : IsStock m) (number : ℕ) (j : Job) (part : Part) (material : Material) (work : IsWork m number j part material) (waits : is_waiting j.state ≡ true) where
-  pub is_job : IsJob m number j
+  is_job : IsJob m number j
   is_job = stock.jobs number j work.found
 
   pub waiting : IsWaiting m j
   waiting = is_job.waits waits
 
-  pub same_part : waiting.row ≡ part
-  same_part = some_is waiting.row part (sym waiting.found ∙ work.on)
+  same_part : waiting.row ≡ part
+  same_part = same_some waiting.row part (sym waiting.found ∙ work.on)
 
   pub reserved : part.state ≡ state.Reserved j.act
   reserved = ap (λ (p : Part). p.state) (sym same_part) ∙ waiting.reserved
@@ -138,7 +137,7 @@ module _ (m : Content) (stock : IsStock m) (number : ℕ) (j : Job) (part : Part
   pub so_far : j.act ≤ m.last_act
   so_far = let named = is_job.numbered in let le = is_job.so_far in omega (arith, named, le)
 
-  pub job_here : job_at m j.act ≡ Some j
+  job_here : job_at m j.act ≡ Some j
   job_here = ap (λ n. job_at m n) is_job.numbered ∙ work.found
 
   pub width : j.plan.w ≡ part.size.w
@@ -148,15 +147,15 @@ module _ (m : Content) (stock : IsStock m) (number : ℕ) (j : Job) (part : Part
   height = waiting.height ∙ ap (λ (p : Part). p.size.h) same_part
 
   -- another job's part is another one
-  pub not_other : (n : ℕ) (other : Job) → job_at m n ≡ Some other → (n ≡ j.act → ⊥) → part.state ≡ state.Reserved other.act → ⊥
+  not_other : (n : ℕ) (other : Job) → job_at m n ≡ Some other → (n ≡ j.act → ⊥) → part.state ≡ state.Reserved other.act → ⊥
   not_other n other is apart e =
       apart (sym (stock.jobs n other is).numbered ∙ ap state_of (sym e ∙ reserved))
 
-  pub other_act : (n : ℕ) (other : Job) → job_at m n ≡ Some other → (n ≡ j.act → ⊥) → j.act ≡ other.act → ⊥
+  other_act : (n : ℕ) (other : Job) → job_at m n ≡ Some other → (n ≡ j.act → ⊥) → j.act ≡ other.act → ⊥
   other_act n other is apart e = apart (sym (stock.jobs n other is).numbered ∙ sym e)
 
   module _ (over : JobState) (no_wait : is_waiting over ≡ false) where
-    abbrev pub ended : Job
+    abbrev ended : Job
     ended = record j { state = over }
 
     pub job_fits : JobFits m ended
@@ -166,7 +165,7 @@ module _ (m : Content) (stock : IsStock m) (number : ℕ) (j : Job) (part : Part
     }
 
     -- the pieces of the job are no longer reserved
-    pub reserved_less : (d : ℕ)
+    reserved_less : (d : ℕ)
         → sum_by (λ (job : Job). if is_waiting job.state then count_of job.plan.tree d else 0) (values (insert m.jobs j.act ended)) + count_of j.plan.tree d ≡ reserved_in d m
     reserved_less d =
         let over = sum_over nat_cmp_total nat_cmp-IsAntisymmetric (λ (job : Job). if is_waiting job.state then count_of job.plan.tree d else 0) m.jobs j.act j ended job_here in
@@ -174,7 +173,7 @@ module _ (m : Content) (stock : IsStock m) (number : ℕ) (j : Job) (part : Part
         let later : ◌≡◌ {A = ℕ} (if is_waiting ended.state then count_of j.plan.tree d else 0) 0 = ap {B = ℕ} (λ b. if b then count_of j.plan.tree d else 0) no_wait in
         omega (arith, over, before, later)
 
-    pub job_over : (after : Content) → after.last_act ≡ m.last_act → IsJob after j.act ended
+    job_over : (after : Content) → after.last_act ≡ m.last_act → IsJob after j.act ended
     job_over after same =
         let least = is_job.least in
         let named = is_job.numbered in
@@ -239,8 +238,8 @@ module _ (m : Content) (stock : IsStock m) (number : ℕ) (j : Job) (part : Part
       step_stock m stock part state.Standing [] None released release_step with_freed no_freed freed_keeps j.plan.tree rows recounted texts message (reply.Release j.act)
       (job_over m stock number j part material work waits job.Released refl after_release refl)
       (λ n other is apart w.
-          untouched m stock part state.Standing [] None released release_step with_freed no_freed freed_keeps j.plan.tree rows recounted texts message (reply.Release j.act)
-          other w (not_other m stock number j part material work waits n other is apart) (λ x i e. i))
+      untouched m stock part state.Standing [] None released release_step with_freed no_freed freed_keeps j.plan.tree rows recounted texts message (reply.Release j.act)
+      other w (not_other m stock number j part material work waits n other is apart) (λ x i e. i))
       released_counts
 
   pub release_fits : kept_at m (pair_of message) ≡ None → Fits m (keeping texts message (release_change j part rows))
@@ -255,7 +254,7 @@ module _ (m : Content) (stock : IsStock m) (number : ℕ) (j : Job) (part : Part
   abbrev pub made : List Part
   made = map (row_part part material.limits j.act) laid
 
-  pub made_of : (x : Part) → IsIn x made → (r : Row) × IsIn r laid × (x ≡ row_part part material.limits j.act r)
+  made_of : (x : Part) → IsIn x made → (r : Row) × IsIn r laid × (x ≡ row_part part material.limits j.act r)
   made_of x i = in_map (row_part part material.limits j.act) laid x i
 
   pub all_cells : sum_by (λ (r : Row). r.w * r.h) laid ≡ part.size.w * part.size.h
@@ -263,7 +262,7 @@ module _ (m : Content) (stock : IsStock m) (number : ℕ) (j : Job) (part : Part
       add_up j.plan.tree j.plan.w j.plan.h j.plan.kerf all_made laid is_laid (λ n o a b. true) ∙ count_all j.plan.w j.plan.h
       ∙ ap (λ n. n * j.plan.h) (width m stock number j part material work waits) ∙ ap (λ n. part.size.w * n) (height m stock number j part material work waits)
 
-  pub pieces_made : (d : ℕ) → count_by (λ (p : Part). is_piece_of d p.state) made ≡ count_of j.plan.tree d
+  pieces_made : (d : ℕ) → count_by (λ (p : Part). is_piece_of d p.state) made ≡ count_of j.plan.tree d
   pieces_made d =
       let plan = (is_job m stock number j part material work waits).plan in
       sum_map (λ (p : Part). if is_piece_of d p.state then 1 else 0) (row_part part material.limits j.act) laid
@@ -292,18 +291,10 @@ module _ (m : Content) (stock : IsStock m) (number : ℕ) (j : Job) (part : Part
         right = omega (arith, right, wide, most_right);
         bottom = omega (arith, bottom, high, most_bottom);
         asked = λ d piece.
-            let one = in_counted (λ (p : Part). is_piece_of d p.state) made (row_part part material.limits j.act r) (in_made r i) piece in
+            let one = in_counted (λ (p : Part). is_piece_of d p.state) made (row_part part material.limits j.act r) (map_in (row_part part material.limits j.act) laid r i) piece in
             let count = pieces_made d in
             (waiting m stock number j part material work waits).demands d (omega (arith, one, count));
       }
-    where
-      in_list : (r : Row) (rs : List Row) → IsIn r rs → IsIn (row_part part material.limits j.act r) (map (row_part part material.limits j.act) rs)
-      in_list r [] i = i
-      in_list r (s ∷ rs) (inl e) = inl (ap (row_part part material.limits j.act) e)
-      in_list r (s ∷ rs) (inr i) = inr (in_list r rs i)
-
-      in_made : (r : Row) → IsIn r laid → IsIn (row_part part material.limits j.act r) made
-      in_made r i = in_list r laid i
 
   not_whole : (r : Row) → same_name (record { act = j.act; node = r.node }) part.root ≡ false
   not_whole r =
@@ -345,13 +336,14 @@ module _ (m : Content) (stock : IsStock m) (number : ℕ) (j : Job) (part : Part
     stands = stands m stock number j part material work waits;
     plain = λ number. refl;
     new = λ x i. let r = made_of x i in subst (λ (p : Part). part_at m p.name ≡ None) (sym r.2) ((waiting m stock number j part material work waits).none_yet r.0.node);
-    rising =
-        (λ x i. let r = made_of x i in
-        subst (λ (p : Part). name_cmp part.name p.name ≡ Less) (sym r.2)
-        (earlier_act part.name (record { act = j.act; node = r.0.node }) (older m stock number j part material work waits)),
-        map_pairs (λ (a b : Part). name_cmp a.name b.name ≡ Less) (row_part part material.limits j.act) laid
-        (pairs_more (λ (r s : Row). r.node < s.node) _ (λ r s less. earlier_node (record { act = j.act; node = r.node }) (record { act = j.act; node = s.node }) refl less) laid
-        (pairs_in (λ (r s : Row). r.node < s.node) laid is_laid.rising)));
+    rising = (
+      λ x i. let r = made_of x i in
+          subst (λ (p : Part). name_cmp part.name p.name ≡ Less) (sym r.2)
+          (earlier_act part.name (record { act = j.act; node = r.0.node }) (older m stock number j part material work waits)),
+      map_pairs (λ (a b : Part). name_cmp a.name b.name ≡ Less) (row_part part material.limits j.act) laid
+          (pairs_more (λ (r s : Row). r.node < s.node) _ (λ r s less. earlier_node (record { act = j.act; node = r.node }) (record { act = j.act; node = s.node }) refl less) laid
+          (pairs_in (λ (r s : Row). r.node < s.node) laid is_laid.rising)),
+    );
     placed = λ x i. let r = made_of x i in subst (λ (p : Part). IsPlaced m p.name p) (sym r.2) (row_placed r.0 r.1);
     named = λ x i.
         let r = made_of x i in
@@ -414,9 +406,9 @@ module _ (m : Content) (stock : IsStock m) (number : ℕ) (j : Job) (part : Part
         step_stock m stock part (state.Cut j.act) made None done done_step with_made no_made made_keeps j.plan.tree rows recounted texts message (done_reply j.act made)
         (job_over m stock number j part material work waits job.Done refl after_done refl)
         (λ n other is apart w.
-            untouched m stock part (state.Cut j.act) made None done done_step with_made no_made made_keeps j.plan.tree rows recounted texts message (done_reply j.act made)
-            other w (not_other m stock number j part material work waits n other is apart)
-            (λ x i e. other_act m stock number j part material work waits n other is apart (sym (ap (λ (p : Part). p.name.act) (made_of x i).2) ∙ e)))
+        untouched m stock part (state.Cut j.act) made None done done_step with_made no_made made_keeps j.plan.tree rows recounted texts message (done_reply j.act made)
+        other w (not_other m stock number j part material work waits n other is apart)
+        (λ x i e. other_act m stock number j part material work waits n other is apart (sym (ap (λ (p : Part). p.name.act) (made_of x i).2) ∙ e)))
         done_counts
 
     pub done_fits : kept_at m (pair_of message) ≡ None → Fits m (keeping texts message (done_change j part material.limits laid rows))

@@ -1,30 +1,24 @@
 -- A content after a material was added.
-use Rattle.std.proofs.Common.{◌≡◌, ℕ, ◌≤◌, inl, inr, List, [], ◌∷◌, Bool, true, false, refl, sym, ap, subst, ◌∙◌, arith}
-use Rattle.std.specs.Prelude.{Option, Some, None, All, AllPairs, IsSome, not}
+use Rattle.std.proofs.Common.{◌≡◌, ℕ, ◌≤◌, inl, inr, List, [], refl, sym, subst, arith}
+use Rattle.std.specs.Prelude.{Option, Some, None, AllPairs, not}
 use Rattle.std.specs.declared.cmp.Ordering.TheVariants.{Less}
-use Rattle.std.specs.Cmp.{IsTotalOrder}
-use Rattle.std.specs.Cmp.Lexicographic.{nat_list_cmp_total}
 use Rattle.std.proofs.lemmas.List.Elements.{All-nil}
 use Rattle.cut_measure.specs.declared.sizes.Kind.{Kind}
-use Rattle.cut_measure.specs.Codes.{code_cmp}
 use Rattle.cut_measure.specs.Names.{name_cmp}
 use Rattle.cut_measure.specs.Measures.{Rule, is_rule}
 use Rattle.shop_machine.specs.declared.records.Material.{Material}
 use Rattle.shop_machine.specs.declared.records.Part.{Part}
 use Rattle.shop_machine.specs.declared.records.Demand.{Demand}
 use Rattle.shop_machine.specs.declared.messages.Message.{Message}
-use Rattle.shop_machine.specs.declared.changes.Change.{Change}
 use Rattle.shop_machine.specs.declared.refusals.Refusal.TheVariants.{BadMaterial}
 use Rattle.shop_machine.specs.Messages.{Texts, pair_of}
 use Rattle.shop_machine.specs.Content.{Content, material_at, kept_at, changed}
 use Rattle.shop_machine.specs.Machine.{material_refusal, material_change, keeping}
-use Rattle.shop_machine.specs.Soundness.{IsKnown, IsDemand, IsCounted, IsSound, PartFits, DemandFits, Fits}
-use Rattle.shop_machine.proofs.Puts.{codes_exact, found_one, still_there}
+use Rattle.shop_machine.specs.Soundness.{IsKnown, IsDemand, IsCounted, Fits}
+use Rattle.shop_machine.proofs.Basics.{codes_total, codes_same}
+use Rattle.shop_machine.proofs.Puts.{found_one, still_there}
 use Rattle.shop_machine.proofs.Allowed.{none_of, holds}
 use Rattle.shop_machine.proofs.Grown.{IsStock, Grows, placed_more, job_more, known_more}
-
-pub codes_total : IsTotalOrder code_cmp
-codes_total = nat_list_cmp_total
 
 -- a demand whose counts are as they were
 pub demand_more : (old new : Content) → Grows old new → old.last_demand ≤ new.last_demand → (number : ℕ) (demand : Demand) → IsDemand old number demand → IsCounted new number demand → IsDemand new number demand
@@ -54,14 +48,14 @@ module _ (texts : Texts) (message : Message) (m : Content) (code : List ℕ) (ki
   material_stock None is allowed stock =
       let row : Material = record { code = code; kind = kind; limits = rule } in
       let grows : Grows m (after None) = record {
-        materials = λ c x found. still_there codes_total codes_exact m.materials code row c x is found;
+        materials = λ c x found. still_there codes_total codes_same m.materials code row c x is found;
         demands = λ number h. h;
         acts = omega arith;
       } in
       record {
         in_range = record { acts = stock.in_range.acts; last = stock.in_range.last; last_demand = stock.in_range.last_demand; received = stock.in_range.received; adds_up = stock.in_range.adds_up };
         materials = λ c x found.
-            elim (found_one codes_total codes_exact m.materials code row c x found) [
+            elim (found_one codes_total codes_same m.materials code row c x found) [
               | inl p ↦ subst (IsKnown c) (sym p.1)
                   (record { coded = sym p.0; ruled = holds (is_rule kind rule.kerf rule.min_long rule.min_short) (none_of (not (is_rule kind rule.kerf rule.min_long rule.min_short)) BadMaterial _ allowed).0 })
               | inr q ↦ stock.materials c x q.1

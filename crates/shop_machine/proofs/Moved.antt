@@ -1,10 +1,8 @@
 -- A part that gets another state, with new parts beside it, and demands that are recounted.
-use Rattle.std.proofs.Common.{◌≡◌, ℕ, zero, suc, ◌+◌, ◌-◌, ◌*◌, ◌≤◌, ◌<◌, ◌⊎◌, inl, inr, List, [], ◌∷◌, length, get_or, Bool, true, false, refl, sym, ap, subst, ◌∙◌, arith}
-use Rattle.std.specs.Prelude.{Option, Some, None, IsSome, All, Any, sum_by, count_by, if◌then◌else◌}
-use Rattle.std.specs.Ordering.{nat_cmp, is_eq}
-use Rattle.std.specs.Cmp.{nat_cmp_total}
-use Rattle.std.specs.FinMap.{FinMap, get, insert, values, nat_cmp-IsAntisymmetric}
-use Rattle.std.proofs.lemmas.List.Sums.{sum_by-cons}
+use Rattle.std.proofs.Common.{◌≡◌, ℕ, zero, suc, ◌+◌, ◌≤◌, ◌⊎◌, inl, inr, List, ◌∷◌, false, refl, sym, ap, subst, ◌∙◌, arith}
+use Rattle.std.specs.Prelude.{Option, Some, None, IsSome, sum_by, count_by, if◌then◌else◌}
+use Rattle.std.specs.Ordering.{nat_cmp}
+use Rattle.std.specs.FinMap.{FinMap, get, insert, values}
 use Rattle.cut_measure.specs.Names.{Name, name_cmp}
 use Rattle.cut_tree.specs.Tree.{Tree, count_of}
 use Rattle.shop_machine.specs.declared.records.Part.{Part}
@@ -15,18 +13,11 @@ use Rattle.shop_machine.specs.Columns.{is_piece_of}
 use Rattle.shop_machine.specs.Content.{with_parts, with_demands, cells_in, totals_in, AddsUp}
 use Rattle.shop_machine.specs.Machine.{AreRecounted, in_state, with_reserved, with_made, with_freed}
 use Rattle.shop_machine.specs.History.{IsIn}
-use Rattle.shop_machine.proofs.Puts.{all_in, Pairwise, some_is, none_some, is_known, names_total, names_exact, puts, found, put_other, sum_puts, sum_over, get_other, with_parts_puts, with_demands_puts}
+use Rattle.shop_machine.proofs.Basics.{all_in, any_in, same_some, names_total, names_same, get_other, put_cases, demand_cases}
+use Rattle.shop_machine.proofs.Puts.{is_known, not_both, Pairwise, put_other, sum_parts, sum_over}
 use Rattle.shop_machine.proofs.AddedUp.{cells_as, cells_left, adds_up, adds_up_so}
 
 -- ---- recounts
-
-at_in : {X : Type 0} (xs : List X) (k : ℕ) (d : X) → k < length xs → IsIn (get_or xs k d) xs
-at_in [] k d h = absurd (omega arith)
-at_in (x ∷ xs) zero d h = inl refl
-at_in (x ∷ xs) (suc k) d h = inr (at_in xs k d (omega arith))
-
-any_in : {X : Type 0} (P : X → Type 0) (xs : List X) → Any P xs → (x : X) × IsIn x xs × P x
-any_in P xs a = (a.1, subst (λ x. IsIn x xs) a.3 (at_in xs a.0 a.1 a.2), a.4)
 
 module _ (old : FinMap nat_cmp Demand) (recount : ℕ → Demand → Demand) (tree : Tree) (rows : List Demand)
     (r : AreRecounted (λ number. get old number) recount tree rows) (none : (d : Demand) → recount 0 d ≡ d) where
@@ -50,23 +41,23 @@ module _ (old : FinMap nat_cmp Demand) (recount : ℕ → Demand → Demand) (tr
 
   pub recount_of : (number : ℕ) (demand : Demand) → get (with_demands rows old) number ≡ Some demand → IsRecount number demand
   recount_of number demand is =
-      elim (found nat_cmp_total nat_cmp-IsAntisymmetric (λ d. d.number) rows old number) [
+      elim (demand_cases rows old number) [
         | inl p ↦
-            let same : p.0 ≡ demand = some_is p.0 demand (sym p.3 ∙ ap (λ m. get m number) (sym (with_demands_puts rows old)) ∙ is) in
+            let same : p.0 ≡ demand = same_some p.0 demand (sym p.3 ∙ is) in
             subst (λ d. IsRecount number d) same (row_recount p.0 number p.1 p.2)
         | inr q ↦
             record {
               before = demand;
-              was = sym q.1 ∙ ap (λ m. get m number) (sym (with_demands_puts rows old)) ∙ is;
+              was = sym q.1 ∙ is;
               now = sym (ap (λ n. recount n demand) (uncounted number q.0) ∙ none demand);
             }
       ]
 
   pub demand_there : (number : ℕ) → IsSome (get old number) → IsSome (get (with_demands rows old) number)
   demand_there number h =
-      elim (found nat_cmp_total nat_cmp-IsAntisymmetric (λ d. d.number) rows old number) [
-        | inl p ↦ is_known (get (with_demands rows old) number) p.0 (ap (λ m. get m number) (with_demands_puts rows old) ∙ p.3)
-        | inr q ↦ subst (λ (o : Option Demand). IsSome o) (sym (ap (λ m. get m number) (with_demands_puts rows old) ∙ q.1)) h
+      elim (demand_cases rows old number) [
+        | inl p ↦ is_known (get (with_demands rows old) number) p.0 p.3
+        | inr q ↦ subst (λ (o : Option Demand). IsSome o) (sym q.1) h
       ]
 
 same_demand : (a b : Demand) → a.number ≡ b.number → a.order ≡ b.order → a.line ≡ b.line → a.material ≡ b.material → a.size ≡ b.size → a.may_turn ≡ b.may_turn
@@ -93,10 +84,10 @@ module _ (m : FinMap name_cmp Part) (part : Part) (s : State) (made : List Part)
   pub found_moved : (name : Name) (p : Part) → get moved name ≡ Some p
       → ((p ≡ in_state s part) × (name ≡ part.name)) ⊎ ((IsIn p made × (p.name ≡ name)) ⊎ ((name ≡ part.name → ⊥) × (get m name ≡ Some p)))
   found_moved name p is =
-      elim (found names_total names_exact (λ x. x.name) (in_state s part ∷ made) m name) [
-        | inl q ↦ by q.0 q.1 q.2 (some_is q.0 p (sym q.3 ∙ ap (λ m. get m name) (sym (with_parts_puts (in_state s part ∷ made) m)) ∙ is))
+      elim (put_cases (in_state s part ∷ made) m name) [
+        | inl q ↦ by q.0 q.1 q.2 (same_some q.0 p (sym q.3 ∙ is))
         | inr q ↦
-            inr (inr (λ e. q.0 (in_state s part) (inl refl) (sym e), sym q.1 ∙ ap (λ m. get m name) (sym (with_parts_puts (in_state s part ∷ made) m)) ∙ is))
+            inr (inr (λ e. q.0 (in_state s part) (inl refl) (sym e), sym q.1 ∙ is))
       ]
     where
       by : (x : Part) → IsIn x (in_state s part ∷ made) → x.name ≡ name → x ≡ p
@@ -105,23 +96,21 @@ module _ (m : FinMap name_cmp Part) (part : Part) (s : State) (made : List Part)
       by x (inr i) f g = inr (inl (subst (λ (x : Part). IsIn x made) g i, ap (λ (x : Part). x.name) (sym g) ∙ f))
 
   pub other_moved : (name : Name) → (name ≡ part.name → ⊥) → ((x : Part) → IsIn x made → x.name ≡ name → ⊥) → get moved name ≡ get m name
-  other_moved name h g =
-      ap (λ m. get m name) (with_parts_puts (in_state s part ∷ made) m) ∙ put_other names_total names_exact (λ x. x.name) (in_state s part ∷ made) m name by
+  other_moved name h g = put_other (in_state s part ∷ made) m name by
     where
       by : (x : Part) → IsIn x (in_state s part ∷ made) → x.name ≡ name → ⊥
       by x (inl e) f = h (sym f ∙ ap (λ (x : Part). x.name) e)
       by x (inr i) f = g x i f
 
   apart_of : (x : Part) → IsIn x made → x.name ≡ part.name → ⊥
-  apart_of x i e = none_some (get m x.name) part (new x i) (ap (λ n. get m n) e ∙ there)
+  apart_of x i e = not_both (get m x.name) part (new x i) (ap (λ n. get m n) e ∙ there)
 
-  pub sum_moved : (f : Part → ℕ) → sum_by f (values moved) + f part ≡ sum_by f (values m) + f (in_state s part) + sum_by f made
+  sum_moved : (f : Part → ℕ) → sum_by f (values moved) + f part ≡ sum_by f (values m) + f (in_state s part) + sum_by f made
   sum_moved f =
-      let over = sum_over names_total names_exact f m part.name part (in_state s part) there in
-      let more = sum_puts names_total names_exact (λ x. x.name) f made (insert m part.name (in_state s part)) apart
-          (λ x i. get_other names_total names_exact m part.name (in_state s part) x.name (apart_of x i) ∙ new x i) in
-      let is : sum_by f (values moved) ≡ _ = ap (λ m. sum_by f (values m)) (with_parts_puts made (insert m part.name (in_state s part))) in
-      omega (arith, over, more, is)
+      let over = sum_over names_total names_same f m part.name part (in_state s part) there in
+      let more = sum_parts f made (insert m part.name (in_state s part)) apart
+      (λ x i. get_other names_total names_same m part.name (in_state s part) x.name (apart_of x i) ∙ new x i) in
+      omega (arith, over, more)
 
   pub received_moved : (code : List ℕ) → sum_by (cells_as Received code) made ≡ 0 → cells_in Received code (values moved) ≡ cells_in Received code (values m)
   received_moved code none = let sum = sum_moved (cells_as Received code) in omega (arith, sum, none)

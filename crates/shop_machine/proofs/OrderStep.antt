@@ -1,11 +1,11 @@
 -- A content after an order was added.
-use Rattle.std.proofs.Common.{◌≡◌, ℕ, zero, suc, ◌+◌, ◌-◌, ◌*◌, ◌≤◌, ◌<◌, ◌⊎◌, inl, inr, List, [], ◌∷◌, length, Bool, true, false, refl, sym, ap, subst, ◌∙◌, arith}
-use Rattle.std.specs.Prelude.{Option, Some, None, All, AllPairs, IsSome, MatchOption, ⊤, sum_by, count_by, if◌then◌else◌, is_some}
+use Rattle.std.proofs.Common.{◌≡◌, ℕ, zero, suc, ◌+◌, ◌≤◌, ◌<◌, ◌⊎◌, inl, inr, List, [], ◌∷◌, length, Bool, true, false, refl, sym, ap, subst, ◌∙◌, arith}
+use Rattle.std.specs.Prelude.{Option, Some, None, IsSome, MatchOption, if◌then◌else◌}
 use Rattle.std.specs.declared.cmp.Ordering.TheVariants.{Less}
 use Rattle.std.specs.Cmp.{nat_cmp_total}
-use Rattle.std.specs.FinMap.{FinMap, get, values, nat_cmp-IsAntisymmetric}
+use Rattle.std.specs.FinMap.{nat_cmp-IsAntisymmetric}
 use Rattle.std.proofs.lemmas.List.Elements.{All-nil}
-use Rattle.cut_measure.specs.Names.{Name, name_cmp}
+use Rattle.cut_measure.specs.Names.{name_cmp}
 use Rattle.cut_tree.specs.Tree.{count_of}
 use Rattle.shop_machine.specs.declared.records.Part.{Part}
 use Rattle.shop_machine.specs.declared.records.Job.{Job}
@@ -14,11 +14,12 @@ use Rattle.shop_machine.specs.declared.messages.Message.{Message}
 use Rattle.shop_machine.specs.declared.messages.OrderLine.{OrderLine}
 use Rattle.shop_machine.specs.Messages.{Texts, pair_of}
 use Rattle.shop_machine.specs.Columns.{is_piece_of, is_waiting}
-use Rattle.shop_machine.specs.Content.{Content, material_at, part_at, job_at, has_order, demand_at, kept_at, changed, with_demands}
-use Rattle.shop_machine.specs.Machine.{new_demand, new_demands, order_change, keeping, most_numbers}
+use Rattle.shop_machine.specs.Content.{Content, material_at, has_order, demand_at, kept_at, changed}
+use Rattle.shop_machine.specs.Machine.{new_demand, new_demands, order_change, keeping}
 use Rattle.shop_machine.specs.History.{IsIn}
-use Rattle.shop_machine.specs.Soundness.{IsWaiting, IsJob, IsDemand, IsCounted, DemandFits, Fits, reserved_in, made_in}
-use Rattle.shop_machine.proofs.Puts.{Pairwise, all_from, pairs_from, some_is, none_some, not_some, is_known, some_known, names_total, names_exact, puts, found, sum_no_rows, with_demands_puts}
+use Rattle.shop_machine.specs.Soundness.{IsDemand, DemandFits, Fits, reserved_in, made_in}
+use Rattle.shop_machine.proofs.Basics.{names_total, names_same, same_some, none_at, demand_cases}
+use Rattle.shop_machine.proofs.Puts.{Pairwise, all_from, pairs_from, not_both, is_known, some_known, sum_no_rows}
 use Rattle.shop_machine.proofs.Allowed.{IsOrder}
 use Rattle.shop_machine.proofs.Grown.{IsStock, Grows, placed_more, job_more}
 use Rattle.shop_machine.proofs.MaterialStep.{demand_more, no_pairs}
@@ -43,15 +44,16 @@ new_in order first (l ∷ lines) x (inr i) =
 
 new_apart : (order : List ℕ) (first : ℕ) (lines : List OrderLine) → Pairwise (λ (a b : Demand). a.number ≡ b.number → ⊥) (new_demands order first lines)
 new_apart order first [] = tt
-new_apart order first (l ∷ lines) =
-    (λ y i e.
-        let r = new_in order (suc first) lines y i in
-        let least = r.least in
-        let same : y.number ≡ r.number = ap (λ (d : Demand). d.number) r.is in
-        omega (arith, least, same, e),
-    new_apart order (suc first) lines)
+new_apart order first (l ∷ lines) = (
+  λ y i e.
+      let r = new_in order (suc first) lines y i in
+      let least = r.least in
+      let same : y.number ≡ r.number = ap (λ (d : Demand). d.number) r.is in
+      omega (arith, least, same, e),
+  new_apart order (suc first) lines,
+)
 
--- 1 where it holds, and else 0: 0 is none
+-- what isn't a piece of a demand counts as none
 none_counted : (number : ℕ) (p : Part) → (is_piece_of number p.state ≡ true → ⊥) → ◌≡◌ {A = ℕ} (if is_piece_of number p.state then 1 else 0) 0
 none_counted number p h = by (is_piece_of number p.state) refl
   where
@@ -83,36 +85,36 @@ module _ (m : Content) (stock : IsStock m) (order : List ℕ) (lines : List Orde
 
   -- a number to come is no demand's yet
   none_later : (number : ℕ) → m.last_demand < number → demand_at m number ≡ None
-  none_later number later = not_some (demand_at m number) (λ d is. let le = (stock.demands number d is).so_far in omega (arith, le, later))
+  none_later number later = none_at (demand_at m number) (λ d is. let le = (stock.demands number d is).so_far in omega (arith, le, later))
 
   none_reserved_yet : (number : ℕ) → m.last_demand < number → reserved_in number m ≡ 0
   none_reserved_yet number later =
       sum_no_rows nat_cmp_total nat_cmp-IsAntisymmetric (λ (job : Job). if is_waiting job.state then count_of job.plan.tree number else 0) m.jobs
       (λ k j is. none_reserved number j (λ waits some.
-          let there = some_known (demand_at m number) (((stock.jobs k j is).waits waits).demands number some) in
-          none_some (demand_at m number) there.0 (none_later number later) there.1))
+      let there = some_known (demand_at m number) (((stock.jobs k j is).waits waits).demands number some) in
+      not_both (demand_at m number) there.0 (none_later number later) there.1))
 
   none_made_yet : (number : ℕ) → m.last_demand < number → made_in number m ≡ 0
   none_made_yet number later =
-      sum_no_rows names_total names_exact (λ (p : Part). if is_piece_of number p.state then 1 else 0) m.parts
+      sum_no_rows names_total names_same (λ (p : Part). if is_piece_of number p.state then 1 else 0) m.parts
       (λ k p is. none_counted number p (λ piece.
-          let there = some_known (demand_at m number) ((stock.parts k p is).asked number piece) in
-          none_some (demand_at m number) there.0 (none_later number later) there.1))
+      let there = some_known (demand_at m number) ((stock.parts k p is).asked number piece) in
+      not_both (demand_at m number) there.0 (none_later number later) there.1))
 
   found_after : (number : ℕ) (d : Demand) → demand_at after number ≡ Some d → (IsNew order first lines d × (d.number ≡ number)) ⊎ (demand_at m number ≡ Some d)
   found_after number d is =
-      elim (found nat_cmp_total nat_cmp-IsAntisymmetric (λ d. d.number) rows m.demands number) [
+      elim (demand_cases rows m.demands number) [
         | inl q ↦
-            let same : q.0 ≡ d = some_is q.0 d (sym q.3 ∙ ap (λ m. get m number) (sym (with_demands_puts rows m.demands)) ∙ is) in
+            let same : q.0 ≡ d = same_some q.0 d (sym q.3 ∙ is) in
             inl (subst (IsNew order first lines) same (new_in order first lines q.0 q.1), ap (λ (x : Demand). x.number) (sym same) ∙ q.2)
-        | inr q ↦ inr (sym q.1 ∙ ap (λ m. get m number) (sym (with_demands_puts rows m.demands)) ∙ is)
+        | inr q ↦ inr (sym q.1 ∙ is)
       ]
 
   there_after : (number : ℕ) → IsSome (demand_at m number) → IsSome (demand_at after number)
   there_after number h =
-      elim (found nat_cmp_total nat_cmp-IsAntisymmetric (λ d. d.number) rows m.demands number) [
-        | inl q ↦ is_known (demand_at after number) q.0 (ap (λ m. get m number) (with_demands_puts rows m.demands) ∙ q.3)
-        | inr q ↦ subst (λ (o : Option Demand). IsSome o) (sym (ap (λ m. get m number) (with_demands_puts rows m.demands) ∙ q.1)) h
+      elim (demand_cases rows m.demands number) [
+        | inl q ↦ is_known (demand_at after number) q.0 q.3
+        | inr q ↦ subst (λ (o : Option Demand). IsSome o) (sym q.1) h
       ]
 
   grows : Grows m after

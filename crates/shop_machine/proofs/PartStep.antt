@@ -1,13 +1,9 @@
 -- A content after a part got another state, with new parts beside it, a job, and recounted demands.
-use Rattle.std.proofs.Common.{◌≡◌, ℕ, zero, suc, ◌+◌, ◌-◌, ◌*◌, ◌≤◌, ◌<◌, ◌⊎◌, inl, inr, List, [], ◌∷◌, length, Bool, true, false, refl, sym, ap, subst, ◌∙◌, arith}
-use Rattle.std.specs.Prelude.{Option, Some, None, All, AllPairs, IsSome, IfSome, MatchOption, ⊤, sum_by, count_by, ◌&&◌, if◌then◌else◌}
-use Rattle.std.specs.declared.cmp.Ordering.{Ordering}
+use Rattle.std.proofs.Common.{◌≡◌, ℕ, ◌+◌, ◌≤◌, ◌<◌, inl, inr, List, ◌∷◌, true, false, refl, sym, ap, subst, ◌∙◌, arith}
+use Rattle.std.specs.Prelude.{Option, Some, None, IsSome, IfSome, MatchOption, ⊤, sum_by, count_by}
 use Rattle.std.specs.declared.cmp.Ordering.TheVariants.{Less, Equal}
-use Rattle.std.specs.Ordering.{is_eq}
-use Rattle.std.specs.Cmp.{nat_cmp_total}
-use Rattle.std.specs.FinMap.{FinMap, get, insert, values, nat_cmp-IsAntisymmetric}
-use Rattle.std.proofs.lemmas.List.Elements.{All-nil}
-use Rattle.cut_measure.specs.Codes.{code_cmp}
+use Rattle.std.specs.Cmp.{nat_cmp_total, tied_itself}
+use Rattle.std.specs.FinMap.{values, nat_cmp-IsAntisymmetric}
 use Rattle.cut_measure.specs.Names.{Name, name_cmp}
 use Rattle.cut_tree.specs.Tree.{Tree, count_of}
 use Rattle.shop_machine.specs.declared.records.Part.{Part}
@@ -20,17 +16,18 @@ use Rattle.shop_machine.specs.declared.changes.Change.{Change}
 use Rattle.shop_machine.specs.declared.messages.Message.{Message}
 use Rattle.shop_machine.specs.declared.messages.Reply.{Reply}
 use Rattle.shop_machine.specs.Messages.{Texts, pair_of}
-use Rattle.shop_machine.specs.Columns.{is_there, is_piece_of, is_waiting}
+use Rattle.shop_machine.specs.Columns.{is_there, is_piece_of}
 use Rattle.shop_machine.specs.Content.{Content, material_at, part_at, job_at, demand_at, kept_at, changed, with_number}
-use Rattle.shop_machine.specs.Machine.{AreRecounted, in_state, keeping, most_received, most_numbers}
+use Rattle.shop_machine.specs.Machine.{AreRecounted, in_state, keeping, most_numbers}
 use Rattle.shop_machine.specs.History.{IsIn}
 use Rattle.shop_machine.specs.Soundness.{IsPlaced, IsWaiting, IsJob, IsDemand, IsCounted, PartFits, JobFits, DemandFits, Fits}
-use Rattle.shop_machine.proofs.Puts.{Pairwise, all_from, pairs_from, pairs_more, some_is, none_some, is_known, names_total, ties, names_exact, found_one}
+use Rattle.shop_machine.proofs.Basics.{names_total, same_some}
+use Rattle.shop_machine.proofs.Puts.{Pairwise, all_from, pairs_from, pairs_more, not_both, found_one}
 use Rattle.shop_machine.proofs.AddedUp.{cells_as, cells_left, is_uncut}
 use Rattle.shop_machine.proofs.Moved.{IsRecount, row_recount, recount_of, demand_there, found_moved, other_moved, received_moved, adds_up_moved, made_moved}
 use Rattle.shop_machine.proofs.Grown.{IsStock, Grows, Untouched, placed_more, job_more}
 
-pub standing_no_piece : (s : State) → is_there s ≡ true → (number : ℕ) → is_piece_of number s ≡ false
+standing_no_piece : (s : State) → is_there s ≡ true → (number : ℕ) → is_piece_of number s ≡ false
 standing_no_piece state.Standing e number = refl
 standing_no_piece (state.Reserved job) e number = refl
 standing_no_piece (state.Cut job) e number = cc
@@ -46,9 +43,9 @@ standing_uncut (state.Piece demand) e = refl
 standing_uncut state.Kerf e = refl
 standing_uncut state.Scrap e = refl
 
-pub less_apart : (a b : Name) → name_cmp a b ≡ Less → a ≡ b → ⊥
+less_apart : (a b : Name) → name_cmp a b ≡ Less → a ≡ b → ⊥
 less_apart a b less e =
-    let equal : name_cmp a b ≡ Equal = ap (λ n. name_cmp a n) (sym e) ∙ ties names_total names_exact a in
+    let equal : name_cmp a b ≡ Equal = ap (λ n. name_cmp a n) (sym e) ∙ tied_itself names_total a in
     let same : Less ≡ Equal = sym less ∙ equal in cc
 
 -- what holds of the part, its new state, the new parts and the act's number
@@ -73,7 +70,7 @@ module _ (m : Content) (stock : IsStock m) (row : Part) (s : State) (made : List
     (recount : ℕ → Demand → Demand) (none : (d : Demand) → recount 0 d ≡ d)
     (keeps : (n : ℕ) (d : Demand) → recount n d ≡ record d { reserved = (recount n d).reserved; made = (recount n d).made })
     (tree : Tree) (rows : List Demand) (recounted : AreRecounted (demand_at m) recount tree rows) (texts : Texts) (message : Message) (answer : Reply) where
-  abbrev pub step_change : Change
+  abbrev step_change : Change
   step_change = record {
     material = None;
     parts = in_state s row ∷ made;
@@ -99,11 +96,11 @@ module _ (m : Content) (stock : IsStock m) (row : Part) (s : State) (made : List
   pub untouched : (j : Job) → IsWaiting m j → (row.state ≡ state.Reserved j.act → ⊥) → ((x : Part) → IsIn x made → x.name.act ≡ j.act → ⊥) → Untouched m after grows j
   untouched j w other names = record {
     same = other_moved m.parts row s made step.there step.new apart j.part
-        (λ e. other (ap (λ (p : Part). p.state) (some_is row w.row (sym step.there ∙ ap (λ n. part_at m n) (sym e) ∙ w.found)) ∙ w.reserved))
-        (λ x i e. none_some (part_at m x.name) w.row (step.new x i) (ap (λ n. part_at m n) e ∙ w.found));
+        (λ e. other (ap (λ (p : Part). p.state) (same_some row w.row (sym step.there ∙ ap (λ n. part_at m n) (sym e) ∙ w.found)) ∙ w.reserved))
+        (λ x i e. not_both (part_at m x.name) w.row (step.new x i) (ap (λ n. part_at m n) e ∙ w.found));
     none_yet = λ node.
         other_moved m.parts row s made step.there step.new apart (record { act = j.act; node = node })
-        (λ e. none_some (part_at m (record { act = j.act; node = node })) row (w.none_yet node) (ap (λ n. part_at m n) e ∙ step.there))
+        (λ e. not_both (part_at m (record { act = j.act; node = node })) row (w.none_yet node) (ap (λ n. part_at m n) e ∙ step.there))
         (λ x i e. names x i (ap (λ (n : Name). n.act) e)) ∙ w.none_yet node;
   }
 
@@ -213,9 +210,10 @@ module _ (m : Content) (stock : IsStock m) (row : Part) (s : State) (made : List
     demand_wanted : (x : Demand) → IsRecount m.demands recount tree rows recounted none x.number x → IsSome (material_at m x.material) × (x.reserved + x.made ≤ x.wanted)
     demand_wanted x r =
         let c = count_of tree x.number in
-        let is : x ≡ record r.before { reserved = (recount c r.before).reserved; made = (recount c r.before).made } = r.now ∙ keeps c r.before in
-        (subst (λ (code : List ℕ). IsSome (material_at m code)) (sym (ap (λ (d : Demand). d.material) is)) (stock.demands x.number r.before r.was).known,
-        subst (λ (d : Demand). d.reserved + d.made ≤ d.wanted) (sym r.now) (counts x.number r.before r.was).few)
+        let is : x ≡ record r.before { reserved = (recount c r.before).reserved; made = (recount c r.before).made } = r.now ∙ keeps c r.before in (
+          subst (λ (code : List ℕ). IsSome (material_at m code)) (sym (ap (λ (d : Demand). d.material) is)) (stock.demands x.number r.before r.was).known,
+          subst (λ (d : Demand). d.reserved + d.made ≤ d.wanted) (sym r.now) (counts x.number r.before r.was).few,
+        )
 
     pub step_fits : kept_at m (pair_of message) ≡ None → Fits m full
     step_fits new = record {

@@ -1,11 +1,11 @@
 -- A content after units were received.
-use Rattle.std.proofs.Common.{◌≡◌, ℕ, zero, suc, ◌+◌, ◌*◌, ◌≤◌, ◌<◌, inl, inr, List, [], ◌∷◌, ◌++◌, length, map, Bool, true, false, refl, sym, ap, subst, ◌∙◌, arith}
-use Rattle.std.specs.Prelude.{Option, Some, None, All, AllPairs, IsSome, MatchOption, ⊤, ◌⊎◌, sum_by, count_by, ◌&&◌, ◌==◌, not, if◌then◌else◌}
+use Rattle.std.proofs.Common.{◌≡◌, ℕ, zero, suc, ◌+◌, ◌*◌, ◌≤◌, ◌<◌, inl, inr, List, [], ◌∷◌, ◌++◌, length, Bool, true, false, refl, sym, ap, subst, ◌∙◌, arith}
+use Rattle.std.specs.Prelude.{Some, None, IsSome, MatchOption, ⊤, ◌⊎◌, sum_by, ◌&&◌, ◌==◌, if◌then◌else◌}
 use Rattle.std.specs.declared.cmp.Ordering.{Ordering}
 use Rattle.std.specs.declared.cmp.Ordering.TheVariants.{Less, Equal}
 use Rattle.std.specs.Ordering.{is_eq, nat_cmp, ordering_then}
 use Rattle.std.specs.Cmp.{nat_cmp_is}
-use Rattle.std.specs.FinMap.{FinMap, get, values}
+use Rattle.std.specs.FinMap.{values}
 use Rattle.std.proofs.lemmas.List.{length-map}
 use Rattle.std.proofs.lemmas.List.Sums.{sum_by-cons}
 use Rattle.std.proofs.lemmas.List.Elements.{All-nil}
@@ -13,21 +13,21 @@ use Rattle.cut_measure.proofs.Cells.{length-below}
 use Rattle.cut_measure.specs.Codes.{code_cmp}
 use Rattle.cut_measure.specs.Names.{Name, name_cmp}
 use Rattle.cut_measure.specs.Measures.{Extent, below}
-use Rattle.shop_machine.specs.declared.records.Material.{Material}
 use Rattle.shop_machine.specs.declared.records.Part.{Part}
 use Rattle.shop_machine.specs.declared.records.Demand.{Demand}
 use Rattle.shop_machine.specs.declared.records.Column.TheVariants.{Received}
 use Rattle.shop_machine.specs.declared.messages.Message.{Message}
 use Rattle.shop_machine.specs.Messages.{Texts, pair_of}
 use Rattle.shop_machine.specs.Columns.{same_name, is_piece_of}
-use Rattle.shop_machine.specs.Content.{Content, material_at, part_at, kept_at, changed, with_parts, cells_in, totals_in, totals_of, AddsUp}
+use Rattle.shop_machine.specs.Content.{Content, material_at, part_at, kept_at, changed, cells_in, totals_in, totals_of, AddsUp}
 use Rattle.shop_machine.specs.Machine.{in_state, unit_part, unit_parts, receive_change, keeping, most_received}
 use Rattle.shop_machine.specs.History.{IsIn}
-use Rattle.shop_machine.specs.Soundness.{IsPlaced, IsCounted, PartFits, Fits, made_in}
-use Rattle.shop_machine.proofs.Puts.{Pairwise, all_from, pairs_from, pairs_more, in_map, in_append, map_pairs, sum_as, sum_of_none, some_is, is_known, names_total, names_exact, codes_exact, equal, puts, found, put_other, sum_puts, none_some, with_parts_puts}
+use Rattle.shop_machine.specs.Soundness.{IsPlaced, PartFits, Fits, made_in}
+use Rattle.shop_machine.proofs.Basics.{in_map, in_append, codes_same, same_some, put_cases}
+use Rattle.shop_machine.proofs.Puts.{Pairwise, all_from, pairs_from, pairs_more, map_pairs, sum_as, is_known, equal, put_other, sum_parts}
 use Rattle.shop_machine.proofs.Allowed.{IsReceipt, eq_true}
 use Rattle.shop_machine.proofs.AddedUp.{cells_as, cells_left, adds_up, adds_up_so}
-use Rattle.shop_machine.proofs.Grown.{IsStock, Grows, Untouched, placed_more, job_more, none_later}
+use Rattle.shop_machine.proofs.Grown.{IsStock, Grows, placed_more, job_more, none_later}
 use Rattle.shop_machine.proofs.MaterialStep.{demand_more, no_pairs}
 
 -- ---- numbers below n
@@ -35,7 +35,7 @@ use Rattle.shop_machine.proofs.MaterialStep.{demand_more, no_pairs}
 in_below : (n i : ℕ) → IsIn i (below n) → i < n
 in_below zero i h = absurd h
 in_below (suc n) i h =
-    elim (in_append (below n) (n ∷ []) i h) [
+    elim (in_append i (below n) (n ∷ []) h) [
       | inl p ↦ let less = in_below n i p in omega (arith, less)
       | inr q ↦ elim q [ inl e ↦ omega (arith, e) | inr none ↦ absurd none ]
     ]
@@ -46,7 +46,7 @@ append_pairs {X} R (x ∷ xs) y p h = (by, append_pairs R xs y p.1 (λ z i. h z 
   where
     by : (z : X) → IsIn z (xs ++ y ∷ []) → R x z
     by z i =
-        elim (in_append xs (y ∷ []) z i) [
+        elim (in_append z xs (y ∷ []) i) [
           | inl q ↦ p.0 z q
           | inr q ↦ elim q [ inl e ↦ subst (R x) (sym e) (h x (inl refl)) | inr none ↦ absurd none ]
         ]
@@ -57,7 +57,7 @@ below_rises (suc n) = append_pairs (λ (a b : ℕ). a < b) (below n) n (below_ri
 
 -- ---- names
 
-pub same_self : (name : Name) → same_name name name ≡ true
+same_self : (name : Name) → same_name name name ≡ true
 same_self name = ap (λ b. b && (name.node == name.node)) (eq_true name.act name.act refl) ∙ eq_true name.node name.node refl
 
 pub earlier_act : (a b : Name) → a.act < b.act → name_cmp a b ≡ Less
@@ -103,8 +103,7 @@ module _ (m : Content) (stock : IsStock m) (material batch : List ℕ) (w h coun
 
   sum_after : (f : Part → ℕ) → sum_by f (values after.parts) ≡ sum_by f (values m.parts) + sum_by f units
   sum_after f =
-      ap (λ p. sum_by f (values p)) (with_parts_puts units m.parts)
-      ∙ sum_puts names_total names_exact (λ p. p.name) f units m.parts units_apart unit_new
+      sum_parts f units m.parts units_apart unit_new
 
   -- each unit has the same number
   sum_units : (f : Part → ℕ) (c : ℕ) → ((i : ℕ) → f (unit_part material batch size act i) ≡ c) → sum_by f units ≡ count * c
@@ -118,17 +117,16 @@ module _ (m : Content) (stock : IsStock m) (material batch : List ℕ) (w h coun
 
   found_after : (name : Name) (p : Part) → part_at after name ≡ Some p → (IsIn p units × (p.name ≡ name)) ⊎ (part_at m name ≡ Some p)
   found_after name p is =
-      elim (found names_total names_exact (λ p. p.name) units m.parts name) [
+      elim (put_cases units m.parts name) [
         | inl q ↦
-            let same : q.0 ≡ p = some_is q.0 p (sym q.3 ∙ ap (λ m. get m name) (sym (with_parts_puts units m.parts)) ∙ is) in
+            let same : q.0 ≡ p = same_some q.0 p (sym q.3 ∙ is) in
             inl (subst (λ (x : Part). IsIn x units) same q.1, ap (λ (x : Part). x.name) (sym same) ∙ q.2)
-        | inr q ↦ inr (sym q.1 ∙ ap (λ m. get m name) (sym (with_parts_puts units m.parts)) ∙ is)
+        | inr q ↦ inr (sym q.1 ∙ is)
       ]
 
   other_after : (name : Name) → (name.act ≡ act → ⊥) → part_at after name ≡ part_at m name
   other_after name other =
-      ap (λ m. get m name) (with_parts_puts units m.parts)
-      ∙ put_other names_total names_exact (λ p. p.name) units m.parts name (λ x i e. other (ap (λ (n : Name). n.act) (sym e) ∙ unit_act x i))
+      put_other units m.parts name (λ x i e. other (ap (λ (n : Name). n.act) (sym e) ∙ unit_act x i))
 
   grows : Grows m after
   grows = record { materials = λ code x is. is; demands = λ number some. some; acts = omega arith }
@@ -151,7 +149,7 @@ module _ (m : Content) (stock : IsStock m) (material batch : List ℕ) (w h coun
 
   received_by : (code : List ℕ) (b : Bool) → is_eq (code_cmp material code) ≡ b → cells_in Received code (values after.parts) ≤ most_received
   received_by code true e =
-      let same : material ≡ code = codes_exact material code (equal (code_cmp material code) e) in
+      let same : material ≡ code = codes_same material code (equal (code_cmp material code) e) in
       let before : (totals_of m code).received ≡ (totals_of m material).received = ap (λ c. (totals_of m c).received) (sym same) in
       let sum = sum_after (cells_as Received code) in
       let new = sum_units (cells_as Received code) (w * h) (unit_received code true e) in
@@ -221,11 +219,11 @@ module _ (m : Content) (stock : IsStock m) (material batch : List ℕ) (w h coun
         let so_far = old.so_far in
         job_more m after grows number j
         (λ w.
-            let older = w.older in
-            record {
-              same = other_after j.part (λ e. omega (arith, older, named, so_far, e));
-              none_yet = λ node. other_after (record { act = j.act; node = node }) (λ e. omega (arith, named, so_far, e)) ∙ w.none_yet node;
-            }) old;
+        let older = w.older in
+        record {
+          same = other_after j.part (λ e. omega (arith, older, named, so_far, e));
+          none_yet = λ node. other_after (record { act = j.act; node = node }) (λ e. omega (arith, named, so_far, e)) ∙ w.none_yet node;
+        }) old;
     demands = λ number d is.
         let old = stock.demands number d is in
         demand_more m after grows (omega arith) number d old

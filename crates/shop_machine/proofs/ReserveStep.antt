@@ -1,9 +1,9 @@
 -- A content after a part was reserved.
-use Rattle.std.proofs.Common.{◌≡◌, ℕ, zero, suc, ◌+◌, ◌-◌, ◌*◌, ◌≤◌, ◌<◌, ◌⊎◌, inl, inr, List, [], ◌∷◌, ◌++◌, Bool, true, false, refl, sym, ap, subst, ◌∙◌, arith}
-use Rattle.std.specs.Prelude.{Option, Some, None, IsSome, MatchOption, ⊤, sum_by, ◌&&◌, if◌then◌else◌}
+use Rattle.std.proofs.Common.{◌≡◌, ℕ, zero, suc, ◌+◌, ◌*◌, ◌≤◌, ◌<◌, ◌⊎◌, inl, inr, List, [], ◌∷◌, ◌++◌, true, false, refl, sym, ap, subst, ◌∙◌, arith}
+use Rattle.std.specs.Prelude.{Some, None, MatchOption, ⊤, ◌&&◌, if◌then◌else◌}
 use Rattle.std.specs.Ordering.{is_eq}
 use Rattle.std.specs.Cmp.{nat_cmp_total}
-use Rattle.std.specs.FinMap.{FinMap, get, insert, values, nat_cmp-IsAntisymmetric}
+use Rattle.std.specs.FinMap.{nat_cmp-IsAntisymmetric}
 use Rattle.cut_measure.specs.Codes.{code_cmp}
 use Rattle.cut_measure.specs.Names.{Name}
 use Rattle.cut_tree.specs.declared.token.Token.{Token}
@@ -22,9 +22,10 @@ use Rattle.shop_machine.specs.Messages.{Texts, pair_of}
 use Rattle.shop_machine.specs.Columns.{is_there, is_free, is_waiting}
 use Rattle.shop_machine.specs.Content.{Content, material_at, part_at, job_at, demand_at, kept_at, changed}
 use Rattle.shop_machine.specs.Machine.{AreRecounted, IsReading, in_state, with_reserved, reserve_change, keeping}
-use Rattle.shop_machine.specs.Soundness.{IsWaiting, IsJob, IsCounted, JobFits, Fits, reserved_in, made_in}
-use Rattle.shop_machine.proofs.Puts.{some_is, none_some, not_some, is_known, names_total, names_exact, get_same, sum_new}
-use Rattle.shop_machine.proofs.Allowed.{IsFitting, HasRoom, narrow}
+use Rattle.shop_machine.specs.Soundness.{IsWaiting, IsJob, IsCounted, Fits, reserved_in, made_in}
+use Rattle.shop_machine.proofs.Basics.{names_total, names_same, same_some, none_at, get_same}
+use Rattle.shop_machine.proofs.Puts.{not_both, is_known, sum_new}
+use Rattle.shop_machine.proofs.Allowed.{IsFitting, narrow}
 use Rattle.shop_machine.proofs.AddedUp.{cells_left, is_uncut}
 use Rattle.shop_machine.proofs.Moved.{demand_there, found_moved, no_reserved}
 use Rattle.shop_machine.proofs.Grown.{IsStock, none_later}
@@ -73,7 +74,7 @@ module _ (m : Content) (stock : IsStock m) (name : Name) (text : List ℕ) (row 
   after = changed m (keeping texts message (reserve_change row plan act rows))
 
   same_row : reading.row ≡ row
-  same_row = some_is reading.row row (sym reading.found ∙ there)
+  same_row = same_some reading.row row (sym reading.found ∙ there)
 
   named : row.name ≡ name
   named = (stock.parts name row there).named
@@ -106,7 +107,7 @@ module _ (m : Content) (stock : IsStock m) (name : Name) (text : List ℕ) (row 
   keeps n d = refl
 
   no_job : job_at m act ≡ None
-  no_job = not_some (job_at m act) (λ j is. let le = (stock.jobs act j is).so_far in omega (arith, le))
+  no_job = none_at (job_at m act) (λ j is. let le = (stock.jobs act j is).so_far in omega (arith, le))
 
   reserved_after : (number : ℕ) → reserved_in number after ≡ reserved_in number m + count_of plan.tree number
   reserved_after number =
@@ -121,7 +122,7 @@ module _ (m : Content) (stock : IsStock m) (name : Name) (text : List ℕ) (row 
   few_after number before is zero e = let few = (stock.demands number before is).counted.few in omega (arith, few)
   few_after number before is (suc c) e =
       let has = fitting.demands number (omega (arith, e)) in
-      let same : has.demand ≡ before = some_is has.demand before (sym has.found ∙ is) in
+      let same : has.demand ≡ before = same_some has.demand before (sym has.found ∙ is) in
       let room : before.reserved + before.made + count_of plan.tree number ≤ before.wanted =
       subst (λ (d : Demand). d.reserved + d.made + count_of plan.tree number ≤ d.wanted) same has.room in
       omega (arith, room, e)
@@ -161,7 +162,7 @@ module _ (m : Content) (stock : IsStock m) (name : Name) (text : List ℕ) (row 
   waiting : IsWaiting after new_job
   waiting = record {
     row = in_state (state.Reserved act) row;
-    found = get_same names_total names_exact m.parts row.name (in_state (state.Reserved act) row);
+    found = get_same names_total names_same m.parts row.name (in_state (state.Reserved act) row);
     reserved = refl;
     older = older;
     material = reading.material;
@@ -173,13 +174,13 @@ module _ (m : Content) (stock : IsStock m) (name : Name) (text : List ℕ) (row 
         let has = fitting.demands number some in
         demand_there m.demands with_reserved plan.tree rows recounted no_reserved number (is_known (demand_at m number) has.demand has.found);
     none_yet = λ node.
-        not_some (part_at after (record { act = act; node = node })) (λ p is. by node p (found_moved m.parts row (state.Reserved act) [] here (λ x i. absurd i) tt (record { act = act; node = node }) p is));
+        none_at (part_at after (record { act = act; node = node })) (λ p is. by node p (found_moved m.parts row (state.Reserved act) [] here (λ x i. absurd i) tt (record { act = act; node = node }) p is));
   }
     where
       by : (node : ℕ) (p : Part) → ((p ≡ in_state (state.Reserved act) row) × ((record { act = act; node = node }) ≡ row.name)) ⊎ ((⊥ × (p.name ≡ (record { act = act; node = node }))) ⊎ (((record { act = act; node = node }) ≡ row.name → ⊥) × (part_at m (record { act = act; node = node }) ≡ Some p))) → ⊥
       by node p (inl q) = let same : act ≡ row.name.act = ap (λ (n : Name). n.act) q.1 in let less = older in omega (arith, same, less)
       by node p (inr (inl q)) = q.0
-      by node p (inr (inr q)) = none_some (part_at m (record { act = act; node = node })) p (none_later m stock.in_range (record { act = act; node = node }) (omega arith)) q.1
+      by node p (inr (inr q)) = not_both (part_at m (record { act = act; node = node })) p (none_later m stock.in_range (record { act = act; node = node }) (omega arith)) q.1
 
   job_after : IsJob after act new_job
   job_after = record { numbered = refl; least = omega arith; so_far = omega arith; plan = is_plan; kerf = refl; waits = λ is. waiting }
@@ -189,8 +190,8 @@ module _ (m : Content) (stock : IsStock m) (name : Name) (text : List ℕ) (row 
       step_stock m stock row (state.Reserved act) [] (Some act) new_job step with_reserved no_reserved keeps plan.tree rows recounted texts message (reply.Reserve (cut_count plan.tree) act)
       job_after
       (λ number j is other w.
-          untouched m stock row (state.Reserved act) [] (Some act) new_job step with_reserved no_reserved keeps plan.tree rows recounted texts message (reply.Reserve (cut_count plan.tree) act)
-          j w (free_unreserved row.state j.act fitting.free) (λ x i e. i))
+      untouched m stock row (state.Reserved act) [] (Some act) new_job step with_reserved no_reserved keeps plan.tree rows recounted texts message (reply.Reserve (cut_count plan.tree) act)
+      j w (free_unreserved row.state j.act fitting.free) (λ x i e. i))
       counts
 
   pub reserve_fits : kept_at m (pair_of message) ≡ None → Fits m (keeping texts message (reserve_change row plan act rows))

@@ -1,7 +1,7 @@
 -- Every history gives a sound content, and what is accepted on a sound content fits it.
-use Rattle.std.proofs.Common.{◌≡◌, ◌≢◌, ℕ, ◌+◌, ◌≤◌, List, [], ◌∷◌, map, refl, sym, ap, subst, ◌∙◌, arith}
-use Rattle.std.specs.Prelude.{Option, Some, None, sum_by, length}
-use Rattle.std.specs.FinMap.{FinMap, entries, get-empty, len-entries, len-empty, empty, values}
+use Rattle.std.proofs.Common.{◌≡◌, ◌≢◌, ◌+◌, ◌≤◌, List, [], ◌∷◌, map, refl, sym, ap, subst, ◌∙◌, arith}
+use Rattle.std.specs.Prelude.{Option, Some, None, length}
+use Rattle.std.specs.FinMap.{entries, get-empty, len-entries, len-empty, empty, values}
 use Rattle.std.specs.Ordering.{nat_cmp}
 use Rattle.cut_measure.specs.Codes.{code_cmp}
 use Rattle.cut_measure.specs.Names.{Name, name_cmp}
@@ -17,7 +17,7 @@ use Rattle.shop_machine.specs.Content.{Content, fresh, pair_cmp, material_at, to
 use Rattle.shop_machine.specs.Machine.{Reads, refusal_of, Makes, keeping, most_received}
 use Rattle.shop_machine.specs.History.{Entry, Gives}
 use Rattle.shop_machine.specs.Soundness.{IsSound, Fits}
-use Rattle.shop_machine.proofs.Puts.{none_some}
+use Rattle.shop_machine.proofs.Puts.{not_both}
 use Rattle.shop_machine.proofs.Allowed.{order_of}
 use Rattle.shop_machine.proofs.Grown.{IsStock}
 use Rattle.shop_machine.proofs.MaterialStep.{material_stock, material_fits}
@@ -122,17 +122,17 @@ no_values = ap (map (λ (e : Name × Part). e.1)) no_entries
 fresh_sound : (texts : Texts) → IsSound texts fresh
 fresh_sound texts = record {
   in_range = record {
-    acts = λ name part is. absurd (none_some _ part (get-empty name_cmp name) is);
+    acts = λ name part is. absurd (not_both _ part (get-empty name_cmp name) is);
     last = omega arith;
     last_demand = omega arith;
     received = λ code. subst (λ (ps : List Part). (totals_in code ps).received ≤ most_received) (sym no_values) (omega arith);
     adds_up = λ code. subst (λ (ps : List Part). AddsUp (totals_in code ps)) (sym no_values) refl;
   };
-  materials = λ code material is. absurd (none_some _ material (get-empty code_cmp code) is);
-  parts = λ name part is. absurd (none_some _ part (get-empty name_cmp name) is);
-  jobs = λ number job is. absurd (none_some _ job (get-empty nat_cmp number) is);
-  demands = λ number demand is. absurd (none_some _ demand (get-empty nat_cmp number) is);
-  kept = λ pair row is. absurd (none_some _ row (get-empty pair_cmp pair) is);
+  materials = λ code material is. absurd (not_both _ material (get-empty code_cmp code) is);
+  parts = λ name part is. absurd (not_both _ part (get-empty name_cmp name) is);
+  jobs = λ number job is. absurd (not_both _ job (get-empty nat_cmp number) is);
+  demands = λ number demand is. absurd (not_both _ demand (get-empty nat_cmp number) is);
+  kept = λ pair row is. absurd (not_both _ row (get-empty pair_cmp pair) is);
 }
 
 -- every history gives a sound content

@@ -1,5 +1,5 @@
 -- Replies to what is accepted, and what is kept of it.
-use Rattle.std.proofs.Common.{◌≡◌, ℕ, ◌+◌, ◌*◌, ◌≤◌, ◌<◌, inl, inr, List, [], ◌∷◌, length, map, Bool, true, false, refl, sym, ap, subst, ◌∙◌, arith}
+use Rattle.std.proofs.Common.{◌≡◌, ℕ, ◌+◌, ◌*◌, ◌≤◌, inl, inr, List, Bool, true, false, sym, ap, subst, ◌∙◌, arith}
 use Rattle.std.specs.Prelude.{Option, Some, None, IsTrue, sum_by, if◌then◌else◌}
 use Rattle.std.proofs.lemmas.List.Sums.{sum_by-le-sum_by}
 use Rattle.std.proofs.lemmas.Nat.{mul-le}
@@ -8,7 +8,6 @@ use Rattle.cut_measure.specs.Codes.{is_code}
 use Rattle.cut_measure.specs.Names.{Name}
 use Rattle.cut_measure.specs.Measures.{Rule}
 use Rattle.cut_tree.specs.declared.lay.Row.{Row}
-use Rattle.cut_tree.specs.Tree.{cut_count}
 use Rattle.cut_tree.specs.Patterns.{Pattern}
 use Rattle.cut_tree.specs.Cells.{all_made}
 use Rattle.cut_tree.specs.Laying.{IsLaid}
@@ -23,12 +22,12 @@ use Rattle.shop_machine.specs.declared.messages.Command.{Command}
 use Rattle.shop_machine.specs.declared.messages.Command.TheVariants.{AddMaterial, Receive, AddOrder, Reserve, Done, Release}
 use Rattle.shop_machine.specs.declared.messages.Message.{Message}
 use Rattle.shop_machine.specs.Columns.{is_kerf, is_piece, is_free, is_scrap, is_waiting}
-use Rattle.shop_machine.specs.Messages.{Texts, IsMessage, IsCommand, IsMade, IsNumber, IsWide, pair_of}
+use Rattle.shop_machine.specs.Messages.{Texts, IsMessage, IsCommand, IsMade, IsWide, pair_of}
 use Rattle.shop_machine.specs.Content.{Content, material_at, part_at, job_at, has_order, demand_at, kept_at, totals_of, changed}
-use Rattle.shop_machine.specs.Machine.{Reads, IsReading, IsWork, refusal_of, reserve_refusal, end_refusal, Makes, material_of, part_of, keeping, material_change, receive_change, order_change, done_reply, cells_where}
+use Rattle.shop_machine.specs.Machine.{Reads, IsReading, IsWork, refusal_of, reserve_refusal, end_refusal, Makes, material_of, keeping, material_change, done_reply, cells_where}
 use Rattle.shop_machine.specs.Soundness.{IsKept, IsSound}
 use Rattle.shop_machine.proofs.Puts.{found_one, pairs_total, pairs_exact, sum_map}
-use Rattle.shop_machine.proofs.Allowed.{IsReceipt, receipt_of, IsOrder, order_of, IsFitting, fitting_of, waiting_of}
+use Rattle.shop_machine.proofs.Allowed.{IsReceipt, receipt_of, order_of, IsFitting, fitting_of, waiting_of}
 use Rattle.shop_machine.proofs.Grown.{IsStock}
 use Rattle.shop_machine.proofs.JobEnds.{made, all_cells, so_far, placed}
 
@@ -77,12 +76,11 @@ module _ (m : Content) (stock : IsStock m) (number : ℕ) (j : Job) (part : Part
       by true n = omega arith
       by false n = omega arith
 
-  pub done_told : IsMade (done_reply j.act parts)
+  done_told : IsMade (done_reply j.act parts)
   done_told =
       let le = so_far m stock number j part material work waits in
       let last = stock.in_range.last in
       (omega (arith, le, last), cells_few is_kerf, cells_few is_piece, cells_few is_free, cells_few is_scrap)
-
 
 made_material : (known : Option Material) (code : List ℕ) (kind : Kind) (rule : Rule) → IsTrue (is_code code) → IsMade (material_change known code kind rule).reply
 made_material None code kind rule is = is
