@@ -1,5 +1,5 @@
 -- Rows of a sound content never contradict each other.
-use Rattle.std.proofs.Common.{◌≡◌, ◌≢◌, ℕ, ◌+◌, ◌*◌, ◌≤◌, List, [], ◌∷◌, length, Bool, true, false, refl, sym, ap, subst, ◌∙◌}
+use Rattle.std.proofs.Common.{arith, ◌≡◌, ◌≢◌, ℕ, ◌+◌, ◌*◌, ◌≤◌, List, [], ◌∷◌, length, Bool, true, false, refl, sym, ap, subst, ◌∙◌}
 use Rattle.std.specs.Prelude.{Option, Some, None, IsSome, is_some, nat_le, nat_lt, ◌&&◌, ◌==◌, not, if◌then◌else◌}
 use Rattle.std.specs.List.{list_all}
 use Rattle.std.specs.Option.{option_or}
@@ -19,7 +19,7 @@ use Rattle.shop_machine.specs.declared.refusals.Refusal.{Refusal}
 use Rattle.shop_machine.specs.declared.refusals.Refusal.TheVariants.{JobOver, StoreFault}
 use Rattle.shop_machine.specs.Columns.{is_free, is_waiting, is_reserved_for}
 use Rattle.shop_machine.specs.Content.{Content, material_at, part_at, job_at, demand_at}
-use Rattle.shop_machine.specs.Machine.{IsWork, refusal_of, material_refusal, is_other, receive_refusal, most_received, most_numbers, is_good_line, line_refusal, lines_refusal, order_refusal, plan_leaves, same_code, fits_demand, leaf_refusal, leaves_refusal, is_too_many, is_empty, plan_refusal, reserve_refusal, material_of, part_of, has_reserved, rests, job_refusal, end_refusal}
+use Rattle.shop_machine.specs.Machine.{IsWork, refusal_of, material_refusal, is_other, receive_refusal, most_received, most_numbers, is_good_line, line_refusal, lines_refusal, order_refusal, plan_leaves, same_code, fits_demand, leaf_refusal, leaves_refusal, is_too_many, plan_refusal, reserve_refusal, material_of, part_of, has_reserved, rests, job_refusal, end_refusal}
 use Rattle.shop_machine.proofs.Puts.{some_known}
 use Rattle.shop_machine.proofs.Allowed.{le_true, eq_true, all_true, leaf_counts}
 use Rattle.shop_machine.proofs.Grown.{IsStock}
@@ -75,7 +75,7 @@ leaves_agree at code (leaf ∷ leaves) = either (leaf_refusal code leaf (at leaf
 plan_agrees : (part : Part) (read : Option Pattern) (at : ℕ → Option Demand) (act : ℕ) → NoFault (plan_refusal part read at act)
 plan_agrees part None at act = λ e. cc
 plan_agrees part (Some plan) at act =
-    either _ _ (other (is_empty (plan_leaves plan)) _ _ (λ e. cc) nothing)
+    either _ _ (other (length (plan_leaves plan) == 0) _ _ (λ e. cc) nothing)
     (either _ _ (leaves_agree at part.material (plan_leaves plan))
     (other (is_too_many at plan) _ _ (λ e. cc) (other (nat_lt most_numbers act) _ _ (λ e. cc) nothing)))
 
@@ -105,15 +105,17 @@ module _ (m : Content) (stock : IsStock m) where
       subst (λ o. has_reserved n o ≡ true) (sym e)
       (ap (λ b. b && nat_le (d.reserved + d.made) d.wanted) (le_true n d.reserved h) ∙ le_true (d.reserved + d.made) d.wanted few)
 
-  five : (a b c d e : Bool) → a ≡ true → b ≡ true → c ≡ true → d ≡ true → e ≡ true → (a && b && c && d && e) ≡ true
-  five a b c d e p q r s t =
-      ap (λ x. x && b && c && d && e) p ∙ ap (λ x. x && c && d && e) q ∙ ap (λ x. x && d && e) r ∙ ap (λ x. x && e) s ∙ t
+  seven : (f g a b c d e : Bool) → f ≡ true → g ≡ true → a ≡ true → b ≡ true → c ≡ true → d ≡ true → e ≡ true → (f && g && a && b && c && d && e) ≡ true
+  seven f g a b c d e n m p q r s t =
+      ap (λ x. x && g && a && b && c && d && e) n ∙ ap (λ x. x && a && b && c && d && e) m
+      ∙ ap (λ x. x && b && c && d && e) p ∙ ap (λ x. x && c && d && e) q ∙ ap (λ x. x && d && e) r ∙ ap (λ x. x && e) s ∙ t
 
   -- a waiting job rests on its rows
   waiting_rests : (number : ℕ) (j : Job) → job_at m number ≡ Some j → is_waiting j.state ≡ true
       → rests j (part_at m j.part) (material_of m (part_at m j.part)) (demand_at m) ≡ true
   waiting_rests number j found waits =
-      let w = (stock.jobs number j found).waits waits in
+      let is_job = stock.jobs number j found in
+      let w = is_job.waits waits in
       let row = w.row in
       let material = w.material in
       let work : IsWork m number j row material = record { found = found; on = w.found; of = w.known } in
@@ -121,7 +123,9 @@ module _ (m : Content) (stock : IsStock m) where
       subst (λ o. rests j o (material_of m o) (demand_at m) ≡ true) (sym w.found)
       (subst (λ o. rests j (Some row) o (demand_at m) ≡ true) (sym w.known)
       (ap (λ b. b && list_all (λ leaf. has_reserved (count_of j.plan.tree leaf.demand) (demand_at m leaf.demand)) (plan_leaves j.plan))
-      (five (is_reserved_for j.act row.state) (row.size.w == j.plan.w) (row.size.h == j.plan.h) (nat_le (row.x + row.size.w) 200000) (nat_le (row.y + row.size.h) 60000)
+      (seven (nat_le 1 j.act) (nat_le j.act most_numbers) (is_reserved_for j.act row.state) (row.size.w == j.plan.w) (row.size.h == j.plan.h) (nat_le (row.x + row.size.w) 200000) (nat_le (row.y + row.size.h) 60000)
+      (le_true 1 j.act (subst (λ n. 1 ≤ n) (sym is_job.numbered) is_job.least))
+      (le_true j.act most_numbers (omega (arith, is_job.so_far, is_job.numbered, stock.in_range.last)))
       (ap (is_reserved_for j.act) (reserved m stock number j row material work waits) ∙ eq_true j.act j.act refl)
       (eq_true row.size.w j.plan.w (sym (width m stock number j row material work waits)))
       (eq_true row.size.h j.plan.h (sym (height m stock number j row material work waits)))

@@ -19,7 +19,7 @@ use Rattle.shop_machine.specs.declared.messages.OrderLine.{OrderLine}
 use Rattle.shop_machine.specs.declared.refusals.Refusal.{Refusal}
 use Rattle.shop_machine.specs.declared.refusals.Refusal.TheVariants.{BadSize, BadCount, TooMuch, NumbersSpent, OrderExists, BadLine, NotStanding, BadTree, WrongMaterial, TooMany, JobOver, StoreFault}
 use Rattle.shop_machine.specs.Columns.{is_free, is_waiting}
-use Rattle.shop_machine.specs.Machine.{first_of, receive_refusal, order_refusal, line_refusal, lines_refusal, reserve_refusal, plan_refusal, leaf_refusal, leaves_refusal, is_too_many, is_over, is_empty, plan_leaves, same_code, job_refusal, most_received, most_numbers}
+use Rattle.shop_machine.specs.Machine.{first_of, receive_refusal, order_refusal, line_refusal, lines_refusal, reserve_refusal, plan_refusal, leaf_refusal, leaves_refusal, is_too_many, is_over, plan_leaves, same_code, job_refusal, most_received, most_numbers}
 use Rattle.shop_machine.specs.History.{IsIn}
 use Rattle.shop_machine.proofs.Puts.{counted_in, in_counted}
 
@@ -207,7 +207,7 @@ fitting_of row material plan at act e =
     let outer = or_none (first_of ((not (is_free row.state), NotStanding) ∷ (not (is_some material), StoreFault) ∷ [])) (plan_refusal row (Some plan) at act) e in
     let free = none_of (not (is_free row.state)) NotStanding _ outer.0 in
     let known = none_of (not (is_some material)) StoreFault _ free.1 in
-    let some = or_none (first_of ((is_empty (plan_leaves plan), BadTree) ∷ [])) _ outer.1 in
+    let some = or_none (first_of ((length (plan_leaves plan) == 0, BadTree) ∷ [])) _ outer.1 in
     let leaves = or_none (leaves_refusal at row.material (plan_leaves plan)) _ some.1 in
     let few = none_of (is_too_many at plan) TooMany _ leaves.1 in
     let last = none_of (nat_lt most_numbers act) NumbersSpent _ few.1 in

@@ -26,3 +26,4 @@ pub mod JobEnds
 pub mod Told
 pub mod Agreeing
 pub mod Sound
+pub mod Runs

@@ -21,10 +21,12 @@ use Rattle.shop_machine.specs.declared.changes.Change.{Change}
 use Rattle.shop_machine.specs.declared.messages.Command.{Command}
 use Rattle.shop_machine.specs.declared.messages.Command.TheVariants.{AddMaterial, Receive, AddOrder, Reserve, Done, Release}
 use Rattle.shop_machine.specs.declared.messages.Message.{Message}
-use Rattle.shop_machine.specs.Columns.{is_kerf, is_piece, is_free, is_scrap, is_waiting}
+use Rattle.shop_machine.specs.Columns.{is_counted, is_waiting}
+use Rattle.shop_machine.specs.declared.records.Column.{Column}
+use Rattle.shop_machine.specs.declared.records.Column.TheVariants as column
 use Rattle.shop_machine.specs.Messages.{Texts, IsMessage, IsCommand, IsMade, IsWide, pair_of}
 use Rattle.shop_machine.specs.Content.{Content, material_at, part_at, job_at, has_order, demand_at, kept_at, totals_of, changed}
-use Rattle.shop_machine.specs.Machine.{Reads, IsReading, IsWork, refusal_of, reserve_refusal, end_refusal, Makes, material_of, keeping, material_change, done_reply, cells_where}
+use Rattle.shop_machine.specs.Machine.{Reads, IsReading, IsWork, refusal_of, reserve_refusal, end_refusal, Makes, material_of, keeping, material_change, done_reply, cells_counted}
 use Rattle.shop_machine.specs.Soundness.{IsKept, IsSound}
 use Rattle.shop_machine.proofs.Puts.{found_one, pairs_total, pairs_exact, sum_map}
 use Rattle.shop_machine.proofs.Allowed.{IsReceipt, receipt_of, order_of, IsFitting, fitting_of, waiting_of}
@@ -61,9 +63,9 @@ module _ (m : Content) (stock : IsStock m) (number : ℕ) (j : Job) (part : Part
   abbrev parts : List Part
   parts = made m stock number j part material work waits laid is_laid
 
-  cells_few : (test : State → Bool) → IsWide (cells_where test parts)
-  cells_few test =
-      let le = sum_by-le-sum_by (λ (p : Part). if test p.state then p.size.w * p.size.h else 0) (λ (p : Part). p.size.w * p.size.h) parts (λ p. by (test p.state) (p.size.w * p.size.h)) in
+  cells_few : (column : Column) → IsWide (cells_counted column parts)
+  cells_few column =
+      let le = sum_by-le-sum_by (λ (p : Part). if is_counted column p then p.size.w * p.size.h else 0) (λ (p : Part). p.size.w * p.size.h) parts (λ p. by (is_counted column p) (p.size.w * p.size.h)) in
       let all : sum_by (λ (p : Part). p.size.w * p.size.h) parts ≡ part.size.w * part.size.h =
       sum_map (λ (p : Part). p.size.w * p.size.h) _ laid ∙ all_cells m stock number j part material work waits laid is_laid in
       let old = placed m stock number j part material work waits in
@@ -80,7 +82,7 @@ module _ (m : Content) (stock : IsStock m) (number : ℕ) (j : Job) (part : Part
   done_told =
       let le = so_far m stock number j part material work waits in
       let last = stock.in_range.last in
-      (omega (arith, le, last), cells_few is_kerf, cells_few is_piece, cells_few is_free, cells_few is_scrap)
+      (omega (arith, le, last), cells_few column.Kerf, cells_few column.Pieces, cells_few column.Rack, cells_few column.Scrap)
 
 made_material : (known : Option Material) (code : List ℕ) (kind : Kind) (rule : Rule) → IsTrue (is_code code) → IsMade (material_change known code kind rule).reply
 made_material None code kind rule is = is
