@@ -1,7 +1,9 @@
 use crate::{Book, BookFault, MemBook};
 use cut_measure::{Code, Kind, Limits, PartName, Size};
+use cut_tree::Plan;
 use shop_machine::{
-    Change, Kept, KeptMessage, Material, Pair, Part, PartList, Reply, State, Text, Totals,
+    Change, Demand, DemandList, Job, JobState, Kept, KeptMessage, Material, Pair, Part, PartList,
+    Reply, State, Text, Totals,
 };
 use std::alloc::{AllocError, Global};
 use std::test::Fail;
@@ -46,6 +48,21 @@ fn kept(alloc: Global) -> Result<KeptMessage, AllocError> {
     })
 }
 
+// A change of nothing, told as this.
+fn nothing(alloc: Global, reply: Reply) -> Change {
+    Change {
+        material: None,
+        parts: PartList::new(alloc),
+        job: None,
+        order: None,
+        demands: DemandList::new(alloc),
+        act: None,
+        demand: None,
+        kept: None,
+        reply,
+    }
+}
+
 // A material, two bars of it received by act 1, and their message.
 fn receipt(
     alloc: Global,
@@ -61,21 +78,95 @@ fn receipt(
         parts,
         act: Some(1),
         kept: Some(kept(alloc)?),
-        reply: Reply::Receive { act: 1, count: 2 },
+        ..nothing(alloc, Reply::Receive { act: 1, count: 2 })
     })
 }
 
 // A change that numbers an act and puts nothing.
 fn act(alloc: Global, number: u32) -> Change {
+    let reply = Reply::Receive {
+        act: number,
+        count: 1,
+    };
     Change {
-        material: None,
-        parts: PartList::new(alloc),
         act: Some(number),
-        kept: None,
-        reply: Reply::Receive {
-            act: number,
-            count: 1,
-        },
+        ..nothing(alloc, reply)
+    }
+}
+
+// Ten pieces of 40 by 1 that are wanted by an order.
+fn demand(order: Code, number: u32, line: u32) -> Result<Demand, Fail> {
+    let material = Code::read("IRON").ok_or("no code")?;
+    let size = Size::new(Kind::Bar, 40, 1).ok_or("no size")?;
+    Ok(Demand {
+        number,
+        order,
+        line,
+        material,
+        size,
+        may_turn: false,
+        worth: 5,
+        wanted: 10,
+        reserved: 0,
+        made: 0,
+    })
+}
+
+// An order of demands 1 and 2.
+fn ordered(
+    alloc: Global,
+    order: Code,
+    first: Demand,
+    second: Demand,
+) -> Result<Change, AllocError> {
+    let mut demands = DemandList::new(alloc);
+    demands.push(second)?;
+    demands.push(first)?;
+    let reply = Reply::AddOrder {
+        count: 2,
+        first: 1,
+        order,
+    };
+    Ok(Change {
+        order: Some(order),
+        demands,
+        demand: Some(2),
+        ..nothing(alloc, reply)
+    })
+}
+
+// A change that puts one demand.
+fn counted(alloc: Global, demand: Demand) -> Result<Change, AllocError> {
+    let mut demands = DemandList::new(alloc);
+    demands.push(demand)?;
+    let reply = Reply::Release { job: 2 };
+    Ok(Change {
+        demands,
+        ..nothing(alloc, reply)
+    })
+}
+
+// The bar of act 1, reserved by act 2 for a piece of 60 and one of 37.
+fn job(alloc: Global, state: JobState) -> Result<Job, Fail> {
+    let size = Size::new(Kind::Bar, 100, 1).ok_or("no size")?;
+    let plan = Plan::read(alloc, "x60 p1 p2", size, 3)
+        .ok()
+        .ok_or("no plan")?;
+    Ok(Job {
+        act: 2,
+        part: PartName::new(1, 0),
+        kerf: 3,
+        plan,
+        state,
+    })
+}
+
+// A change that puts a job.
+fn worked(alloc: Global, job: Job) -> Change {
+    let reply = Reply::Release { job: job.act };
+    Change {
+        job: Some(job),
+        ..nothing(alloc, reply)
     }
 }
 
@@ -95,8 +186,12 @@ fn a_fresh_book_has_nothing(rt: HostRuntime) -> Result<(), Fail> {
     let mut book = MemBook::new(rt.alloc());
     let code = iron()?.code;
     assert_eq!(rt; book.next_act()?, 1);
+    assert_eq!(rt; book.next_demand()?, 1);
     assert!(rt; book.material(code)?.is_none());
     assert!(rt; book.part(PartName::new(1, 0))?.is_none());
+    assert!(rt; book.job(rt.alloc(), 1)?.is_none());
+    assert!(rt; !book.order(code)?);
+    assert!(rt; book.demand(1)?.is_none());
     assert!(rt; book.kept(rt.alloc(), 1, 2)?.is_none());
     assert_eq!(rt; book.totals(code)?, totals(0, 0));
     assert_eq!(rt; book.parts_of(rt.alloc(), code)?.as_slice().len(), 0);
@@ -143,6 +238,68 @@ fn copies_are_equal_until_a_commit(rt: HostRuntime) -> Result<(), Fail> {
     Ok(())
 }
 
+#[test]
+fn an_order_is_read_back(rt: HostRuntime) -> Result<(), Fail> {
+    let mut book = MemBook::new(rt.alloc());
+    let order = Code::read("O-1").ok_or("no code")?;
+    let other = Code::read("O-2").ok_or("no code")?;
+    let (first, second) = (demand(order, 1, 1)?, demand(order, 2, 2)?);
+    book.commit(ordered(rt.alloc(), order, first, second)?)?;
+    assert!(rt; book.order(order)?);
+    assert!(rt; !book.order(other)?);
+    assert_eq!(rt; book.demand(1)?, Some(first));
+    assert_eq!(rt; book.demand(2)?, Some(second));
+    assert!(rt; book.demand(3)?.is_none());
+    assert_eq!(rt; book.next_demand()?, 3);
+    assert_eq!(rt; book.next_act()?, 1);
+
+    let copy = book.copy(rt.alloc())?;
+    assert!(rt; book == copy);
+    let fewer = Demand {
+        reserved: 3,
+        made: 1,
+        ..first
+    };
+    book.commit(counted(rt.alloc(), fewer)?)?;
+    assert_eq!(rt; book.demand(1)?, Some(fewer));
+    assert_eq!(rt; book.demand(2)?, Some(second));
+    assert_eq!(rt; book.next_demand()?, 3);
+    assert!(rt; book != copy);
+    Ok(())
+}
+
+#[test]
+fn books_of_other_orders_are_not_equal(rt: HostRuntime) -> Result<(), Fail> {
+    let order = Code::read("O-1").ok_or("no code")?;
+    let other = Code::read("O-2").ok_or("no code")?;
+    let (first, second) = (demand(order, 1, 1)?, demand(order, 2, 2)?);
+    let mut book = MemBook::new(rt.alloc());
+    book.commit(ordered(rt.alloc(), order, first, second)?)?;
+    for (code, line, same) in [(order, 2, true), (other, 2, false), (order, 3, false)] {
+        let mut another = MemBook::new(rt.alloc());
+        let second = demand(order, 2, line)?;
+        another.commit(ordered(rt.alloc(), code, first, second)?)?;
+        assert_eq!(rt; book == another, same, "line {line}");
+    }
+    Ok(())
+}
+
+#[test]
+fn a_job_is_put_again(rt: HostRuntime) -> Result<(), Fail> {
+    let mut book = MemBook::new(rt.alloc());
+    book.commit(worked(rt.alloc(), job(rt.alloc(), JobState::Waiting)?))?;
+    let copy = book.copy(rt.alloc())?;
+    assert!(rt; book == copy);
+    for state in [JobState::Waiting, JobState::Done] {
+        book.commit(worked(rt.alloc(), job(rt.alloc(), state)?))?;
+        let wanted = job(rt.alloc(), state)?;
+        assert!(rt; book.job(rt.alloc(), 2)? == Some(wanted));
+        assert!(rt; book.job(rt.alloc(), 1)?.is_none());
+        assert_eq!(rt; book == copy, state == JobState::Waiting);
+    }
+    Ok(())
+}
+
 // With memory wanting anywhere, the whole change is made or none of it.
 #[test]
 fn a_commit_is_whole_or_nothing(rt: HostRuntime) -> Result<(), Fail> {
@@ -150,8 +307,18 @@ fn a_commit_is_whole_or_nothing(rt: HostRuntime) -> Result<(), Fail> {
     let material = iron()?;
     let code = material.code;
     let (first, second) = (bar(code, 0)?, bar(code, 1)?);
-    let Ok(change) = receipt(rt.alloc(), material, first, second) else {
+    let (one, two) = (demand(code, 1, 1)?, demand(code, 2, 2)?);
+    let Ok(receipt) = receipt(rt.alloc(), material, first, second) else {
         return Ok(());
+    };
+    let Ok(ordered) = ordered(rt.alloc(), code, one, two) else {
+        return Ok(());
+    };
+    let change = Change {
+        order: ordered.order,
+        demands: ordered.demands,
+        demand: ordered.demand,
+        ..receipt
     };
     let made = match book.commit(change) {
         Ok(()) => true,
@@ -160,12 +327,36 @@ fn a_commit_is_whole_or_nothing(rt: HostRuntime) -> Result<(), Fail> {
             false
         }
     };
-    let (act, cells) = if made { (2, 200) } else { (1, 0) };
+    let (act, demand, cells) = if made { (2, 3, 200) } else { (1, 1, 0) };
     assert_eq!(rt; book.next_act()?, act);
+    assert_eq!(rt; book.next_demand()?, demand);
     assert_eq!(rt; book.material(code)?.is_some(), made);
     assert_eq!(rt; book.part(PartName::new(1, 0))?.is_some(), made);
     assert_eq!(rt; book.part(PartName::new(1, 1))?.is_some(), made);
+    assert_eq!(rt; book.order(code)?, made);
+    assert_eq!(rt; book.demand(1)?.is_some(), made);
+    assert_eq!(rt; book.demand(2)?.is_some(), made);
     assert_eq!(rt; book.totals(code)?, totals(cells, cells));
+    assert_eq!(rt; book.failures(), 0);
+    Ok(())
+}
+
+// The same of a job, which holds memory of its own.
+#[test]
+fn a_job_is_put_or_nothing(rt: HostRuntime) -> Result<(), Fail> {
+    let mut book = MemBook::new(rt.alloc());
+    let job = job(rt.alloc(), JobState::Waiting)?;
+    let made = match book.commit(worked(rt.alloc(), job)) {
+        Ok(()) => true,
+        Err(fault) => {
+            assert_eq!(rt; fault, BookFault::NoMemory);
+            false
+        }
+    };
+    match book.job(rt.alloc(), 2) {
+        Ok(row) => assert_eq!(rt; row.is_some(), made),
+        Err(fault) => assert_eq!(rt; fault, BookFault::NoMemory),
+    }
     assert_eq!(rt; book.failures(), 0);
     Ok(())
 }
