@@ -117,24 +117,27 @@ fn bad_values_are_refused(rt: HostRuntime) -> Result<(), Fail> {
     Ok(())
 }
 
+// What a query asks for, as text.
+fn asked_for(alloc: Global, line: &str) -> Result<String, Fail> {
+    let value = Value::from_str(alloc, line)?;
+    let Ok(query) = read_query(&value) else {
+        return Err(Fail::from("no query"));
+    };
+    match &query {
+        Query::Totals { material } => Ok(format!(in alloc; "totals {}", material.as_str())?),
+        Query::Trace { part } => Ok(format!(in alloc; "trace {}/{}", part.act(), part.node())?),
+        Query::Demand { demand } => Ok(format!(in alloc; "demand {}", *demand)?),
+    }
+}
+
 #[test]
 fn queries_are_read(rt: HostRuntime) -> Result<(), Fail> {
-    let totals = Value::from_str(rt.alloc(), r#"{"ask":"totals","material":"STEEL"}"#)?;
-    let Ok(Query::Totals { material }) = read_query(&totals) else {
-        return Err(Fail::from("no totals"));
-    };
-    assert_eq!(rt; material.as_str(), "STEEL");
-    let trace = Value::from_str(rt.alloc(), r#"{"ask":"trace","part":"3/1"}"#)?;
-    let Ok(Query::Trace { part }) = read_query(&trace) else {
-        return Err(Fail::from("no trace"));
-    };
-    assert_eq!(rt; part.act(), 3);
-    assert_eq!(rt; part.node(), 1);
-    let demand = Value::from_str(rt.alloc(), r#"{"ask":"demand","demand":7}"#)?;
-    let Ok(Query::Demand { demand }) = read_query(&demand) else {
-        return Err(Fail::from("no demand"));
-    };
-    assert_eq!(rt; demand, 7);
+    let asked = asked_for(rt.alloc(), r#"{"ask":"totals","material":"STEEL"}"#)?;
+    assert_eq!(rt; asked.as_str(), "totals STEEL");
+    let asked = asked_for(rt.alloc(), r#"{"ask":"trace","part":"3/1"}"#)?;
+    assert_eq!(rt; asked.as_str(), "trace 3/1");
+    let asked = asked_for(rt.alloc(), r#"{"ask":"demand","demand":7}"#)?;
+    assert_eq!(rt; asked.as_str(), "demand 7");
     Ok(())
 }
 
