@@ -71,7 +71,7 @@ pub(crate) fn lines_at(
 
 // An order's line as an object.
 fn line_value(alloc: Global, line: &OrderLine) -> Result<Value, AllocError>
-    ensures value { IfOk result (λ value. view value ≡ form.line_data line.now) }
+    ensures { IfOk result (λ value. view value ≡ form.line_data line.now) }
 {
     let count = wide(line.count);
     let h = wide(line.h);

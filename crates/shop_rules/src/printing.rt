@@ -7,7 +7,7 @@ use crate::printed_replies::reply_value;
 use shop_machine::{Message, Reply, Text};
 use std::alloc::{AllocError, Global};
 
-#[tactic(auto, unfolding(crate::specs::Forms::json_texts))]
+#[tactic(auto, using(crate::proofs::Back::message_no_float), unfolding(crate::specs::Forms::json_texts))]
 /// The canonical text of a message: compact, with its keys in byte order.
 pub fn message_text(alloc: Global, message: &Message) -> Result<Text, AllocError>
     ensures text { IfOk result (λ text. text ≡ json_texts.of_message message.now) }

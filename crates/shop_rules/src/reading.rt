@@ -4,7 +4,6 @@ ghost use Rattle.shop_machine.specs.Messages.{IsMade};
 ghost use Rattle.shop_machine.specs.declared.messages.Reply.{Reply as ReplyOf};
 ghost use Rattle.shop_machine.specs.declared.refusals.Refusal.TheVariants.{BadMessage, NoMemory};
 ghost use Rattle.serde_json.specs.View.{view};
-ghost use Rattle.shop_rules.specs.Fields.{row};
 ghost use Rattle.shop_rules.specs.Forms as form;
 
 use crate::commands::sent;
@@ -33,31 +32,22 @@ pub fn read_message(alloc: Global, value: &Value) -> Result<Message, Refusal>
 }
 
 fn totals_query(value: &Value) -> Option<Query>
-    ensures { result ≡ row 2 form.totals_query (view value.now) }
+    ensures { result ≡ form.totals_query (view value.now) }
 {
-    if !has_keys(value, 2) {
-        return None;
-    }
     let material = code_at(value, "material")?;
     Some(Query::Totals { material })
 }
 
 fn trace_query(value: &Value) -> Option<Query>
-    ensures { result ≡ row 2 form.trace_query (view value.now) }
+    ensures { result ≡ form.trace_query (view value.now) }
 {
-    if !has_keys(value, 2) {
-        return None;
-    }
     let part = name_at(value, "part")?;
     Some(Query::Trace { part })
 }
 
 fn demand_query(value: &Value) -> Option<Query>
-    ensures { result ≡ row 2 form.demand_query (view value.now) }
+    ensures { result ≡ form.demand_query (view value.now) }
 {
-    if !has_keys(value, 2) {
-        return None;
-    }
     let demand = number_at(value, "demand")?;
     Some(Query::Demand { demand })
 }
@@ -66,6 +56,9 @@ fn asked(value: &Value) -> Option<Query>
     ensures { result ≡ form.query_of (view value.now) }
 {
     let word = word_at(value, "ask", "do")?;
+    if !has_keys(value, 2) {
+        return None;
+    }
     if word == "totals" {
         totals_query(value)
     } else if word == "trace" {

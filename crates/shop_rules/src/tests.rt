@@ -10,27 +10,58 @@ const MATERIAL: &str =
 const RECEIVE: &str =
     r#"{"batch":"B-1","count":2,"do":"receive","h":1,"material":"STEEL","number":2,"terminal":1,"w":100}"#;
 
-// A line that is a message is printed back byte for byte.
-fn prints_back(rt: &impl Abort, alloc: Global, line: &str) -> Result<(), Fail> {
+const ORDER: &str =
+    r#"{"do":"order","lines":[{"count":3,"h":1,"line":1,"material":"STEEL","turn":false,"w":30,"worth":30}],"number":3,"order":"A-1","terminal":1}"#;
+
+const TWO_LINES: &str =
+    r#"{"do":"order","lines":[{"count":1,"h":2,"line":7,"material":"PLY","turn":true,"w":5,"worth":0},{"count":0,"h":0,"line":7,"material":"STEEL","turn":false,"w":4294967295,"worth":9}],"number":3,"order":"A-2","terminal":2}"#;
+
+const NO_LINES: &str = r#"{"do":"order","lines":[],"number":3,"order":"A-1","terminal":1}"#;
+
+const RESERVE: &str = r#"{"do":"reserve","number":4,"part":"1/0","terminal":1,"tree":"x30 p1 r"}"#;
+
+const ANY_TREE: &str =
+    r#"{"do":"reserve","number":4,"part":"2147483647/4294967295","terminal":1,"tree":"\"ä\""}"#;
+
+const DONE: &str = r#"{"do":"done","job":3,"number":5,"terminal":1}"#;
+
+const RELEASE: &str = r#"{"do":"release","job":4294967295,"number":6,"terminal":1}"#;
+
+// A line that is a message is printed as its canonical text.
+fn is_printed(rt: &impl Abort, alloc: Global, line: &str, text: &str) -> Result<(), Fail> {
     let value = Value::from_str(alloc, line)?;
-    let Ok(message) = read_message(&value) else {
+    let Ok(message) = read_message(alloc, &value) else {
         return Err(Fail::from("no message"));
     };
-    assert_eq!(rt; message_text(alloc, &message)?.as_str(), line);
+    assert_eq!(rt; message_text(alloc, &message)?.as_str(), text);
     let printed = message_value(alloc, &message)?.to_string(alloc)?;
-    assert_eq!(rt; printed.as_str(), line);
+    assert_eq!(rt; printed.as_str(), text);
     assert!(rt; read_query(&value).is_err());
     Ok(())
 }
 
 #[test]
 fn messages_are_printed_back(rt: HostRuntime) -> Result<(), Fail> {
-    prints_back(&rt, rt.alloc(), MATERIAL)?;
-    prints_back(&rt, rt.alloc(), RECEIVE)
+    for line in [
+        MATERIAL, RECEIVE, ORDER, TWO_LINES, NO_LINES, RESERVE, ANY_TREE, DONE, RELEASE,
+    ] {
+        is_printed(&rt, rt.alloc(), line, line)?;
+    }
+    Ok(())
+}
+
+#[test]
+fn keys_come_in_any_order(rt: HostRuntime) -> Result<(), Fail> {
+    is_printed(
+        &rt,
+        rt.alloc(),
+        r#" {"terminal": 1, "order": "A-1", "number": 3, "lines": [{"worth": 30, "w": 30, "turn": false, "material": "STEEL", "line": 1, "h": 1, "count": 3}], "do": "order"} "#,
+        ORDER,
+    )
 }
 
 // Values that are neither a message nor a query.
-const BAD: [&str; 22] = [
+const BAD: [&str; 37] = [
     r#"{}"#,
     r#"[]"#,
     r#"{"ask":"totals"}"#,
@@ -38,6 +69,12 @@ const BAD: [&str; 22] = [
     r#"{"ask":"totals","material":"steel"}"#,
     r#"{"ask":"totals","material":"STEEL","unit":1}"#,
     r#"{"ask":"totals","do":"totals","material":"STEEL"}"#,
+    r#"{"ask":"trace","part":"01/0"}"#,
+    r#"{"ask":"trace","part":"1/0","x":0}"#,
+    r#"{"ask":"trace","part":1}"#,
+    r#"{"ask":"demand"}"#,
+    r#"{"ask":"demand","demand":"1"}"#,
+    r#"{"ask":"demand","demand":1,"do":"done","job":3,"number":5,"terminal":1}"#,
     r#"{"batch":"B-1","count":2,"do":"receive","h":1,"material":"STEEL","number":2,"terminal":1}"#,
     r#"{"batch":"B-1","count":2,"do":"receive","h":1,"material":"STEEL","number":2,"terminal":1,"w":100,"x":0}"#,
     r#"{"batch":"B-1","count":2,"h":1,"material":"STEEL","number":2,"terminal":1,"w":100}"#,
@@ -52,7 +89,16 @@ const BAD: [&str; 22] = [
     r#"{"batch":"","count":2,"do":"receive","h":1,"material":"STEEL","number":2,"terminal":1,"w":100}"#,
     r#"{"do":"material","kerf":3,"kind":"rod","material":"STEEL","min_long":20,"min_short":1,"number":1,"terminal":1}"#,
     r#"{"do":"material","kerf":3,"kind":"bar","material":"ABCDEFGHIJKLMNOPQ","min_long":20,"min_short":1,"number":1,"terminal":1}"#,
-    r#"{"do":"reserve","number":1,"part":"1/0","terminal":1,"tree":"r"}"#,
+    r#"{"do":"order","lines":[],"number":3,"terminal":1}"#,
+    r#"{"do":"order","lines":{},"number":3,"order":"A-1","terminal":1}"#,
+    r#"{"do":"order","lines":[1],"number":3,"order":"A-1","terminal":1}"#,
+    r#"{"do":"order","lines":[{"count":3,"h":1,"line":1,"material":"STEEL","turn":false,"w":30}],"number":3,"order":"A-1","terminal":1}"#,
+    r#"{"do":"order","lines":[{"count":3,"h":1,"line":1,"material":"STEEL","turn":false,"w":30,"worth":30,"x":0}],"number":3,"order":"A-1","terminal":1}"#,
+    r#"{"do":"order","lines":[{"count":3,"h":1,"line":1,"material":"STEEL","turn":0,"w":30,"worth":30}],"number":3,"order":"A-1","terminal":1}"#,
+    r#"{"do":"reserve","number":4,"part":"01/0","terminal":1,"tree":"r"}"#,
+    r#"{"do":"reserve","number":4,"part":"1/0","terminal":1,"tree":1}"#,
+    r#"{"do":"done","job":4294967296,"number":5,"terminal":1}"#,
+    r#"{"do":"release","job":3,"number":5,"part":"1/0","terminal":1}"#,
 ];
 
 #[test]
@@ -60,7 +106,7 @@ fn bad_values_are_refused(rt: HostRuntime) -> Result<(), Fail> {
     for text in BAD {
         let value = Value::from_str(rt.alloc(), text)?;
         assert!(rt;
-            matches!(read_message(&value), Err(Refusal::BadMessage)),
+            matches!(read_message(rt.alloc(), &value), Err(Refusal::BadMessage)),
             "{text}"
         );
         assert!(rt;
@@ -71,11 +117,39 @@ fn bad_values_are_refused(rt: HostRuntime) -> Result<(), Fail> {
     Ok(())
 }
 
+// What a query asks for, as text.
+fn asked_for(alloc: Global, line: &str) -> Result<String, Fail> {
+    let value = Value::from_str(alloc, line)?;
+    let Ok(query) = read_query(&value) else {
+        return Err(Fail::from("no query"));
+    };
+    match &query {
+        Query::Totals { material } => Ok(format!(in alloc; "totals {}", material.as_str())?),
+        Query::Trace { part } => Ok(format!(in alloc; "trace {}/{}", part.act(), part.node())?),
+        Query::Demand { demand } => Ok(format!(in alloc; "demand {}", *demand)?),
+    }
+}
+
+#[test]
+fn queries_are_read(rt: HostRuntime) -> Result<(), Fail> {
+    let asked = asked_for(rt.alloc(), r#"{"ask":"totals","material":"STEEL"}"#)?;
+    assert_eq!(rt; asked.as_str(), "totals STEEL");
+    let asked = asked_for(rt.alloc(), r#"{"ask":"trace","part":"3/1"}"#)?;
+    assert_eq!(rt; asked.as_str(), "trace 3/1");
+    let asked = asked_for(rt.alloc(), r#"{"ask":"demand","demand":7}"#)?;
+    assert_eq!(rt; asked.as_str(), "demand 7");
+    Ok(())
+}
+
 #[test]
 fn replies_are_read_back(rt: HostRuntime) -> Result<(), Fail> {
     for text in [
         r#"{"material":"STEEL","ok":"material"}"#,
         r#"{"act":1,"count":2,"ok":"receive"}"#,
+        r#"{"count":1,"first":2,"ok":"order","order":"A-1"}"#,
+        r#"{"cuts":2,"job":3,"ok":"reserve"}"#,
+        r#"{"job":3,"kerf":6,"ok":"done","pieces":60,"rack":34,"scrap":18446744073709551615}"#,
+        r#"{"job":3,"ok":"release"}"#,
     ] {
         let value = Value::from_str(rt.alloc(), text)?;
         let Ok(reply) = read_reply(&value) else {
@@ -87,10 +161,102 @@ fn replies_are_read_back(rt: HostRuntime) -> Result<(), Fail> {
         assert!(rt; kept_reply(rt.alloc(), text)?.is_some());
     }
     assert!(rt; kept_reply(rt.alloc(), r#"{"name":"NoMaterial","refused":20}"#)?.is_none());
-    let value = Value::from_str(rt.alloc(), r#"{"ask":"totals","material":"STEEL"}"#)?;
-    assert!(rt; read_query(&value).is_ok());
     let refused = Reply::Refused(Refusal::NoMaterial);
     let text = reply_text(rt.alloc(), &refused)?;
     assert_eq!(rt; text.as_str(), r#"{"name":"NoMaterial","refused":20}"#);
+    Ok(())
+}
+
+// The reply that tells of part 3/1, a part of unit 1/0.
+fn trace_text(alloc: Global, batch: Code, of: u32, state: StateWord) -> Result<Text, Fail> {
+    let reply = Reply::Trace {
+        batch,
+        h: 3,
+        of,
+        part: PartName::new(3, 1),
+        root: PartName::new(1, 0),
+        state,
+        w: 5,
+        x: 5,
+        y: 0,
+    };
+    Ok(reply_text(alloc, &reply)?)
+}
+
+#[test]
+fn parts_are_told(rt: HostRuntime) -> Result<(), Fail> {
+    let Some(batch) = Code::read("B-1") else {
+        return Err(Fail::from("no code"));
+    };
+    let told = trace_text(rt.alloc(), batch, 3, StateWord::Piece)?;
+    assert_eq!(rt;
+        told.as_str(),
+        r#"{"batch":"B-1","h":3,"of":3,"ok":"trace","part":"3/1","root":"1/0","state":"piece","w":5,"x":5,"y":0}"#
+    );
+    let told = trace_text(rt.alloc(), batch, 0, StateWord::Standing)?;
+    assert_eq!(rt;
+        told.as_str(),
+        r#"{"batch":"B-1","h":3,"of":0,"ok":"trace","part":"3/1","root":"1/0","state":"standing","w":5,"x":5,"y":0}"#
+    );
+    let told = trace_text(rt.alloc(), batch, 9, StateWord::Reserved)?;
+    assert_eq!(rt;
+        told.as_str(),
+        r#"{"batch":"B-1","h":3,"of":9,"ok":"trace","part":"3/1","root":"1/0","state":"reserved","w":5,"x":5,"y":0}"#
+    );
+    let told = trace_text(rt.alloc(), batch, 9, StateWord::Cut)?;
+    assert_eq!(rt;
+        told.as_str(),
+        r#"{"batch":"B-1","h":3,"of":9,"ok":"trace","part":"3/1","root":"1/0","state":"cut","w":5,"x":5,"y":0}"#
+    );
+    let told = trace_text(rt.alloc(), batch, 0, StateWord::Kerf)?;
+    assert_eq!(rt;
+        told.as_str(),
+        r#"{"batch":"B-1","h":3,"of":0,"ok":"trace","part":"3/1","root":"1/0","state":"kerf","w":5,"x":5,"y":0}"#
+    );
+    let told = trace_text(rt.alloc(), batch, 0, StateWord::Scrap)?;
+    assert_eq!(rt;
+        told.as_str(),
+        r#"{"batch":"B-1","h":3,"of":0,"ok":"trace","part":"3/1","root":"1/0","state":"scrap","w":5,"x":5,"y":0}"#
+    );
+    Ok(())
+}
+
+#[test]
+fn demands_and_totals_are_told(rt: HostRuntime) -> Result<(), Fail> {
+    let (Some(material), Some(order)) = (Code::read("STEEL"), Code::read("A-1")) else {
+        return Err(Fail::from("no code"));
+    };
+    let told = reply_text(
+        rt.alloc(),
+        &Reply::Demand {
+            demand: 7,
+            line: 2,
+            made: 1,
+            material,
+            order,
+            reserved: 3,
+            wanted: 5,
+        },
+    )?;
+    assert_eq!(rt;
+        told.as_str(),
+        r#"{"demand":7,"line":2,"made":1,"material":"STEEL","ok":"demand","order":"A-1","reserved":3,"wanted":5}"#
+    );
+    let told = reply_text(
+        rt.alloc(),
+        &Reply::Totals {
+            material,
+            received: 6,
+            stock: 5,
+            rack: 4,
+            pieces: 3,
+            kerf: 2,
+            scrap: 1,
+        },
+    )?;
+    assert_eq!(rt;
+        told.as_str(),
+        r#"{"kerf":2,"material":"STEEL","ok":"totals","pieces":3,"rack":4,"received":6,"scrap":1,"stock":5}"#
+    );
     Ok(())
 }
