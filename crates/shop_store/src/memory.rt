@@ -1,4 +1,4 @@
-ghost use Rattle.std.specs.Prelude.{◌≡◌, ◌≢◌, ◌+◌, ◌<◌, ◌≤◌, ◌^◌, ⊤, IfOk, IfErr, IsOk, OnOk, OnErr, IsTrue, List, ℕ, ◌-◌, filter, length, vec_len, vec_capacity};
+ghost use Rattle.std.specs.Prelude.{◌≡◌, ◌≢◌, ◌+◌, ◌<◌, ◌≤◌, ◌^◌, ⊤, IfOk, IfErr, IfSome, IsOk, OnOk, OnErr, IsTrue, List, ℕ, ◌-◌, filter, length, vec_len, vec_capacity};
 ghost use Rattle.cut_measure.specs.Codes.{code_cmp};
 ghost use Rattle.cut_measure.specs.Names.{name_cmp};
 ghost use Rattle.std.specs.Ordering.{nat_cmp};
@@ -551,6 +551,7 @@ impl Book for MemBook {
 
     fn demand(&mut self, number: u32) -> Result<Option<Demand>, BookFault>
         ensures row { result ≡ Ok (demand_at self.old.content number) }
+        ensures key { IfOk result (λ row. IfSome row (λ demand. demand.number ≡ number)) }
         ensures same { self.new ≡ self.old }
     {
         Ok(find(&self.demands, number))
