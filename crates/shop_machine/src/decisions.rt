@@ -45,6 +45,7 @@ pub fn decide_material(
 ) -> Result<Change, Refusal>
     ensures decision { let rule : Rule = record { kerf = kerf; min_long = min_long; min_short = min_short } in
         Decides (material_refusal known kind rule) (λ change. change ≡ material_change known material kind rule) result }
+    ensures told { IfOk result (λ change. IsTrue (is_accepted change.reply)) }
 {
     let Some(limits) = Limits::new(kind, kerf, min_long, min_short) else {
         return Err(Refusal::BadMaterial);
@@ -109,6 +110,7 @@ pub fn decide_receive(
     requires { 1 ≤ act }
     ensures decision { Decides (receive_refusal known received act w h count)
         (λ change. change ≡ receive_change material batch (record { w = w; h = h }) act count) result }
+    ensures told { IfOk result (λ change. IsTrue (is_accepted change.reply)) }
 {
     let Some(known) = known else {
         return Err(Refusal::NoMaterial);

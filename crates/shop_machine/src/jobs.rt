@@ -9,6 +9,7 @@ ghost use Rattle.shop_machine.specs.declared.records.Demand.{Demand as DemandOf}
 ghost use Rattle.shop_machine.specs.declared.records.Material.{Material as MaterialOf};
 ghost use Rattle.shop_machine.specs.declared.plans.Recount.TheVariants.{Made, Freed};
 ghost use Rattle.shop_machine.specs.Machine.{Decides, IsDone, IsRelease, cells_counted, done_change, done_reply, fate, has_reserved, is_part_of, in_state, job_refusal, plan_leaves, release_change, rests, row_part};
+ghost use Rattle.shop_machine.specs.Messages.{is_accepted};
 ghost use Rattle.shop_machine.specs.Found.{AreDemandsFound, HasRoom, HasRow, IsNumbered, AreFinished, leaves_in};
 
 use crate::changes::{Change, PartList};
@@ -245,7 +246,8 @@ fn done(alloc: Global, work: Work, leaves: &[FoundLeaf]) -> Result<Change, Alloc
     requires leaves { leaves_in leaves.now ≡ plan_leaves work.job.plan }
     requires part { IsTrue (is_part_of work.job work.part) }
     requires rows { All (HasRow Made work.job.plan.tree) leaves.now }
-    ensures { IfOk result (λ change. (at : ℕ → Option DemandOf) → AreDemandsFound at leaves.now → IsDone work.job work.part work.limits at change) }
+    ensures change { IfOk result (λ change. (at : ℕ → Option DemandOf) → AreDemandsFound at leaves.now → IsDone work.job work.part work.limits at change) }
+    ensures told { IfOk result (λ change. IsTrue (is_accepted change.reply)) }
 {
     let Work { job, part, limits } = work;
     let demands = recounted_rows(alloc, Recount::Made, &job.plan, leaves)?;
@@ -265,7 +267,8 @@ fn done(alloc: Global, work: Work, leaves: &[FoundLeaf]) -> Result<Change, Alloc
 fn release(alloc: Global, work: Work, leaves: &[FoundLeaf]) -> Result<Change, AllocError>
     requires leaves { leaves_in leaves.now ≡ plan_leaves work.job.plan }
     requires rows { All (HasRow Freed work.job.plan.tree) leaves.now }
-    ensures { IfOk result (λ change. (at : ℕ → Option DemandOf) → AreDemandsFound at leaves.now → IsRelease work.job work.part at change) }
+    ensures change { IfOk result (λ change. (at : ℕ → Option DemandOf) → AreDemandsFound at leaves.now → IsRelease work.job work.part at change) }
+    ensures told { IfOk result (λ change. IsTrue (is_accepted change.reply)) }
 {
     let Work {
         job,
@@ -301,8 +304,9 @@ pub fn decide_done(
 ) -> Result<Change, Refusal>
     requires numbered { All IsNumbered leaves.now }
     requires leaves { IfSome job (λ j. leaves_in leaves.now ≡ plan_leaves j.plan) }
-    ensures { (at : ℕ → Option DemandOf) → AreDemandsFound at leaves.now →
+    ensures decision { (at : ℕ → Option DemandOf) → AreDemandsFound at leaves.now →
         Decides (job_refusal job part material at) (λ change. MatchOption job ⊥ (λ j. MatchOption part ⊥ (λ p. MatchOption material ⊥ (λ m. IsDone j p m.limits at change)))) result }
+    ensures told { IfOk result (λ change. IsTrue (is_accepted change.reply)) }
 {
     let work = work_of(job, part, material, leaves)?;
     let change = done(alloc, work, leaves)?;
@@ -319,8 +323,9 @@ pub fn decide_release(
 ) -> Result<Change, Refusal>
     requires numbered { All IsNumbered leaves.now }
     requires leaves { IfSome job (λ j. leaves_in leaves.now ≡ plan_leaves j.plan) }
-    ensures { (at : ℕ → Option DemandOf) → AreDemandsFound at leaves.now →
+    ensures decision { (at : ℕ → Option DemandOf) → AreDemandsFound at leaves.now →
         Decides (job_refusal job part material at) (λ change. MatchOption job ⊥ (λ j. MatchOption part ⊥ (λ p. IsRelease j p at change))) result }
+    ensures told { IfOk result (λ change. IsTrue (is_accepted change.reply)) }
 {
     let work = work_of(job, part, material, leaves)?;
     let change = release(alloc, work, leaves)?;

@@ -3,6 +3,7 @@ ghost use Rattle.cut_measure.specs.Measures.{is_size};
 ghost use Rattle.cut_measure.specs.declared.sizes.Kind.TheVariants.{Sheet};
 ghost use Rattle.shop_machine.specs.declared.records.Material.{Material as MaterialOf};
 ghost use Rattle.shop_machine.specs.Machine.{Decides, is_good_line, line_refusal, lines_refusal, order_refusal, order_change, new_demand, new_demands};
+ghost use Rattle.shop_machine.specs.Messages.{is_accepted};
 ghost use Rattle.shop_machine.specs.Found.{lines_in, AreMaterialsFound};
 
 use crate::changes::{Change, DemandList};
@@ -115,8 +116,9 @@ pub fn decide_order(
     first: u32,
 ) -> Result<Change, Refusal>
     requires { 1 ≤ first }
-    ensures { (at : List ℕ → Option MaterialOf) → AreMaterialsFound at lines.now →
+    ensures decision { (at : List ℕ → Option MaterialOf) → AreMaterialsFound at lines.now →
         Decides (order_refusal used at (lines_in lines.now) first) (λ change. change ≡ order_change order (lines_in lines.now) first) result }
+    ensures told { IfOk result (λ change. IsTrue (is_accepted change.reply)) }
 {
     if used {
         return Err(Refusal::OrderExists);

@@ -4,6 +4,7 @@ ghost use Rattle.cut_tree.specs.Tree.{count_of};
 ghost use Rattle.cut_tree.specs.Patterns.{Pattern};
 ghost use Rattle.shop_machine.specs.declared.records.Demand.{Demand as DemandOf};
 ghost use Rattle.shop_machine.specs.Machine.{AreRecounted, Decides, IsReservation, fits_demand, has_reserved, is_over, is_too_many, leaf_refusal, leaves_refusal, plan_leaves, plan_refusal, reserve_refusal};
+ghost use Rattle.shop_machine.specs.Messages.{is_accepted};
 ghost use Rattle.shop_machine.specs.Found.{AreLeavesFound, AreDemandsFound, leaves_in, recount_by, HasRoom, HasRow, IsNumbered, IsAddedOnce};
 ghost use Rattle.shop_machine.specs.declared.plans.Recount.TheVariants.{Reserved};
 
@@ -183,7 +184,8 @@ fn reservation(
 ) -> Result<Change, AllocError>
     requires leaves { leaves_in leaves.now ≡ plan_leaves plan }
     requires found { All (HasRow Reserved plan.tree) leaves.now }
-    ensures { IfOk result (λ change. (at : ℕ → Option DemandOf) → AreDemandsFound at leaves.now → IsReservation part plan at act change) }
+    ensures change { IfOk result (λ change. (at : ℕ → Option DemandOf) → AreDemandsFound at leaves.now → IsReservation part plan at act change) }
+    ensures told { IfOk result (λ change. IsTrue (is_accepted change.reply)) }
 {
     let demands = recounted_rows(alloc, Recount::Reserved, &plan, leaves)?;
     let mut parts = PartList::new(alloc);
@@ -242,8 +244,9 @@ pub fn decide_reserve(
 ) -> Result<Change, Refusal>
     requires numbered { All IsNumbered leaves.now }
     requires leaves { IfSome plan (λ p. leaves_in leaves.now ≡ plan_leaves p) }
-    ensures { (at : ℕ → Option DemandOf) → AreDemandsFound at leaves.now →
+    ensures decision { (at : ℕ → Option DemandOf) → AreDemandsFound at leaves.now →
         Decides (reserve_refusal part material plan at act) (λ change. MatchOption part ⊥ (λ row. MatchOption plan ⊥ (λ p. IsReservation row p at act change))) result }
+    ensures told { IfOk result (λ change. IsTrue (is_accepted change.reply)) }
 {
     let Some(part) = part else {
         return Err(Refusal::NoPart);

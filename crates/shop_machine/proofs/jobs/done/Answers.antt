@@ -1,8 +1,8 @@
 use Rattle.shop_machine.proofs.Refused.{done_made}
 use Rattle.shop_machine.proofs.jobs.done.Goals as goal
 
-pub returns : goal.returns
-returns c =
+pub returns-clause-change : goal.returns-clause-change
+returns-clause-change c =
     λ at found.
     let finished = c.in_ok-parts.ensures in
     record {
