@@ -1,4 +1,4 @@
-ghost use Rattle.std.specs.Prelude.{◌≡◌};
+ghost use Rattle.std.specs.Prelude.{◌≡◌, ◌≤◌};
 ghost use Rattle.cut_measure.specs.Measures.{rule_of, is_kept};
 
 use crate::sizes::{Kind, Size};
@@ -48,7 +48,8 @@ impl Limits {
 
     /// How wide the saw cuts: 0 to 200.
     pub fn kerf(&self) -> u32
-        ensures { result ≡ self.now.kerf }
+        ensures value { result ≡ self.now.kerf }
+        ensures few { result ≤ 200 }
     {
         self.kerf
     }

@@ -1,6 +1,6 @@
 -- Steps of a book, and runs of them.
-use Rattle.std.proofs.Common.{◌≡◌, ◌≢◌, ℕ, List, [], ◌∷◌, ◌++◌, Option, Some, None, inl, inr, refl, sym, ap, subst, ◌∙◌, arith}
-use Rattle.std.specs.Prelude.{◌⊎◌, ◌+◌, Bool, true, false, nat_lt, if◌then◌else◌, MatchOption}
+use Rattle.std.proofs.Common.{◌≡◌, ◌≢◌, ℕ, List, [], ◌∷◌, ◌++◌, Option, Some, None, Ok, Err, inl, inr, refl, sym, ap, subst, ◌∙◌, arith}
+use Rattle.std.specs.Prelude.{◌⊎◌, ◌+◌, Bool, true, false, nat_lt, if◌then◌else◌, MatchOption, is_some, not}
 use Rattle.shop_store.specs.Failures.{most_failures, refusal_for}
 use Rattle.shop_store.specs.declared.books.BookFault.{BookFault}
 use Rattle.shop_store.specs.declared.books.BookFault.TheVariants as fault
@@ -8,23 +8,25 @@ use Rattle.shop_machine.specs.declared.kept_texts.Kept.{Kept}
 use Rattle.shop_machine.specs.declared.changes.Change.{Change}
 use Rattle.shop_machine.specs.declared.messages.Message.{Message}
 use Rattle.shop_machine.specs.declared.refusals.Refusal.{Refusal}
-use Rattle.shop_machine.specs.declared.refusals.Refusal.TheVariants.{NoMemory, StoreFault}
+use Rattle.shop_machine.specs.declared.refusals.Refusal.TheVariants.{NoMemory, StoreFault, NumberReused}
 use Rattle.shop_machine.specs.declared.messages.Reply.{Reply}
-use Rattle.shop_machine.specs.declared.messages.Reply.TheVariants.{AddMaterial, Receive, Totals, Refused}
-use Rattle.shop_machine.specs.Messages.{Texts, IsMessage, IsMade, pair_of}
+use Rattle.cut_tree.specs.Patterns.{Pattern}
+use Rattle.shop_machine.specs.declared.messages.Reply.TheVariants.{AddMaterial, Receive, AddOrder, Reserve, Done, Release, Totals, Trace, Demand, Refused}
+use Rattle.shop_machine.specs.Messages.{Texts, IsMessage, IsMade, refusal_in, is_accepted, pair_of}
 use Rattle.shop_machine.specs.Content.{Content, kept_at, changed}
-use Rattle.shop_machine.specs.Machine.{Accepts, StepNew, StepAgain, Step, Run, refusal_of, change_of, keeping}
-use Rattle.shop_machine.specs.History.{is_accepted}
+use Rattle.shop_machine.specs.Machine.{Accepts, Keeps, Reads, Makes, Refuses, StepNew, StepAgain, Step, Run, refusal_of, keeping}
 use Rattle.shop_machine.specs.Soundness.{IsSound, Fits}
-use Rattle.shop_machine.proofs.Sound.{made_by, sound_after, fits_accepted}
-use Rattle.shop_desk.specs.Faults.{CountsReply, CountsOrContradicts, StoreFailed}
+use Rattle.shop_machine.proofs.Sound.{told_accepted, sound_after, fits_accepted, agrees}
+use Rattle.shop_desk.specs.Faults.{CountsRefusal, CountsReply, CountsOrContradicts, StoreFailed}
+use Rattle.shop_desk.specs.Decided.{BlamesStore, Contradicts, CountsOrDisagrees}
 use Rattle.shop_desk.specs.Handled.{LeftByNew, LeftBy, IsHandled, Leads}
 
 pub counts_made : (before after : ℕ) (answer : Reply) → is_accepted answer ≡ true → after ≡ before → CountsReply before answer after
-counts_made before after (Refused refusal) made same = cc
-counts_made before after (AddMaterial material) made same = same
-counts_made before after (Receive act count) made same = same
-counts_made before after (Totals material received stock rack pieces kerf scrap) made same = same
+counts_made before after answer made same = by (refusal_in answer) made
+  where
+    by : (o : Option Refusal) → not (is_some o) ≡ true → MatchOption o (after ≡ before) (λ refusal. CountsRefusal before refusal after)
+    by None e = same
+    by (Some refusal) e = cc
 
 rose : (before after : ℕ) (below : Bool) → after ≡ (if below then before + 1 else most_failures) → StoreFailed before after
 rose before after true e = inl (omega arith)
@@ -35,12 +37,48 @@ pub store_failed : (before after : ℕ) (answer : Reply) → CountsReply before 
 store_failed before after answer counts e =
     rose before after (nat_lt before most_failures) (subst (λ (r : Reply). CountsReply before r after) e counts)
 
+-- a decision to accept is counted as no failure
+pub counted_made : (before after : ℕ) (change : Change) → CountsOrDisagrees before (Ok change) after → after ≡ before
+counted_made before after change (inl same) = same
+counted_made before after change (inr rows) = rows.1
+
+-- on a sound content a decision blames the store only where it failed
+pub blamed : (texts : Texts) (m : Content) (message : Message) (before after : ℕ) (refusal : Refusal) → IsSound texts m
+    → BlamesStore m message.command before (Err refusal) after → Refused refusal ≡ Refused StoreFault → StoreFailed before after
+blamed texts m message before after refusal sound blames is = by (blames (same refusal is))
+  where
+    same : (refusal : Refusal) → Refused refusal ≡ Refused StoreFault → refusal ≡ StoreFault
+    same refusal e = cc
+    by : StoreFailed before after ⊎ Contradicts m message.command → StoreFailed before after
+    by (inl failed) = failed
+    by (inr rows) = absurd (agrees texts m message rows.0 sound rows.1 rows.2)
+
 module _ (texts : Texts) where
-  step_made : (old : Content) (message : Message) (answer : Reply) (new : Content) → IsMade answer → Accepts texts old message answer new → StepNew texts old message answer new
-  step_made old message (Refused refusal) new made accepts = absurd made
-  step_made old message (AddMaterial material) new made accepts = accepts
-  step_made old message (Receive act count) new made accepts = accepts
-  step_made old message (Totals material received stock rack pieces kerf scrap) new made accepts = absurd made
+  -- a reply that an accepted message can get tells of no refusal
+  pub none_made : (answer : Reply) → IsMade answer → refusal_in answer ≡ None
+  none_made (AddMaterial material) made = refl
+  none_made (Receive act count) made = refl
+  none_made (AddOrder count first order) made = refl
+  none_made (Reserve cuts job) made = refl
+  none_made (Done job kerf pieces rack scrap) made = refl
+  none_made (Release job) made = refl
+  none_made (Totals material received stock rack pieces kerf scrap) made = absurd made
+  none_made (Trace batch h of part root state w x y) made = absurd made
+  none_made (Demand demand line made' material order reserved wanted) made = absurd made
+  none_made (Refused refusal) made = absurd made
+
+  -- the kept reply to the kept message
+  pub again_kept : (row : Kept) (message : Message) (answer : Reply) → IsMade answer → row.command ≡ texts.of_message message → row.reply ≡ texts.of_reply answer
+      → StepAgain texts row message answer × (answer ≢ Refused StoreFault)
+  again_kept row message answer made command told = (
+    subst (λ (o : Option Refusal). MatchOption o (Keeps texts row message answer) (λ refusal. refusal ≢ NoMemory → refusal ≢ StoreFault → (refusal ≡ NumberReused) × (row.command ≢ texts.of_message message)))
+        (sym (none_made answer made)) (record { made = made; command = command; reply = told }),
+    λ e. subst IsMade e made,
+  )
+
+  step_made : (old : Content) (message : Message) (read : Option Pattern) (answer : Reply) (new : Content) → IsMade answer → Accepts texts old message read answer new → StepNew texts old message answer new
+  step_made old message read answer new made accepts =
+      subst (λ (o : Option Refusal). MatchOption o ((r : Option Pattern) × Accepts texts old message r answer new) (λ refusal. Refuses old message.command refusal × (new ≡ old))) (sym (none_made answer made)) (read, accepts)
 
   -- a step of a message that isn't kept
   pub step_new : (old : Content) (message : Message) (answer : Reply) (new : Content) → kept_at old (pair_of message) ≡ None → StepNew texts old message answer new → Step texts old message answer new
@@ -53,7 +91,7 @@ module _ (texts : Texts) where
       subst (λ o. MatchOption o (StepNew texts old message answer old) (λ row. StepAgain texts row message answer × (old ≡ old))) (sym some) (step, refl)
 
   -- want of memory and a failed store refuse any message
-  fault_step : (m : Content) (message : Message) (refusal : Refusal) (found : Option Kept) → ((refusal ≢ NoMemory) → (refusal ≢ StoreFault) → ⊥)
+  pub fault_step : (m : Content) (message : Message) (refusal : Refusal) (found : Option Kept) → ((refusal ≢ NoMemory) → (refusal ≢ StoreFault) → ⊥)
       → MatchOption found (StepNew texts m message (Refused refusal) m) (λ row. StepAgain texts row message (Refused refusal) × (m ≡ m))
   fault_step m message refusal None fault = (λ n s. absurd (fault n s), refl)
   fault_step m message refusal (Some row) fault = (λ n s. absurd (fault n s), refl)
@@ -63,20 +101,31 @@ module _ (texts : Texts) where
   is_fault refusal fault.Store e n s = s e
 
   -- the change that is committed fits, whatever reply and texts it holds
-  pub fits_committed : (m : Content) (message : Message) (made : Change) (text told : List ℕ) (answer : Reply)
-      → kept_at m (pair_of message) ≡ None → IsSound texts m → refusal_of m message.command ≡ None → made ≡ change_of m message.command
+  pub fits_committed : (m : Content) (message : Message) (read : Option Pattern) (made : Change) (text told : List ℕ) (answer : Reply)
+      → kept_at m (pair_of message) ≡ None → IsSound texts m → Reads m message.command read → refusal_of m message.command read ≡ None → Makes m message.command read made
       → Fits m (record made { kept = Some (record { pair = pair_of message; kept = record { command = text; reply = told } }); reply = answer })
-  fits_committed m message made text told answer none sound allowed is =
-      let fits : Fits m (keeping texts message made) = subst (λ (c : Change). Fits m (keeping texts message c)) (sym is) (fits_accepted texts m message sound none allowed) in
-      record { material = fits.material; parts = fits.parts; known = fits.known; rising = fits.rising; act = fits.act; kept = fits.kept }
+  fits_committed m message read made text told answer none sound reads allowed makes =
+      let fits : Fits m (keeping texts message made) = fits_accepted texts m message read made sound reads allowed makes none in
+      record {
+        material = fits.material;
+        parts = fits.parts;
+        known = fits.known;
+        rising = fits.rising;
+        job = fits.job;
+        order = fits.order;
+        demands = fits.demands;
+        wanted = fits.wanted;
+        once = fits.once;
+        act = fits.act;
+        demand = fits.demand;
+        kept = fits.kept;
+      }
 
   module _ {Left : Type 0} (stands : Left → Content → Type 0) where
     left_made : (before : Left → Type 0) (old : Content) (message : Message) (answer : Reply) (next : Content) (left : Left) → IsMade answer → stands left next
         → LeftByNew texts stands before old message answer next left
-    left_made before old message (Refused refusal) next left made it = absurd made
-    left_made before old message (AddMaterial material) next left made it = it
-    left_made before old message (Receive act count) next left made it = it
-    left_made before old message (Totals material received stock rack pieces kerf scrap) next left made it = absurd made
+    left_made before old message answer next left made it =
+        subst (λ (o : Option Refusal). MatchOption o (stands left next) (λ refusal. before left ⊎ ((other : Reply) × (made : Content) × StepNew texts old message other made × stands left made))) (sym (none_made answer made)) it
 
     left_new : (before : Left → Type 0) (old : Content) (message : Message) (answer : Reply) (next : Content) (left : Left) → kept_at old (pair_of message) ≡ None
         → LeftByNew texts stands before old message answer next left → LeftBy texts stands before old message answer next left
@@ -90,11 +139,13 @@ module _ (texts : Texts) where
 
     more_new : (before mid : Left → Type 0) → ((left : Left) → mid left → before left)
         → (old : Content) (message : Message) (answer : Reply) (next : Content) (left : Left) → LeftByNew texts stands mid old message answer next left → LeftByNew texts stands before old message answer next left
-    more_new before mid grows old message (Refused refusal) next left (inl it) = inl (grows left it)
-    more_new before mid grows old message (Refused refusal) next left (inr it) = inr it
-    more_new before mid grows old message (AddMaterial material) next left it = it
-    more_new before mid grows old message (Receive act count) next left it = it
-    more_new before mid grows old message (Totals material received stock rack pieces kerf scrap) next left it = it
+    more_new before mid grows old message answer next left it = by (refusal_in answer) it
+      where
+        by : (o : Option Refusal) → MatchOption o (stands left next) (λ refusal. mid left ⊎ ((other : Reply) × (made : Content) × StepNew texts old message other made × stands left made))
+            → MatchOption o (stands left next) (λ refusal. before left ⊎ ((other : Reply) × (made : Content) × StepNew texts old message other made × stands left made))
+        by None it = it
+        by (Some refusal) (inl it) = inl (grows left it)
+        by (Some refusal) (inr it) = inr it
 
     more_by : (before mid : Left → Type 0) → ((left : Left) → mid left → before left)
         → (old : Content) (message : Message) (answer : Reply) (next : Content) (left : Left) (found : Option Kept)
@@ -122,7 +173,7 @@ module _ (texts : Texts) where
 
     -- decided against
     pub decided : (before after : Left → Type 0) (holds : Content → Type 0) (m : Content) (message : Message) (refusal : Refusal)
-        → ((refusal ≢ NoMemory) → (refusal ≢ StoreFault) → refusal_of m message.command ≡ Some refusal) → kept_at m (pair_of message) ≡ None
+        → Refuses m message.command refusal → kept_at m (pair_of message) ≡ None
         → IsSound texts m → holds m → ((left : Left) → after left → before left) → IsHandled texts stands before after holds m message (Refused refusal)
     decided before after holds m message refusal refused none sound held crash =
         record {
@@ -146,20 +197,17 @@ module _ (texts : Texts) where
           crash = λ left it. subst (λ o. MatchOption o (LeftByNew texts stands before m message answer m left) (λ (row : Kept). before left)) (sym some) (crash left it);
         }
 
-    module _ (before mid after : Left → Type 0) (holds : Content → Type 0) (m : Content) (message : Message) (change made : Change) (is_message : IsMessage message)
-        (none : kept_at m (pair_of message) ≡ None) (sound : IsSound texts m) (allowed : refusal_of m message.command ≡ None) (is : made ≡ change_of m message.command)
+    module _ (before mid after : Left → Type 0) (holds : Content → Type 0) (m : Content) (message : Message) (read : Option Pattern) (change made : Change) (is_message : IsMessage message)
+        (none : kept_at m (pair_of message) ≡ None) (sound : IsSound texts m) (reads : Reads m message.command read) (allowed : refusal_of m message.command read ≡ None) (makes : Makes m message.command read made)
         (row : changed m change ≡ changed m (keeping texts message made)) where
       abbrev next : Content
-      next = changed m (keeping texts message (change_of m message.command))
-
-      same : changed m change ≡ next
-      same = row ∙ ap (λ (c : Change). changed m (keeping texts message c)) is
+      next = changed m (keeping texts message made)
 
       is_made : IsMade made.reply
-      is_made = subst (λ (c : Change). IsMade c.reply) (sym is) (made_by m message.command is_message.command allowed)
+      is_made = told_accepted texts m message read made sound reads allowed makes is_message
 
       made_step : StepNew texts m message made.reply next
-      made_step = step_made m message made.reply next is_made (record { allowed = allowed; answered = ap (λ (c : Change). c.reply) is; becomes = refl })
+      made_step = step_made m message read made.reply next is_made (record { reads = reads; allowed = allowed; change = made; makes = makes; answered = refl; becomes = refl })
 
       -- accepted and kept
       pub committed : holds (changed m change) → ((left : Left) → after left → stands left (changed m change)) → IsHandled texts stands before after holds m message made.reply
@@ -167,9 +215,9 @@ module _ (texts : Texts) where
           record {
             next = next;
             step = step_new m message made.reply next none made_step;
-            held = subst holds same held;
-            sound = sound_after texts m message sound is_message allowed;
-            crash = λ left it. left_new before m message made.reply next left none (left_made before m message made.reply next left is_made (subst (stands left) same (lasts left it)));
+            held = subst holds row held;
+            sound = sound_after texts m message read made sound reads allowed makes is_message;
+            crash = λ left it. left_new before m message made.reply next left none (left_made before m message made.reply next left is_made (subst (stands left) row (lasts left it)));
           }
 
       -- the commit failed
@@ -183,7 +231,7 @@ module _ (texts : Texts) where
             sound = sound;
             crash = λ left it. left_new before m message (Refused refusal) m left none (elim (crash left it) [
               | inl was ↦ inl (crash_first left was)
-              | inr new ↦ inr (made.reply, next, made_step, subst (stands left) same new)
+              | inr new ↦ inr (made.reply, next, made_step, subst (stands left) row new)
             ]);
           }
 

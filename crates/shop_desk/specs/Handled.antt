@@ -1,0 +1,50 @@
+-- What handling a message does to a book, and to what a crash may leave of it.
+use Rattle.std.specs.Prelude.{◌≡◌, ◌⊎◌, List, [], ◌∷◌, MatchOption}
+use Rattle.shop_machine.specs.declared.messages.Message.{Message}
+use Rattle.shop_machine.specs.declared.messages.Reply.{Reply}
+use Rattle.shop_machine.specs.Messages.{Texts, refusal_in, pair_of}
+use Rattle.shop_machine.specs.Content.{Content, kept_at}
+use Rattle.shop_machine.specs.Machine.{StepNew, Step, Run}
+use Rattle.shop_machine.specs.History.{Entry, messages_of, Gives, IsAccountOf, history_after}
+use Rattle.shop_machine.specs.Soundness.{IsSound}
+
+module _ (texts : Texts) {Left : Type 0} (stands : Left → Content → Type 0) where
+  -- What may be left after a message that wasn't kept: once it is accepted what stands for the next content, and once it
+  -- is refused what could be left before, or what stands for the message's own step.
+  abbrev pub LeftByNew : (Left → Type 0) → Content → Message → Reply → Content → Left → Type 0
+  LeftByNew before old message answer next left =
+      MatchOption (refusal_in answer)
+      (stands left next)
+      (λ refusal. before left ⊎ ((other : Reply) × (made : Content) × StepNew texts old message other made × stands left made))
+
+  -- after a message that was kept, what could be left before
+  abbrev pub LeftBy : (Left → Type 0) → Content → Message → Reply → Content → Left → Type 0
+  LeftBy before old message answer next left =
+      MatchOption (kept_at old (pair_of message)) (LeftByNew before old message answer next left) (λ row. before left)
+
+  -- The book held old and holds next, a step of the machine later.
+  pub record IsHandled (before after : Left → Type 0) (holds : Content → Type 0) (old : Content) (message : Message) (answer : Reply) : Type 0 where
+    pub next : Content
+    pub step : Step texts old message answer next
+    pub held : holds next
+    pub sound : IsSound texts next
+    pub crash : (left : Left) → after left → LeftBy before old message answer next left
+
+  -- The same of messages in order: what may be left is what may be left after each step in turn.
+  abbrev pub Leads : (Left → Type 0) → Content → List Message → List Reply → Content → (Left → Type 0) → Type 0
+  Leads before old [] [] new after = (new ≡ old) × ((left : Left) → after left → before left)
+  Leads before old (message ∷ messages) (answer ∷ answers) new after =
+      (next : Content) × Step texts old message answer next × Leads (LeftBy before old message answer next) next messages answers new after
+  Leads before old [] (answer ∷ answers) new after = ⊥
+  Leads before old (message ∷ messages) [] new after = ⊥
+
+  -- The book held old and holds next, a run of the machine later. Where a history gives old, one whose messages are those of
+  -- that history with each new message once gives next, and this is its account.
+  pub record HasRun (before after : Left → Type 0) (holds : Content → Type 0) (old : Content) (messages : List Message) (answers : List Reply) : Type 0 where
+    pub next : Content
+    pub run : Run texts old messages answers next
+    pub held : holds next
+    pub sound : IsSound texts next
+    pub crash : Leads before old messages answers next after
+    pub account : (history : List Entry) → Gives texts history old
+        → (later : List Entry) × (messages_of later ≡ history_after (messages_of history) messages answers) × IsAccountOf texts later next

@@ -1,9 +1,10 @@
-ghost use Rattle.std.specs.Prelude.{◌≡◌, ◌⊎◌, IfOk, IfSome, All, Some};
+ghost use Rattle.std.specs.Prelude.{◌≡◌, ◌⊎◌, IfOk, IfSome, IsTrue, All, Some};
+ghost use Rattle.shop_machine.specs.Messages.{is_accepted};
 ghost use Rattle.cut_measure.specs.Names.{Name};
 ghost use Rattle.shop_machine.specs.Content.{Content, demand_at};
 ghost use Rattle.shop_machine.specs.Machine.{plan_leaves};
 ghost use Rattle.shop_machine.specs.Found.{AreDemandsFound, IsNumbered, leaves_in};
-ghost use Rattle.shop_desk.specs.Faults.{CountsDecision};
+ghost use Rattle.shop_store.specs.Failures.{CountsFailure};
 ghost use Rattle.shop_machine.specs.declared.messages.Command.TheVariants.{AddMaterial, Receive, AddOrder, Reserve, Done, Release};
 ghost use Rattle.shop_machine.specs.declared.messages.Reply.TheVariants.{Refused};
 ghost use Rattle.shop_machine.specs.declared.refusals.Refusal.TheVariants.{BadMessage};
@@ -16,7 +17,7 @@ use shop_rules::{
     Change, Code, Command, FoundLeaf, Job, KeptMessage, LineList, Refusal, Reply, Text,
     decide_done, decide_material, decide_order, decide_receive, decide_release, decide_reserve,
 };
-use shop_store::Book;
+use shop_store::{Book, BookFault};
 use std::alloc::Global;
 
 // Adds a material.
@@ -34,6 +35,7 @@ fn add_material<B: Book>(
     ensures stays { B.is_honest book.new → (m : Content) → B.holds book.old m → B.holds book.new m }
     ensures crash { B.is_honest book.new → (m : Content) → B.holds book.old m → (left : B.Left) → B.may_leave book.new left → B.may_leave book.old left }
     ensures honest { B.is_honest book.new → B.is_honest book.old }
+    ensures told { IfOk result (λ change. IsTrue (is_accepted change.reply)) }
     ensures failures { CountsOrDisagrees (B.failed book.old) result (B.failed book.new) }
 {
     let known = book.material(material)?;
@@ -55,6 +57,7 @@ fn receive<B: Book>(
     ensures stays { B.is_honest book.new → (m : Content) → B.holds book.old m → B.holds book.new m }
     ensures crash { B.is_honest book.new → (m : Content) → B.holds book.old m → (left : B.Left) → B.may_leave book.new left → B.may_leave book.old left }
     ensures honest { B.is_honest book.new → B.is_honest book.old }
+    ensures told { IfOk result (λ change. IsTrue (is_accepted change.reply)) }
     ensures failures { CountsOrDisagrees (B.failed book.old) result (B.failed book.new) }
 {
     let known = book.material(material)?;
@@ -75,6 +78,7 @@ fn add_order<B: Book>(
     ensures stays { B.is_honest book.new → (m : Content) → B.holds book.old m → B.holds book.new m }
     ensures crash { B.is_honest book.new → (m : Content) → B.holds book.old m → (left : B.Left) → B.may_leave book.new left → B.may_leave book.old left }
     ensures honest { B.is_honest book.new → B.is_honest book.old }
+    ensures told { IfOk result (λ change. IsTrue (is_accepted change.reply)) }
     ensures failures { CountsOrDisagrees (B.failed book.old) result (B.failed book.new) }
 {
     let used = book.order(order)?;
@@ -88,14 +92,14 @@ fn leaves_for<B: Book>(
     alloc: Global,
     book: &mut B,
     plan: &Option<Plan>,
-) -> Result<Vec<FoundLeaf>, Refusal>
+) -> Result<Vec<FoundLeaf>, BookFault>
     ensures found { B.is_honest book.new → (m : Content) → B.holds book.old m → IfOk result (λ found. AreDemandsFound (demand_at m) found.items) }
     ensures leaves { IfOk result (λ found. IfSome plan.now (λ p. leaves_in found.items ≡ plan_leaves p)) }
     ensures numbered { IfOk result (λ found. All IsNumbered found.items) }
     ensures stays { B.is_honest book.new → (m : Content) → B.holds book.old m → B.holds book.new m }
     ensures crash { B.is_honest book.new → (m : Content) → B.holds book.old m → (left : B.Left) → B.may_leave book.new left → B.may_leave book.old left }
     ensures honest { B.is_honest book.new → B.is_honest book.old }
-    ensures failures { CountsDecision (B.failed book.old) result (B.failed book.new) }
+    ensures failures { CountsFailure (B.failed book.old) result (B.failed book.new) }
 {
     match plan {
         Some(plan) => found_leaves(alloc, book, plan),
@@ -108,14 +112,14 @@ fn job_leaves<B: Book>(
     alloc: Global,
     book: &mut B,
     job: &Option<Job>,
-) -> Result<Vec<FoundLeaf>, Refusal>
+) -> Result<Vec<FoundLeaf>, BookFault>
     ensures found { B.is_honest book.new → (m : Content) → B.holds book.old m → IfOk result (λ found. AreDemandsFound (demand_at m) found.items) }
     ensures leaves { IfOk result (λ found. IfSome job.now (λ j. leaves_in found.items ≡ plan_leaves j.plan)) }
     ensures numbered { IfOk result (λ found. All IsNumbered found.items) }
     ensures stays { B.is_honest book.new → (m : Content) → B.holds book.old m → B.holds book.new m }
     ensures crash { B.is_honest book.new → (m : Content) → B.holds book.old m → (left : B.Left) → B.may_leave book.new left → B.may_leave book.old left }
     ensures honest { B.is_honest book.new → B.is_honest book.old }
-    ensures failures { CountsDecision (B.failed book.old) result (B.failed book.new) }
+    ensures failures { CountsFailure (B.failed book.old) result (B.failed book.new) }
 {
     match job {
         Some(job) => found_leaves(alloc, book, &job.plan),
@@ -135,6 +139,7 @@ fn reserve<B: Book>(
     ensures stays { B.is_honest book.new → (m : Content) → B.holds book.old m → B.holds book.new m }
     ensures crash { B.is_honest book.new → (m : Content) → B.holds book.old m → (left : B.Left) → B.may_leave book.new left → B.may_leave book.old left }
     ensures honest { B.is_honest book.new → B.is_honest book.old }
+    ensures told { IfOk result (λ change. IsTrue (is_accepted change.reply)) }
     ensures failures { CountsOrDisagrees (B.failed book.old) result (B.failed book.new) }
 {
     let row = book.part(part)?;
@@ -156,6 +161,7 @@ fn done<B: Book>(
     ensures stays { B.is_honest book.new → (m : Content) → B.holds book.old m → B.holds book.new m }
     ensures crash { B.is_honest book.new → (m : Content) → B.holds book.old m → (left : B.Left) → B.may_leave book.new left → B.may_leave book.old left }
     ensures honest { B.is_honest book.new → B.is_honest book.old }
+    ensures told { IfOk result (λ change. IsTrue (is_accepted change.reply)) }
     ensures failures { CountsOrDisagrees (B.failed book.old) result (B.failed book.new) }
 {
     let job = book.job(alloc, number)?;
@@ -176,6 +182,7 @@ fn release<B: Book>(
     ensures stays { B.is_honest book.new → (m : Content) → B.holds book.old m → B.holds book.new m }
     ensures crash { B.is_honest book.new → (m : Content) → B.holds book.old m → (left : B.Left) → B.may_leave book.new left → B.may_leave book.old left }
     ensures honest { B.is_honest book.new → B.is_honest book.old }
+    ensures told { IfOk result (λ change. IsTrue (is_accepted change.reply)) }
     ensures failures { CountsOrDisagrees (B.failed book.old) result (B.failed book.new) }
 {
     let job = book.job(alloc, number)?;
@@ -192,6 +199,7 @@ pub fn decide<B: Book>(alloc: Global, book: &mut B, command: &Command) -> Result
     ensures stays { B.is_honest book.new → (m : Content) → B.holds book.old m → B.holds book.new m }
     ensures crash { B.is_honest book.new → (m : Content) → B.holds book.old m → (left : B.Left) → B.may_leave book.new left → B.may_leave book.old left }
     ensures honest { B.is_honest book.new → B.is_honest book.old }
+    ensures told { IfOk result (λ change. IsTrue (is_accepted change.reply)) }
     ensures failures { CountsOrDisagrees (B.failed book.old) result (B.failed book.new) }
 {
     match command {

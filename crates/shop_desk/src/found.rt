@@ -8,10 +8,9 @@ ghost use Rattle.shop_machine.specs.Content.{Content, material_at, part_at, dema
 ghost use Rattle.shop_machine.specs.Machine.{Reads, material_of, part_of, plan_leaves};
 ghost use Rattle.shop_machine.specs.Found.{AreMaterialsFound, AreDemandsFound, IsNumbered, leaves_in, lines_in};
 ghost use Rattle.shop_store.specs.Failures.{CountsFailure};
-ghost use Rattle.shop_desk.specs.Faults.{CountsDecision};
 
 use cut_tree::{Cause, Leaf, Plan};
-use shop_rules::{Demand, FoundLeaf, FoundLine, Job, Material, OrderLine, Part, Refusal};
+use shop_rules::{Demand, FoundLeaf, FoundLine, Job, Material, OrderLine, Part};
 use shop_store::{Book, BookFault};
 use std::alloc::{AllocError, Global};
 
@@ -114,14 +113,14 @@ pub fn found_leaves<B: Book>(
     alloc: Global,
     book: &mut B,
     plan: &Plan,
-) -> Result<Vec<FoundLeaf>, Refusal>
+) -> Result<Vec<FoundLeaf>, BookFault>
     ensures found { B.is_honest book.new → (m : Content) → B.holds book.old m → IfOk result (λ found. AreDemandsFound (demand_at m) found.items) }
     ensures leaves { IfOk result (λ found. leaves_in found.items ≡ plan_leaves plan.now) }
     ensures numbered { IfOk result (λ found. All IsNumbered found.items) }
     ensures stays { B.is_honest book.new → (m : Content) → B.holds book.old m → B.holds book.new m }
     ensures crash { B.is_honest book.new → (m : Content) → B.holds book.old m → (left : B.Left) → B.may_leave book.new left → B.may_leave book.old left }
     ensures honest { B.is_honest book.new → B.is_honest book.old }
-    ensures failures { CountsDecision (B.failed book.old) result (B.failed book.new) }
+    ensures failures { CountsFailure (B.failed book.old) result (B.failed book.new) }
 {
     let leaves = plan.leaves(alloc)?;
     let mut found = Vec::new(alloc);
@@ -137,13 +136,13 @@ pub fn found_lines<B: Book>(
     alloc: Global,
     book: &mut B,
     lines: &[OrderLine],
-) -> Result<Vec<FoundLine>, Refusal>
+) -> Result<Vec<FoundLine>, BookFault>
     ensures found { B.is_honest book.new → (m : Content) → B.holds book.old m → IfOk result (λ found. AreMaterialsFound (material_at m) found.items) }
     ensures lines { IfOk result (λ found. lines_in found.items ≡ lines.now) }
     ensures stays { B.is_honest book.new → (m : Content) → B.holds book.old m → B.holds book.new m }
     ensures crash { B.is_honest book.new → (m : Content) → B.holds book.old m → (left : B.Left) → B.may_leave book.new left → B.may_leave book.old left }
     ensures honest { B.is_honest book.new → B.is_honest book.old }
-    ensures failures { CountsDecision (B.failed book.old) result (B.failed book.new) }
+    ensures failures { CountsFailure (B.failed book.old) result (B.failed book.new) }
 {
     let mut found = Vec::new(alloc);
     for line in lines {

@@ -57,22 +57,21 @@ pub job_test : (j : Job) (part : Part) (material : Material) (at : ℕ → Optio
 job_test j part material at b waits there =
     ap (λ w. first_of ((not w, JobOver) ∷ (not (rests j (Some part) (Some material) at), StoreFault) ∷ [])) waits ∙ ap (λ r. first_of ((not r, StoreFault) ∷ [])) there
 
--- a finished job with the rows on which it rested
-pub done_work : (found : Option Job) (on : Option Part) (of : Option Material) (at : ℕ → Option Demand) (change : Change) (j : Job) (part : Part) (rule : Rule) → found ≡ Some j → on ≡ Some part → IfSome of (λ m. m.limits ≡ rule)
-    → job_refusal found on of at ≡ None → IsDone j part rule at change
-    → MatchOption found ⊥ (λ j. MatchOption on ⊥ (λ p. MatchOption of ⊥ (λ m. IsDone j p m.limits at change)))
-done_work found on None at change j part rule is_j is_p is_m allowed done = absurd (not_allowed found on j part is_j is_p allowed)
+-- what holds of a job with the rows on which it rested, of the rows that were found
+pub worked : (E : Job → Part → Rule → Type 0) (found : Option Job) (on : Option Part) (of : Option Material) (at : ℕ → Option Demand) (j : Job) (part : Part) (rule : Rule)
+    → found ≡ Some j → on ≡ Some part → IfSome of (λ m. m.limits ≡ rule) → job_refusal found on of at ≡ None → E j part rule
+    → MatchOption found ⊥ (λ j. MatchOption on ⊥ (λ p. MatchOption of ⊥ (λ m. E j p m.limits)))
+worked E found on None at j part rule is_j is_p is_m allowed it = absurd (not_allowed found on j part is_j is_p allowed)
   where
     by : (b : Bool) → first_of ((b, JobOver) ∷ (true, StoreFault) ∷ []) ≡ None → ⊥
     by true e = cc
     by false e = cc
-
     not_allowed : (found : Option Job) (on : Option Part) (j : Job) (part : Part) → found ≡ Some j → on ≡ Some part → job_refusal found on None at ≡ None → ⊥
     not_allowed found on j part is_j is_p allowed =
         by (not (is_waiting j.state)) (subst (λ (o : Option Part). job_refusal (Some j) o None at ≡ None) is_p (subst (λ (o : Option Job). job_refusal o on None at ≡ None) is_j allowed))
-done_work found on (Some m) at change j part rule is_j is_p is_m allowed done =
-    subst (λ (o : Option Job). MatchOption o ⊥ (λ j. MatchOption on ⊥ (λ p. IsDone j p m.limits at change))) (sym is_j)
-    (subst (λ (o : Option Part). MatchOption o ⊥ (λ p. IsDone j p m.limits at change)) (sym is_p) (subst (λ (r : Rule). IsDone j part r at change) (sym is_m) done))
+worked E found on (Some m) at j part rule is_j is_p is_m allowed it =
+    subst (λ (o : Option Job). MatchOption o ⊥ (λ j. MatchOption on ⊥ (λ p. E j p m.limits))) (sym is_j)
+    (subst (λ (o : Option Part). MatchOption o ⊥ (λ p. E j p m.limits)) (sym is_p) (subst (λ (r : Rule). E j part r) (sym is_m) it))
 
 -- the change of a finished job, from its parts
 pub done_made : (j : Job) (part : Part) (rule : Rule) (laid : List Row) (rows : List Demand) (parts : List Part) (answer : Reply) (base : Change) → base ≡ no_change answer

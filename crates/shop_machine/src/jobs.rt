@@ -324,7 +324,7 @@ pub fn decide_release(
     requires numbered { All IsNumbered leaves.now }
     requires leaves { IfSome job (λ j. leaves_in leaves.now ≡ plan_leaves j.plan) }
     ensures decision { (at : ℕ → Option DemandOf) → AreDemandsFound at leaves.now →
-        Decides (job_refusal job part material at) (λ change. MatchOption job ⊥ (λ j. MatchOption part ⊥ (λ p. IsRelease j p at change))) result }
+        Decides (job_refusal job part material at) (λ change. MatchOption job ⊥ (λ j. MatchOption part ⊥ (λ p. MatchOption material ⊥ (λ _. IsRelease j p at change)))) result }
     ensures told { IfOk result (λ change. IsTrue (is_accepted change.reply)) }
 {
     let work = work_of(job, part, material, leaves)?;

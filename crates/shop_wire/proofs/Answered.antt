@@ -9,14 +9,16 @@ use Rattle.std.proofs.lemmas.List.{take_all, length-take}
 use Rattle.shop_machine.specs.declared.messages.Message.{Message}
 use Rattle.shop_machine.specs.declared.messages.Query.{Query}
 use Rattle.shop_machine.specs.declared.refusals.Refusal.{Refusal}
-use Rattle.shop_machine.specs.declared.refusals.Refusal.TheVariants.{BadMessage}
+use Rattle.shop_machine.specs.declared.refusals.Refusal.TheVariants.{BadMessage, NoMemory}
 use Rattle.shop_machine.specs.declared.messages.Reply.{Reply}
 use Rattle.shop_machine.specs.declared.messages.Reply.TheVariants.{Refused}
-use Rattle.shop_machine.specs.Content.{Content}
+use Rattle.shop_machine.specs.Messages.{pair_of}
+use Rattle.shop_machine.specs.Content.{Content, kept_at}
 use Rattle.shop_machine.specs.Machine.{Step, Answers}
 use Rattle.serde_json.specs.Data.{Data}
 use Rattle.serde_json.specs.Read.{read}
 use Rattle.shop_rules.specs.Forms.{message_of, query_of, json_texts}
+use Rattle.shop_desk.proofs.Steps.{fault_step}
 use Rattle.shop_wire.specs.Lines.{kept_of, longest_line}
 use Rattle.shop_wire.specs.Replays.{data_of, IsNoMessage, ValueStep, LineStep}
 
@@ -32,23 +34,33 @@ module _ (old new : Content) (d : Data) (reply : Reply) where
   abbrev Otherwise : Option Query → Type 0
   Otherwise o = MatchOption o (IsNoMessage old reply new) (λ query. Answers old query reply × (new ≡ old))
 
-  pub of_message : (message : Message) → Ok message ≡ ok_or (message_of d) BadMessage → Step json_texts old message reply new → ValueStep old d reply new
+  pub of_message : (message : Message) → message_of d ≡ Some message → Step json_texts old message reply new → ValueStep old d reply new
   of_message message is step =
-      subst (λ (o : Option Message). MatchOption o (Otherwise (query_of d)) (λ message. Step json_texts old message reply new))
-      (sym (from_ok (message_of d) message BadMessage is)) step
+      subst (λ (o : Option Message). MatchOption o (Otherwise (query_of d)) (λ message. Step json_texts old message reply new)) (sym is) step
 
-  pub of_no_message : (r : Refusal) → Err r ≡ ok_or (message_of d) BadMessage → Otherwise (query_of d) → ValueStep old d reply new
-  of_no_message r is other =
-      subst (λ (o : Option Message). MatchOption o (Otherwise (query_of d)) (λ message. Step json_texts old message reply new))
-      (sym (from_err (message_of d) BadMessage r is).0) other
+  pub of_no_message : message_of d ≡ None → Otherwise (query_of d) → ValueStep old d reply new
+  of_no_message none other =
+      subst (λ (o : Option Message). MatchOption o (Otherwise (query_of d)) (λ message. Step json_texts old message reply new)) (sym none) other
 
-  pub of_query : (r : Refusal) (query : Query) → Err r ≡ ok_or (message_of d) BadMessage → Ok query ≡ ok_or (query_of d) BadMessage → Answers old query reply → new ≡ old → ValueStep old d reply new
-  of_query r query refused is answered stays =
-      of_no_message r refused (subst Otherwise (sym (from_ok (query_of d) query BadMessage is)) (answered, stays))
+  pub of_query : (query : Query) → message_of d ≡ None → Ok query ≡ ok_or (query_of d) BadMessage → Answers old query reply → new ≡ old → ValueStep old d reply new
+  of_query query refused is answered stays =
+      of_no_message refused (subst Otherwise (sym (from_ok (query_of d) query BadMessage is)) (answered, stays))
 
-  pub of_nothing : (r s : Refusal) → Err r ≡ ok_or (message_of d) BadMessage → Err s ≡ ok_or (query_of d) BadMessage → reply ≡ Refused s → new ≡ old → ValueStep old d reply new
-  of_nothing r s refused none is stays =
-      of_no_message r refused (subst Otherwise (sym (from_err (query_of d) BadMessage s none).0) (is ∙ ap Refused (from_err (query_of d) BadMessage s none).1, stays))
+  pub of_nothing : (s : Refusal) → message_of d ≡ None → Err s ≡ ok_or (query_of d) BadMessage → reply ≡ Refused s → new ≡ old → ValueStep old d reply new
+  of_nothing s refused none is stays =
+      of_no_message refused (subst Otherwise (sym (from_err (query_of d) BadMessage s none).0) ((λ _. is ∙ ap Refused (from_err (query_of d) BadMessage s none).1), stays))
+
+-- want of memory may be answered to any value
+pub of_no_memory : (old : Content) (d : Data) → ValueStep old d (Refused NoMemory) old
+of_no_memory old d = by_message (message_of d)
+  where
+    by_query : (o : Option Query) → MatchOption o (IsNoMessage old (Refused NoMemory) old) (λ query. Answers old query (Refused NoMemory) × (old ≡ old))
+    by_query None = ((λ no. absurd (no refl)), refl)
+    by_query (Some query) = ((λ no _. absurd (no refl)), refl)
+    by_message : (o : Option Message)
+        → MatchOption o (MatchOption (query_of d) (IsNoMessage old (Refused NoMemory) old) (λ query. Answers old query (Refused NoMemory) × (old ≡ old))) (λ message. Step json_texts old message (Refused NoMemory) old)
+    by_message None = by_query (query_of d)
+    by_message (Some message) = fault_step json_texts old message NoMemory (kept_at old (pair_of message)) (λ n s. n refl)
 
 -- ---- lines
 
@@ -77,7 +89,7 @@ pub line_answered : (old new : Content) (line : List ℕ) (d : Data) (reply : Re
 line_answered old new line d reply is step = subst (λ (o : Option Data). MatchOption o (IsNoMessage old reply new) (λ d. ValueStep old d reply new)) (sym is) step
 
 pub line_refused : (old : Content) (line : List ℕ) → data_of line ≡ None → LineStep old line (Refused BadMessage) old
-line_refused old line is = subst (λ (o : Option Data). MatchOption o (IsNoMessage old (Refused BadMessage) old) (λ d. ValueStep old d (Refused BadMessage) old)) (sym is) (refl, refl)
+line_refused old line is = subst (λ (o : Option Data). MatchOption o (IsNoMessage old (Refused BadMessage) old) (λ d. ValueStep old d (Refused BadMessage) old)) (sym is) ((λ _. refl), refl)
 
 pub not_memory : {M : Type 0} (b : Bool) → (M → b ≡ true) → b ≡ false → ¬ M
 not_memory b told is m = cc (told m)

@@ -1,9 +1,9 @@
 -- What lines stand for, what is answered to them, and what is written.
-use Rattle.std.specs.Prelude.{◌≡◌, ℕ, ◌&&◌, List, [], ◌∷◌, ◌++◌, length, nat_le, if◌then◌else◌, Option, None, MatchOption}
+use Rattle.std.specs.Prelude.{◌≡◌, ◌≢◌, ℕ, ◌&&◌, List, [], ◌∷◌, ◌++◌, length, nat_le, if◌then◌else◌, Option, None, MatchOption}
 use Rattle.std.specs.Str.{is_utf8}
 use Rattle.std.specs.List.{flat_map}
 use Rattle.std.specs.Io.KnownBytes.{Appends}
-use Rattle.shop_machine.specs.declared.refusals.Refusal.TheVariants.{BadMessage}
+use Rattle.shop_machine.specs.declared.refusals.Refusal.TheVariants.{BadMessage, NoMemory}
 use Rattle.shop_machine.specs.declared.messages.Reply.{Reply}
 use Rattle.shop_machine.specs.declared.messages.Reply.TheVariants.{Refused}
 use Rattle.shop_machine.specs.Content.{Content}
@@ -18,9 +18,9 @@ use Rattle.shop_wire.specs.Lines.{longest_line}
 abbrev pub data_of : List ℕ → Option Data
 data_of line = if nat_le (length line) longest_line && is_utf8 line then read line else None
 
--- refused as no message, and nothing is changed
+-- refused as no message, memory aside, and nothing is changed
 abbrev pub IsNoMessage : Content → Reply → Content → Type 0
-IsNoMessage old reply new = (reply ≡ Refused BadMessage) × (new ≡ old)
+IsNoMessage old reply new = (reply ≢ Refused NoMemory → reply ≡ Refused BadMessage) × (new ≡ old)
 
 -- a value that is a message is a step of the machine, a query is answered, and anything else is refused
 abbrev pub ValueStep : Content → Data → Reply → Content → Type 0

@@ -17,8 +17,9 @@ fn reply_to<B: Book>(alloc: Global, book: &mut B, value: &Value) -> Reply
     ensures step { B.is_honest book.new → (m : Content) → B.holds book.old m → IsSound json_texts m → Leads (ValueStep m (view value.now) result) (B.holds book.new) }
     ensures honest { B.is_honest book.new → B.is_honest book.old }
 {
-    match read_message(value) {
+    match read_message(alloc, value) {
         Ok(message) => handle(alloc, book, &message),
+        Err(Refusal::NoMemory) => Reply::Refused(Refusal::NoMemory),
         Err(_) => match read_query(value) {
             Ok(query) => ask(alloc, book, &query),
             Err(refusal) => Reply::Refused(refusal),

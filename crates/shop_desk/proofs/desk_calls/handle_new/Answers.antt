@@ -11,7 +11,7 @@ use Rattle.shop_machine.specs.declared.refusals.Refusal.TheVariants.{BadMessage}
 use Rattle.shop_machine.specs.declared.messages.Reply.TheVariants.{Refused}
 use Rattle.shop_desk.specs.Faults.{CountsReply}
 use Rattle.shop_desk.specs.Handled.{IsHandled}
-use Rattle.shop_desk.proofs.Steps.{decided, faulted, committed, failed, counts_made, is_fault, fits_committed}
+use Rattle.shop_desk.proofs.Steps.{decided, faulted, committed, failed, counts_made, counted_made, is_fault, fits_committed, blamed}
 use Rattle.shop_desk.proofs.desk_calls.handle_new.Goals as goal
 
 pub returns-in-Err-clause-step : goal.returns-in-Err-clause-step
@@ -39,16 +39,16 @@ returns-in-Ok-commit-clause-step g c =
     ap (changed m) c.keeping_message-change.ensures.change
     ∙ ap (λ t. changed m (record made { kept = Some (record { pair = pair_of c.args.message.now; kept = record { command = t; reply = c.in-Ok-reply_text.told } }) })) text
     ∙ ap (λ t. changed m (record made { kept = Some (record { pair = pair_of c.args.message.now; kept = record { command = json_texts.of_message c.args.message.now; reply = t } }) })) c.in-Ok-reply_text.ensures in
-    let fits : Fits m change = subst (Fits m) (sym c.keeping_message-change.ensures.change) (fits_committed json_texts m c.args.message.now made c.args.text c.in-Ok-reply_text.told (Refused BadMessage) none sound decision.0 decision.1) in
+    let fits : Fits m change = subst (Fits m) (sym c.keeping_message-change.ensures.change) (fits_committed json_texts m c.args.message.now decision.0 made c.args.text c.in-Ok-reply_text.told (Refused BadMessage) none sound decision.1 decision.2 decision.3) in
     subst (λ answer. IsHandled json_texts g.B.Book.stands (g.B.Book.may_leave c.args.book.now) (g.B.Book.may_leave c.commit.new.self) (g.B.Book.holds c.commit.new.self) m c.args.message.now answer)
     (sym c.keeping_message-change.ensures.reply)
     (committed json_texts g.B.Book.stands (g.B.Book.may_leave c.args.book.now) (g.B.Book.may_leave c.decide.new.book) (g.B.Book.may_leave c.commit.new.self) (g.B.Book.holds c.commit.new.self)
-    m c.args.message.now change made is_message none sound decision.0 decision.1 row (c.in-Ok-commit.ensures.ok honest m kept fits) (c.in-Ok-commit.ensures.lasts honest m kept fits))
+    m c.args.message.now decision.0 change made is_message none sound decision.1 decision.2 decision.3 row (c.in-Ok-commit.ensures.ok honest m kept fits) (c.in-Ok-commit.ensures.lasts honest m kept fits))
 
 pub returns-in-Ok-commit-clause-failures : goal.returns-in-Ok-commit-clause-failures
 returns-in-Ok-commit-clause-failures g c =
-    subst (λ answer. CountsReply (g.B.Book.failed c.args.book.now) answer (g.B.Book.failed c.commit.new.self)) (sym c.keeping_message-change.ensures.reply)
-    (counts_made (g.B.Book.failed c.args.book.now) (g.B.Book.failed c.commit.new.self) c.in-Ok.change.reply c.in-Ok.ensures.told (c.in-Ok-commit.ensures.failures ∙ c.in-Ok.ensures.failures))
+    inl (subst (λ answer. CountsReply (g.B.Book.failed c.args.book.now) answer (g.B.Book.failed c.commit.new.self)) (sym c.keeping_message-change.ensures.reply)
+    (counts_made (g.B.Book.failed c.args.book.now) (g.B.Book.failed c.commit.new.self) c.in-Ok.change.reply c.in-Ok.ensures.told (c.in-Ok-commit.ensures.failures ∙ counted_made (g.B.Book.failed c.args.book.now) (g.B.Book.failed c.decide.new.book) c.in-Ok.change c.in-Ok.ensures.failures)))
 
 pub returns-in-Err-commit-clause-step : goal.returns-in-Err-commit-clause-step
 returns-in-Err-commit-clause-step g c =
@@ -62,7 +62,11 @@ returns-in-Err-commit-clause-step g c =
     ap (changed m) c.keeping_message-change.ensures.change
     ∙ ap (λ t. changed m (record made { kept = Some (record { pair = pair_of c.args.message.now; kept = record { command = t; reply = c.in-Ok-reply_text.told } }) })) text
     ∙ ap (λ t. changed m (record made { kept = Some (record { pair = pair_of c.args.message.now; kept = record { command = json_texts.of_message c.args.message.now; reply = t } }) })) c.in-Ok-reply_text.ensures in
-    let fits : Fits m change = subst (Fits m) (sym c.keeping_message-change.ensures.change) (fits_committed json_texts m c.args.message.now made c.args.text c.in-Ok-reply_text.told (Refused BadMessage) none sound decision.0 decision.1) in
+    let fits : Fits m change = subst (Fits m) (sym c.keeping_message-change.ensures.change) (fits_committed json_texts m c.args.message.now decision.0 made c.args.text c.in-Ok-reply_text.told (Refused BadMessage) none sound decision.1 decision.2 decision.3) in
     failed json_texts g.B.Book.stands (g.B.Book.may_leave c.args.book.now) (g.B.Book.may_leave c.decide.new.book) (g.B.Book.may_leave c.commit.new.self) (g.B.Book.holds c.commit.new.self)
-    m c.args.message.now change made is_message none sound decision.0 decision.1 row c.from.result (is_fault json_texts c.from.result c.in-Err-commit.fault c.from.ensures)
+    m c.args.message.now decision.0 change made is_message none sound decision.1 decision.2 decision.3 row c.from.result (is_fault json_texts c.from.result c.in-Err-commit.fault c.from.ensures)
     (c.in-Err-commit.ensures.err honest m kept fits) (c.decide.ensures.crash before m held) (c.commit.ensures.crash honest m kept fits)
+
+pub returns-in-Err-clause-store_fault : goal.returns-in-Err-clause-store_fault
+returns-in-Err-clause-store_fault g c =
+    λ is_message honest m held sound is. blamed json_texts m c.args.message.now (g.B.Book.failed c.args.book.now) (g.B.Book.failed c.decide.new.book) c.in-Err.refusal sound (c.in-Err.ensures.blame honest m held) is

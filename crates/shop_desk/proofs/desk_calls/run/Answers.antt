@@ -4,7 +4,6 @@ use Rattle.std.proofs.Math.Seq.{take-length}
 use Rattle.shop_machine.specs.declared.messages.Message.{Message}
 use Rattle.shop_machine.specs.declared.messages.Reply.{Reply}
 use Rattle.shop_machine.specs.Content.{Content}
-use Rattle.shop_machine.specs.History.{history_after}
 use Rattle.shop_machine.proofs.Runs.{AreMessages, AreMessages-push, gives_after}
 use Rattle.shop_machine.proofs.Owners.{account_of}
 use Rattle.shop_rules.specs.Forms.{json_texts}
@@ -73,5 +72,7 @@ returns-clause-run g c =
       held = so_far.2;
       sound = so_far.3;
       crash = leads;
-      account = λ history given. account_of json_texts (history_after history messages replies) so_far.0 (gives_after json_texts history m so_far.0 messages replies are given ran);
+      account = λ history given.
+          let after = gives_after json_texts history m so_far.0 messages replies are given ran in
+          (after.history, after.same, account_of json_texts after.history so_far.0 after.given);
     }

@@ -1,11 +1,12 @@
-use Rattle.std.proofs.Common.{◌≡◌, sym, ap, subst, ◌∙◌}
-use Rattle.shop_machine.proofs.Refused.{done_work}
+use Rattle.shop_machine.specs.Machine.{IsDone}
+use Rattle.shop_machine.proofs.Refused.{worked}
 use Rattle.shop_machine.proofs.jobs.decide_done.Goals as goal
 
 pub returns-clause-decision : goal.returns-clause-decision
 returns-clause-decision c =
-    λ at found. (
+    λ at found.
+    let work = c.in_ok-work.work in (
       c.in_ok-work.ensures.allowed at found,
-      done_work c.args.job c.args.part c.args.material at _ c.in_ok-work.work.job c.in_ok-work.work.part c.in_ok-work.work.limits c.in_ok-work.ensures.work.0 c.in_ok-work.ensures.work.1 c.in_ok-work.ensures.work.2 (c.in_ok-work.ensures.allowed at found)
-          (c.in_ok-change.ensures.change at found),
+      worked (λ j part rule. IsDone j part rule at c.in_ok-change.change) c.args.job c.args.part c.args.material at work.job work.part work.limits
+          c.in_ok-work.ensures.work.0 c.in_ok-work.ensures.work.1 c.in_ok-work.ensures.work.2 (c.in_ok-work.ensures.allowed at found) (c.in_ok-change.ensures.change at found),
     )
