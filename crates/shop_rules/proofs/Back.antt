@@ -1,8 +1,7 @@
 -- What is printed is read back.
-use Rattle.std.proofs.Common.{◌≡◌, ℕ, suc, ◌<◌, ◌≤◌, ◌^◌, List, [], append-nil, Bool, true, false, Option, Some, None, refl, sym, ap, ◌∙◌, arith, le-leb, codes}
-use Rattle.std.specs.Prelude.{◌||◌, IsTrue, max, option_map, option_and_then, if◌then◌else◌, is_some}
+use Rattle.std.proofs.Common.{◌≡◌, ℕ, suc, ◌<◌, ◌≤◌, ◌^◌, List, [], append-nil, Bool, false, Option, Some, None, refl, sym, ap, ◌∙◌, arith, le-leb, codes}
+use Rattle.std.specs.Prelude.{◌||◌, max, option_map, option_and_then, if◌then◌else◌, is_some}
 use Rattle.cut_measure.specs.declared.sizes.Kind.{Kind}
-use Rattle.cut_measure.specs.Codes.{is_code}
 use Rattle.cut_measure.specs.Names.{Name, name_text}
 use Rattle.shop_machine.specs.declared.messages.Command.{Command}
 use Rattle.shop_machine.specs.declared.messages.Command.TheVariants.{AddMaterial, Receive, AddOrder, Reserve, Done, Release}
@@ -19,14 +18,14 @@ use Rattle.json.proofs.Printed.Trees.{value-json_tokens, ArePrintable-json_token
 use Rattle.json.specs.Json as json
 use Rattle.json.specs.Lex.{tokens}
 use Rattle.json.specs.Tree.{HasNumbers, depth, json_tokens}
-use Rattle.serde_json.specs.Data.{Data, object, number, string, unsigned}
+use Rattle.serde_json.specs.Data.{Data, number, string, unsigned}
 use Rattle.serde_json.specs.Find.{get, as_str}
 use Rattle.serde_json.specs.Read.{read, of_json, max_depth}
 use Rattle.serde_json.specs.Written.{compact_text, outline, has_float}
 use Rattle.serde_json.proofs.Numbers.{number_of-decimal}
 use Rattle.json.specs.Token.{Token}
 use Rattle.serde_json.proofs.Texts.{print-outline}
-use Rattle.shop_rules.specs.Forms.{message_of, head_of, sent_of, from_one, command_of, material_command, receive_command, order_command, reserve_command, query_of, asked_of, reply_of, made_of, order_reply, reserve_reply, done_reply, line_data, lines_data, message_data, reply_data, json_texts, kept_reply_of, word_of}
+use Rattle.shop_rules.specs.Forms.{message_of, head_of, sent_of, from_one, command_of, material_command, receive_command, order_command, reserve_command, query_of, asked_of, reply_of, made_of, order_reply, reserve_reply, done_reply, lines_data, message_data, reply_data, json_texts, kept_reply_of, word_of}
 use Rattle.shop_rules.proofs.FieldFacts.{number_there, wide_there, code_there, kind_there, name_there, text_there}
 use Rattle.shop_rules.proofs.Lists.{lines_there, lines_numbers, lines_shallow, lines_json, lines_no_float}
 

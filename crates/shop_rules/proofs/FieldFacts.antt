@@ -1,5 +1,5 @@
 -- What is read of an object's fields.
-use Rattle.std.proofs.Common.{◌≡◌, ℕ, ◌<◌, ◌^◌, List, length, Bool, true, false, Option, Some, None, nat_eq, nat_lt, refl, sym, ap, ◌∙◌, lt-ltb, codes}
+use Rattle.std.proofs.Common.{◌≡◌, ℕ, ◌<◌, ◌^◌, List, length, Bool, true, false, Some, None, nat_eq, refl, sym, ap, ◌∙◌, lt-ltb}
 use Rattle.std.specs.Prelude.{IsTrue, unwrap_or, option_map, option_and_then, if◌then◌else◌}
 use Rattle.cut_measure.specs.declared.sizes.Kind.{Kind}
 use Rattle.cut_measure.specs.declared.sizes.Kind.TheVariants.{Bar, Sheet}

@@ -1,18 +1,18 @@
 -- Lists of values: what each element stands for, and the lines of an order.
 use Rattle.std.proofs.Common.{◌≡◌, ℕ, suc, ◌+◌, ◌<◌, ◌≤◌, ◌^◌, List, [], ◌∷◌, ◌++◌, map, length, take, drop, get_or, Bool, true, false, Option, Some, None, refl, sym, ap, subst, ◌∙◌, arith, codes, Bor, Vec, Global}
-use Rattle.std.specs.Prelude.{IsTrue, All, is_some, option_map, option_and_then, if◌then◌else◌, ⊤}
+use Rattle.std.specs.Prelude.{All, option_map, option_and_then, if◌then◌else◌}
 use Rattle.std.specs.List.{AllByRecursion}
 use Rattle.std.proofs.lemmas.List.{append_assoc, append-nil, take_all, drop_all}
 use Rattle.std.proofs.lemmas.List.Elements.{recursion_from_All, All-from_recursion, All-append}
 use Rattle.std.proofs.Math.Seq.{take-suc, drop-cons}
 use Rattle.std.proofs.Math.Nat.{max-le}
 use Rattle.json.proofs.Printed.Decimals.{IsNumber-decimal}
-use Rattle.json.specs.Tree.{ItemsHaveNumbers, HasNumbers, depth, items_depth}
-use Rattle.serde_json.specs.Data.{Data, Items, item, array, boolean, string, number, unsigned}
+use Rattle.json.specs.Tree.{ItemsHaveNumbers, HasNumbers, items_depth}
+use Rattle.serde_json.specs.Data.{Data, Items, item, boolean, string, number, unsigned}
 use Rattle.serde_json.specs.Find.{get, as_array}
 use Rattle.serde_json.specs.Read.{of_json, of_items}
 use Rattle.serde_json.specs.View.{view, items_of, items_view}
-use Rattle.serde_json.specs.Written.{outline, items_outline, has_float, items_have_float}
+use Rattle.serde_json.specs.Written.{outline, items_outline, items_have_float}
 use Rattle.serde_json.specs.declared.value.Value.{Value}
 use Rattle.serde_json.proofs.Numbers.{number_of-decimal}
 use Rattle.shop_machine.specs.declared.messages.OrderLine.{OrderLine}
