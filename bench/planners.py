@@ -19,7 +19,7 @@ CRATES = """cut_measure:
 cut_tree: cut_measure
 cut_table: cut_measure cut_tree
 cut_plan: cut_measure cut_tree cut_table
-planner_bench: cut_measure cut_plan anyhow
+planner_bench: cut_measure cut_table cut_plan anyhow
 """
 
 # name, then width, height, kerf, step, wants, shortest side, spread of sides, unit of sides, left of each

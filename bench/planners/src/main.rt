@@ -1,11 +1,11 @@
-//! Plans one unit and prints the microseconds that it took. Arguments: `bar` or `sheet`, width, height, kerf, step, number
+//! Plans one unit and prints the microseconds that it took. Arguments: width, height, kerf, step, number
 //! of wants, shortest side, spread of sides, unit of sides, how many are left of each.
 #![tactic(auto)]
 
 ghost use Rattle.std.specs.Prelude.{◌≡◌, ◌≤◌, ◌<◌, IsTrue, length};
 ghost use Rattle.cut_plan.specs.Proposals.{AreDemands};
 
-use anyhow::{anyhow, bail};
+use anyhow::{Context, bail};
 use cut_measure::{Kind, Size};
 use cut_plan::{Want, plan_bar, plan_sheet};
 use std::alloc::Global;
@@ -49,7 +49,7 @@ fn wants_of(alloc: Global, flat: bool, numbers: &[u32]) -> anyhow::Result<Vec<Wa
         let demand = i.wrapping_add(1);
         let w = side(demand, numbers[5], numbers[6], numbers[7]);
         let h = if flat { 1 } else { side(demand.wrapping_add(1000), numbers[5], numbers[6], numbers[7]) };
-        let size = Size::new(Kind::Sheet, w, h).ok_or_else(|| anyhow!(alloc; "no size"))?;
+        let size = Size::new(Kind::Sheet, w, h).context("no size")?;
         let worth = w.wrapping_mul(h).wrapping_add(demand % 7);
         wants.push(Want {
             demand,
@@ -62,23 +62,32 @@ fn wants_of(alloc: Global, flat: bool, numbers: &[u32]) -> anyhow::Result<Vec<Wa
     Ok(wants)
 }
 
+// The worth of the plan of a bar, or of a sheet where it is higher than 1; 0 without a plan.
+fn planned(alloc: Global, size: Size, kerf: u32, step: u32, wants: &[Want]) -> u64
+    requires { kerf ≤ 200 }
+{
+    if !have_demands(wants) {
+        return 0;
+    }
+    if size.h() == 1 {
+        return plan_bar(alloc, size, kerf, wants).map_or(0, |plan| plan.worth);
+    }
+    plan_sheet(alloc, size, kerf, step, wants).map_or(0, |plan| plan.worth)
+}
+
 fn main(rt: HostRuntime) -> anyhow::Result<()> {
     let numbers = numbers(&rt)?;
-    if numbers.len() < 9 || numbers[2] > 200 {
-        bail!(rt.alloc(); "too few numbers");
+    if numbers.len() < 9 {
+        bail!("too few numbers");
     }
-    let flat = numbers[1] == 1;
-    let wants = wants_of(rt.alloc(), flat, &numbers)?;
-    let size = Size::new(Kind::Sheet, numbers[0], numbers[1]).ok_or_else(|| anyhow!(rt.alloc(); "no size"))?;
-    if !have_demands(&wants) {
-        bail!(rt.alloc(); "no demands");
+    let kerf = numbers[2];
+    if kerf > 200 {
+        bail!("too wide a kerf");
     }
+    let wants = wants_of(rt.alloc(), numbers[1] == 1, &numbers)?;
+    let size = Size::new(Kind::Sheet, numbers[0], numbers[1]).context("no size")?;
     let start = Instant::now(&rt)?;
-    let worth = if flat && size.h() == 1 {
-        plan_bar(rt.alloc(), size, numbers[2], &wants).map_or(0, |plan| plan.worth)
-    } else {
-        plan_sheet(rt.alloc(), size, numbers[2], numbers[3], &wants).map_or(0, |plan| plan.worth)
-    };
+    let worth = planned(rt.alloc(), size, kerf, numbers[3], &wants);
     let time = start.elapsed(&rt)?.as_micros();
     println!(rt; "{time} {worth}")?;
     Ok(())
