@@ -39,7 +39,7 @@ fn join(alloc: Global, entries: &[Entry], batch: Entry) -> Result<(Vec<Entry>, u
     ensures inside { IfOk result (λ r. r.1 ≤ length entries.now) }
     ensures up_to { IfOk result (λ r. AreUpTo entries.now r.0.items) }
 {
-    let mut joined = Vec::new(alloc);
+    let mut joined = Vec::with_capacity(alloc, entries.len().saturating_add(entries.len()))?;
     let (mut kept, mut moved) = (0, 0);
     while kept < entries.len() {
         let old = entries[kept];
