@@ -1,11 +1,11 @@
 -- Why entries joined in order are what one batch more leads to.
-use Rattle.std.proofs.Common.{◌≡◌, ◌≢◌, ℕ, ◌+◌, ◌-◌, ◌*◌, ◌^◌, ◌<◌, ◌≤◌, ◌++◌, List, [], ◌∷◌, length, get_or, eqb, sym, refl, ap, ◌∙◌, subst, inl, inr, ◌⊎◌, arith}
+use Rattle.std.proofs.Common.{◌≡◌, ◌≢◌, ℕ, ◌+◌, ◌-◌, ◌*◌, ◌^◌, ◌<◌, ◌≤◌, ◌++◌, List, [], ◌∷◌, length, get_or, leb, true, false, sym, refl, ap, ◌∙◌, subst, inl, inr, ◌⊎◌, arith}
 use Rattle.std.specs.Prelude.{Contains}
 use Rattle.std.proofs.lemmas.List.{get_or_default, get_or_append_left, get_or-append_right}
 use Rattle.std.proofs.lemmas.List.Elements.{Contains-get_or, Contains-append_left, Contains-push, Contains-push_cases, at_read}
 use Rattle.std.proofs.lemmas.Bool.{cases_lt}
 use Rattle.std.proofs.lemmas.Grind.{common_steps}
-use Rattle.std.proofs.lemmas.Bool.Decides.{eqb_tells}
+use Rattle.std.proofs.lemmas.Bool.Decides.{nat_tests}
 use mir.Val.{bool_byte}
 use Rattle.cut_table.specs.declared.reach.Entry.{Entry}
 use Rattle.cut_table.specs.Reached.{AreRising, AreJoined, AreUpTo, AreOffered, AreLow, IsMoved, IsFirstOf}
@@ -208,11 +208,29 @@ module _ (step gain : ℕ) (base : List Entry) (kept moved kept' moved' : ℕ) (
     | inr same ↦ (get_or base kept old, Contains-get_or base kept old inside, omega (arith, f.room_a, old_room old, ap (λ (e : Entry). e.room) same))
   ]
 
-pub goes_on : (room first index : ℕ) → GoesOn room first index (index + bool_byte (eqb room first))
-goes_on room first index = elim (eqb_tells room first) [
-  | inl (t, e) ↦ rw t (inl (e, refl))
-  | inr (t, n) ↦ rw t (inr (n, omega arith))
+pub goes_on : (room other first index : ℕ) → first ≤ room → first ≤ other → (first ≡ room) ⊎ (first ≡ other) → GoesOn room first index (index + bool_byte (leb room other))
+goes_on room other first index low_room low_other one = elim (cases_lt other room) [
+  | inl lt ↦
+      let t : leb room other ≡ false = grind (arith, nat_tests) in
+      rw t (inr (λ e. absurd (omega (arith, e)), omega arith))
+  | inr le ↦
+      let t : leb room other ≡ true = grind (arith, nat_tests) in
+      rw t (inl (same le one, refl))
 ]
+  where
+    same : room ≤ other → (first ≡ room) ⊎ (first ≡ other) → room ≡ first
+    same le (inl e) = sym e
+    same le (inr e) = omega (arith, e)
+
+first_room : (a b first : Entry) → IsFirstOf a b first → (first.room ≡ a.room) ⊎ (first.room ≡ b.room)
+first_room a b first f = elim f.one [
+  | inl e ↦ inl (ap (λ (e : Entry). e.room) e)
+  | inr e ↦ inr (ap (λ (e : Entry). e.room) e)
+]
+
+other_way : (a b first : ℕ) → (first ≡ a) ⊎ (first ≡ b) → (first ≡ b) ⊎ (first ≡ a)
+other_way a b first (inl e) = inr e
+other_way a b first (inr e) = inl e
 
 abbrev pub none : Entry
 none = record { room = 0; worth = 0 }
@@ -227,10 +245,10 @@ module _ (step gain : ℕ) (base : List Entry) (kept moved : ℕ) (joined joined
     (f : IsFirstOf (get_or base kept none) (record { room = (get_or base moved none).room + step; worth = (get_or base moved none).worth + gain }) first)
     (items : joined' ≡ joined ++ first ∷ []) (j : AreJoined step gain base kept moved joined) (up : AreUpTo base joined) where
   abbrev pub kept' : ℕ
-  kept' = kept + bool_byte (eqb (get_or base kept none).room first.room)
+  kept' = kept + bool_byte (leb (get_or base kept none).room ((get_or base moved none).room + step))
 
   abbrev pub moved' : ℕ
-  moved' = moved + bool_byte (eqb ((get_or base moved none).room + step) first.room)
+  moved' = moved + bool_byte (leb ((get_or base moved none).room + step) (get_or base kept none).room)
 
   old_is : (d : Entry) → get_or base kept d ≡ get_or base kept none
   old_is d = get_or_default base kept d none inside
@@ -242,10 +260,10 @@ module _ (step gain : ℕ) (base : List Entry) (kept moved : ℕ) (joined joined
   worth_is d = ap (λ (e : Entry). e.worth + gain) (get_or_default base moved none d (omega arith))
 
   ks : GoesOn (get_or base kept none).room first.room kept kept'
-  ks = goes_on (get_or base kept none).room first.room kept
+  ks = goes_on (get_or base kept none).room ((get_or base moved none).room + step) first.room kept f.room_a f.room_b (first_room _ _ first f)
 
   ms : GoesOn ((get_or base moved none).room + step) first.room moved moved'
-  ms = goes_on ((get_or base moved none).room + step) first.room moved
+  ms = goes_on ((get_or base moved none).room + step) (get_or base kept none).room first.room moved f.room_b f.room_a (other_way _ _ _ (first_room _ _ first f))
 
   pub step_order : moved' ≤ kept'
   step_order = moved_in_order step gain base kept moved kept' moved' joined _ _ first rising some order inside old_is room_is worth_is f ks ms

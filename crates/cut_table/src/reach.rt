@@ -50,8 +50,8 @@ fn join(alloc: Global, entries: &[Entry], batch: Entry) -> Result<(Vec<Entry>, u
         };
         let first = first_of(old, new);
         joined.push(first)?;
-        kept += (old.room == first.room) as usize;
-        moved += (new.room == first.room) as usize;
+        kept += (old.room <= new.room) as usize;
+        moved += (new.room <= old.room) as usize;
     }
     Ok((joined, moved))
 }
