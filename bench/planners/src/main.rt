@@ -48,7 +48,16 @@ fn wants_of(alloc: Global, flat: bool, numbers: &[u32]) -> anyhow::Result<Vec<Wa
     for i in 0..numbers[4] {
         let demand = i.wrapping_add(1);
         let w = side(demand, numbers[5], numbers[6], numbers[7]);
-        let h = if flat { 1 } else { side(demand.wrapping_add(1000), numbers[5], numbers[6], numbers[7]) };
+        let h = if flat {
+            1
+        } else {
+            side(
+                demand.wrapping_add(1000),
+                numbers[5],
+                numbers[6],
+                numbers[7],
+            )
+        };
         let size = Size::new(Kind::Sheet, w, h).context("no size")?;
         let worth = w.wrapping_mul(h).wrapping_add(demand % 7);
         wants.push(Want {
