@@ -1,3 +1,4 @@
 pub mod Sound
 pub mod BarPieces
 pub mod SheetPlans
+mod Maps

@@ -2,3 +2,4 @@ pub mod Faults
 pub mod Bounds
 pub mod Proposals
 pub mod Sheets
+pub mod Lengths

@@ -4,6 +4,7 @@
 mod bars;
 mod bounds;
 mod faults;
+mod lengths;
 mod sheets;
 #[cfg(test)]
 mod tests;
@@ -12,4 +13,5 @@ pub use bars::{Proposal, plan_bar};
 pub use bounds::{Bound, least_units};
 pub use cut_table::wants::Want;
 pub use faults::PlanFault;
+pub use lengths::reached;
 pub use sheets::{SheetProposal, plan_sheet};

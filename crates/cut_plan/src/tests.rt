@@ -1,8 +1,13 @@
-ghost use Rattle.std.specs.Prelude.{◌≡◌, ◌≤◌, IsTrue};
+ghost use Rattle.std.specs.Prelude.{◌≡◌, ◌≤◌, IsTrue, None};
+ghost use Rattle.cut_measure.specs.declared.sizes.Kind.TheVariants.{Bar};
+ghost use Rattle.cut_plan.specs.Faults.{fault_of};
 ghost use Rattle.cut_plan.specs.Proposals.{AreDemands};
 
-use crate::{Bound, PlanFault, Want, least_units, plan_bar, plan_sheet};
+use crate::faults::first_fault;
+use crate::{Bound, PlanFault, Want, least_units, plan_bar, plan_sheet, reached};
 use cut_measure::{Kind, Size};
+use cut_table::bar::{counted_worth, table_counts};
+use std::alloc::{AllocError, Global};
 use std::test::Fail;
 
 fn have_demands(wants: &[Want]) -> bool
@@ -97,6 +102,114 @@ fn names_a_bars_fault(rt: HostRuntime) -> Result<(), Fail> {
     ];
     for (w, wants, fault) in faults {
         assert_eq!(rt; bar(&rt, w, 0, wants)?.err(), Some(fault), "{w}");
+    }
+    Ok(())
+}
+
+// What counts reach in a bar: how many sums, and the worths at some of them; or the fault.
+fn reached_worths(
+    rt: &HostRuntime,
+    w: u32,
+    kerf: u32,
+    wants: &[Want],
+    sums: &[u32],
+) -> Result<Result<(usize, Vec<Option<u64>>), PlanFault>, Fail>
+    requires { kerf ≤ 200 }
+{
+    let size = Size::new(Kind::Bar, w, 1).ok_or("no size")?;
+    if size.h() != 1 || !have_demands(wants) {
+        return Err("no bar")?;
+    }
+    match reached(rt.alloc(), size, kerf, wants) {
+        Ok(map) => {
+            let mut worths = Vec::new(rt.alloc());
+            for sum in sums {
+                worths.push(map.get(sum).copied())?;
+            }
+            Ok(Ok((map.len(), worths)))
+        }
+        Err(fault) => Ok(Err(fault)),
+    }
+}
+
+#[test]
+fn reaches_sums(rt: HostRuntime) -> Result<(), Fail> {
+    let long = [want(1, 49998, 1, 3, 1)?];
+    let sums = [0, 50001, 100002, 150003, 49998];
+    let (len, worths) = reached_worths(&rt, 150000, 3, &long, &sums)??;
+    assert_eq!(rt; len, 4);
+    assert_eq!(rt;
+        worths.as_slice(),
+        [Some(0), Some(1), Some(2), Some(3), None].as_slice()
+    );
+    let two = [want(1, 2, 1, 2, 5)?, want(2, 4, 1, 1, 9)?];
+    let (len, worths) = reached_worths(&rt, 6, 0, &two, &[2, 4, 6, 8])??;
+    assert_eq!(rt; len, 4);
+    assert_eq!(rt;
+        worths.as_slice(),
+        [Some(5), Some(10), Some(14), None].as_slice()
+    );
+    for (w, wants, fault) in [
+        (100, &two[..0], PlanFault::BadWant),
+        (150001, &long[..], PlanFault::TableTooLarge),
+        (1, &two[..], PlanFault::NothingFits),
+    ] {
+        let found = reached_worths(&rt, w, 3, wants, &[])?.err();
+        assert_eq!(rt; found, Some(fault), "{w}");
+        assert_eq!(rt; bar(&rt, w, 3, wants)?.err(), Some(fault), "{w}");
+    }
+    Ok(())
+}
+
+// The best worth of a bar by a table over every room.
+fn table_worth(alloc: Global, size: Size, kerf: u32, wants: &[Want]) -> Result<u64, AllocError>
+    requires kerf { kerf ≤ 200 }
+    requires faultless { fault_of Bar size kerf 0 wants.now ≡ None }
+{
+    let counts = table_counts(alloc, wants, size.w(), kerf)?;
+    let worth = counted_worth(wants, &counts);
+    Ok(worth)
+}
+
+// Whether the plan of a bar is worth what the table says.
+fn agrees(rt: &HostRuntime, w: u32, kerf: u32, wants: &[Want]) -> Result<bool, Fail>
+    requires { kerf ≤ 200 }
+{
+    let size = Size::new(Kind::Bar, w, 1).ok_or("no size")?;
+    if size.h() != 1 || !have_demands(wants) {
+        return Err("no bar")?;
+    }
+    let planned = plan_bar(rt.alloc(), size, kerf, wants);
+    match first_fault(Kind::Bar, size, kerf, 0, wants) {
+        Some(fault) => Ok(planned.err() == Some(fault)),
+        None => {
+            let worth = table_worth(rt.alloc(), size, kerf, wants)?;
+            Ok(planned.is_ok_and(|proposal| proposal.worth == worth))
+        }
+    }
+}
+
+// The bars up to 40 with a kerf up to 3 on which they differ.
+fn count_differing(rt: &HostRuntime, wants: &[Want]) -> Result<u32, Fail> {
+    let mut differing = 0u32;
+    for choice in 0..160u32 {
+        if !agrees(rt, choice % 40 + 1, choice / 40, wants)? {
+            differing = differing.saturating_add(1);
+        }
+    }
+    Ok(differing)
+}
+
+#[test]
+fn agrees_with_a_table(rt: HostRuntime) -> Result<(), Fail> {
+    for choice in 0..256u32 {
+        let (a, b) = (choice % 4 + 1, choice / 4 % 4 + 1);
+        let (left, others) = (choice / 16 % 4 + 1, choice / 64 + 1);
+        let wants = [
+            want(1, a, 1, left, 3 * a + left)?,
+            want(2, b, 1, others, 4 * b)?,
+        ];
+        assert_eq!(rt; count_differing(&rt, &wants)?, 0, "{choice}");
     }
     Ok(())
 }

@@ -4,4 +4,5 @@ pub mod Rounded
 pub mod Bound
 pub mod Table
 pub mod Counts
+pub mod Reached
 pub mod Kept

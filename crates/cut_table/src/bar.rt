@@ -117,8 +117,9 @@ fn read_counts(
     Ok(counts)
 }
 
-/// How many pieces of each want a bar gives, so that no legal plan within the counts is worth more.
-pub fn best_counts(
+/// How many pieces of each want a bar gives, so that no legal plan within the counts is worth more, by a table over every
+/// room. Tests compare `best_counts` with it.
+pub fn table_counts(
     alloc: Global,
     wants: &[Want],
     size: u32,

@@ -5,6 +5,7 @@ pub mod bar;
 pub mod bound;
 pub mod keep;
 pub mod place;
+pub mod reach;
 pub mod read;
 pub mod sheet;
 pub mod wants;

@@ -1,5 +1,5 @@
 use Rattle.cut_table.proofs.BarTrees.{counts_best, bar_wants}
-use Rattle.cut_table.proofs.bar.best_counts.Goals as goal
+use Rattle.cut_table.proofs.bar.table_counts.Goals as goal
 
 pub returns-clause-best : goal.returns-clause-best
 returns-clause-best c =

@@ -1,0 +1,71 @@
+#!/usr/bin/env python3
+"""Times `plan_bar` and `plan_sheet`, and tells how each grows.
+
+    bench/planners.py [--runs N] [--root FOLDER]
+
+Makes a repository of its own in a temporary folder: links to the four crates of the planners (of FOLDER, by default this
+repository) beside the program in bench/planners, which `rt run` proves and builds there. Each case is planned in a fresh
+process, some runs a case; the least time counts. Printed: the case, milliseconds, and the worth (0 where there is no plan).
+"""
+
+import argparse
+import os
+import shutil
+import subprocess
+import tempfile
+
+HERE = os.path.dirname(os.path.abspath(__file__))
+CRATES = """cut_measure:
+cut_tree: cut_measure
+cut_table: cut_measure cut_tree
+cut_plan: cut_measure cut_tree cut_table
+planner_bench: cut_measure cut_table cut_plan anyhow
+"""
+
+# name, then width, height, kerf, step, wants, shortest side, spread of sides, unit of sides, left of each
+CASES = [
+    ("bar of 150000, 40 wants, few lengths", 150000, 1, 0, 1, 40, 10, 40, 1000, 10),
+    ("bar of 150000, 40 wants, some lengths", 150000, 1, 0, 1, 40, 20, 180, 50, 10),
+    ("bar of 150000, 40 wants, many lengths", 150000, 1, 3, 1, 40, 1000, 9000, 1, 10),
+    ("bar of 75000, 40 wants, many lengths", 75000, 1, 3, 1, 40, 500, 4500, 1, 10),
+    ("bar of 150000, 20 wants, many lengths", 150000, 1, 3, 1, 20, 1000, 9000, 1, 10),
+    ("bar of 150000, 1 want of 1, 150000 left", 150000, 1, 0, 1, 1, 1, 1, 1, 150000),
+    ("bar of 150000, 40 wants from 1, 150000 left", 150000, 1, 0, 1, 40, 1, 40, 1, 150000),
+    ("sheet of 500 by 500 steps, 40 wants", 500, 500, 0, 1, 40, 30, 200, 1, 3),
+    ("sheet of 250 by 250 steps, 40 wants", 250, 250, 0, 1, 40, 30, 100, 1, 3),
+    ("sheet of 500 by 500 steps, 10 wants", 500, 500, 0, 1, 10, 30, 200, 1, 3),
+]
+
+
+def build(folder, root):
+    crates = os.path.join(folder, "crates")
+    os.makedirs(crates)
+    for name in ("cut_measure", "cut_tree", "cut_table", "cut_plan"):
+        shutil.copytree(os.path.join(root, "crates", name), os.path.join(crates, name))
+    shutil.copytree(os.path.join(HERE, "planners"), os.path.join(crates, "planner_bench"))
+    with open(os.path.join(folder, "crates.txt"), "w") as file:
+        file.write(CRATES)
+    program = os.path.join(crates, "planner_bench")
+    made = subprocess.run(["rt", "run", "--jobs", "2"], cwd=program, capture_output=True, text=True)
+    built = os.path.join(program, "out", "planner_bench")
+    if not os.path.exists(built):
+        raise SystemExit(made.stdout + made.stderr)
+    return built
+
+
+def main():
+    parser = argparse.ArgumentParser()
+    parser.add_argument("--runs", type=int, default=5)
+    parser.add_argument("--root", default=os.path.join(HERE, ".."))
+    arguments = parser.parse_args()
+    with tempfile.TemporaryDirectory() as folder:
+        program = build(folder, arguments.root)
+        for name, *numbers in CASES:
+            words = [program] + [str(number) for number in numbers]
+            runs = [subprocess.run(words, capture_output=True, text=True, check=True).stdout.split() for _ in range(arguments.runs)]
+            least = min(int(run[0]) for run in runs)
+            print(f"{name:48} {least / 1000:9.2f} ms   worth {runs[0][1]}", flush=True)
+
+
+if __name__ == "__main__":
+    main()

@@ -1,0 +1,89 @@
+-- Entries put into a map one after another, and what the map then says of counts.
+use Rattle.std.proofs.Common.{◌≡◌, ℕ, ◌+◌, ◌<◌, ◌≤◌, ◌++◌, List, [], ◌∷◌, length, take, get_or, cond, eqb, Option, Some, None, sym, refl, ap, ◌∙◌, subst, inl, inr, arith, take_all}
+use Rattle.std.specs.Prelude.{Contains, IsSome}
+use Rattle.std.specs.Ordering.{nat_cmp, is_eq}
+use Rattle.std.proofs.lemmas.List.{take_more, get_or-take, get_or_default}
+use Rattle.std.proofs.lemmas.List.Elements.{Contains-push, Contains-push_cases, Contains-append_left}
+use Rattle.std.proofs.lemmas.Bool.Decides.{nat_tests, eqb_tells}
+use Rattle.std.proofs.lemmas.Grind.{common_steps}
+use Rattle.cut_table.specs.declared.wants.Want.{Want}
+use Rattle.cut_table.specs.declared.reach.Entry.{Entry}
+use Rattle.cut_table.specs.Counts.{room_of}
+use Rattle.cut_table.specs.Reached.{AreRising, AreReached, IsGreatestAt, IsReached}
+use Rattle.cut_plan.specs.Lengths.{IsMapOf}
+
+same_entry : (e f : Entry) → e.room ≡ f.room → e.worth ≡ f.worth → e ≡ f
+same_entry e f p q = ap (λ (r : ℕ). record { room = r; worth = e.worth }) p ∙ ap (λ (w : ℕ). record { room = f.room; worth = w }) q
+
+pub equal_keys : (k n : ℕ) → is_eq (nat_cmp k n) ≡ eqb k n
+equal_keys k n = grind (arith, nat_tests)
+
+some_is : (a b : ℕ) → Some a ≡ Some b → a ≡ b
+some_is a b e = cc
+
+none_is : (b : ℕ) → None ≡ Some b → ⊥
+none_is b e = cc
+
+pub map_none : (entries : List Entry) (found : ℕ → Option ℕ) → ((n : ℕ) → found n ≡ None) → IsMapOf (take 0 entries) found
+map_none entries found empty n v = (λ e. absurd (none_is v (sym (empty n) ∙ e)), λ (i, lt, is). absurd (grind (arith, common_steps)))
+
+module _ (entries : List Entry) (i : ℕ) (d : Entry) (rising : AreRising entries) (inside : i < length entries) where
+  abbrev here : Entry
+  here = get_or entries i d
+
+  before : (e : Entry) → Contains (take i entries) e → e.room < here.room
+  before e (j, lt, is) =
+      let below : j < i = grind (arith, common_steps) in
+      let at : get_or entries j e ≡ e = sym (get_or-take i entries j e below) ∙ is in
+      omega (arith, rising j i e below inside, ap (λ (e : Entry). e.room) at, ap (λ (e : Entry). e.room) (get_or_default entries i e d inside))
+
+  pub map_more : (found found' : ℕ → Option ℕ) → IsMapOf (take i entries) found → ((n : ℕ) → found' n ≡ cond (is_eq (nat_cmp here.room n)) (Some here.worth) (found n))
+      → IsMapOf (take (i + 1) entries) found'
+  map_more found found' m updates n v = elim (eqb_tells here.room n) [
+    | inl (t, same) ↦
+        let now : found' n ≡ Some here.worth = updates n ∙ ap (λ b. cond b (Some here.worth) (found n)) (equal_keys here.room n ∙ t) in (
+          λ e.
+              let worth : here.worth ≡ v = some_is _ _ (sym now ∙ e) in
+              rw (take_more entries i d inside) (subst (λ e. Contains (take i entries ++ here ∷ []) e) (same_entry here (record { room = n; worth = v }) same worth) (Contains-push (take i entries) here)),
+          λ has. elim (Contains-push_cases (take i entries) here (record { room = n; worth = v }) (rw (take_more entries i d inside) at has)) [
+            | inl old ↦ absurd (omega (arith, before (record { room = n; worth = v }) old, same))
+            | inr new ↦ now ∙ ap (λ (e : Entry). Some e.worth) new
+          ],
+        )
+    | inr (t, other) ↦
+        let still : found' n ≡ found n = updates n ∙ ap (λ b. cond b (Some here.worth) (found n)) (equal_keys here.room n ∙ t) in (
+          λ e. rw (take_more entries i d inside) (Contains-append_left (take i entries) (here ∷ []) (record { room = n; worth = v }) ((m n v).0 (sym still ∙ e))),
+          λ has. elim (Contains-push_cases (take i entries) here (record { room = n; worth = v }) (rw (take_more entries i d inside) at has)) [
+            | inl old ↦ still ∙ (m n v).1 old
+            | inr new ↦ absurd (other (ap (λ (e : Entry). e.room) new))
+          ],
+        )
+  ]
+
+pub map_whole : (entries : List Entry) (i : ℕ) (found : ℕ → Option ℕ) → length entries ≤ i → IsMapOf (take i entries) found → IsMapOf entries found
+map_whole entries i found past m = subst (λ es. IsMapOf es found) (take_all i entries past) m
+
+-- a map of all that counts reach
+pub map_reached : (k whole : ℕ) (wants : List Want) (entries : List Entry) (found : ℕ → Option ℕ) → AreReached k wants whole entries → IsMapOf entries found → IsReached k wants whole found
+map_reached k whole wants entries found r m = record {
+  exactly = λ n v. (λ e. r.only (record { room = n; worth = v }) ((m n v).0 e), λ (fits, g). there n v fits g);
+  each = λ counts is fits.
+      let e = r.each counts is fits in
+      let room : e.0.room ≡ room_of k wants counts = e.2 in
+      some (room_of k wants counts) e.0.worth ((m (room_of k wants counts) e.0.worth).1 (subst (λ e. Contains entries e) (same_entry e.0 (record { room = room_of k wants counts; worth = e.0.worth }) room refl) e.1));
+}
+  where
+    some : (n v : ℕ) → found n ≡ Some v → IsSome (found n)
+    some n v e = rw e refl
+
+    there : (n v : ℕ) → n ≤ whole → IsGreatestAt k wants n v → found n ≡ Some v
+    there n v fits g =
+        let e = r.each g.counts g.within (omega (arith, fits, g.takes)) in
+        let room : e.0.room ≡ n = e.2 ∙ g.takes in
+        let h = (r.only e.0 e.1).1 in
+        let takes = h.takes in
+        let value = h.value in
+        let least = h.most g.counts g.within (omega (arith, g.takes, room)) in
+        let most = g.most h.counts h.within (omega (arith, takes, room)) in
+        let worth : e.0.worth ≡ v = omega (arith, g.value, value, least, most) in
+        (m n v).1 (subst (λ e. Contains entries e) (same_entry e.0 (record { room = n; worth = v }) room worth) e.1)

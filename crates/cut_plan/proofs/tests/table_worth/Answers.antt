@@ -1,0 +1,24 @@
+use Rattle.std.proofs.Common.{arith}
+use Rattle.cut_measure.specs.declared.sizes.Kind.TheVariants.{Bar}
+use Rattle.cut_plan.proofs.Sound as sound
+use Rattle.cut_plan.proofs.tests.table_worth.Goals as goal
+
+pub table_counts-requires-clause-own : goal.table_counts-requires-clause-own
+table_counts-requires-clause-own c = sound.own Bar c.args.wants.now (sound.faultless Bar c.args.size c.args.kerf 0 c.args.wants.now c.requires.faultless).in_range
+
+pub table_counts-requires-clause-bar : goal.table_counts-requires-clause-bar
+table_counts-requires-clause-bar c = sound.flat c.args.wants.now (sound.faultless Bar c.args.size c.args.kerf 0 c.args.wants.now c.requires.faultless).in_range
+
+pub table_counts-requires-clause-modest : goal.table_counts-requires-clause-modest
+table_counts-requires-clause-modest c = sound.modest Bar c.args.wants.now (sound.faultless Bar c.args.size c.args.kerf 0 c.args.wants.now c.requires.faultless).in_range
+
+pub counted_worth-worth-requires-clause-len : goal.counted_worth-worth-requires-clause-len
+counted_worth-worth-requires-clause-len c = rw c.deref.ensures.value (sound.counts_length c.args.wants.now c.in_ok-counts.counts.items c.in_ok-counts.ensures.counts.within)
+
+pub counted_worth-worth-requires-clause-small : goal.counted_worth-worth-requires-clause-small
+counted_worth-worth-requires-clause-small c =
+    rw c.deref.ensures.value (omega (
+      arith,
+      sound.value_left c.args.wants.now c.in_ok-counts.counts.items c.in_ok-counts.ensures.counts.within,
+      sound.left_fits Bar c.args.wants.now (sound.faultless Bar c.args.size c.args.kerf 0 c.args.wants.now c.requires.faultless).in_range,
+    ))
