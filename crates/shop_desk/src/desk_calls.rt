@@ -1,4 +1,4 @@
-ghost use Rattle.std.specs.Prelude.{◌≡◌, ◌≢◌, IfOk, OnErr, None};
+ghost use Rattle.std.specs.Prelude.{◌≡◌, ◌≢◌, IfOk, OnErr, None, true, false};
 ghost use Rattle.shop_machine.specs.Content.{Content, kept_at};
 ghost use Rattle.shop_machine.specs.Messages.{IsMessage, pair_of};
 ghost use Rattle.shop_machine.specs.Machine.{Answers, StepAgain};
@@ -21,12 +21,20 @@ use shop_rules::{
 use shop_store::Book;
 use std::alloc::{AllocError, Global};
 
+// Whether two texts are one.
+fn is_same(a: &Text, b: &Text) -> bool
+    ensures same { result ≡ true → a.now ≡ b.now }
+    ensures other { result ≡ false → a.now ≢ b.now }
+{
+    a.as_str() == b.as_str()
+}
+
 // What is answered to a message whose pair is kept. The text is the message's.
 fn answer_again(alloc: Global, text: &Text, kept: &Kept) -> Reply
     ensures { (message : MessageOf) → text.now ≡ json_texts.of_message message → (pair : PairOf) → IsKept json_texts pair kept.now
         → StepAgain json_texts kept.now message result × (result ≢ Refused StoreFault) }
 {
-    if kept.command.as_str() != text.as_str() {
+    if !is_same(&kept.command, text) {
         return Reply::Refused(Refusal::NumberReused);
     }
     match kept_reply(alloc, kept.reply.as_str()) {

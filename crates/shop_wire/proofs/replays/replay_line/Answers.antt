@@ -29,7 +29,7 @@ pub returns-in-Ok-write_all-clause-ok : goal.returns-in-Ok-write_all-clause-ok
 returns-in-Ok-write_all-clause-ok g c =
     one_replayed (g.B.Book.is_honest c.answer.new.book) (g.B.Book.holds c.args.book.now) (g.B.Book.holds c.answer.new.book) (g.W.Sink.held c.args.sink.now) (g.W.Sink.held c.write_all.new.sink)
     c.args.line.now c.in-Ok.reply (reply_line c.in-Ok.reply) [] (append-nil (reply_line c.in-Ok.reply))
-    (subst (Appends (g.W.Sink.held c.args.sink.now) (g.W.Sink.held c.write_all.new.sink)) (c.as_bytes.ensures.value ∙ c.as_str.ensures ∙ c.in-Ok-line_text.ensures) c.in-Ok-write_all.ensures.ok) c.in-Ok.ensures.ok
+    (subst (Appends (g.W.Sink.held c.args.sink.now) (g.W.Sink.held c.write_all.new.sink)) (c.as_bytes.ensures.value ∙ c.as_str.ensures.value ∙ c.in-Ok-line_text.ensures) c.in-Ok-write_all.ensures.ok) c.in-Ok.ensures.ok
 
 pub returns-clause-err : goal.returns-clause-err
 returns-clause-err g c =
@@ -39,5 +39,5 @@ returns-clause-err g c =
       refl,
       part.1,
       one_replayed (g.B.Book.is_honest c.answer.new.book) (g.B.Book.holds c.args.book.now) (g.B.Book.holds c.answer.new.book) (g.W.Sink.held c.args.sink.now) (g.W.Sink.held c.write_all.new.sink)
-          c.args.line.now c.in-Ok.reply part.0 part.1 (part.2 ∙ c.as_bytes.ensures.value ∙ c.as_str.ensures ∙ c.in-Ok-line_text.ensures) part.3 c.in-Ok.ensures.ok,
+          c.args.line.now c.in-Ok.reply part.0 part.1 (part.2 ∙ c.as_bytes.ensures.value ∙ c.as_str.ensures.value ∙ c.in-Ok-line_text.ensures) part.3 c.in-Ok.ensures.ok,
     )
