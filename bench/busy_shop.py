@@ -4,7 +4,8 @@
     bench/busy_shop.py [PROGRAM] [--seed N] [--lines N N]
 
 PROGRAM is the built program, crates/cutshop/out/cutshop by default. The lines are made from a seed: materials,
-receipts of 1 to 100 units, questions for totals, and messages that are sent again. The script runs the program on a
+receipts of 1 to 100 units, orders, reservations of bars in stock and of what is left of them, jobs that are done or
+released, questions for totals, traces and demands, and messages that are sent again. The script runs the program on a
 smaller and on a larger number of lines (10000 and 100000 by default), and prints for each the lines a second and the
 peak memory, and then the ratio of the cost of a line between the two: 1.0 means that a line costs the same however
 many came before.
@@ -49,22 +50,107 @@ def receipt(random, number):
     }
 
 
+class Shop:
+    """What a shop's next messages may name: parts of bars that stand, open demands, and waiting jobs."""
+
+    PIECE = 50
+    KERF = 3
+
+    def __init__(self, source):
+        self.source = source
+        self.number = MATERIALS
+        self.acts = 0
+        self.demands = 0
+        self.parts = []
+        self.open = {}
+        self.jobs = []
+
+    def receive(self):
+        self.number += 1
+        message = receipt(self.source, self.number)
+        self.acts += 1
+        if message["h"] == 1:
+            for node in range(message["count"]):
+                self.parts.append((f"{self.acts}/{node}", message["material"], message["w"]))
+        return message
+
+    def order(self):
+        self.number += 1
+        lines = []
+        for line in range(1, self.source.randint(2, 6)):
+            self.demands += 1
+            material = code(2 * self.source.randrange(MATERIALS // 2))
+            count = self.source.randint(10, 200)
+            self.open.setdefault(material, []).append([self.demands, count])
+            lines.append({"line": line, "material": material, "w": self.PIECE, "h": 1, "turn": False, "count": count, "worth": 50})
+        return {"do": "order", "terminal": 1, "number": self.number, "order": f"A-{self.number}", "lines": lines}
+
+    def reserve(self):
+        if not self.parts:
+            return None
+        name, material, w = self.parts.pop(self.source.randrange(len(self.parts)))
+        wanted = self.open.get(material, [])
+        pieces = (w - 1) // (self.PIECE + self.KERF)
+        if not wanted or pieces == 0:
+            return None
+        demand = wanted[-1]
+        pieces = min(pieces, demand[1])
+        demand[1] -= pieces
+        if demand[1] == 0:
+            wanted.pop()
+        self.number += 1
+        self.acts += 1
+        self.jobs.append((self.acts, name, material, w, pieces, demand))
+        tree = " ".join([f"x{self.PIECE} p{demand[0]}"] * pieces + ["r"])
+        return {"do": "reserve", "terminal": 1, "number": self.number, "part": name, "tree": tree}
+
+    def end(self):
+        if not self.jobs:
+            return None
+        job, name, material, w, pieces, demand = self.jobs.pop(self.source.randrange(len(self.jobs)))
+        self.number += 1
+        if self.source.random() < 0.2:
+            self.parts.append((name, material, w))
+            return {"do": "release", "terminal": 1, "number": self.number, "job": job}
+        rest = w - pieces * (self.PIECE + self.KERF)
+        if rest >= 20:
+            self.parts.append((f"{job}/{2 * pieces}", material, rest))
+        return {"do": "done", "terminal": 1, "number": self.number, "job": job}
+
+    def ask(self):
+        kind = self.source.random()
+        if kind < 0.3 and self.parts:
+            return {"ask": "trace", "part": self.source.choice(self.parts)[0]}
+        if kind < 0.6 and self.demands:
+            return {"ask": "demand", "demand": self.source.randint(1, self.demands)}
+        return {"ask": "totals", "material": code(self.source.randrange(MATERIALS))}
+
+
 def lines(count, seed):
     source = random.Random(seed)
+    shop = Shop(source)
     made = [compact(material(i, i + 1)) for i in range(MATERIALS)]
     sent = list(made)
-    number = MATERIALS
     while len(made) < count:
         kind = source.random()
-        if kind < 0.70:
-            number += 1
-            line = compact(receipt(source, number))
-            sent.append(line)
-        elif kind < 0.80:
-            line = source.choice(sent)
+        if kind < 0.20:
+            value = shop.receive()
+        elif kind < 0.30:
+            value = shop.order()
+        elif kind < 0.55:
+            value = shop.reserve()
+        elif kind < 0.78:
+            value = shop.end()
+        elif kind < 0.85:
+            made.append(source.choice(sent))
+            continue
         else:
-            line = compact({"ask": "totals", "material": code(source.randrange(MATERIALS))})
-        made.append(line)
+            made.append(compact(shop.ask()))
+            continue
+        if value is not None:
+            line = compact(value)
+            sent.append(line)
+            made.append(line)
     return made[:count]
 
 
@@ -80,7 +166,11 @@ def run(program, count, seed):
         if status != 0:
             sys.exit(f"{program} ended with status {status}")
         taken.seek(0)
-        answered = sum(1 for _ in taken)
+        answers = taken.read().splitlines()
+        answered = len(answers)
+        refused = sum(1 for a in answers if b'"refused"' in a)
+        if refused:
+            print(f"{refused} of {count} lines were refused")
         if answered != count:
             sys.exit(f"{count} lines were given and {answered} answered")
         return seconds, usage.ru_maxrss

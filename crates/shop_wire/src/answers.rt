@@ -1,8 +1,8 @@
-ghost use Rattle.std.specs.Prelude.{◌≡◌, IfOk, OnErr};
+ghost use Rattle.std.specs.Prelude.{◌≡◌, IfOk, OnErr, None};
 ghost use Rattle.serde_json.specs.View.{view};
 ghost use Rattle.shop_machine.specs.Content.{Content};
 ghost use Rattle.shop_machine.specs.Soundness.{IsSound};
-ghost use Rattle.shop_rules.specs.Forms.{json_texts};
+ghost use Rattle.shop_rules.specs.Forms.{message_of, json_texts};
 ghost use Rattle.shop_wire.specs.Replays.{Leads, LineStep, ValueStep, reply_line};
 
 use crate::reader::LONGEST_LINE;
@@ -12,6 +12,17 @@ use shop_rules::{Refusal, Reply, Text, read_message, read_query, reply_text};
 use shop_store::Book;
 use std::alloc::{AllocError, Global};
 
+// The reply to a value that is no message.
+fn query_reply<B: Book>(alloc: Global, book: &mut B, value: &Value) -> Reply
+    ensures step { message_of (view value.now) ≡ None → B.is_honest book.new → (m : Content) → B.holds book.old m → IsSound json_texts m → Leads (ValueStep m (view value.now) result) (B.holds book.new) }
+    ensures honest { B.is_honest book.new → B.is_honest book.old }
+{
+    match read_query(value) {
+        Ok(query) => ask(alloc, book, &query),
+        Err(refusal) => Reply::Refused(refusal),
+    }
+}
+
 // The reply to a value.
 fn reply_to<B: Book>(alloc: Global, book: &mut B, value: &Value) -> Reply
     ensures step { B.is_honest book.new → (m : Content) → B.holds book.old m → IsSound json_texts m → Leads (ValueStep m (view value.now) result) (B.holds book.new) }
@@ -19,10 +30,9 @@ fn reply_to<B: Book>(alloc: Global, book: &mut B, value: &Value) -> Reply
 {
     match read_message(alloc, value) {
         Ok(message) => handle(alloc, book, &message),
-        Err(Refusal::NoMemory) => Reply::Refused(Refusal::NoMemory),
-        Err(_) => match read_query(value) {
-            Ok(query) => ask(alloc, book, &query),
-            Err(refusal) => Reply::Refused(refusal),
+        Err(refusal) => match refusal {
+            Refusal::NoMemory => Reply::Refused(Refusal::NoMemory),
+            _ => query_reply(alloc, book, value),
         },
     }
 }

@@ -3,6 +3,8 @@
 
 mod answers;
 mod faults;
+#[cfg(test)]
+mod job_tests;
 mod reader;
 mod replays;
 #[cfg(test)]

@@ -67,7 +67,7 @@ impl Sink for Taken {
 }
 
 // What is written for an input.
-fn replayed<B: Book>(alloc: Global, book: &mut B, input: &[u8]) -> Result<Vec<u8>, Fail> {
+pub fn replayed<B: Book>(alloc: Global, book: &mut B, input: &[u8]) -> Result<Vec<u8>, Fail> {
     let mut out = Vec::new(alloc);
     let mut source = Counted::new(input);
     let mut sink = Counted::new(&mut out);
