@@ -27,3 +27,4 @@ pub mod Told
 pub mod Agreeing
 pub mod Sound
 pub mod Runs
+pub mod Examples
