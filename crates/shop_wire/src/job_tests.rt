@@ -1,4 +1,5 @@
 use crate::tests::replayed;
+use cut_measure::Code;
 use shop_store::{Book, MemBook};
 use std::test::Fail;
 
@@ -271,5 +272,19 @@ fn remnants_are_kept(rt: HostRuntime) -> Result<(), Fail> {
         return Err(Fail::from("no demand"));
     };
     assert_eq!(rt; demand, 4);
+    let order = Code::read("A-1").ok_or("no code")?;
+    let Ok(there) = book.order(order) else {
+        return Err(Fail::from("no order"));
+    };
+    assert!(rt; there);
+    let glass = Code::read("GLASS").ok_or("no code")?;
+    let Ok(parts) = book.parts_of(alloc, glass) else {
+        return Err(Fail::from("no parts"));
+    };
+    assert_eq!(rt; parts.as_slice().len(), 1);
+    assert_eq!(rt; parts.as_slice()[0].name.act(), 3);
+    assert_eq!(rt; parts.as_slice()[0].name.node(), 2);
+    let copy = book.copy(alloc)?;
+    assert!(rt; copy == book);
     Ok(())
 }
