@@ -49,6 +49,7 @@ blamed texts m message before after refusal sound blames is = by (blames (same r
   where
     same : (refusal : Refusal) → Refused refusal ≡ Refused StoreFault → refusal ≡ StoreFault
     same refusal e = cc
+
     by : StoreFailed before after ⊎ Contradicts m message.command → StoreFailed before after
     by (inl failed) = failed
     by (inr rows) = absurd (agrees texts m message rows.0 sound rows.1 rows.2)

@@ -151,11 +151,7 @@ fn reserve<B: Book>(
 }
 
 // Finishes a job.
-fn done<B: Book>(
-    alloc: Global,
-    book: &mut B,
-    number: u32,
-) -> Result<Change, Refusal>
+fn done<B: Book>(alloc: Global, book: &mut B, number: u32) -> Result<Change, Refusal>
     ensures decision { B.is_honest book.new → (m : Content) → B.holds book.old m → IsDecided m (Done number) result }
     ensures blame { B.is_honest book.new → (m : Content) → B.holds book.old m → BlamesStore m (Done number) (B.failed book.old) result (B.failed book.new) }
     ensures stays { B.is_honest book.new → (m : Content) → B.holds book.old m → B.holds book.new m }
@@ -172,11 +168,7 @@ fn done<B: Book>(
 }
 
 // Releases a job.
-fn release<B: Book>(
-    alloc: Global,
-    book: &mut B,
-    number: u32,
-) -> Result<Change, Refusal>
+fn release<B: Book>(alloc: Global, book: &mut B, number: u32) -> Result<Change, Refusal>
     ensures decision { B.is_honest book.new → (m : Content) → B.holds book.old m → IsDecided m (Release number) result }
     ensures blame { B.is_honest book.new → (m : Content) → B.holds book.old m → BlamesStore m (Release number) (B.failed book.old) result (B.failed book.new) }
     ensures stays { B.is_honest book.new → (m : Content) → B.holds book.old m → B.holds book.new m }

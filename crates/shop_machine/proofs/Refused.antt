@@ -66,6 +66,7 @@ worked E found on None at j part rule is_j is_p is_m allowed it = absurd (not_al
     by : (b : Bool) → first_of ((b, JobOver) ∷ (true, StoreFault) ∷ []) ≡ None → ⊥
     by true e = cc
     by false e = cc
+
     not_allowed : (found : Option Job) (on : Option Part) (j : Job) (part : Part) → found ≡ Some j → on ≡ Some part → job_refusal found on None at ≡ None → ⊥
     not_allowed found on j part is_j is_p allowed =
         by (not (is_waiting j.state)) (subst (λ (o : Option Part). job_refusal (Some j) o None at ≡ None) is_p (subst (λ (o : Option Job). job_refusal o on None at ≡ None) is_j allowed))

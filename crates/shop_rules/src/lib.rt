@@ -21,8 +21,8 @@ pub use printed_replies::reply_value;
 pub use printing::{message_text, reply_text};
 pub use reading::{kept_reply, read_message, read_query, read_reply};
 pub use shop_machine::{
-    Change, Column, Command, Demand, DemandList, FoundLeaf, FoundLine, Job, JobState, Kept, KeptMessage, LineList,
-    Material, Message, OrderLine, Pair, Part, PartList, Query, Refusal, Reply, RowList, State,
-    StateWord, Text, Totals, decide_done, decide_material, decide_order, decide_receive,
-    decide_release, decide_reserve,
+    Change, Column, Command, Demand, DemandList, FoundLeaf, FoundLine, Job, JobState, Kept,
+    KeptMessage, LineList, Material, Message, OrderLine, Pair, Part, PartList, Query, Refusal,
+    Reply, RowList, State, StateWord, Text, Totals, decide_done, decide_material, decide_order,
+    decide_receive, decide_release, decide_reserve,
 };

@@ -57,6 +57,7 @@ of_no_memory old d = by_message (message_of d)
     by_query : (o : Option Query) → MatchOption o (IsNoMessage old (Refused NoMemory) old) (λ query. Answers old query (Refused NoMemory) × (old ≡ old))
     by_query None = ((λ no. absurd (no refl)), refl)
     by_query (Some query) = ((λ no _. absurd (no refl)), refl)
+
     by_message : (o : Option Message)
         → MatchOption o (MatchOption (query_of d) (IsNoMessage old (Refused NoMemory) old) (λ query. Answers old query (Refused NoMemory) × (old ≡ old))) (λ message. Step json_texts old message (Refused NoMemory) old)
     by_message None = by_query (query_of d)
