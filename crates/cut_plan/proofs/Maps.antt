@@ -1,19 +1,15 @@
 -- Entries put into a map one after another, and what the map then says of counts.
-use Rattle.std.proofs.Common.{◌≡◌, ℕ, ◌+◌, ◌<◌, ◌≤◌, ◌++◌, List, [], ◌∷◌, length, take, get_or, cond, eqb, Option, Some, None, sym, refl, ap, ◌∙◌, subst, inl, inr, arith, take_all}
-use Rattle.std.specs.Prelude.{Contains, IsSome}
+use Rattle.std.proofs.Common.{◌≡◌, ◌≢◌, ◌⊎◌, ℕ, ◌+◌, ◌<◌, ◌≤◌, List, length, take, get_or, cond, eqb, Option, Some, None, sym, refl, ap, ◌∙◌, subst, inl, inr, arith, take_all}
+use Rattle.std.specs.Prelude.{Contains, IsSome, ◌↔◌}
 use Rattle.std.specs.Ordering.{nat_cmp, is_eq}
-use Rattle.std.proofs.lemmas.List.{take_more, get_or-take, get_or_default}
-use Rattle.std.proofs.lemmas.List.Elements.{Contains-push, Contains-push_cases, Contains-append_left}
 use Rattle.std.proofs.lemmas.Bool.Decides.{nat_tests, eqb_tells}
 use Rattle.std.proofs.lemmas.Grind.{common_steps}
 use Rattle.cut_table.specs.declared.wants.Want.{Want}
 use Rattle.cut_table.specs.declared.reach.Entry.{Entry}
 use Rattle.cut_table.specs.Counts.{room_of}
 use Rattle.cut_table.specs.Reached.{AreRising, AreReached, IsGreatestAt, IsReached}
+use Rattle.cut_table.proofs.Merging.{same_entry, taken_in}
 use Rattle.cut_plan.specs.Lengths.{IsMapOf}
-
-same_entry : (e f : Entry) → e.room ≡ f.room → e.worth ≡ f.worth → e ≡ f
-same_entry e f p q = ap (λ (r : ℕ). record { room = r; worth = e.worth }) p ∙ ap (λ (w : ℕ). record { room = f.room; worth = w }) q
 
 pub equal_keys : (k n : ℕ) → is_eq (nat_cmp k n) ≡ eqb k n
 equal_keys k n = grind (arith, nat_tests)
@@ -27,44 +23,40 @@ none_is b e = cc
 pub map_none : (entries : List Entry) (found : ℕ → Option ℕ) → ((n : ℕ) → found n ≡ None) → IsMapOf (take 0 entries) found
 map_none entries found empty n v = (λ e. absurd (none_is v (sym (empty n) ∙ e)), λ (i, lt, is). absurd (grind (arith, common_steps)))
 
-module _ (entries : List Entry) (i : ℕ) (d : Entry) (rising : AreRising entries) (inside : i < length entries) where
-  abbrev here : Entry
-  here = get_or entries i d
+-- an entry more is put in
+pub map_more : (entries : List Entry) (i : ℕ) (d : Entry) → AreRising entries → i < length entries → (found found' : ℕ → Option ℕ) → IsMapOf (take i entries) found
+    → ((n : ℕ) → found' n ≡ cond (is_eq (nat_cmp (get_or entries i d).room n)) (Some (get_or entries i d).worth) (found n)) → IsMapOf (take (i + 1) entries) found'
+map_more entries i d rising inside found found' m updates n v =
+    taken_in entries i d rising inside (λ e. found e.room ≡ Some e.worth) (λ e. found' e.room ≡ Some e.worth) (λ e. m e.room e.worth) put (record { room = n; worth = v })
+  where
+    here : Entry
+    here = get_or entries i d
 
-  before : (e : Entry) → Contains (take i entries) e → e.room < here.room
-  before e (j, lt, is) =
-      let below : j < i = grind (arith, common_steps) in
-      let at : get_or entries j e ≡ e = sym (get_or-take i entries j e below) ∙ is in
-      omega (arith, rising j i e below inside, ap (λ (e : Entry). e.room) at, ap (λ (e : Entry). e.room) (get_or_default entries i e d inside))
-
-  pub map_more : (found found' : ℕ → Option ℕ) → IsMapOf (take i entries) found → ((n : ℕ) → found' n ≡ cond (is_eq (nat_cmp here.room n)) (Some here.worth) (found n))
-      → IsMapOf (take (i + 1) entries) found'
-  map_more found found' m updates n v = elim (eqb_tells here.room n) [
-    | inl (t, same) ↦
-        let now : found' n ≡ Some here.worth = updates n ∙ ap (λ b. cond b (Some here.worth) (found n)) (equal_keys here.room n ∙ t) in (
-          λ e.
-              let worth : here.worth ≡ v = some_is _ _ (sym now ∙ e) in
-              rw (take_more entries i d inside) (subst (λ e. Contains (take i entries ++ here ∷ []) e) (same_entry here (record { room = n; worth = v }) same worth) (Contains-push (take i entries) here)),
-          λ has. elim (Contains-push_cases (take i entries) here (record { room = n; worth = v }) (rw (take_more entries i d inside) at has)) [
-            | inl old ↦ absurd (omega (arith, before (record { room = n; worth = v }) old, same))
-            | inr new ↦ now ∙ ap (λ (e : Entry). Some e.worth) new
-          ],
-        )
-    | inr (t, other) ↦
-        let still : found' n ≡ found n = updates n ∙ ap (λ b. cond b (Some here.worth) (found n)) (equal_keys here.room n ∙ t) in (
-          λ e. rw (take_more entries i d inside) (Contains-append_left (take i entries) (here ∷ []) (record { room = n; worth = v }) ((m n v).0 (sym still ∙ e))),
-          λ has. elim (Contains-push_cases (take i entries) here (record { room = n; worth = v }) (rw (take_more entries i d inside) at has)) [
-            | inl old ↦ still ∙ (m n v).1 old
-            | inr new ↦ absurd (other (ap (λ (e : Entry). e.room) new))
-          ],
-        )
-  ]
+    put : (e : Entry) → (found' e.room ≡ Some e.worth) ↔ ((e ≡ here) ⊎ ((e.room ≢ here.room) × (found e.room ≡ Some e.worth)))
+    put e = elim (eqb_tells here.room e.room) [
+      | inl (t, same) ↦
+          let now : found' e.room ≡ Some here.worth = updates e.room ∙ ap (λ b. cond b (Some here.worth) (found e.room)) (equal_keys here.room e.room ∙ t) in (
+            λ q. inl (same_entry e here (sym same) (some_is _ _ (sym q ∙ now))),
+            λ one. elim one [
+              | inl q ↦ now ∙ ap (λ (e : Entry). Some e.worth) (sym q)
+              | inr (other, q) ↦ absurd (other (sym same))
+            ],
+          )
+      | inr (t, other) ↦
+          let still : found' e.room ≡ found e.room = updates e.room ∙ ap (λ b. cond b (Some here.worth) (found e.room)) (equal_keys here.room e.room ∙ t) in (
+            λ q. inr (λ same. other (sym same), sym still ∙ q),
+            λ one. elim one [
+              | inl q ↦ absurd (other (ap (λ (e : Entry). e.room) (sym q)))
+              | inr (other', q) ↦ still ∙ q
+            ],
+          )
+    ]
 
 pub map_whole : (entries : List Entry) (i : ℕ) (found : ℕ → Option ℕ) → length entries ≤ i → IsMapOf (take i entries) found → IsMapOf entries found
 map_whole entries i found past m = subst (λ es. IsMapOf es found) (take_all i entries past) m
 
 -- a map of all that counts reach
-pub map_reached : (k whole : ℕ) (wants : List Want) (entries : List Entry) (found : ℕ → Option ℕ) → AreReached k wants whole entries → IsMapOf entries found → IsReached k wants whole found
+pub map_reached : (k whole : ℕ) (wants : List Want) (entries : List Entry) (found : ℕ → Option ℕ) → AreReached k wants whole (Contains entries) → IsMapOf entries found → IsReached k wants whole found
 map_reached k whole wants entries found r m = record {
   exactly = λ n v. (λ e. r.only (record { room = n; worth = v }) ((m n v).0 e), λ (fits, g). there n v fits g);
   each = λ counts is fits.

@@ -6,8 +6,7 @@ ghost use Rattle.cut_plan.specs.Proposals as proposals;
 
 use crate::faults::{PlanFault, first_fault};
 use cut_measure::{Kind, Size};
-use cut_table::bar::counted_worth;
-use cut_table::reach::best_counts;
+use cut_table::bar::{best_counts, counted_worth};
 use cut_table::wants::Want;
 use cut_tree::{BarFault, Plan, bar_plan};
 use std::alloc::{AllocError, Global};

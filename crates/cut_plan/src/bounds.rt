@@ -8,9 +8,8 @@ ghost use Rattle.cut_plan.specs.declared.faults.PlanFault.TheVariants.{NoMemory}
 
 use crate::faults::{PlanFault, first_fault};
 use cut_measure::{Kind, Size};
-use cut_table::bar::counted_worth;
+use cut_table::bar::{best_counts, counted_worth};
 use cut_table::bound::{ceiling, units};
-use cut_table::reach::best_counts;
 use cut_table::wants::Want;
 use std::alloc::{AllocError, Global};
 

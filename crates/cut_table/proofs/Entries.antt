@@ -1,53 +1,24 @@
 -- What the entries of wants are, want by want.
-use Rattle.std.proofs.Common.{◌≡◌, ℕ, ◌+◌, ◌*◌, ◌^◌, ◌≤◌, List, [], ◌∷◌, get_or, sym, refl, ap, subst, inl, inr, arith}
-use Rattle.std.specs.Prelude.{Contains}
-use Rattle.std.proofs.lemmas.List.{get_or_default}
-use Rattle.std.proofs.lemmas.Bool.{cases_lt}
+use Rattle.std.proofs.Common.{◌≡◌, ℕ, ◌+◌, ◌*◌, ◌^◌, ◌≤◌, List, [], ◌∷◌, sym, refl, arith}
 use Rattle.std.proofs.lemmas.Nat.{mul-le}
 use Rattle.std.proofs.Math.Nat.{le_refl}
 use Rattle.cut_table.specs.declared.wants.Want.{Want}
 use Rattle.cut_table.specs.declared.reach.Entry.{Entry}
 use Rattle.cut_table.specs.Counts.{AreCounts, room_of, value_of, AreModest, HaveLength}
-use Rattle.cut_table.specs.Reached.{AreRising, AreReached, AreOffered, AreLow, IsMoved, IsGreatestAt}
+use Rattle.cut_table.specs.Reached.{AreReached, AreOffered, AreLow, IsLedTo, IsGreatestAt}
 use Rattle.cut_table.proofs.Trees.{Contains-head, Contains-tail}
 
--- entries of one room are worth the same
-pub one_worth : (xs : List Entry) (e f : Entry) → AreRising xs → Contains xs e → Contains xs f → e.room ≡ f.room → e.worth ≡ f.worth
-one_worth xs e f rising (i, il, ie) (j, jl, je) same =
-    let at : get_or xs j e ≡ f = at_f in
-    elim (cases_lt i j) [
-      | inl lt ↦ absurd (omega (arith, same, rising i j e lt jl, ap (λ (e : Entry). e.room) ie, ap (λ (e : Entry). e.room) at))
-      | inr ge ↦ elim (cases_lt j i) [
-        | inl lt ↦ absurd (omega (arith, same, rising j i e lt il, ap (λ (e : Entry). e.room) ie, ap (λ (e : Entry). e.room) at))
-        | inr le ↦
-            let index : i ≡ j = omega arith in
-            omega (arith, ap (λ (e : Entry). e.worth) ie, ap (λ (e : Entry). e.worth) at, ap (λ k. (get_or xs k e).worth) index)
-      ]
-    ]
-  where
-    at_f : get_or xs j e ≡ f
-    at_f = subst (λ x. x ≡ f) (get_or_default xs j f e jl) je
-
-none : Entry
-none = record { room = 0; worth = 0 }
-
-pub reached_none : (k whole : ℕ) → AreReached k [] whole (record { room = 0; worth = 0 } ∷ [])
-reached_none k whole = record {
-  rising = λ i j d lt in_range. absurd (omega arith);
-  only = λ e (i, lt, is). one e i (omega arith) is;
-  each = λ counts is fit. (record { room = 0; worth = 0 }, (0, omega arith, refl), refl);
+-- no counts at all take no room
+pub reached_none : (k whole : ℕ) (has : Entry → Type 0) → ((e : Entry) → has e → (e.room ≡ 0) × (e.worth ≡ 0)) → has (record { room = 0; worth = 0 }) → AreReached k [] whole has
+reached_none k whole has only none = record {
+  only = λ e there. let z = only e there in (omega (arith, z.0), record { counts = []; within = tt; takes = sym z.0; value = sym z.1; most = λ others is fit. omega arith });
+  each = λ counts is fit. (record { room = 0; worth = 0 }, none, refl);
 }
-  where
-    one : (e : Entry) (i : ℕ) → i ≡ 0 → get_or (record { room = 0; worth = 0 } ∷ []) i e ≡ e → (e.room ≤ whole) × IsGreatestAt k [] e.room e.worth
-    one e i zero is =
-        let here : record { room = 0; worth = 0 } ≡ e = subst (λ i. get_or (record { room = 0; worth = 0 } ∷ []) i e ≡ e) zero is in
-        subst (λ (e : Entry). (e.room ≤ whole) × IsGreatestAt k [] e.room e.worth) here
-        (omega arith, record { counts = []; within = tt; takes = refl; value = refl; most = λ others is fit. omega arith })
 
-module _ (k whole : ℕ) (x : Want) (xs : List Want) (base entries : List Entry) (r : AreReached k xs whole base) (o : AreOffered (x.size.w + k) x.worth x.left whole base entries) where
+module _ (k whole : ℕ) (x : Want) (xs : List Want) (base entries : Entry → Type 0) (r : AreReached k xs whole base) (o : AreOffered (x.size.w + k) x.worth x.left whole base entries) where
   -- counts lead to an entry of their room that is worth no less
   led : (a : ℕ) (os : List ℕ) → a ≤ x.left → AreCounts xs os → room_of k (x ∷ xs) (a ∷ os) ≤ whole
-      → (e : Entry) × Contains entries e × (e.room ≡ room_of k (x ∷ xs) (a ∷ os)) × (value_of (x ∷ xs) (a ∷ os) ≤ e.worth)
+      → (e : Entry) × entries e × (e.room ≡ room_of k (x ∷ xs) (a ∷ os)) × (value_of (x ∷ xs) (a ∷ os) ≤ e.worth)
   led a os few within fits =
       let b = r.each os within (omega arith) in
       let room : b.0.room ≡ room_of k xs os = b.2 in
@@ -55,8 +26,8 @@ module _ (k whole : ℕ) (x : Want) (xs : List Want) (base entries : List Entry)
       let e = o.most b.0 b.1 a few (omega (arith, room)) in
       (e.0, e.1, omega (arith, e.2, room), omega (arith, e.3, worth))
 
-  greatest : (e : Entry) → Contains entries e → (b : Entry) × Contains base b × (times : ℕ) × (times ≤ x.left) × IsMoved (x.size.w + k) x.worth times b e → IsGreatestAt k (x ∷ xs) e.room e.worth
-  greatest e has (b, there, times, few, moved) =
+  greatest : (e : Entry) → entries e → IsLedTo (x.size.w + k) x.worth x.left base e → IsGreatestAt k (x ∷ xs) e.room e.worth
+  greatest e has (times, few, b, there, moved) =
       let g = (r.only b there).1 in
       record {
         counts = times ∷ g.counts;
@@ -71,16 +42,15 @@ module _ (k whole : ℕ) (x : Want) (xs : List Want) (base entries : List Entry)
       most (a ∷ os) is takes =
           let f = led a os is.0 is.1 (omega (arith, takes, o.short e has)) in
           let same : e.room ≡ f.0.room = omega (arith, takes, f.2) in
-          omega (arith, f.3, one_worth entries e f.0 o.rising has f.1 same)
+          omega (arith, f.3, o.own e f.0 has f.1 same)
 
   pub reached_want : AreReached k (x ∷ xs) whole entries
   reached_want = record {
-    rising = o.rising;
     only = λ e has. (o.short e has, greatest e has (o.only e has));
     each = λ counts is fits. each counts is fits;
   }
     where
-      each : (counts : List ℕ) → AreCounts (x ∷ xs) counts → room_of k (x ∷ xs) counts ≤ whole → (e : Entry) × Contains entries e × (e.room ≡ room_of k (x ∷ xs) counts)
+      each : (counts : List ℕ) → AreCounts (x ∷ xs) counts → room_of k (x ∷ xs) counts ≤ whole → (e : Entry) × entries e × (e.room ≡ room_of k (x ∷ xs) counts)
       each [] is fits = absurd is
       each (a ∷ os) is fits =
           let e = led a os is.0 is.1 fits in
@@ -97,7 +67,7 @@ value_low k (x ∷ xs) (a ∷ ns) some modest =
     let here = mul-le x.worth a ((x.size.w + k) * 2 ^ 30) a (omega (arith, one, small)) (le_refl a) in
     omega (arith, rest, here)
 
-pub reached_low : (k whole : ℕ) (xs : List Want) (entries : List Entry) → AreReached k xs whole entries → HaveLength xs → AreModest xs → AreLow whole entries
+pub reached_low : (k whole : ℕ) (xs : List Want) (entries : Entry → Type 0) → AreReached k xs whole entries → HaveLength xs → AreModest xs → AreLow whole entries
 reached_low k whole xs entries r some modest e has =
     let o = r.only e has in
     let low = value_low k xs o.1.counts some modest in

@@ -1,5 +1,5 @@
 -- From an entry back to counts.
-use Rattle.std.proofs.Common.{◌≡◌, ℕ, ◌+◌, ◌-◌, ◌*◌, ◌<◌, ◌≤◌, ◌++◌, List, [], ◌∷◌, length, drop, get_or, sym, refl, ap, ◌∙◌, subst, inl, inr, false, eqb, arith, Vec, Global, Ok, Err, eq-eqb, append_assoc, append-nil}
+use Rattle.std.proofs.Common.{◌≡◌, ℕ, ◌+◌, ◌-◌, ◌*◌, ◌<◌, ◌≤◌, ◌++◌, List, [], ◌∷◌, length, drop, get_or, sym, refl, ap, ◌∙◌, subst, inl, inr, false, eqb, arith, Ok, Err, eq-eqb, append_assoc, append-nil}
 use Rattle.std.specs.Prelude.{Contains, IsTrue, ◌↔◌}
 use Rattle.std.specs.List.Sorted.{IsSearchInRange, IsBinarySearchResult, IsNonDecreasingBy}
 use Rattle.std.specs.Ordering.{nat_cmp, ordering_index}
@@ -12,13 +12,15 @@ use Rattle.std.proofs.lemmas.Bool.Decides.{nat_tests}
 use Rattle.std.proofs.lemmas.Bool.{cases_lt, false≢true, eqb-true}
 use Rattle.cut_table.specs.declared.wants.Want.{Want}
 use Rattle.cut_table.specs.declared.reach.Entry.{Entry}
-use Rattle.cut_table.specs.Counts.{AreCounts, room_of, value_of, AreModest, HaveLength, AreBestCounts}
-use Rattle.cut_table.specs.Reached.{AreRising, AreReached, AreOffered, IsMoved, IsGreatestAt, IsBestEntry, IsLedTo, AreCountsOf, AreLevels, IsOfFirst}
-use Rattle.cut_table.proofs.Merging.{none}
-use Rattle.cut_table.proofs.Entries.{one_worth, reached_want}
-
-same_entry : (e f : Entry) → e.room ≡ f.room → e.worth ≡ f.worth → e ≡ f
-same_entry e f p q = ap (λ (r : ℕ). record { room = r; worth = e.worth }) p ∙ ap (λ (w : ℕ). record { room = f.room; worth = w }) q
+use Rattle.cut_table.specs.Counts.{AreCounts, room_of, value_of, IsModest, AreModest, HaveLength, AreBestCounts}
+use Rattle.cut_table.specs.declared.level.Level.{Level}
+use Rattle.cut_table.specs.Reached.{AreRising, AreOwn, AreReached, AreOffered, IsMoved, IsGreatestAt, IsBestEntry, IsLedTo, AreCountsOf}
+use Rattle.cut_table.specs.declared.level.Level.TheVariants.{Listed, Tabled}
+use Rattle.cut_table.specs.Levels.{Has, IsLevel, IsCopyOf, AreLevels, IsOfFirst}
+use Rattle.cut_table.proofs.Merging.{none, same_entry, one_worth}
+use Rattle.cut_table.proofs.Entries.{reached_none, reached_want}
+use Rattle.cut_table.proofs.Raising.{cells_own}
+use Rattle.cut_table.proofs.Trees.{Contains-cases}
 
 -- what a search by room finds among entries in order
 module _ (xs : List Entry) (rising : AreRising xs) (entry : Entry) where
@@ -42,7 +44,7 @@ module _ (xs : List Entry) (rising : AreRising xs) (entry : Entry) where
         λ yes.
             let worth : (get_or xs at none).worth ≡ entry.worth = eqb-true _ _ yes in
             subst (λ e. Contains xs e) (same_entry (get_or xs at none) entry room worth) (Contains-get_or xs at none in_range),
-        λ has. eq-eqb _ _ (one_worth xs (get_or xs at none) entry rising (Contains-get_or xs at none in_range) has room),
+        λ has. eq-eqb _ _ (one_worth xs rising (get_or xs at none) entry (Contains-get_or xs at none in_range) has room),
       )
 
   pub absent : (at : ℕ) → IsBinarySearchResult (λ e. nat_cmp e.room entry.room) xs (Err at) → IsTrue false ↔ Contains xs entry
@@ -59,11 +61,11 @@ module _ (xs : List Entry) (rising : AreRising xs) (entry : Entry) where
       ]
 
 -- one piece fewer
-module _ (step gain n : ℕ) (base : List Entry) (e : Entry) where
-  pub led_further : IsLedTo step gain n base e → (Contains base e → ⊥)
+module _ (step gain n : ℕ) (base : Entry → Type 0) (e : Entry) where
+  pub led_further : IsLedTo step gain n base e → (base e → ⊥)
       → (step ≤ e.room) × (gain ≤ e.worth) × IsLedTo step gain (n - 1) base (record { room = e.room - step; worth = e.worth - gain })
   led_further (times, few, b, has, moved) gone = elim (cases_lt times 1) [
-    | inl lt ↦ absurd (gone (subst (λ x. Contains base x) (here (omega arith)) has))
+    | inl lt ↦ absurd (gone (subst (λ x. base x) (here (omega arith)) has))
     | inr ge ↦
         let parts : times ≡ (times - 1) + 1 = omega arith in
         let room = ap (λ z. z * step) parts in
@@ -77,8 +79,8 @@ module _ (step gain n : ℕ) (base : List Entry) (e : Entry) where
       here : times ≡ 0 → b ≡ e
       here zero = same_entry b e (omega (arith, moved.room, ap (λ z. z * step) zero)) (omega (arith, moved.worth, ap (λ z. z * gain) zero))
 
-  pub led_by_none : n ≡ 0 → IsLedTo step gain n base e → Contains base e
-  led_by_none zero (times, few, b, has, moved) = subst (λ x. Contains base x) here has
+  pub led_by_none : n ≡ 0 → IsLedTo step gain n base e → base e
+  led_by_none zero (times, few, b, has, moved) = subst (λ x. base x) here has
     where
       here : b ≡ e
       here =
@@ -89,25 +91,25 @@ pub moved_one : (step gain count : ℕ) (from e : Entry) → IsMoved step gain c
     → IsMoved step gain (count + 1) (record { room = from.room - step; worth = from.worth - gain }) e
 moved_one step gain count from e m room worth = record { room = omega (arith, m.room); worth = omega (arith, m.worth) }
 
-pub first_level : (k whole : ℕ) (xs : List Want) (levels : List (Vec Entry Global)) → AreLevels k whole xs levels → (d : Vec Entry Global)
-    → (0 < length levels) × AreReached k xs whole (get_or levels 0 d).items
+pub first_level : (k whole : ℕ) (xs : List Want) (levels : List Level) → AreLevels k whole xs levels → (d : Level)
+    → (0 < length levels) × IsLevel whole (get_or levels 0 d) × AreReached k xs whole (Has (get_or levels 0 d))
 first_level k whole xs [] h d = absurd h
-first_level k whole [] (level ∷ levels) h d = (omega arith, h)
-first_level k whole (x ∷ xs) (level ∷ levels) h d = (omega arith, h.0)
+first_level k whole [] (level ∷ levels) h d = (omega arith, h.0, h.1)
+first_level k whole (x ∷ xs) (level ∷ levels) h d = (omega arith, h.0, h.1)
 
-pub one_level : (k whole i : ℕ) (xs : List Want) (level : Vec Entry Global) → length xs ≤ i → AreReached k [] whole level.items → AreLevels k whole (drop i xs) (level ∷ [])
+pub one_level : (k whole i : ℕ) (xs : List Want) (level : Level) → length xs ≤ i → IsLevel whole level × AreReached k [] whole (Has level) → AreLevels k whole (drop i xs) (level ∷ [])
 one_level k whole i xs level past r = rw (drop_all i xs past) r
 
-pub levels_more : (k whole i j : ℕ) (xs : List Want) (d : Want) (level : Vec Entry Global) (levels : List (Vec Entry Global)) (v : Vec Entry Global) → i < length xs → i + 1 ≡ j
-    → AreLevels k whole (drop j xs) levels
-    → AreOffered ((get_or xs i d).size.w + k) (get_or xs i d).worth (get_or xs i d).left whole (get_or levels 0 v).items level.items
+pub levels_more : (k whole i j : ℕ) (xs : List Want) (d : Want) (level : Level) (levels : List Level) (v : Level) → i < length xs → i + 1 ≡ j
+    → AreLevels k whole (drop j xs) levels → IsLevel whole level
+    → AreOffered ((get_or xs i d).size.w + k) (get_or xs i d).worth (get_or xs i d).left whole (Has (get_or levels 0 v)) (Has level)
     → AreLevels k whole (drop i xs) (level ∷ levels)
-levels_more k whole i j xs d level levels v lt next h o =
+levels_more k whole i j xs d level levels v lt next h is o =
     let parts : drop i xs ≡ get_or xs i d ∷ drop j xs = drop_more xs i d lt ∙ ap (λ n. get_or xs i d ∷ drop n xs) next in
-    rw parts (reached_want k whole (get_or xs i d) (drop j xs) (get_or levels 0 v).items level.items (first_level k whole (drop j xs) levels h v).1 o, h)
+    rw parts (is, reached_want k whole (get_or xs i d) (drop j xs) (Has (get_or levels 0 v)) (Has level) (first_level k whole (drop j xs) levels h v).2 o, h)
 
 -- the entries of a want's level are led to from those of the next
-module _ (k whole : ℕ) (x : Want) (xs : List Want) (base entries : List Entry) (r : AreReached k xs whole base) (s : AreReached k (x ∷ xs) whole entries) (e : Entry) (has : Contains entries e) where
+module _ (k whole : ℕ) (x : Want) (xs : List Want) (base entries : Entry → Type 0) (r : AreReached k xs whole base) (s : AreReached k (x ∷ xs) whole entries) (e : Entry) (has : entries e) where
   pub reached_led : IsLedTo (x.size.w + k) x.worth x.left base e
   reached_led = from (s.only e has)
     where
@@ -128,14 +130,14 @@ module _ (k whole : ℕ) (x : Want) (xs : List Want) (base entries : List Entry)
               (a, is.0, b.0, b.1, record { room = omega (arith, takes, room); worth = omega (arith, value, least, worth, all) })
 
 -- the levels at a want
-pub record LevelsAt (k whole i : ℕ) (xs : List Want) (d : Want) (levels : List (Vec Entry Global)) (v : Vec Entry Global) (left : Entry) : Type 0 where
+pub record LevelsAt (k whole i : ℕ) (xs : List Want) (d : Want) (levels : List Level) (v : Level) (left : Entry) : Type 0 where
   pub there : i + 1 < length levels
-  pub behind : AreReached k (drop (i + 1) xs) whole (get_or levels (i + 1) v).items
-  pub led : IsLedTo ((get_or xs i d).size.w + k) (get_or xs i d).worth (get_or xs i d).left (get_or levels (i + 1) v).items left
+  pub level : IsLevel whole (get_or levels (i + 1) v)
+  pub led : IsLedTo ((get_or xs i d).size.w + k) (get_or xs i d).worth (get_or xs i d).left (Has (get_or levels (i + 1) v)) left
   pub rest : AreLevels k whole (drop (i + 1) xs) (drop (i + 1) levels)
-  pub first : (e : Entry) → Contains (get_or levels (i + 1) v).items e → IsOfFirst (drop (i + 1) levels) e
+  pub first : (e : Entry) → Has (get_or levels (i + 1) v) e → IsOfFirst (drop (i + 1) levels) e
 
-pub levels_at : (k whole i : ℕ) (xs : List Want) (d : Want) (levels : List (Vec Entry Global)) (v : Vec Entry Global) (left : Entry) → i < length xs
+pub levels_at : (k whole i : ℕ) (xs : List Want) (d : Want) (levels : List Level) (v : Level) (left : Entry) → i < length xs
     → AreLevels k whole (drop i xs) (drop i levels) → IsOfFirst (drop i levels) left → LevelsAt k whole i xs d levels v left
 levels_at k whole i xs d levels v left lt h has =
     elim (cases_lt i (length levels)) [
@@ -145,15 +147,15 @@ levels_at k whole i xs d levels v left lt h has =
           let b = subst (λ ls. AreLevels k whole (get_or xs i d ∷ drop (i + 1) xs) ls) (drop_more levels i v here) a in
           let there = subst (λ ls. IsOfFirst ls left) (drop_more levels i v here) has in
           elim (cases_lt (i + 1) (length levels)) [
-            | inr past ↦ absurd (none_at (drop (i + 1) xs) (subst (λ ls. AreLevels k whole (drop (i + 1) xs) ls) (drop_all (i + 1) levels past) b.1))
+            | inr past ↦ absurd (none_at (drop (i + 1) xs) (subst (λ ls. AreLevels k whole (drop (i + 1) xs) ls) (drop_all (i + 1) levels past) b.2))
             | inl next ↦
-                let c = subst (λ ls. AreLevels k whole (drop (i + 1) xs) ls) (drop_more levels (i + 1) v next) b.1 in
-                let r = (first_level k whole (drop (i + 1) xs) (get_or levels (i + 1) v ∷ drop (i + 1 + 1) levels) c v).1 in
+                let c = subst (λ ls. AreLevels k whole (drop (i + 1) xs) ls) (drop_more levels (i + 1) v next) b.2 in
+                let r = first_level k whole (drop (i + 1) xs) (get_or levels (i + 1) v ∷ drop (i + 1 + 1) levels) c v in
                 record {
                   there = next;
-                  behind = r;
-                  led = reached_led k whole (get_or xs i d) (drop (i + 1) xs) (get_or levels (i + 1) v).items (get_or levels i v).items r b.0 left there;
-                  rest = b.1;
+                  level = r.1;
+                  led = reached_led k whole (get_or xs i d) (drop (i + 1) xs) (Has (get_or levels (i + 1) v)) (Has (get_or levels i v)) r.2 b.1 left there;
+                  rest = b.2;
                   first = λ e there'. subst (λ ls. IsOfFirst ls e) (sym (drop_more levels (i + 1) v next)) there';
                 }
           ]
@@ -177,21 +179,21 @@ counts_pushed k i n xs d counts pushed entry left from lt few moved items done n
     let e : counts ++ (n ∷ ns) ≡ pushed ++ ns = sym (append_assoc counts (n ∷ []) ns) ∙ ap (λ l. l ++ ns) (sym items) in
     subst (λ l. AreCountsOf k xs entry l) e (done (n ∷ ns) whole')
 
-pub counts_done : (k whole i : ℕ) (xs : List Want) (levels : List (Vec Entry Global)) (counts : List ℕ) (entry left : Entry) → length xs ≤ i → AreLevels k whole (drop i xs) (drop i levels)
+pub counts_done : (k whole i : ℕ) (xs : List Want) (levels : List Level) (counts : List ℕ) (entry left : Entry) → length xs ≤ i → AreLevels k whole (drop i xs) (drop i levels)
     → IsOfFirst (drop i levels) left → ((ns : List ℕ) → AreCountsOf k (drop i xs) left ns → AreCountsOf k xs entry (counts ++ ns)) → AreCountsOf k xs entry counts
 counts_done k whole i xs levels counts entry left past h has done =
     let c = zero_left (drop i levels) (subst (λ ys. AreLevels k whole ys (drop i levels)) (drop_all i xs past) h) has in
     let b = subst (λ ys. AreCountsOf k ys left []) (sym (drop_all i xs past)) c in
     subst (λ l. AreCountsOf k xs entry l) (append-nil counts) (done [] b)
   where
-    zero_left : (ls : List (Vec Entry Global)) → AreLevels k whole [] ls → IsOfFirst ls left → AreCountsOf k [] left []
+    zero_left : (ls : List Level) → AreLevels k whole [] ls → IsOfFirst ls left → AreCountsOf k [] left []
     zero_left [] h has = absurd h
     zero_left (level ∷ ls) h has =
-        let g = (h.only left has).1 in
+        let g = (h.1.only left has).1 in
         record { within = tt; room = g.takes; worth = g.value }
 
 -- the counts of the best entry are best
-pub best_from_entry : (k whole : ℕ) (xs : List Want) (entries : List Entry) (best : Entry) (counts : List ℕ) → AreReached k xs whole entries → IsBestEntry entries best
+pub best_from_entry : (k whole : ℕ) (xs : List Want) (entries : Entry → Type 0) (best : Entry) (counts : List ℕ) → AreReached k xs whole entries → IsBestEntry entries best
     → AreCountsOf k xs best counts → AreBestCounts k xs whole counts
 best_from_entry k whole xs entries best counts r b c = record {
   within = c.within;
@@ -202,8 +204,8 @@ best_from_entry k whole xs entries best counts r b c = record {
       omega (arith, c.worth, (r.only e.0 e.1).1.most others is (sym room), b.most e.0 e.1);
 }
 
-pub some_entry : (k whole : ℕ) (xs : List Want) (entries : List Entry) → AreReached k xs whole entries → 1 ≤ length entries
-some_entry k whole xs entries r = from (r.each (zeros xs) (few xs) (omega (arith, nothing xs)))
+pub some_entry : (k whole : ℕ) (xs : List Want) (entries : Entry → Type 0) → AreReached k xs whole entries → (e : Entry) × entries e
+some_entry k whole xs entries r = let e = r.each (zeros xs) (few xs) (omega (arith, nothing xs)) in (e.0, e.1)
   where
     zeros : List Want → List ℕ
     zeros [] = []
@@ -217,8 +219,18 @@ some_entry k whole xs entries r = from (r.each (zeros xs) (few xs) (omega (arith
     nothing [] = refl
     nothing (x ∷ xs) = omega (arith, nothing xs)
 
-    from : (e : Entry) × Contains entries e × (e.room ≡ room_of k xs (zeros xs)) → 1 ≤ length entries
-    from (e, (i, lt, is), same) = omega arith
+pub modest_at : (xs : List Want) (i : ℕ) (d : Want) → AreModest xs → i < length xs → IsModest (get_or xs i d)
+modest_at xs i d m lt = m (get_or xs i d) (Contains-get_or xs i d lt)
+
+pub length_more : (xs : List Want) (i j : ℕ) (d : Want) → i < length xs → i + 1 ≡ j → 1 ≤ (get_or xs i d).size.w → HaveLength (drop j xs) → HaveLength (drop i xs)
+length_more xs i j d lt next some have =
+    let parts : drop i xs ≡ get_or xs i d ∷ drop j xs = drop_more xs i d lt ∙ ap (λ n. get_or xs i d ∷ drop n xs) next in
+    rw parts (
+    λ x has. elim (Contains-cases (get_or xs i d) (drop j xs) x has) [
+      | inl e ↦ subst (λ (y : Want). 1 ≤ y.size.w) e some
+      | inr h ↦ have x h
+    ]
+    )
 
 pub modest_rest : (xs : List Want) (i : ℕ) → AreModest xs → AreModest (drop i xs)
 modest_rest xs i m x (j, lt, is) = m x (i + j, grind (arith, common_steps), sym (get_or-drop i xs j x) ∙ is)
@@ -226,7 +238,7 @@ modest_rest xs i m x (j, lt, is) = m x (i + j, grind (arith, common_steps), sym 
 pub length_none : (xs : List Want) (i : ℕ) → length xs ≤ i → HaveLength (drop i xs)
 length_none xs i past = rw (drop_all i xs past) (λ x (j, lt, is). absurd (omega arith))
 
-pub level_there : (k whole i : ℕ) (xs : List Want) (levels : List (Vec Entry Global)) → i < length xs → AreLevels k whole (drop i xs) (drop i levels) → i + 1 < length levels
+pub level_there : (k whole i : ℕ) (xs : List Want) (levels : List Level) → i < length xs → AreLevels k whole (drop i xs) (drop i levels) → i + 1 < length levels
 level_there k whole i xs [] lt h = absurd (none_at i (drop i xs) h)
   where
     none_at : (i : ℕ) (ys : List Want) → AreLevels k whole ys (drop i []) → ⊥
@@ -239,18 +251,53 @@ level_there k whole i (x ∷ xs) (v ∷ vs) lt h = elim (cases_lt (i + 1) (lengt
     | inl here ↦
         let a = subst (λ ys. AreLevels k whole ys (drop i (v ∷ vs))) (drop_more (x ∷ xs) i x lt) h in
         let b = subst (λ ls. AreLevels k whole (get_or (x ∷ xs) i x ∷ drop (i + 1) (x ∷ xs)) ls) (drop_more (v ∷ vs) i v here) a in
-        absurd (none (drop (i + 1) (x ∷ xs)) (subst (λ ls. AreLevels k whole (drop (i + 1) (x ∷ xs)) ls) (drop_all (i + 1) (v ∷ vs) past) b.1))
+        absurd (none (drop (i + 1) (x ∷ xs)) (subst (λ ls. AreLevels k whole (drop (i + 1) (x ∷ xs)) ls) (drop_all (i + 1) (v ∷ vs) past) b.2))
   ]
 ]
   where
     none : (ys : List Want) → AreLevels k whole ys [] → ⊥
     none ys h = h
 
-pub reached_all : (k whole i : ℕ) (xs : List Want) (entries : List Entry) → length xs ≤ i → AreReached k [] whole entries → AreReached k (drop i xs) whole entries
+pub reached_all : (k whole i : ℕ) (xs : List Want) (entries : Entry → Type 0) → length xs ≤ i → AreReached k [] whole entries → AreReached k (drop i xs) whole entries
 reached_all k whole i xs entries past r = rw (drop_all i xs past) r
 
-pub reached_more : (k whole i j : ℕ) (xs : List Want) (d : Want) (base entries : List Entry) → i < length xs → i + 1 ≡ j → AreReached k (drop j xs) whole base
+pub reached_more : (k whole i j : ℕ) (xs : List Want) (d : Want) (base entries : Entry → Type 0) → i < length xs → i + 1 ≡ j → AreReached k (drop j xs) whole base
     → AreOffered ((get_or xs i d).size.w + k) (get_or xs i d).worth (get_or xs i d).left whole base entries → AreReached k (drop i xs) whole entries
 reached_more k whole i j xs d base entries lt next r o =
     let parts : drop i xs ≡ get_or xs i d ∷ drop j xs = drop_more xs i d lt ∙ ap (λ n. get_or xs i d ∷ drop n xs) next in
     rw parts (reached_want k whole (get_or xs i d) (drop j xs) base entries r o)
+
+-- the same set of entries
+pub reached_same : (k whole : ℕ) (xs : List Want) (has others : Entry → Type 0) → AreReached k xs whole has → ((e : Entry) → has e ↔ others e) → AreReached k xs whole others
+reached_same k whole xs has others r same = record {
+  only = λ e there. r.only e ((same e).1 there);
+  each = λ counts is fits. let e = r.each counts is fits in (e.0, (same e.0).0 e.1, e.2);
+}
+
+pub copied_level : (whole : ℕ) (old new : Level) → IsCopyOf old new → IsLevel whole old → IsLevel whole new
+copied_level whole (Listed old) (Listed new) copy is = rw copy is
+copied_level whole (Listed old) (Tabled new) copy is = absurd copy
+copied_level whole (Tabled old) (Listed new) copy is = absurd copy
+copied_level whole (Tabled old) (Tabled new) copy is = rw copy is
+
+pub copied_same : (old new : Level) → IsCopyOf old new → (e : Entry) → Has old e ↔ Has new e
+copied_same (Listed old) (Listed new) copy e = rw copy (λ h. h, λ h. h)
+copied_same (Listed old) (Tabled new) copy e = absurd copy
+copied_same (Tabled old) (Listed new) copy e = absurd copy
+copied_same (Tabled old) (Tabled new) copy e = rw copy (λ h. h, λ h. h)
+
+pub level_own : (whole : ℕ) (level : Level) → IsLevel whole level → AreOwn (Has level)
+level_own whole (Listed entries) is = one_worth entries.items is
+level_own whole (Tabled cells) is = cells_own cells.items
+
+-- what no counts reach
+pub none_reached : (k whole : ℕ) → AreRising (none ∷ []) × AreReached k [] whole (Contains (none ∷ []))
+none_reached k whole = (
+  λ i j d lt in_range. absurd (omega arith),
+  reached_none k whole (Contains (none ∷ [])) (λ e (i, lt, at). zero e i (omega arith) at) (0, omega arith, refl),
+)
+  where
+    zero : (e : Entry) (i : ℕ) → i ≡ 0 → get_or (none ∷ []) i e ≡ e → (e.room ≡ 0) × (e.worth ≡ 0)
+    zero e i z at =
+        let here : none ≡ e = subst (λ i. get_or (none ∷ []) i e ≡ e) z at in
+        (omega (arith, ap (λ (e : Entry). e.room) here), omega (arith, ap (λ (e : Entry). e.worth) here))

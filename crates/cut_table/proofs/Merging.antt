@@ -1,14 +1,15 @@
 -- Why entries joined in order are what one batch more leads to.
-use Rattle.std.proofs.Common.{◌≡◌, ◌≢◌, ℕ, ◌+◌, ◌-◌, ◌*◌, ◌^◌, ◌<◌, ◌≤◌, ◌++◌, List, [], ◌∷◌, length, get_or, leb, true, false, sym, refl, ap, ◌∙◌, subst, inl, inr, ◌⊎◌, arith}
-use Rattle.std.specs.Prelude.{Contains}
-use Rattle.std.proofs.lemmas.List.{get_or_default, get_or_append_left, get_or-append_right}
+use Rattle.std.proofs.Common.{◌≡◌, ◌≢◌, ℕ, ◌+◌, ◌-◌, ◌*◌, ◌^◌, ◌<◌, ◌≤◌, ◌++◌, List, [], ◌∷◌, length, take, get_or, leb, true, false, sym, refl, ap, ◌∙◌, subst, inl, inr, ◌⊎◌, arith}
+use Rattle.std.specs.Prelude.{Contains, ◌↔◌}
+use Rattle.std.proofs.lemmas.List.{get_or_default, get_or_append_left, get_or-append_right, take_more, get_or-take}
 use Rattle.std.proofs.lemmas.List.Elements.{Contains-get_or, Contains-append_left, Contains-push, Contains-push_cases, at_read}
 use Rattle.std.proofs.lemmas.Bool.{cases_lt}
 use Rattle.std.proofs.lemmas.Grind.{common_steps}
 use Rattle.std.proofs.lemmas.Bool.Decides.{nat_tests}
 use mir.Val.{bool_byte}
 use Rattle.cut_table.specs.declared.reach.Entry.{Entry}
-use Rattle.cut_table.specs.Reached.{AreRising, AreJoined, AreUpTo, AreOffered, AreLow, IsMoved, IsFirstOf}
+use Rattle.cut_table.specs.Reached.{AreRising, AreOwn, AreOffered, AreLow, IsLedTo}
+use Rattle.cut_table.specs.Levels.{AreJoined, AreUpTo, IsFirstOf}
 
 -- an element that was read, whatever the default
 pub read_is : (xs : List Entry) (i : ℕ) (a d : Entry) → i < length xs → a ≡ get_or xs i a → get_or xs i d ≡ a
@@ -16,6 +17,47 @@ read_is xs i a d lt is = at_read xs (λ y. y ≡ a) i a lt is refl d
 
 pub read_in : (xs : List Entry) (i : ℕ) (a : Entry) → i < length xs → a ≡ get_or xs i a → Contains xs a
 read_in xs i a lt is = (i, lt, sym is)
+
+pub same_entry : (e f : Entry) → e.room ≡ f.room → e.worth ≡ f.worth → e ≡ f
+same_entry e f p q = ap (λ (r : ℕ). record { room = r; worth = e.worth }) p ∙ ap (λ (w : ℕ). record { room = f.room; worth = w }) q
+
+-- entries in order have one worth for each room
+pub one_worth : (xs : List Entry) → AreRising xs → AreOwn (Contains xs)
+one_worth xs rising e f (i, il, ie) (j, jl, je) same =
+    let at : get_or xs j e ≡ f = at_f in
+    elim (cases_lt i j) [
+      | inl lt ↦ absurd (omega (arith, same, rising i j e lt jl, ap (λ (e : Entry). e.room) ie, ap (λ (e : Entry). e.room) at))
+      | inr ge ↦ elim (cases_lt j i) [
+        | inl lt ↦ absurd (omega (arith, same, rising j i e lt il, ap (λ (e : Entry). e.room) ie, ap (λ (e : Entry). e.room) at))
+        | inr le ↦
+            let index : i ≡ j = omega arith in
+            omega (arith, ap (λ (e : Entry). e.worth) ie, ap (λ (e : Entry). e.worth) at, ap (λ k. (get_or xs k e).worth) index)
+      ]
+    ]
+  where
+    at_f : get_or xs j e ≡ f
+    at_f = subst (λ x. x ≡ f) (get_or_default xs j f e jl) je
+
+-- a set that takes in entries in order, each at its room
+module _ (entries : List Entry) (i : ℕ) (d : Entry) (rising : AreRising entries) (inside : i < length entries) where
+  before : (e : Entry) → Contains (take i entries) e → e.room < (get_or entries i d).room
+  before e (j, lt, is) =
+      let below : j < i = grind (arith, common_steps) in
+      let at : get_or entries j e ≡ e = sym (get_or-take i entries j e below) ∙ is in
+      omega (arith, rising j i e below inside, ap (λ (e : Entry). e.room) at, ap (λ (e : Entry). e.room) (get_or_default entries i e d inside))
+
+  pub taken_in : (has has' : Entry → Type 0) → ((e : Entry) → has e ↔ Contains (take i entries) e)
+      → ((e : Entry) → has' e ↔ ((e ≡ get_or entries i d) ⊎ ((e.room ≢ (get_or entries i d).room) × has e))) → (e : Entry) → has' e ↔ Contains (take (i + 1) entries) e
+  taken_in has has' same put e = (
+    λ h. rw (take_more entries i d inside) (elim ((put e).0 h) [
+      | inl here ↦ subst (λ e. Contains (take i entries ++ get_or entries i d ∷ []) e) (sym here) (Contains-push (take i entries) (get_or entries i d))
+      | inr (other, old) ↦ Contains-append_left (take i entries) (get_or entries i d ∷ []) e ((same e).0 old)
+    ]),
+    λ h. elim (Contains-push_cases (take i entries) (get_or entries i d) e (rw (take_more entries i d inside) at h)) [
+      | inl old ↦ (put e).1 (inr (λ q. absurd (omega (arith, q, before e old)), (same e).1 old))
+      | inr new ↦ (put e).1 (inl (sym new))
+    ],
+  )
 
 -- the rooms still rise once a longer one is behind them
 pub rising_push : (xs : List Entry) (x : Entry) → AreRising xs → ((e : Entry) → Contains xs e → e.room < x.room) → AreRising (xs ++ x ∷ [])
@@ -49,7 +91,7 @@ pub joined_push : (step gain : ℕ) (base : List Entry) (kept moved kept' moved'
     → ((e : Entry) → Contains joined e → e.room < first.room)
     → ((d : Entry) → kept' < length base → first.room < (get_or base kept' d).room)
     → ((d : Entry) → moved' < length base → first.room < (get_or base moved' d).room + step)
-    → ((b : Entry) × Contains base b × (times : ℕ) × (times ≤ 1) × IsMoved step gain times b first)
+    → IsLedTo step gain 1 (Contains base) first
     → ((i : ℕ) (d : Entry) → i < kept' → (i < kept) ⊎ ((first.room ≡ (get_or base i d).room) × ((get_or base i d).worth ≤ first.worth)))
     → ((i : ℕ) (d : Entry) → i < moved' → (i < moved) ⊎ ((first.room ≡ (get_or base i d).room + step) × ((get_or base i d).worth + gain ≤ first.worth)))
     → AreJoined step gain base kept' moved' (joined ++ first ∷ [])
@@ -65,7 +107,7 @@ joined_push step gain base kept moved kept' moved' joined first j above next_kep
   ];
   only = λ e has. elim (Contains-push_cases joined first e has) [
     | inl h ↦ j.only e h
-    | inr same ↦ subst (λ e. (b : Entry) × Contains base b × (times : ℕ) × (times ≤ 1) × IsMoved step gain times b e) same only
+    | inr same ↦ subst (λ e. IsLedTo step gain 1 (Contains base) e) same only
   ];
   has_kept = λ i d lt. elim (kept_is i d lt) [
     | inl h ↦ let o = j.has_kept i d h in (o.0, Contains-append_left joined (first ∷ []) o.0 o.1, o.2, o.3)
@@ -147,23 +189,23 @@ module _ (step gain : ℕ) (base : List Entry) (kept moved kept' moved' : ℕ) (
     | inr m ↦ omega (arith, f.room_b, m.0, new_room d, ap (λ i. (get_or base i d).room) m.1)
   ]
 
-  only : (b : Entry) × Contains base b × (times : ℕ) × (times ≤ 1) × IsMoved step gain times b first
+  only : IsLedTo step gain 1 (Contains base) first
   only = elim f.one [
     | inl a ↦ (
-      old,
-      subst (λ e. Contains base e) (old_is old) (Contains-get_or base kept old inside),
       0,
       omega arith,
+      old,
+      subst (λ e. Contains base e) (old_is old) (Contains-get_or base kept old inside),
       record {
         room = omega (arith, ap (λ (e : Entry). e.room) a);
         worth = omega (arith, ap (λ (e : Entry). e.worth) a);
       },
     )
     | inr b ↦ (
-      get_or base moved old,
-      Contains-get_or base moved old (omega arith),
       1,
       omega arith,
+      get_or base moved old,
+      Contains-get_or base moved old (omega arith),
       record {
         room = omega (arith, ap (λ (e : Entry). e.room) b, new_room old);
         worth = omega (arith, ap (λ (e : Entry). e.worth) b, new_worth old);
@@ -235,7 +277,7 @@ other_way a b first (inr e) = inl e
 abbrev pub none : Entry
 none = record { room = 0; worth = 0 }
 
-pub low_at : (whole : ℕ) (base : List Entry) (i : ℕ) → AreLow whole base → i < length base
+pub low_at : (whole : ℕ) (base : List Entry) (i : ℕ) → AreLow whole (Contains base) → i < length base
     → ((get_or base i none).room ≤ whole) × ((get_or base i none).worth ≤ (get_or base i none).room * 2 ^ 30)
 low_at whole base i low lt = low (get_or base i none) (Contains-get_or base i none lt)
 
@@ -299,7 +341,7 @@ module _ (step gain whole : ℕ) (base : List Entry) (moved : ℕ) (offered offe
       (λ e has. j.below_moved e none has inside)
       (λ d lt. absurd (omega arith))
       (λ d lt. omega (arith, at d, rising moved (moved + 1) d (omega arith) lt))
-      (get_or base moved none, Contains-get_or base moved none inside, 1, omega arith, record { room = omega arith; worth = omega arith })
+      (1, omega arith, get_or base moved none, Contains-get_or base moved none inside, record { room = omega arith; worth = omega arith })
       (λ i d lt. inl lt)
       (λ i d lt. elim (cases_lt i moved) [
         | inl h ↦ inl h
@@ -320,7 +362,7 @@ module _ (step gain whole : ℕ) (base : List Entry) (moved : ℕ) (offered offe
     | inr same ↦ omega (arith, fits, ap (λ (e : Entry). e.room) same)
   ]
 
-pub up_to_short : (whole : ℕ) (base joined : List Entry) → AreLow whole base → AreUpTo base joined → (e : Entry) → Contains joined e → e.room ≤ whole
+pub up_to_short : (whole : ℕ) (base joined : List Entry) → AreLow whole (Contains base) → AreUpTo base joined → (e : Entry) → Contains joined e → e.room ≤ whole
 up_to_short whole base joined low up e has =
     let b = up e has in
     let l = low b.0 b.1 in
@@ -328,9 +370,9 @@ up_to_short whole base joined low up e has =
 
 -- once no entry more leads anywhere within the whole
 pub all_offered : (step gain whole : ℕ) (base : List Entry) (moved : ℕ) (offered : List Entry) → AreRising base → AreJoined step gain base (length base) moved offered
-    → ((e : Entry) → Contains offered e → e.room ≤ whole) → (length base ≤ moved) ⊎ (whole < (get_or base moved none).room + step) → AreOffered step gain 1 whole base offered
+    → ((e : Entry) → Contains offered e → e.room ≤ whole) → (length base ≤ moved) ⊎ (whole < (get_or base moved none).room + step) → AreOffered step gain 1 whole (Contains base) (Contains offered)
 all_offered step gain whole base moved offered rising j short stop = record {
-  rising = j.rising;
+  own = one_worth offered j.rising;
   short = short;
   only = j.only;
   most = λ b has times few fits. elim (cases_lt times 1) [

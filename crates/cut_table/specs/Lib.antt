@@ -5,4 +5,5 @@ pub mod Bound
 pub mod Table
 pub mod Counts
 pub mod Reached
+pub mod Levels
 pub mod Kept

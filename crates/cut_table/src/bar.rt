@@ -1,124 +1,152 @@
-// The best counts of pieces for a bar, by a table over every room.
-ghost use Rattle.std.specs.Prelude.{◌≡◌, ℕ, ◌+◌, ◌-◌, ◌*◌, ◌/◌, ◌^◌, ◌<◌, ◌≤◌, ◌≢◌, length, slice_index, IfOk, vec_len, All, drop, [], Contains};
-ghost use Rattle.cut_table.specs.Counts.{IsRaised, IsTaken, IsLow, AreBestCounts, MeansRooms, MeanRows, IsModest, AreModest, AreFlat, HaveLength, value_of};
+// The best counts of pieces for a bar, and all that counts reach.
+ghost use Rattle.std.specs.Prelude.{◌≡◌, ℕ, ◌+◌, ◌-◌, ◌*◌, ◌^◌, ◌<◌, ◌≤◌, length, IfOk, Contains, [], drop};
+ghost use Rattle.cut_table.specs.declared.reach.Entry.{Entry};
+ghost use Rattle.cut_table.specs.Counts.{AreBestCounts, AreModest, AreFlat, HaveLength, value_of};
 ghost use Rattle.cut_table.specs.Best.{IsBestWithin};
 ghost use Rattle.cut_table.specs.Legal.{HaveOwnDemands};
+ghost use Rattle.cut_table.specs.Reached.{AreRising, AreReached, AreOffered, IsMoved, IsLedTo, AreCountsOf};
+ghost use Rattle.cut_table.specs.Levels.{Has, IsLevel, AreLevels, IsOfFirst};
 
+use crate::cells::table_of;
+use crate::level::{Level, offer_want};
+use crate::reach::Entry;
 use crate::wants::Want;
 use std::alloc::{AllocError, Global};
 
-/// Offers `more` pieces at once, which take `step` and are worth `gain`, to each room.
-fn raise(best: &mut [u64], row: &mut [u32], step: usize, gain: u64, more: u32)
-    requires len { length row.old ≡ length best.old }
-    requires step { 1 ≤ step }
-    requires room { length best.old ≤ 2 ^ 20 }
-    requires low { IsLow best.old }
-    requires gain { gain ≤ step * 2 ^ 30 }
-    requires few { (c : ℕ) → c < length row.old → slice_index row.old c + more < 2 ^ 32 }
-    ensures { IsRaised step gain more best.old row.old best.new row.new }
+/// What no counts at all reach, as a list.
+fn none_listed(alloc: Global) -> Result<Level, AllocError>
+    ensures { IfOk result (λ level. (k whole : ℕ) → IsLevel whole level × AreReached k [] whole (Has level)) }
 {
-    for c in (step..best.len()).rev() {
-        let with = best[c - step] + gain;
-        if best[c] < with {
-            best[c] = with;
-            row[c] = row[c - step] + more;
-        }
-    }
+    let none = Vec::from_slice(alloc, &[Entry { room: 0, worth: 0 }])?;
+    Ok(Level::Listed(none))
 }
 
-/// Offers up to `left` pieces of one want: 1, then 2, 4 and so on at once, then the others.
-fn take_want(best: &mut [u64], row: &mut [u32], size: usize, worth: u32, left: u32)
-    requires len { length row.old ≡ length best.old }
-    requires zeros { All (λ a. a ≡ 0) row.old }
-    requires size { 1 ≤ size }
-    requires small { size ≤ 2 ^ 20 }
-    requires room { length best.old ≤ 2 ^ 20 }
-    requires low { IsLow best.old }
-    requires worth { worth ≤ 2 ^ 30 }
-    requires left { left ≤ 2 ^ 20 }
-    ensures { IsTaken size worth left best.old best.new row.new }
+/// What no counts at all reach, as a table.
+fn none_tabled(alloc: Global, whole: u32) -> Result<Level, AllocError>
+    requires { whole ≤ 2 ^ 20 }
+    ensures { IfOk result (λ level. (k : ℕ) → IsLevel whole level × AreReached k [] whole (Has level)) }
 {
-    let mut taken = 0u32;
-    while taken < left {
-        let more = (taken + 1).min(left - taken);
-        let step = more as usize * size;
-        if best.len() <= step {
-            break;
-        }
-        raise(best, row, step, worth as u64 * more as u64, more);
-        taken += more;
-    }
+    let cells = table_of(alloc, &[Entry { room: 0, worth: 0 }], whole)?;
+    Ok(Level::Tabled(cells))
 }
 
-/// Adds one want to the table of rooms; the row says how many pieces of it each room takes.
-fn want_row(
+/// What the wants reach within the whole, then what those behind the first do, and so on to none.
+fn levels(
     alloc: Global,
-    best: &mut [u64],
-    want: &Want,
-    kerf: usize,
-) -> Result<Vec<u32>, AllocError>
-    requires modest { IsModest want.now }
-    requires kerf { kerf ≤ 200 }
-    requires room { length best.old ≤ 2 ^ 20 }
-    requires low { IsLow best.old }
-    ensures some { 1 ≤ want.now.size.w }
-    ensures len { IfOk result (λ row. length row.items ≡ length best.old) }
-    ensures taken { IfOk result (λ row. IsTaken (want.now.size.w + kerf) want.now.worth want.now.left best.old best.new row.items) }
-{
-    let size = want.size.w() as usize + kerf;
-    let mut row = vec![in alloc; 0u32; best.len()]?;
-    take_want(best, &mut row, size, want.worth, want.left);
-    Ok(row)
-}
-
-/// For each want, how many pieces of it the best counts of each room take.
-fn count_rows(
-    alloc: Global,
-    best: &mut [u64],
+    none: Level,
     wants: &[Want],
-    kerf: usize,
-) -> Result<Vec<Vec<u32>>, AllocError>
-    requires zeros { All (λ v. v ≡ 0) best.old }
-    requires some { 1 ≤ length best.old }
-    requires room { length best.old ≤ 2 ^ 20 }
+    kerf: u32,
+    whole: u32,
+) -> Result<Vec<Level>, AllocError>
+    requires none { IsLevel whole none × AreReached kerf [] whole (Has none) }
+    requires whole { whole ≤ 2 ^ 20 - 1 }
     requires kerf { kerf ≤ 200 }
     requires modest { AreModest wants.now }
     ensures some { IfOk result (λ _. HaveLength wants.now) }
-    ensures rows { IfOk result (λ rows. MeanRows kerf (length best.old - 1) wants.now rows.items) }
+    ensures levels { IfOk result (λ levels. AreLevels kerf whole wants.now levels.items) }
 {
-    let mut rows = Vec::new(alloc);
+    let mut levels = Vec::new(alloc);
+    levels.push(none)?;
     for i in (0..wants.len()).rev() {
-        let row = want_row(alloc, best, &wants[i], kerf)?;
-        rows.insert(0, row)?;
+        let level = offer_want(alloc, &levels[0], &wants[i], kerf, whole)?;
+        levels.insert(0, level)?;
     }
-    Ok(rows)
+    Ok(levels)
 }
 
-/// The counts that the rows hold for a room.
-fn read_counts(
+/// How many of a piece lead to the entry, and from which of the level.
+fn count_of(level: &Level, piece: Entry, entry: Entry, left: u32) -> (u32, Entry)
+    requires level { (whole : ℕ) × IsLevel whole level.now }
+    requires led { IsLedTo piece.room piece.worth left (Has level.now) entry }
+    ensures few { result.0 ≤ left }
+    ensures moved { IsMoved piece.room piece.worth result.0 result.1 entry }
+    ensures there { Has level.now result.1 }
+{
+    let mut count = 0;
+    let mut from = entry;
+    while count < left && !level.has(from) {
+        count += 1;
+        from = Entry {
+            room: from.room - piece.room,
+            worth: from.worth - piece.worth,
+        };
+    }
+    (count, from)
+}
+
+/// Counts that have the room and the worth of an entry.
+fn read_levels(
     alloc: Global,
     wants: &[Want],
-    rows: &[Vec<u32>],
-    kerf: usize,
-    room: usize,
+    levels: &[Level],
+    kerf: u32,
+    entry: Entry,
 ) -> Result<Vec<u32>, AllocError>
     requires kerf { kerf ≤ 200 }
-    requires modest { AreModest wants.now }
-    requires rows { MeanRows kerf room wants.now rows.now }
-    ensures { IfOk result (λ counts. AreBestCounts kerf wants.now room counts.items) }
+    requires levels { (whole : ℕ) × AreLevels kerf whole wants.now levels.now }
+    requires there { IsOfFirst levels.now entry }
+    ensures { IfOk result (λ counts. AreCountsOf kerf wants.now entry counts.items) }
 {
     let mut counts = Vec::new(alloc);
-    let mut left = room;
+    let mut left = entry;
     for i in 0..wants.len() {
-        let count = rows[i][left];
+        let want = &wants[i];
+        let piece = Entry {
+            room: want.size.w() + kerf,
+            worth: want.worth as u64,
+        };
+        let (count, from) = count_of(&levels[i + 1], piece, left, want.left);
         counts.push(count)?;
-        left -= count as usize * (wants[i].size.w() as usize + kerf);
+        left = from;
     }
     Ok(counts)
 }
 
-/// How many pieces of each want a bar gives, so that no legal plan within the counts is worth more, by a table over every
-/// room. Tests compare `best_counts` with it.
+/// The best counts, from a level of no counts at all.
+fn counts_from(
+    alloc: Global,
+    none: Level,
+    wants: &[Want],
+    size: u32,
+    kerf: u32,
+) -> Result<Vec<u32>, AllocError>
+    requires none { IsLevel (size + kerf) none × AreReached kerf [] (size + kerf) (Has none) }
+    requires own { HaveOwnDemands wants.now }
+    requires bar { AreFlat wants.now }
+    requires modest { AreModest wants.now }
+    requires size { size ≤ 150000 }
+    requires kerf { kerf ≤ 200 }
+    ensures some { IfOk result (λ _. HaveLength wants.now) }
+    ensures counts { IfOk result (λ counts. AreBestCounts kerf wants.now (size + kerf) counts.items) }
+    ensures best { IfOk result (λ counts. IsBestWithin wants.now kerf size 1 (value_of wants.now counts.items)) }
+{
+    let levels = levels(alloc, none, wants, kerf, size + kerf)?;
+    let best = levels[0].best();
+    let counts = read_levels(alloc, wants, &levels, kerf, best)?;
+    Ok(counts)
+}
+
+/// How many pieces of each want a bar gives, so that no legal plan within the counts is worth more.
+pub fn best_counts(
+    alloc: Global,
+    wants: &[Want],
+    size: u32,
+    kerf: u32,
+) -> Result<Vec<u32>, AllocError>
+    requires own { HaveOwnDemands wants.now }
+    requires bar { AreFlat wants.now }
+    requires modest { AreModest wants.now }
+    requires size { size ≤ 150000 }
+    requires kerf { kerf ≤ 200 }
+    ensures some { IfOk result (λ _. HaveLength wants.now) }
+    ensures counts { IfOk result (λ counts. AreBestCounts kerf wants.now (size + kerf) counts.items) }
+    ensures best { IfOk result (λ counts. IsBestWithin wants.now kerf size 1 (value_of wants.now counts.items)) }
+{
+    let none = none_listed(alloc)?;
+    counts_from(alloc, none, wants, size, kerf)
+}
+
+/// The same by a table over every room, with which tests compare `best_counts`.
 pub fn table_counts(
     alloc: Global,
     wants: &[Want],
@@ -134,11 +162,24 @@ pub fn table_counts(
     ensures counts { IfOk result (λ counts. AreBestCounts kerf wants.now (size + kerf) counts.items) }
     ensures best { IfOk result (λ counts. IsBestWithin wants.now kerf size 1 (value_of wants.now counts.items)) }
 {
-    let room = size as usize + kerf as usize;
-    let mut best = vec![in alloc; 0u64; room + 1]?;
-    let rows = count_rows(alloc, &mut best, wants, kerf as usize)?;
-    let counts = read_counts(alloc, wants, &rows, kerf as usize, room)?;
-    Ok(counts)
+    let none = none_tabled(alloc, size + kerf)?;
+    counts_from(alloc, none, wants, size, kerf)
+}
+
+/// An entry for each room within a bar and a kerf that counts take, with the greatest worth of such counts.
+pub fn reach(alloc: Global, wants: &[Want], size: u32, kerf: u32) -> Result<Vec<Entry>, AllocError>
+    requires modest { AreModest wants.now }
+    requires size { size ≤ 150000 }
+    requires kerf { kerf ≤ 200 }
+    ensures rising { IfOk result (λ entries. AreRising entries.items) }
+    ensures reached { IfOk result (λ entries. AreReached kerf wants.now (size + kerf) (Contains entries.items)) }
+{
+    let whole = size + kerf;
+    let mut level = none_listed(alloc)?;
+    for i in (0..wants.len()).rev() {
+        level = offer_want(alloc, &level, &wants[i], kerf, whole)?;
+    }
+    level.into_entries(alloc)
 }
 
 /// What the pieces of these counts are worth.

@@ -3,7 +3,9 @@
 
 pub mod bar;
 pub mod bound;
+pub mod cells;
 pub mod keep;
+pub mod level;
 pub mod place;
 pub mod reach;
 pub mod read;

@@ -1,5 +1,5 @@
 use Rattle.std.proofs.Common.{◌-◌, ◌+◌, ◌≤◌, length}
-use Rattle.cut_table.specs.Reached.{AreJoined, AreUpTo}
+use Rattle.cut_table.specs.Levels.{AreJoined, AreUpTo}
 use Rattle.cut_table.proofs.reach.join.Given as goal
 
 abbrev pub invariant-loop-kept : goal.invariant-loop-kept

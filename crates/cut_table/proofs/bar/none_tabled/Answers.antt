@@ -1,0 +1,12 @@
+use Rattle.std.proofs.Common.{[], ◌∷◌, arith}
+use Rattle.std.specs.Prelude.{Contains}
+use Rattle.cut_table.specs.Levels.{HasCell}
+use Rattle.cut_table.proofs.Merging.{none}
+use Rattle.cut_table.proofs.Levels.{none_reached, reached_same}
+use Rattle.cut_table.proofs.bar.none_tabled.Goals as goal
+
+pub returns : goal.returns
+returns c = λ k. (
+  omega (arith, c.in_ok-cells.ensures.len),
+  reached_same k c.args.whole [] (Contains (none ∷ [])) (HasCell c.in_ok-cells.cells.items) (none_reached k c.args.whole).1 (λ e. let same = c.in_ok-cells.ensures.same e in (same.1, same.0)),
+)

@@ -1,0 +1,10 @@
+use Rattle.std.proofs.Common.{◌-◌, ◌≤◌}
+use Rattle.cut_table.specs.Reached.{AreOffered}
+use Rattle.cut_table.specs.Levels.{Has, IsLevel}
+use Rattle.cut_table.proofs.level.offer_batches.Given as goal
+
+abbrev pub invariant-loop-taken : goal.invariant-loop-taken
+invariant-loop-taken l = (l.taken ≤ l.most) × IsLevel l.whole l.offered × AreOffered l.piece.room l.piece.worth l.taken l.whole (Has l.base) (Has l.offered)
+
+abbrev pub decreases-loop-taken : goal.decreases-loop-taken
+decreases-loop-taken l = l.most - l.taken

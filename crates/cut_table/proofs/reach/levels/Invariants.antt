@@ -1,7 +1,0 @@
-use Rattle.std.proofs.Common.{drop}
-use Rattle.cut_table.specs.Counts.{HaveLength}
-use Rattle.cut_table.specs.Reached.{AreLevels}
-use Rattle.cut_table.proofs.reach.levels.Given as goal
-
-abbrev pub invariant-loop-i : goal.invariant-loop-i
-invariant-loop-i l = AreLevels l.kerf l.whole (drop l.i l.wants) l.levels.items × HaveLength (drop l.i l.wants)

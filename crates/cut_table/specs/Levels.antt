@@ -1,0 +1,71 @@
+-- Levels: what counts of some wants reach, as a list of entries or as a cell for each room.
+use Rattle.std.specs.Prelude.{◌≡◌, ℕ, ◌+◌, ◌-◌, ◌<◌, ◌≤◌, ◌⊎◌, zero, suc, max, List, [], ◌∷◌, length, slice_index, slice_index_or, Contains}
+use Rattle.cut_table.specs.declared.wants.Want.{Want}
+use Rattle.cut_table.specs.declared.reach.Entry.{Entry}
+use Rattle.cut_table.specs.declared.level.Level.{Level}
+use Rattle.cut_table.specs.declared.level.Level.TheVariants.{Listed, Tabled}
+use Rattle.cut_table.specs.Reached.{AreReached, AreRising, IsLedTo}
+
+-- the cell of the entry's room is one more than its worth
+abbrev pub HasCell : List ℕ → Entry → Type 0
+HasCell cells e = slice_index cells e.room ≡ e.worth + 1
+
+-- the entries of a level
+abbrev pub Has : Level → Entry → Type 0
+Has (Listed entries) e = Contains entries.items e
+Has (Tabled cells) e = HasCell cells.items e
+
+-- entries in order, or a cell for each room within the whole
+abbrev pub IsLevel : ℕ → Level → Type 0
+IsLevel whole (Listed entries) = AreRising entries.items
+IsLevel whole (Tabled cells) = length cells.items ≡ whole + 1
+
+-- the same entries or cells
+abbrev pub IsCopyOf : Level → Level → Type 0
+IsCopyOf (Listed old) (Listed new) = new.items ≡ old.items
+IsCopyOf (Listed old) (Tabled new) = ⊥
+IsCopyOf (Tabled old) (Listed new) = ⊥
+IsCopyOf (Tabled old) (Tabled new) = new.items ≡ old.items
+
+-- what the wants reach, and what those behind each want do
+abbrev pub AreLevels : ℕ → ℕ → List Want → List Level → Type 0
+AreLevels k whole wants [] = ⊥
+AreLevels k whole [] (level ∷ levels) = IsLevel whole level × AreReached k [] whole (Has level)
+AreLevels k whole (x ∷ xs) (level ∷ levels) = IsLevel whole level × AreReached k (x ∷ xs) whole (Has level) × AreLevels k whole xs levels
+
+-- an entry of the first level
+abbrev pub IsOfFirst : List Level → Entry → Type 0
+IsOfFirst [] e = ⊥
+IsOfFirst (level ∷ levels) e = Has level e
+
+-- a cell with a gain: nothing from 0
+abbrev pub gained : ℕ → ℕ → ℕ
+gained gain zero = 0
+gained gain (suc v) = suc v + gain
+
+-- each room of at least a step is offered what `from` has a step before it
+pub record IsRaised (step gain : ℕ) (from old new : List ℕ) : Type 0 where
+  pub low : (c : ℕ) → c < step → slice_index new c ≡ slice_index old c
+  pub high : (c : ℕ) → step ≤ c → c < length old → slice_index new c ≡ max (slice_index old c) (gained gain (slice_index from (c - step)))
+
+-- the entry of two that comes first, or at the same room the one worth more
+pub record IsFirstOf (a b first : Entry) : Type 0 where
+  pub one : (first ≡ a) ⊎ (first ≡ b)
+  pub room_a : first.room ≤ a.room
+  pub room_b : first.room ≤ b.room
+  pub worth_a : a.room ≡ first.room → a.worth ≤ first.worth
+  pub worth_b : b.room ≡ first.room → b.worth ≤ first.worth
+
+-- the first `kept` entries of `base`, and the first `moved` with one piece more, joined in order
+pub record AreJoined (step gain : ℕ) (base : List Entry) (kept moved : ℕ) (joined : List Entry) : Type 0 where
+  pub rising : AreRising joined
+  pub below_kept : (e d : Entry) → Contains joined e → kept < length base → e.room < (slice_index_or base kept d).room
+  pub below_moved : (e d : Entry) → Contains joined e → moved < length base → e.room < (slice_index_or base moved d).room + step
+  pub only : (e : Entry) → Contains joined e → IsLedTo step gain 1 (Contains base) e
+  pub has_kept : (i : ℕ) (d : Entry) → i < kept → (e : Entry) × Contains joined e × (e.room ≡ (slice_index_or base i d).room) × ((slice_index_or base i d).worth ≤ e.worth)
+  pub has_moved : (i : ℕ) (d : Entry) → i < moved
+      → (e : Entry) × Contains joined e × (e.room ≡ (slice_index_or base i d).room + step) × ((slice_index_or base i d).worth + gain ≤ e.worth)
+
+-- each room is at most one of `base`
+abbrev pub AreUpTo : List Entry → List Entry → Type 0
+AreUpTo base entries = (e : Entry) → Contains entries e → (b : Entry) × Contains base b × (e.room ≤ b.room)
