@@ -10,8 +10,7 @@ ghost use Rattle.cut_plan.specs.Proposals.{AreDemands};
 
 use crate::faults::{PlanFault, first_fault};
 use cut_measure::{Kind, Size};
-use cut_table::bar::reach;
-use cut_table::reach::Entry;
+use cut_table::bar::{Entry, reach};
 use cut_table::wants::Want;
 use std::alloc::{AllocError, Global};
 use std::collections::BTreeMap;

@@ -9,7 +9,7 @@ ghost use Rattle.cut_table.specs.Levels.{Has, IsLevel, AreLevels, IsOfFirst};
 
 use crate::cells::table_of;
 use crate::level::{Level, offer_want};
-use crate::reach::Entry;
+pub use crate::reach::Entry;
 use crate::wants::Want;
 use std::alloc::{AllocError, Global};
 

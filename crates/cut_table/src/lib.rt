@@ -3,11 +3,11 @@
 
 pub mod bar;
 pub mod bound;
-pub mod cells;
+mod cells;
 pub mod keep;
-pub mod level;
+mod level;
 pub mod place;
-pub mod reach;
+mod reach;
 pub mod read;
 pub mod sheet;
 pub mod wants;
