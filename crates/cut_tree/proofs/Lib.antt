@@ -4,6 +4,7 @@ pub mod Fronts
 pub mod Reading
 pub mod Whole
 pub mod Pieces
+pub mod Marks
 pub mod Counting
 pub mod Rows
 pub mod Texts

@@ -1,24 +1,24 @@
 -- What holds of each history and the content that it gives.
-use Rattle.std.proofs.Common.{◌≡◌, ℕ, ◌+◌, ◌≤◌, List, [], ◌∷◌, ◌++◌, map, Bool, true, false, not, nat_eq, refl, sym, ap, subst, ◌∙◌, arith, inl, inr, true≢false}
-use Rattle.std.specs.Prelude.{Option, Some, None, if◌then◌else◌, ◌&&◌}
+use Rattle.std.proofs.Common.{◌≡◌, ℕ, ◌+◌, ◌≤◌, List, [], ◌∷◌, ◌++◌, map, true, false, not, nat_eq, sym, ap, ◌∙◌, arith, inl, inr}
+use Rattle.std.specs.Prelude.{Some, None, if◌then◌else◌, ◌&&◌}
 use Rattle.std.specs.FinMap.{FinMap, get}
+use Rattle.std.proofs.lemmas.Bool.{and_parts, eqb-true, not-false}
 use Rattle.cut_measure.specs.declared.sizes.Kind.{Kind}
 use Rattle.cut_measure.specs.Names.{Name, name_cmp}
-use Rattle.cut_measure.specs.Measures.{Extent, Rule, below}
+use Rattle.cut_measure.specs.Measures.{Extent, Rule, below, is_rule}
 use Rattle.shop_machine.specs.declared.records.Material.{Material}
 use Rattle.shop_machine.specs.declared.records.Part.{Part}
 use Rattle.shop_machine.specs.declared.records.State.{State}
-use Rattle.shop_machine.specs.declared.records.State.TheVariants.{Standing, Reserved, Cut, Piece, Kerf, Scrap}
+use Rattle.shop_machine.specs.declared.records.State.TheVariants.{Standing}
 use Rattle.shop_machine.specs.declared.records.Job.{Job}
-use Rattle.shop_machine.specs.declared.records.Demand.{Demand}
-use Rattle.shop_machine.specs.declared.refusals.Refusal.{Refusal}
-use Rattle.shop_machine.specs.declared.refusals.Refusal.TheVariants.{BadMaterial, MaterialExists, JobOver, StoreFault}
+use Rattle.shop_machine.specs.declared.refusals.Refusal.TheVariants.{BadMaterial, MaterialExists}
 use Rattle.shop_machine.specs.declared.messages.Command.{Command}
 use Rattle.shop_machine.specs.declared.messages.Command.TheVariants.{AddMaterial, Receive, AddOrder, Reserve, Done, Release}
-use Rattle.shop_machine.specs.Columns.{is_free, is_waiting}
-use Rattle.shop_machine.specs.Content.{Content, material_at, part_at, job_at, demand_at}
-use Rattle.shop_machine.specs.Machine.{first_of, same_kind, same_rule, material_refusal, in_state, job_refusal, rests, part_of, material_of, end_refusal}
+use Rattle.shop_machine.specs.Columns.{is_free}
+use Rattle.shop_machine.specs.Content.{Content, material_at, part_at, job_at}
+use Rattle.shop_machine.specs.Machine.{same_kind, same_rule, material_refusal, in_state}
 use Rattle.shop_machine.specs.History.{Entry, ReceivedUnit, acts_in, acts_of, units_in, units_of, material_by, unit_material, material_rule, Reservation, job_of, Owner, stands_as, IsIn, EachCellIsOwned}
+use Rattle.shop_machine.proofs.Allowed.{none_of}
 use Rattle.shop_machine.proofs.Basics.{nat_cases, name_cases, in_append, in_later, in_map}
 
 -- ---- what a history says
@@ -134,47 +134,19 @@ stands_no p w e =
 
 -- ---- what is known of what was accepted
 
-not_refused : (b : Bool) (refusal : Refusal) (rest : Option Refusal) → (if not b then Some refusal else rest) ≡ None → b ≡ true
-not_refused true refusal rest e = refl
-not_refused false refusal rest e = cc
-
-waits_still : (j : Job) (part : Option Part) (material : Option Material) (at : ℕ → Option Demand) → job_refusal (Some j) part material at ≡ None → is_waiting j.state ≡ true
-waits_still j part material at e = not_refused (is_waiting j.state) JobOver (first_of ((not (rests j part material at), StoreFault) ∷ [])) e
-
-pub job_waits : (old : Content) (number : ℕ) (j : Job) → job_at old number ≡ Some j → end_refusal old (job_at old number) ≡ None → is_waiting j.state ≡ true
-job_waits old number j found allowed =
-    waits_still j (part_of old (Some j)) (material_of old (part_of old (Some j))) (demand_at old)
-    (subst (λ (o : Option Job). end_refusal old o ≡ None) found allowed)
-
-pub free_stands : (s : State) → is_free s ≡ true → s ≡ Standing
-free_stands Standing e = refl
-free_stands (Reserved job) e = absurd (true≢false (sym e))
-free_stands (Cut job) e = absurd (true≢false (sym e))
-free_stands (Piece demand) e = absurd (true≢false (sym e))
-free_stands Kerf e = absurd (true≢false (sym e))
-free_stands Scrap e = absurd (true≢false (sym e))
-
-pub two_true : (a b : Bool) → a && b ≡ true → (a ≡ true) × (b ≡ true)
-two_true true b e = (refl, e)
-two_true false b e = absurd (true≢false (sym e))
-
-equal_numbers : (m n : ℕ) → nat_eq m n ≡ true → m ≡ n
-equal_numbers m n e = elim (nat_cases m n) [ inl y ↦ y.0 | inr off ↦ absurd (true≢false (sym e ∙ off.1)) ]
-
 rules_equal : (a b : Rule) → a.kerf ≡ b.kerf → a.min_long ≡ b.min_long → a.min_short ≡ b.min_short → a ≡ b
 rules_equal a b p q r = λ i. record { kerf = p i; min_long = q i; min_short = r i }
 
 same_rules : (a b : Rule) → same_rule a b ≡ true → a ≡ b
 same_rules a b e =
-    let outer = two_true (nat_eq a.kerf b.kerf && nat_eq a.min_long b.min_long) (nat_eq a.min_short b.min_short) e in
-    let inner = two_true (nat_eq a.kerf b.kerf) (nat_eq a.min_long b.min_long) outer.0 in
-    rules_equal a b (equal_numbers a.kerf b.kerf inner.0) (equal_numbers a.min_long b.min_long inner.1) (equal_numbers a.min_short b.min_short outer.1)
-
-second_refused : (a b : Bool) (first second : Refusal) → first_of ((not a, first) ∷ (not b, second) ∷ []) ≡ None → b ≡ true
-second_refused true b first second e = not_refused b second None e
-second_refused false b first second e = cc
+    let outer = and_parts (nat_eq a.kerf b.kerf && nat_eq a.min_long b.min_long) (nat_eq a.min_short b.min_short) e in
+    let inner = and_parts (nat_eq a.kerf b.kerf) (nat_eq a.min_long b.min_long) outer.0 in
+    rules_equal a b (eqb-true a.kerf b.kerf inner.0) (eqb-true a.min_long b.min_long inner.1) (eqb-true a.min_short b.min_short outer.1)
 
 -- a material that is added again is the same
 pub known_rule : (m : Material) (kind : Kind) (rule : Rule) → material_refusal (Some m) kind rule ≡ None → m.limits ≡ rule
 known_rule m kind rule e =
-    same_rules m.limits rule (two_true (same_kind m.kind kind) (same_rule m.limits rule) (second_refused _ (same_kind m.kind kind && same_rule m.limits rule) BadMaterial MaterialExists e)).1
+    let bad = none_of (not (is_rule kind rule.kerf rule.min_long rule.min_short)) BadMaterial _ e in
+    let known = none_of (not (same_kind m.kind kind && same_rule m.limits rule)) MaterialExists None bad.1 in
+    let same = not-false (same_kind m.kind kind && same_rule m.limits rule) known.0 in
+    same_rules m.limits rule (and_parts (same_kind m.kind kind) (same_rule m.limits rule) same).1

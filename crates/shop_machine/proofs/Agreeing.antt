@@ -3,6 +3,7 @@ use Rattle.std.proofs.Common.{arith, ◌≡◌, ◌≢◌, ℕ, ◌+◌, ◌*◌
 use Rattle.std.specs.Prelude.{Option, Some, None, IsSome, is_some, nat_le, nat_lt, ◌&&◌, ◌==◌, not, if◌then◌else◌}
 use Rattle.std.specs.List.{list_all}
 use Rattle.std.specs.Option.{option_or}
+use Rattle.std.proofs.lemmas.Bool.{eq-eqb, le-leb}
 use Rattle.cut_measure.specs.declared.sizes.Kind.{Kind}
 use Rattle.cut_measure.specs.Measures.{Rule, is_size, is_rule}
 use Rattle.cut_tree.specs.declared.leaves.Leaf.{Leaf}
@@ -21,7 +22,7 @@ use Rattle.shop_machine.specs.Columns.{is_free, is_waiting, is_reserved_for}
 use Rattle.shop_machine.specs.Content.{Content, material_at, part_at, job_at, demand_at}
 use Rattle.shop_machine.specs.Machine.{IsWork, refusal_of, material_refusal, is_other, receive_refusal, most_received, most_numbers, is_good_line, line_refusal, lines_refusal, order_refusal, plan_leaves, same_code, fits_demand, leaf_refusal, leaves_refusal, is_too_many, plan_refusal, reserve_refusal, material_of, part_of, has_reserved, rests, job_refusal, end_refusal}
 use Rattle.shop_machine.proofs.Puts.{some_known}
-use Rattle.shop_machine.proofs.Allowed.{le_true, eq_true, all_true, leaf_counts}
+use Rattle.shop_machine.proofs.Allowed.{all_true, leaf_counts}
 use Rattle.shop_machine.proofs.Grown.{IsStock}
 use Rattle.shop_machine.proofs.JobEnds.{enough, reserved, width, height, placed}
 
@@ -103,7 +104,7 @@ module _ (m : Content) (stock : IsStock m) where
   has_enough : (n : ℕ) (o : Option Demand) (d : Demand) → o ≡ Some d → n ≤ d.reserved → d.reserved + d.made ≤ d.wanted → has_reserved n o ≡ true
   has_enough n o d e h few =
       subst (λ o. has_reserved n o ≡ true) (sym e)
-      (ap (λ b. b && nat_le (d.reserved + d.made) d.wanted) (le_true n d.reserved h) ∙ le_true (d.reserved + d.made) d.wanted few)
+      (ap (λ b. b && nat_le (d.reserved + d.made) d.wanted) (le-leb n d.reserved h) ∙ le-leb (d.reserved + d.made) d.wanted few)
 
   seven : (f g a b c d e : Bool) → f ≡ true → g ≡ true → a ≡ true → b ≡ true → c ≡ true → d ≡ true → e ≡ true → (f && g && a && b && c && d && e) ≡ true
   seven f g a b c d e n m p q r s t =
@@ -124,13 +125,13 @@ module _ (m : Content) (stock : IsStock m) where
       (subst (λ o. rests j (Some row) o (demand_at m) ≡ true) (sym w.known)
       (ap (λ b. b && list_all (λ leaf. has_reserved (count_of j.plan.tree leaf.demand) (demand_at m leaf.demand)) (plan_leaves j.plan))
       (seven (nat_le 1 j.act) (nat_le j.act most_numbers) (is_reserved_for j.act row.state) (row.size.w == j.plan.w) (row.size.h == j.plan.h) (nat_le (row.x + row.size.w) 200000) (nat_le (row.y + row.size.h) 60000)
-      (le_true 1 j.act (subst (λ n. 1 ≤ n) (sym is_job.numbered) is_job.least))
-      (le_true j.act most_numbers (omega (arith, is_job.so_far, is_job.numbered, stock.in_range.last)))
-      (ap (is_reserved_for j.act) (reserved m stock number j row material work waits) ∙ eq_true j.act j.act refl)
-      (eq_true row.size.w j.plan.w (sym (width m stock number j row material work waits)))
-      (eq_true row.size.h j.plan.h (sym (height m stock number j row material work waits)))
-      (le_true (row.x + row.size.w) 200000 old.right)
-      (le_true (row.y + row.size.h) 60000 old.bottom))
+      (le-leb 1 j.act (subst (λ n. 1 ≤ n) (sym is_job.numbered) is_job.least))
+      (le-leb j.act most_numbers (omega (arith, is_job.so_far, is_job.numbered, stock.in_range.last)))
+      (ap (is_reserved_for j.act) (reserved m stock number j row material work waits) ∙ eq-eqb j.act j.act refl)
+      (eq-eqb row.size.w j.plan.w (sym (width m stock number j row material work waits)))
+      (eq-eqb row.size.h j.plan.h (sym (height m stock number j row material work waits)))
+      (le-leb (row.x + row.size.w) 200000 old.right)
+      (le-leb (row.y + row.size.h) 60000 old.bottom))
       ∙ all_true (λ (leaf : Leaf). has_reserved (count_of j.plan.tree leaf.demand) (demand_at m leaf.demand)) (plan_leaves j.plan)
       (λ leaf i.
       let there = some_known (demand_at m leaf.demand) (w.demands leaf.demand (leaf_counts j.plan leaf i)) in

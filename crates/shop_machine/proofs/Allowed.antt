@@ -1,9 +1,9 @@
 -- What is known of a command that isn't refused.
 use Rattle.std.proofs.Common.{◌≡◌, ℕ, ◌+◌, ◌*◌, ◌≤◌, inl, inr, List, [], ◌∷◌, length, Bool, true, false, refl, sym, ap, subst, ◌∙◌, arith}
-use Rattle.std.specs.Prelude.{Option, Some, None, IsSome, is_some, nat_le, nat_lt, nat_eq, ◌==◌, ◌&&◌, ◌||◌, not, if◌then◌else◌}
+use Rattle.std.specs.Prelude.{Option, Some, None, IsSome, is_some, nat_le, nat_lt, ◌==◌, ◌&&◌, not, if◌then◌else◌}
 use Rattle.std.specs.List.{list_any, list_all}
 use Rattle.std.specs.Option.{option_or}
-use Rattle.std.proofs.lemmas.Bool.Decides.{nat_tests}
+use Rattle.std.proofs.lemmas.Bool.{and_parts, or_parts, not-false, leb-true, eqb-true, eq-eqb, ltb-false}
 use Rattle.cut_measure.specs.declared.sizes.Kind.{Kind}
 use Rattle.cut_measure.specs.declared.sizes.Kind.TheVariants.{Bar, Sheet}
 use Rattle.cut_measure.specs.Measures.{is_size, is_rule}
@@ -13,13 +13,16 @@ use Rattle.cut_tree.specs.Patterns.{Pattern}
 use Rattle.cut_tree.proofs.LeafCounts.{counted}
 use Rattle.shop_machine.specs.declared.records.Material.{Material}
 use Rattle.shop_machine.specs.declared.records.Part.{Part}
+use Rattle.shop_machine.specs.declared.records.State.{State}
+use Rattle.shop_machine.specs.declared.records.State.TheVariants.{Standing, Reserved, Cut, Piece, Kerf, Scrap}
 use Rattle.shop_machine.specs.declared.records.Job.{Job}
 use Rattle.shop_machine.specs.declared.records.Demand.{Demand}
 use Rattle.shop_machine.specs.declared.messages.OrderLine.{OrderLine}
 use Rattle.shop_machine.specs.declared.refusals.Refusal.{Refusal}
 use Rattle.shop_machine.specs.declared.refusals.Refusal.TheVariants.{BadSize, BadCount, TooMuch, NumbersSpent, OrderExists, BadLine, NotStanding, BadTree, WrongMaterial, TooMany, JobOver, StoreFault}
 use Rattle.shop_machine.specs.Columns.{is_free, is_waiting}
-use Rattle.shop_machine.specs.Machine.{first_of, receive_refusal, order_refusal, line_refusal, lines_refusal, reserve_refusal, plan_refusal, leaf_refusal, leaves_refusal, is_too_many, is_over, plan_leaves, same_code, job_refusal, most_received, most_numbers}
+use Rattle.shop_machine.specs.Content.{Content, job_at}
+use Rattle.shop_machine.specs.Machine.{first_of, receive_refusal, order_refusal, line_refusal, lines_refusal, reserve_refusal, plan_refusal, leaf_refusal, leaves_refusal, is_too_many, is_over, plan_leaves, same_code, end_refusal, most_received, most_numbers}
 use Rattle.shop_machine.specs.History.{IsIn}
 use Rattle.shop_machine.proofs.Puts.{counted_in, in_counted}
 
@@ -33,37 +36,10 @@ or_none : {X : Type 0} (o p : Option X) → option_or o p ≡ None → (o ≡ No
 or_none None p e = (refl, e)
 or_none (Some x) p e = cc
 
-pub both : (a b : Bool) → (a && b) ≡ true → (a ≡ true) × (b ≡ true)
-both true b e = (refl, e)
-both false b e = cc
-
-pub holds : (b : Bool) → not b ≡ false → b ≡ true
-holds true e = refl
-holds false e = cc
-
-at_most : (most n : ℕ) → nat_lt most n ≡ false → n ≤ most
-at_most most n e = grind (arith, nat_tests)
-
-le_of : (a b : ℕ) → nat_le a b ≡ true → a ≤ b
-le_of a b e = grind (arith, nat_tests)
-
-pub le_true : (a b : ℕ) → a ≤ b → nat_le a b ≡ true
-le_true a b h = grind (arith, nat_tests)
-
-eq_of : (a b : ℕ) → nat_eq a b ≡ true → a ≡ b
-eq_of a b e = grind (arith, nat_tests)
-
-pub eq_true : (a b : ℕ) → a ≡ b → nat_eq a b ≡ true
-eq_true a b e = grind (arith, nat_tests)
-
-neither : (a b : Bool) → (a || b) ≡ false → (a ≡ false) × (b ≡ false)
-neither true b e = cc
-neither false b e = (refl, e)
-
 any_none : {X : Type 0} (p : X → Bool) (xs : List X) → list_any p xs ≡ false → (x : X) → IsIn x xs → p x ≡ false
 any_none p [] e x i = absurd i
-any_none p (y ∷ ys) e x (inl s) = ap p s ∙ (neither (p y) (list_any p ys) e).0
-any_none p (y ∷ ys) e x (inr i) = any_none p ys (neither (p y) (list_any p ys) e).1 x i
+any_none p (y ∷ ys) e x (inl s) = ap p s ∙ (or_parts (p y) (list_any p ys) e).0
+any_none p (y ∷ ys) e x (inr i) = any_none p ys (or_parts (p y) (list_any p ys) e).1 x i
 
 pub all_true : {X : Type 0} (p : X → Bool) (xs : List X) → ((x : X) → IsIn x xs → p x ≡ true) → list_all p xs ≡ true
 all_true p [] h = refl
@@ -79,25 +55,25 @@ pub record IsSized (w h : ℕ) : Type 0 where
 
 sized : (kind : Kind) (w h : ℕ) → is_size kind w h ≡ true → IsSized w h
 sized Bar w h e =
-    let p = both (nat_le 1 w && nat_le w 200000) (h == 1) e in
-    let q = both (nat_le 1 w) (nat_le w 200000) p.0 in
-    let one = eq_of h 1 p.1 in
-    record { some_width = le_of 1 w q.0; width = le_of w 200000 q.1; some_height = omega (arith, one); height = omega (arith, one) }
+    let p = and_parts (nat_le 1 w && nat_le w 200000) (h == 1) e in
+    let q = and_parts (nat_le 1 w) (nat_le w 200000) p.0 in
+    let one = eqb-true h 1 p.1 in
+    record { some_width = leb-true 1 w q.0; width = leb-true w 200000 q.1; some_height = omega (arith, one); height = omega (arith, one) }
 sized Sheet w h e =
-    let p = both (nat_le 1 w && nat_le w 200000 && nat_le 1 h) (nat_le h 60000) e in
-    let q = both (nat_le 1 w && nat_le w 200000) (nat_le 1 h) p.0 in
-    let r = both (nat_le 1 w) (nat_le w 200000) q.0 in
-    record { some_width = le_of 1 w r.0; width = le_of w 200000 r.1; some_height = le_of 1 h q.1; height = le_of h 60000 p.1 }
+    let p = and_parts (nat_le 1 w && nat_le w 200000 && nat_le 1 h) (nat_le h 60000) e in
+    let q = and_parts (nat_le 1 w && nat_le w 200000) (nat_le 1 h) p.0 in
+    let r = and_parts (nat_le 1 w) (nat_le w 200000) q.0 in
+    record { some_width = leb-true 1 w r.0; width = leb-true w 200000 r.1; some_height = leb-true 1 h q.1; height = leb-true h 60000 p.1 }
 
 pub narrow : (kind : Kind) (kerf min_long min_short : ℕ) → is_rule kind kerf min_long min_short ≡ true → kerf ≤ 200
 narrow Bar kerf min_long min_short e =
-    let p = both (nat_le kerf 200 && min_short == 1 && nat_le 1 min_long) (nat_le min_long 200000) e in
-    let q = both (nat_le kerf 200 && min_short == 1) (nat_le 1 min_long) p.0 in
-    le_of kerf 200 (both (nat_le kerf 200) (min_short == 1) q.0).0
+    let p = and_parts (nat_le kerf 200 && min_short == 1 && nat_le 1 min_long) (nat_le min_long 200000) e in
+    let q = and_parts (nat_le kerf 200 && min_short == 1) (nat_le 1 min_long) p.0 in
+    leb-true kerf 200 (and_parts (nat_le kerf 200) (min_short == 1) q.0).0
 narrow Sheet kerf min_long min_short e =
-    let p = both (nat_le kerf 200 && nat_le 1 min_short && nat_le min_short min_long) (nat_le min_long 200000) e in
-    let q = both (nat_le kerf 200 && nat_le 1 min_short) (nat_le min_short min_long) p.0 in
-    le_of kerf 200 (both (nat_le kerf 200) (nat_le 1 min_short) q.0).0
+    let p = and_parts (nat_le kerf 200 && nat_le 1 min_short && nat_le min_short min_long) (nat_le min_long 200000) e in
+    let q = and_parts (nat_le kerf 200 && nat_le 1 min_short) (nat_le min_short min_long) p.0 in
+    leb-true kerf 200 (and_parts (nat_le kerf 200) (nat_le 1 min_short) q.0).0
 
 -- ---- receipts
 
@@ -119,10 +95,10 @@ receipt_of (Some m) received act w h count e =
     record {
       material = m;
       is_known = refl;
-      size = sized m.kind w h (holds (is_size m.kind w h) size.0);
-      few = le_of count 100 (both (nat_le 1 count) (nat_le count 100) (holds (nat_le 1 count && nat_le count 100) number.0)).1;
-      room = at_most most_received (received + w * h * count) room.0;
-      number = at_most most_numbers act last.0;
+      size = sized m.kind w h (not-false (is_size m.kind w h) size.0);
+      few = leb-true count 100 (and_parts (nat_le 1 count) (nat_le count 100) (not-false (nat_le 1 count && nat_le count 100) number.0)).1;
+      room = ltb-false most_received (received + w * h * count) room.0;
+      number = ltb-false most_numbers act last.0;
     }
 
 -- ---- orders
@@ -151,30 +127,30 @@ order_of used at lines first e =
     let outer = or_none (first_of ((used, OrderExists) ∷ (not (nat_le 1 (length lines) && nat_le (length lines) 200), BadLine) ∷ [])) _ e in
     let head = none_of used OrderExists _ outer.0 in
     let many = none_of (not (nat_le 1 (length lines) && nat_le (length lines) 200)) BadLine _ head.1 in
-    let range = both (nat_le 1 (length lines)) (nat_le (length lines) 200) (holds (nat_le 1 (length lines) && nat_le (length lines) 200) many.0) in
+    let range = and_parts (nat_le 1 (length lines)) (nat_le (length lines) 200) (not-false (nat_le 1 (length lines) && nat_le (length lines) 200) many.0) in
     let inner = or_none (lines_refusal at 0 lines) _ outer.1 in
     let last = none_of (nat_lt (most_numbers + 1) (first + length lines)) NumbersSpent _ inner.1 in
     record {
       unused = head.0;
-      some = le_of 1 (length lines) range.0;
-      few = le_of (length lines) 200 range.1;
+      some = leb-true 1 (length lines) range.0;
+      few = leb-true (length lines) 200 range.1;
       known = lines_known at 0 lines inner.0;
-      numbers = at_most (most_numbers + 1) (first + length lines) last.0;
+      numbers = ltb-false (most_numbers + 1) (first + length lines) last.0;
     }
 
 -- ---- reservations
 
 -- a demand of which a plan has pieces is one of its leaves'
-leaf_with : (plan : Pattern) (number : ℕ) → 1 ≤ count_of plan.tree number → (leaf : Leaf) × IsIn leaf (plan_leaves plan) × (leaf.demand ≡ number)
+pub leaf_with : (plan : Pattern) (number : ℕ) → 1 ≤ count_of plan.tree number → (leaf : Leaf) × IsIn leaf (plan_leaves plan) × (leaf.demand ≡ number)
 leaf_with plan number h =
     let e : count_of plan.tree number ≡ _ = counted plan.tree plan.w plan.h plan.kerf number in
     let r = counted_in (λ (l : Leaf). l.demand == number) (plan_leaves plan) (subst (λ n. 1 ≤ n) e h) in
-    (r.0, r.1, eq_of r.0.demand number r.2)
+    (r.0, r.1, eqb-true r.0.demand number r.2)
 
 pub leaf_counts : (plan : Pattern) (leaf : Leaf) → IsIn leaf (plan_leaves plan) → 1 ≤ count_of plan.tree leaf.demand
 leaf_counts plan leaf i =
     let e : count_of plan.tree leaf.demand ≡ _ = counted plan.tree plan.w plan.h plan.kerf leaf.demand in
-    subst (λ n. 1 ≤ n) (sym e) (in_counted (λ (l : Leaf). l.demand == leaf.demand) (plan_leaves plan) leaf i (eq_true leaf.demand leaf.demand refl))
+    subst (λ n. 1 ≤ n) (sym e) (in_counted (λ (l : Leaf). l.demand == leaf.demand) (plan_leaves plan) leaf i (eq-eqb leaf.demand leaf.demand refl))
 
 -- a demand with room for so many more, of this material
 pub record HasRoom (code : List ℕ) (n : ℕ) (o : Option Demand) : Type 0 where
@@ -193,7 +169,7 @@ has_room : (code : List ℕ) (leaf : Leaf) (n : ℕ) (o : Option Demand) → lea
 has_room code leaf n None e f = cc
 has_room code leaf n (Some d) e f =
     let head = none_of (not (same_code d.material code)) WrongMaterial _ e in
-    record { demand = d; found = refl; of = holds (same_code d.material code) head.0; room = at_most d.wanted (d.reserved + d.made + n) f }
+    record { demand = d; found = refl; of = not-false (same_code d.material code) head.0; room = ltb-false d.wanted (d.reserved + d.made + n) f }
 
 leaf_allowed : (at : ℕ → Option Demand) (code : List ℕ) (leaves : List Leaf) → leaves_refusal at code leaves ≡ None → (leaf : Leaf) → IsIn leaf leaves → leaf_refusal code leaf (at leaf.demand) ≡ None
 leaf_allowed at code [] e leaf i = absurd i
@@ -212,17 +188,27 @@ fitting_of row material plan at act e =
     let few = none_of (is_too_many at plan) TooMany _ leaves.1 in
     let last = none_of (nat_lt most_numbers act) NumbersSpent _ few.1 in
     record {
-      free = holds (is_free row.state) free.0;
-      known = holds (is_some material) known.0;
+      free = not-false (is_free row.state) free.0;
+      known = not-false (is_some material) known.0;
       demands = λ number h.
           let r = leaf_with plan number h in
           subst (λ n. HasRoom row.material (count_of plan.tree n) (at n)) r.2
           (has_room row.material r.0 (count_of plan.tree r.0.demand) (at r.0.demand) (leaf_allowed at row.material (plan_leaves plan) leaves.0 r.0 r.1)
           (any_none (λ (leaf : Leaf). is_over (count_of plan.tree leaf.demand) (at leaf.demand)) (plan_leaves plan) few.0 r.0 r.1));
-      number = at_most most_numbers act last.0;
+      number = ltb-false most_numbers act last.0;
     }
 
 -- ---- the ends of jobs
 
-pub waiting_of : (j : Job) (part : Option Part) (material : Option Material) (at : ℕ → Option Demand) → job_refusal (Some j) part material at ≡ None → is_waiting j.state ≡ true
-waiting_of j part material at e = holds (is_waiting j.state) (none_of (not (is_waiting j.state)) JobOver _ e).0
+pub job_waits : (m : Content) (number : ℕ) (j : Job) → job_at m number ≡ Some j → end_refusal m (job_at m number) ≡ None → is_waiting j.state ≡ true
+job_waits m number j found allowed =
+    not-false (is_waiting j.state) (none_of (not (is_waiting j.state)) JobOver _ (subst (λ o. end_refusal m o ≡ None) found allowed)).0
+
+-- a part that is free stands
+pub free_stands : (s : State) → is_free s ≡ true → s ≡ Standing
+free_stands Standing e = refl
+free_stands (Reserved job) e = cc
+free_stands (Cut job) e = cc
+free_stands (Piece demand) e = cc
+free_stands Kerf e = cc
+free_stands Scrap e = cc

@@ -7,8 +7,7 @@ use Rattle.std.specs.Ordering.{nat_cmp, is_eq, ordering_then}
 use Rattle.std.specs.FinMap.{FinMap, IsAntisymmetric, get, insert, get-insert, nat_cmp-IsAntisymmetric, slice_cmp-IsAntisymmetric}
 use Rattle.std.specs.Cmp.{IsTotalOrder, on_total, then_total, nat_cmp_total, tied_itself}
 use Rattle.std.specs.Cmp.Lexicographic.{nat_list_cmp_total}
-use Rattle.std.proofs.lemmas.Bool.{cases_lt}
-use Rattle.std.proofs.lemmas.Bool.Decides.{nat_tests}
+use Rattle.std.proofs.lemmas.Bool.{cases_eq, eq-eqb, ne_eqb}
 use Rattle.cut_measure.specs.Names.{Name, name_cmp}
 use Rattle.cut_measure.specs.Codes.{code_cmp}
 use Rattle.shop_machine.specs.declared.records.Part.{Part}
@@ -28,7 +27,7 @@ codes_total = nat_list_cmp_total
 pub codes_same : IsAntisymmetric code_cmp
 codes_same a b e = slice_cmp-IsAntisymmetric nat_cmp-IsAntisymmetric a b e
 
-then_equal : (a b : Ordering) → ordering_then a b ≡ Equal → (a ≡ Equal) × (b ≡ Equal)
+pub then_equal : (a b : Ordering) → ordering_then a b ≡ Equal → (a ≡ Equal) × (b ≡ Equal)
 then_equal Less b e = absurd (true≢false (sym (ap is_eq e)))
 then_equal Equal b e = (refl, e)
 then_equal Greater b e = absurd (true≢false (sym (ap is_eq e)))
@@ -41,24 +40,8 @@ names_same a b e =
     let both = then_equal (nat_cmp a.act b.act) (nat_cmp a.node b.node) e in
     names_equal a b (nat_cmp-IsAntisymmetric a.act b.act both.0) (nat_cmp-IsAntisymmetric a.node b.node both.1)
 
-eq_same : (n : ℕ) → nat_eq n n ≡ true
-eq_same n = grind (arith, nat_tests)
-
-eq_less : (m n : ℕ) → m < n → nat_eq m n ≡ false
-eq_less m n h = grind (arith, nat_tests)
-
-eq_more : (m n : ℕ) → n < m → nat_eq m n ≡ false
-eq_more m n h = grind (arith, nat_tests)
-
 pub nat_cases : (m n : ℕ) → ((m ≡ n) × (nat_eq m n ≡ true)) ⊎ ((m ≡ n → ⊥) × (nat_eq m n ≡ false))
-nat_cases m n =
-    elim (cases_lt m n) [
-      | inl l ↦ inr ((λ e. absurd (omega arith)), eq_less m n l)
-      | inr g ↦ elim (cases_lt n m) [
-        | inl l ↦ inr ((λ e. absurd (omega arith)), eq_more m n l)
-        | inr k ↦ (let e : m ≡ n = omega arith in inl (e, ap (λ j. nat_eq m j) (sym e) ∙ eq_same m))
-      ]
-    ]
+nat_cases m n = elim (cases_eq m n) [ inl e ↦ inl (e, eq-eqb m n e) | inr f ↦ inr (f, ne_eqb m n f) ]
 
 pub name_cases : (a b : Name) → ((a ≡ b) × (same_name a b ≡ true)) ⊎ ((a ≡ b → ⊥) × (same_name a b ≡ false))
 name_cases a b =
@@ -123,6 +106,11 @@ module _ {X : Type 0} where
   at_in [] k d l = absurd (omega arith)
   at_in (x ∷ xs) zero d l = inl refl
   at_in (x ∷ xs) (suc k) d l = inr (at_in xs k d (omega arith))
+
+  pub in_at : (xs : List X) (x : X) → IsIn x xs → (k : ℕ) × (k < length xs) × (get_or xs k x ≡ x)
+  in_at [] x i = absurd i
+  in_at (y ∷ ys) x (inl e) = (0, omega arith, sym e)
+  in_at (y ∷ ys) x (inr i) = let r = in_at ys x i in let within : r.0 < length ys = r.1 in (suc r.0, omega arith, r.2)
 
   pub any_in : (P : X → Type 0) (xs : List X) → Any P xs → (x : X) × IsIn x xs × P x
   any_in P xs a = (a.1, subst (λ (x : X). IsIn x xs) a.3 (at_in xs a.0 a.1 a.2), a.4)

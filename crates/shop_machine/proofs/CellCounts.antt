@@ -5,6 +5,7 @@ use Rattle.std.specs.Ordering.{is_eq}
 use Rattle.std.specs.FinMap.{values}
 use Rattle.std.proofs.lemmas.List.{map-append}
 use Rattle.std.proofs.lemmas.List.Sums.{sum_by-cons}
+use Rattle.std.proofs.lemmas.Bool.{and_parts}
 use Rattle.cut_measure.specs.Codes.{code_cmp}
 use Rattle.cut_measure.specs.Names.{Name}
 use Rattle.cut_measure.specs.Measures.{Extent, below}
@@ -21,8 +22,10 @@ use Rattle.shop_machine.specs.Content.{Content, cells_in}
 use Rattle.shop_machine.specs.Soundness.{IsSound}
 use Rattle.shop_machine.specs.History.{Entry, acts_of, ReceivedUnit, units_in, units_of, Owner, owner_of, is_cut, standing_as, IsOwner, OneOwner, IsIn, counts, count_of, TotalsAreCounts}
 use Rattle.shop_machine.proofs.Basics.{name_cases, in_append, in_map}
-use Rattle.shop_machine.proofs.Accounts.{IsRow, IsWhole, Follows, unit_of, unit_acts, two_true}
-use Rattle.shop_machine.proofs.Marks.{sum_cells, bit, sum_cells-same, sum_cells-add, sum_cells-zero, mark, sum_mark, mark_in, mark_out, sum_by-same, sum_by-add, sum_by-none, sum_by-one, Apart, apart_append, sum_values-one, each_value, sum_by-units}
+use Rattle.shop_machine.proofs.Accounts.{IsRow, IsWhole, Follows, unit_of, unit_acts}
+use Rattle.cut_tree.proofs.Marks.{sum_cells, bit, sum_cells-same, sum_cells-add, sum_cells-zero, sum_mark, mark_in, mark_out}
+use Rattle.shop_machine.proofs.Puts.{sum_as, sum_none}
+use Rattle.shop_machine.proofs.Marks.{mark, sum_by-add, sum_by-one, Apart, apart_append, sum_values-one, each_value, sum_by-units}
 
 abbrev unit_name : ReceivedUnit → Name
 unit_name u = u.name
@@ -105,12 +108,12 @@ sum_units f code units = sum_by (λ unit. if is_of code unit then sum_cells (f u
 sum_units-same : (f g : Name → ℕ → ℕ → ℕ) (code : List ℕ) (units : List ReceivedUnit)
     → ((u : ReceivedUnit) → IsIn u units → (x y : ℕ) → x < u.size.w → y < u.size.h → f u.name x y ≡ g u.name x y) → sum_units f code units ≡ sum_units g code units
 sum_units-same f g code units same =
-    sum_by-same (λ u. if is_of code u then sum_cells (f u.name) u.size.w u.size.h else 0) (λ u. if is_of code u then sum_cells (g u.name) u.size.w u.size.h else 0) units
+    sum_as (λ u. if is_of code u then sum_cells (f u.name) u.size.w u.size.h else 0) (λ u. if is_of code u then sum_cells (g u.name) u.size.w u.size.h else 0) units
     (λ u i. ap (λ n. if is_of code u then n else 0) (sum_cells-same (f u.name) (g u.name) u.size.w u.size.h (same u i)))
 
 sum_units-add : (f g : Name → ℕ → ℕ → ℕ) (code : List ℕ) (units : List ReceivedUnit) → sum_units (λ n x y. f n x y + g n x y) code units ≡ sum_units f code units + sum_units g code units
 sum_units-add f g code units =
-    sum_by-same (λ u. if is_of code u then sum_cells (λ x y. f u.name x y + g u.name x y) u.size.w u.size.h else 0)
+    sum_as (λ u. if is_of code u then sum_cells (λ x y. f u.name x y + g u.name x y) u.size.w u.size.h else 0)
     (λ u. (if is_of code u then sum_cells (f u.name) u.size.w u.size.h else 0) + (if is_of code u then sum_cells (g u.name) u.size.w u.size.h else 0)) units
     (λ u i. ap (λ n. if is_of code u then n else 0) (sum_cells-add (f u.name) (g u.name) u.size.w u.size.h) ∙ if_add (is_of code u) (sum_cells (f u.name) u.size.w u.size.h) (sum_cells (g u.name) u.size.w u.size.h))
     ∙ sum_by-add (λ u. if is_of code u then sum_cells (f u.name) u.size.w u.size.h else 0) (λ u. if is_of code u then sum_cells (g u.name) u.size.w u.size.h else 0) units
@@ -143,15 +146,15 @@ module _ (q : Part → Bool) (code : List ℕ) (units : List ReceivedUnit) (apar
       (λ z i other.
       let off : q v && same_name v.root z.name ≡ false = ap (λ b. q v && b) (same_no v.root z.name (λ e. other (sym e ∙ sym has.root))) ∙ and_no (q v) in
       zero_if (is_of code z) (sum_cells (marked v z.name) z.size.w z.size.h)
-      (sum_cells-same (marked v z.name) (λ x y. 0) z.size.w z.size.h (λ x y xw yh. mark_out (q v && same_name v.root z.name) v x y (λ t a b c d. true≢false (sym t ∙ off))) ∙ sum_cells-zero z.size.w z.size.h))
-      ∙ ap (λ n. if is_of code u then n else 0) (sum_mark (q v && same_name v.root u.name) v u.size.w u.size.h has.across has.down)
+      (sum_cells-same (marked v z.name) (λ x y. 0) z.size.w z.size.h (λ x y xw yh. mark_out (q v && same_name v.root z.name) v.x v.y v.size.w v.size.h x y (λ t a b c d. true≢false (sym t ∙ off))) ∙ sum_cells-zero z.size.w z.size.h))
+      ∙ ap (λ n. if is_of code u then n else 0) (sum_mark (q v && same_name v.root u.name) v.x v.y v.size.w v.size.h u.size.w u.size.h has.across has.down)
       ∙ and_if (is_of code u) (q v) (same_name v.root u.name) (v.size.w * v.size.h) (same_yes v.root u.name (sym has.root))
       ∙ ap (λ n. if is_eq (code_cmp n code) && q v then v.size.w * v.size.h else 0) has.material
 
   -- all parts, cell by cell
   swapped : (vs : List Part) → ((v : Part) → IsIn v vs → HasUnit units v) → sum_by weight vs ≡ sum_units (λ n x y. sum_by (λ v. marked v n x y) vs) code units
   swapped [] has =
-      sym (sum_by-none (λ u. if is_of code u then sum_cells (λ x y. 0) u.size.w u.size.h else 0) units
+      sym (sum_none (λ u. if is_of code u then sum_cells (λ x y. 0) u.size.w u.size.h else 0) units
       (λ u i. zero_if (is_of code u) (sum_cells (λ x y. 0) u.size.w u.size.h) (sum_cells-zero u.size.w u.size.h)))
   swapped (v ∷ vs) has =
       sum_by-cons weight v vs
@@ -237,14 +240,14 @@ same_whole u i j w r e o = ap (λ n. same_name r.name n) e ∙ ap (λ n. same_na
 
 stock_by : IsByOwner column.Stock
 stock_by = record {
-  uncut = λ r e. there_whole r.state (two_true (is_there r.state) (is_whole r) e).0;
+  uncut = λ r e. there_whole r.state (and_parts (is_there r.state) (is_whole r) e).0;
   as_owner = λ u i j w r e o.
       ap (λ b. b && is_whole r) (there_as r.state ∙ ap is_there o.state) ∙ ap (λ b. is_there w.state && b) (same_whole u i j w r e o);
 }
 
 rack_by : IsByOwner column.Rack
 rack_by = record {
-  uncut = λ r e. there_whole r.state (two_true (is_there r.state) (not (is_whole r)) e).0;
+  uncut = λ r e. there_whole r.state (and_parts (is_there r.state) (not (is_whole r)) e).0;
   as_owner = λ u i j w r e o.
       ap (λ b. b && not (is_whole r)) (there_as r.state ∙ ap is_there o.state) ∙ ap (λ b. is_there w.state && not b) (same_whole u i j w r e o);
 }
@@ -275,11 +278,11 @@ module _ (texts : Texts) (history : List Entry) (content : Content) (sound : IsS
   cell_counted c by u x y o =
       let p : Part = o.part in
       sum_values-one content.parts (λ v. mark (is_counted c v && same_name v.root u.name) v x y) p.name p o.kept
-      (λ k r g other. mark_out (is_counted c r && same_name r.root u.name) r x y (λ t left right top bottom.
-      let root : r.root ≡ u.name = same_is r.root u.name (two_true (is_counted c r) (same_name r.root u.name) t).1 in
-      let same : r ≡ p = o.alone k r g (record { root = root; whole = by.uncut r (two_true (is_counted c r) (same_name r.root u.name) t).0; right = left; left = right; below = top; above = bottom }) in
+      (λ k r g other. mark_out (is_counted c r && same_name r.root u.name) r.x r.y r.size.w r.size.h x y (λ t left right top bottom.
+      let root : r.root ≡ u.name = same_is r.root u.name (and_parts (is_counted c r) (same_name r.root u.name) t).1 in
+      let same : r ≡ p = o.alone k r g (record { root = root; whole = by.uncut r (and_parts (is_counted c r) (same_name r.root u.name) t).0; right = left; left = right; below = top; above = bottom }) in
       other (sym (sound.parts k r g).named ∙ ap (λ (v : Part). v.name) same)))
-      ∙ mark_in (is_counted c p && same_name p.root u.name) p x y o.holds.right o.holds.left o.holds.below o.holds.above
+      ∙ mark_in (is_counted c p && same_name p.root u.name) p.x p.y p.size.w p.size.h x y o.holds.right o.holds.left o.holds.below o.holds.above
       ∙ ap bit (and_yes (is_counted c p) (same_name p.root u.name) (same_yes p.root u.name o.holds.root) ∙ by.as_owner u.name x y o.owner p o.holds.root o.same ∙ ap (counts c u.name) (sym o.owned))
 
   cell_received : (u : ReceivedUnit) → IsIn u (units_of history) → (x y : ℕ) → x < u.size.w → y < u.size.h → OneOwner history content u.name x y
@@ -290,11 +293,11 @@ module _ (texts : Texts) (history : List Entry) (content : Content) (sound : IsS
       let px : p.x ≡ 0 = whole.x in let py : p.y ≡ 0 = whole.y in let pw : p.size.w ≡ u.size.w = ap (λ (e : Extent). e.w) whole.size in let ph : p.size.h ≡ u.size.h = ap (λ (e : Extent). e.h) whole.size in
       let name : p.name ≡ u.name = (sound.parts u.name p whole.kept).named in
       sum_values-one content.parts (λ v. mark (is_whole v && same_name v.root u.name) v x y) u.name p whole.kept
-      (λ k r g other. mark_out (is_whole r && same_name r.root u.name) r x y (λ t left right top bottom.
-      let root : r.root ≡ u.name = same_is r.root u.name (two_true (is_whole r) (same_name r.root u.name) t).1 in
-      let own : r.name ≡ r.root = same_is r.name r.root (two_true (is_whole r) (same_name r.root u.name) t).0 in
+      (λ k r g other. mark_out (is_whole r && same_name r.root u.name) r.x r.y r.size.w r.size.h x y (λ t left right top bottom.
+      let root : r.root ≡ u.name = same_is r.root u.name (and_parts (is_whole r) (same_name r.root u.name) t).1 in
+      let own : r.name ≡ r.root = same_is r.name r.root (and_parts (is_whole r) (same_name r.root u.name) t).0 in
       other (sym (sound.parts k r g).named ∙ own ∙ root)))
-      ∙ mark_in (is_whole p && same_name p.root u.name) p x y (omega arith) (omega arith) (omega arith) (omega arith)
+      ∙ mark_in (is_whole p && same_name p.root u.name) p.x p.y p.size.w p.size.h x y (omega arith) (omega arith) (omega arith) (omega arith)
       ∙ ap bit (and_yes (is_whole p) (same_name p.root u.name) (same_yes p.root u.name whole.root) ∙ same_yes p.name p.root (name ∙ sym whole.root) ∙ ap (counts column.Received u.name) (sym o.owned))
 
   one_by_one : (c : Column) (code : List ℕ) → count_of c history code ≡ sum_units (λ n x y. bit (counts c n (owner_of history n x y))) code (units_of history)

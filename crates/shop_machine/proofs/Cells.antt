@@ -172,16 +172,6 @@ module _ (m : FinMap name_cmp Part) (named : Named m) (p : Name) (row : Part) (k
       let wide : x - row.x < row.size.w = owns.inside_width in let high : y - row.y < row.size.h = owns.inside_height in
       (held, record { root = h.root; whole = whole; right = omega arith; left = omega arith; below = omega arith; above = omega arith })
 
-  pub row_inside : (r : Row) → IsIn r rows → (0 < r.w) × (0 < r.h) × (r.x + r.w ≤ row.size.w) × (r.y + r.h ≤ row.size.h)
-  row_inside r i =
-      let some : (0 < r.w) × (0 < r.h) = all_in (λ (r : Row). (0 < r.w) × (0 < r.h)) rows laid.some_cell r i in
-      let wp : 0 < r.w = some.0 in let hp : 0 < r.h = some.1 in
-      let last : lay.Holds r (r.x + r.w - 1) (r.y + r.h - 1) = record { left = omega arith; right = omega arith; top = omega arith; bottom = omega arith } in
-      let owns : Owns tree row.size.w row.size.h rule.kerf outcome r.node r.owner (r.x + r.w - 1) (r.y + r.h - 1) =
-      (all_in (λ (s : Row). (k l : ℕ) → lay.Holds s k l ↔ Owns tree row.size.w row.size.h rule.kerf outcome s.node s.owner k l) rows laid.own_cells r i (r.x + r.w - 1) (r.y + r.h - 1)).0 last in
-      let a : r.x + r.w - 1 < row.size.w = owns.inside_width in let b : r.y + r.h - 1 < row.size.h = owns.inside_height in
-      (wp, hp, omega arith, omega arith)
-
   no_cell : (u : Name) (x y : ℕ) (q : Part) → q ≡ in_state (Cut job) row → Holds u x y q → ⊥
   no_cell u x y q e h = true≢false (ap (λ (v : Part). is_cut v.state) (sym e) ∙ h.whole)
 

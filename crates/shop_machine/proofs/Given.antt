@@ -1,5 +1,5 @@
 -- What a history says of the content that it gives.
-use Rattle.std.proofs.Common.{◌≡◌, ℕ, ◌+◌, ◌<◌, ◌≤◌, List, [], ◌∷◌, map, true, false, refl, sym, ap, subst, ◌∙◌, arith, inl, inr, ◌⊎◌}
+use Rattle.std.proofs.Common.{◌≡◌, ℕ, ◌+◌, ◌≤◌, List, [], ◌∷◌, map, true, false, refl, sym, ap, subst, ◌∙◌, arith, inl, inr, ◌⊎◌}
 use Rattle.std.specs.Prelude.{Option, Some, None, if◌then◌else◌}
 use Rattle.std.specs.Ordering.{nat_cmp}
 use Rattle.std.specs.FinMap.{FinMap, get, insert, get-empty}
@@ -27,8 +27,10 @@ use Rattle.shop_machine.specs.Machine.{IsReading, Reads, IsReservation, in_state
 use Rattle.shop_machine.specs.Soundness.{IsSound, IsWaiting}
 use Rattle.shop_machine.specs.History.{Entry, Gives, ReceivedUnit, acts_of, unit_material, material_rule, Reservation, Owner, stands_as, owner_at, cut_owner, owner_by, owner_of, is_cut, standing_as, HasOwner, OneOwner, IsIn}
 use Rattle.shop_machine.proofs.Basics.{name_cases, same_some, none_some}
-use Rattle.shop_machine.proofs.Cells.{Named, found_cases, found_cut, kept_old, row_inside, cut_up}
-use Rattle.shop_machine.proofs.Accounts.{IsRow, IsWhole, reservation, Follows, material_is, row_later, row_restated, stands_yes, stands_no, job_waits, free_stands}
+use Rattle.shop_machine.proofs.Cells.{Named, found_cases, found_cut, kept_old, cut_up}
+use Rattle.shop_machine.proofs.Inside.{row_inside}
+use Rattle.shop_machine.proofs.Accounts.{IsRow, IsWhole, reservation, Follows, material_is, row_later, row_restated, stands_yes, stands_no}
+use Rattle.shop_machine.proofs.Allowed.{job_waits, free_stands}
 use Rattle.shop_machine.proofs.Steps.{entry_of, After, named, job_restated, by_material, by_order, by_receipt, by_reservation, by_release}
 
 -- ---- the end of a job
@@ -94,9 +96,8 @@ module _ (texts : Texts) (message : Message) (terminal number : ℕ) (earlier : 
       new_row : (r : Row) → IsIn r laid → IsRow (entry ∷ earlier) (row_part row material.limits j.act r)
       new_row r i =
           let base : IsRow earlier row = f.rows row.name row kept_row in
-          let in' : (0 < r.w) × (0 < r.h) × (r.x + r.w ≤ row.size.w) × (r.y + r.h ≤ row.size.h) =
-          row_inside old.parts all_named row.name row kept_row (ap is_cut reserved) (ap standing_as reserved) j.act waits.none_yet material.limits j.plan.tree all_made laid is_laid r i in
-          let a : r.x + r.w ≤ row.size.w = in'.2 in let b : r.y + r.h ≤ row.size.h = in'.3 in
+          let inside = row_inside j.plan.tree row.size.w row.size.h material.limits.kerf all_made laid is_laid r i in
+          let a = inside.right in let b = inside.bottom in
           let c : row.x + row.size.w ≤ base.unit.size.w = base.across in let d : row.y + row.size.h ≤ base.unit.size.h = base.down in
           record { unit = base.unit; received = base.received; root = base.root; material = base.material; across = omega arith; down = omega arith }
 

@@ -1,7 +1,7 @@
 -- Waiting jobs, and contents after their ends.
-use Rattle.std.proofs.Common.{◌≡◌, ℕ, ◌+◌, ◌-◌, ◌*◌, ◌≤◌, ◌<◌, List, [], map, Bool, true, false, refl, sym, ap, subst, ◌∙◌, arith}
-use Rattle.std.proofs.lemmas.Bool.Decides.{nat_tests}
-use Rattle.std.specs.Prelude.{◌↔◌, nat_eq, Some, None, MatchOption, ⊤, sum_by, count_by, ◌&&◌, if◌then◌else◌}
+use Rattle.std.proofs.Common.{◌≡◌, ℕ, ◌+◌, ◌*◌, ◌≤◌, ◌<◌, List, [], map, Bool, true, false, refl, sym, ap, subst, ◌∙◌, arith}
+use Rattle.std.proofs.lemmas.Bool.{ne_eqb}
+use Rattle.std.specs.Prelude.{nat_eq, Some, None, MatchOption, ⊤, sum_by, count_by, ◌&&◌, if◌then◌else◌}
 use Rattle.std.specs.declared.cmp.Ordering.TheVariants.{Less}
 use Rattle.std.specs.Ordering.{is_eq}
 use Rattle.std.specs.Cmp.{nat_cmp_total}
@@ -12,9 +12,9 @@ use Rattle.cut_measure.specs.Measures.{Rule, Extent, is_kept}
 use Rattle.cut_tree.specs.declared.lay.Owner.{Owner}
 use Rattle.cut_tree.specs.declared.lay.Owner.TheVariants as owner
 use Rattle.cut_tree.specs.declared.lay.Row.{Row}
-use Rattle.cut_tree.specs.Tree.{Tree, count_of}
+use Rattle.cut_tree.specs.Tree.{count_of}
 use Rattle.cut_tree.specs.Cells.{all_made}
-use Rattle.cut_tree.specs.Laying.{IsLaid, Holds, Owns}
+use Rattle.cut_tree.specs.Laying.{IsLaid}
 use Rattle.cut_tree.specs.Counting.{is_piece_of as is_owner_of}
 use Rattle.cut_tree.proofs.OneList.{laid_all}
 use Rattle.cut_tree.proofs.Counting.{add_up, count_all}
@@ -34,7 +34,8 @@ use Rattle.shop_machine.specs.Content.{Content, part_at, job_at, demand_at, kept
 use Rattle.shop_machine.specs.Machine.{AreRecounted, IsWork, in_state, with_made, with_freed, fate, row_part, done_reply, done_change, release_change, keeping}
 use Rattle.shop_machine.specs.History.{IsIn}
 use Rattle.shop_machine.specs.Soundness.{IsPlaced, IsWaiting, IsJob, IsCounted, JobFits, Fits, reserved_in}
-use Rattle.shop_machine.proofs.Basics.{all_in, in_map, same_some, map_in}
+use Rattle.shop_machine.proofs.Basics.{in_map, same_some, map_in}
+use Rattle.shop_machine.proofs.Inside.{row_inside}
 use Rattle.shop_machine.proofs.Puts.{pairs_in, pairs_more, map_pairs, in_counted, sum_map, sum_as, sum_none, is_known, sum_over}
 use Rattle.shop_machine.proofs.AddedUp.{cells_as, cells_left, is_uncut}
 use Rattle.shop_machine.proofs.Moved.{no_made, no_freed}
@@ -42,9 +43,6 @@ use Rattle.shop_machine.proofs.Grown.{IsStock}
 use Rattle.shop_machine.proofs.ReceiveStep.{earlier_act, earlier_node}
 use Rattle.shop_machine.proofs.PartStep.{IsPartStep, step_stock, step_fits, untouched, made_after}
 use Rattle.shop_machine.proofs.ReserveStep.{left_as_before}
-
-unequal : (a b : ℕ) → b < a → nat_eq a b ≡ false
-unequal a b h = grind (arith, nat_tests)
 
 -- ---- what becomes of a rectangle
 
@@ -77,32 +75,6 @@ fate_piece number rule owner.Uncut size = by (is_kept rule size)
     by true = refl
     by false = refl
 fate_piece number rule owner.Lost size = refl
-
--- ---- rows of a unit
-
-module _ (tree : Tree) (w h kerf : ℕ) (laid : List Row) (is_laid : IsLaid tree w h kerf all_made laid) where
-  -- a row has a cell and lies in the unit
-  pub record IsInside (r : Row) : Type 0 where
-    pub some_width : 1 ≤ r.w
-    pub some_height : 1 ≤ r.h
-    pub right : r.x + r.w ≤ w
-    pub bottom : r.y + r.h ≤ h
-
-  pub inside : (r : Row) → IsIn r laid → IsInside r
-  inside r i =
-      let some : (0 < r.w) × (0 < r.h) = all_in (λ (r : Row). (0 < r.w) × (0 < r.h)) laid is_laid.some_cell r i in
-      let wide = some.0 in
-      let high = some.1 in
-      let own = all_in (λ (r : Row). (x y : ℕ) → Holds r x y ↔ Owns tree w h kerf all_made r.node r.owner x y) laid is_laid.own_cells r i (r.x + (r.w - 1)) (r.y + (r.h - 1)) in
-      let owns = own.0 (record { left = omega arith; right = omega (arith, wide); top = omega arith; bottom = omega (arith, high) }) in
-      let right = owns.inside_width in
-      let bottom = owns.inside_height in
-      record {
-        some_width = omega (arith, wide);
-        some_height = omega (arith, high);
-        right = omega (arith, wide, right);
-        bottom = omega (arith, high, bottom);
-      }
 
 -- ---- a waiting job
 
@@ -273,7 +245,7 @@ module _ (m : Content) (stock : IsStock m) (number : ℕ) (j : Job) (part : Part
   row_placed : (r : Row) → IsIn r laid → IsPlaced m (record { act = j.act; node = r.node }) (row_part part material.limits j.act r)
   row_placed r i =
       let old = placed m stock number j part material work waits in
-      let in_plan = inside j.plan.tree j.plan.w j.plan.h j.plan.kerf laid is_laid r i in
+      let in_plan = row_inside j.plan.tree j.plan.w j.plan.h j.plan.kerf all_made laid is_laid r i in
       let right = in_plan.right in
       let bottom = in_plan.bottom in
       let wide = width m stock number j part material work waits in
@@ -300,7 +272,7 @@ module _ (m : Content) (stock : IsStock m) (number : ℕ) (j : Job) (part : Part
   not_whole r =
       let rooted = (placed m stock number j part material work waits).rooted in
       let less = older m stock number j part material work waits in
-      ap (λ b. b && nat_eq r.node part.root.node) (unequal j.act part.root.act (omega (arith, rooted, less)))
+      ap (λ b. b && nat_eq r.node part.root.node) (ne_eqb j.act part.root.act (λ e. absurd (omega (arith, rooted, less))))
 
   received_none : (code : List ℕ) → sum_by (cells_as Received code) made ≡ 0
   received_none code =

@@ -3,6 +3,7 @@ use Rattle.std.proofs.Common.{◌≡◌, ℕ, ◌≤◌, inl, inr, List, [], ref
 use Rattle.std.specs.Prelude.{Option, Some, None, AllPairs, not}
 use Rattle.std.specs.declared.cmp.Ordering.TheVariants.{Less}
 use Rattle.std.proofs.lemmas.List.Elements.{All-nil}
+use Rattle.std.proofs.lemmas.Bool.{not-false}
 use Rattle.cut_measure.specs.declared.sizes.Kind.{Kind}
 use Rattle.cut_measure.specs.Names.{name_cmp}
 use Rattle.cut_measure.specs.Measures.{Rule, is_rule}
@@ -17,7 +18,7 @@ use Rattle.shop_machine.specs.Machine.{material_refusal, material_change, keepin
 use Rattle.shop_machine.specs.Soundness.{IsKnown, IsDemand, IsCounted, Fits}
 use Rattle.shop_machine.proofs.Basics.{codes_total, codes_same}
 use Rattle.shop_machine.proofs.Puts.{found_one, still_there}
-use Rattle.shop_machine.proofs.Allowed.{none_of, holds}
+use Rattle.shop_machine.proofs.Allowed.{none_of}
 use Rattle.shop_machine.proofs.Grown.{IsStock, Grows, placed_more, job_more, known_more}
 
 -- a demand whose counts are as they were
@@ -57,7 +58,7 @@ module _ (texts : Texts) (message : Message) (m : Content) (code : List ℕ) (ki
         materials = λ c x found.
             elim (found_one codes_total codes_same m.materials code row c x found) [
               | inl p ↦ subst (IsKnown c) (sym p.1)
-                  (record { coded = sym p.0; ruled = holds (is_rule kind rule.kerf rule.min_long rule.min_short) (none_of (not (is_rule kind rule.kerf rule.min_long rule.min_short)) BadMaterial _ allowed).0 })
+                  (record { coded = sym p.0; ruled = not-false (is_rule kind rule.kerf rule.min_long rule.min_short) (none_of (not (is_rule kind rule.kerf rule.min_long rule.min_short)) BadMaterial _ allowed).0 })
               | inr q ↦ stock.materials c x q.1
             ];
         parts = λ name part is. placed_more m (after None) grows name part (stock.parts name part is);

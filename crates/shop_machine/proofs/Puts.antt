@@ -3,7 +3,7 @@ use Rattle.std.proofs.Common.{true≢false, ◌≡◌, ℕ, zero, suc, ◌+◌, 
 use Rattle.std.specs.Prelude.{Option, Some, None, T, All, AllPairs, sum_by, count_by, cond, if◌then◌else◌, IsSome, is_some}
 use Rattle.std.specs.declared.cmp.Ordering.{Ordering}
 use Rattle.std.specs.declared.cmp.Ordering.TheVariants.{Less, Equal, Greater}
-use Rattle.std.specs.Ordering.{is_eq, eq_by_cmp, nat_cmp, ordering_then}
+use Rattle.std.specs.Ordering.{is_eq, eq_by_cmp, nat_cmp}
 use Rattle.std.specs.Cmp.{tied_itself, IsTotalOrder, on_total, then_total, nat_cmp_total}
 use Rattle.std.specs.FinMap.{FinMap, IsAntisymmetric, nat_cmp-IsAntisymmetric, entries, entries_sorted, get, get-insert, get-entries, insert, values, find, is_sorted}
 use Rattle.std.specs.FinMap.Entries.{below_all}
@@ -13,7 +13,7 @@ use Rattle.cut_measure.specs.Names.{Name, name_cmp}
 use Rattle.shop_machine.specs.declared.records.Part.{Part}
 use Rattle.shop_machine.specs.Content.{of_found, pair_cmp, with_parts}
 use Rattle.shop_machine.specs.History.{IsIn}
-use Rattle.shop_machine.proofs.Basics.{all_in, in_map, names_total, names_same, same_some, tied, get_other, with_rows, parts_as_rows, put_cases}
+use Rattle.shop_machine.proofs.Basics.{all_in, in_map, then_equal, names_total, names_same, same_some, tied, get_other, with_rows, parts_as_rows, put_cases}
 use Rattle.shop_machine.proofs.Sums.{sum-insert, first, second, less}
 
 -- ---- elements of lists
@@ -94,11 +94,6 @@ pub equal : (o : Ordering) → is_eq o ≡ true → o ≡ Equal
 equal Less e = cc
 equal Equal e = refl
 equal Greater e = cc
-
-then_equal : (a b : Ordering) → ordering_then a b ≡ Equal → (a ≡ Equal) × (b ≡ Equal)
-then_equal Less b e = cc
-then_equal Equal b e = (refl, e)
-then_equal Greater b e = cc
 
 pub pairs_total : IsTotalOrder pair_cmp
 pairs_total = then_total (on_total (λ p. p.terminal) nat_cmp_total) (on_total (λ p. p.number) nat_cmp_total)

@@ -9,6 +9,7 @@ use Rattle.std.specs.FinMap.{values}
 use Rattle.std.proofs.lemmas.List.{length-map}
 use Rattle.std.proofs.lemmas.List.Sums.{sum_by-cons}
 use Rattle.std.proofs.lemmas.List.Elements.{All-nil}
+use Rattle.std.proofs.lemmas.Bool.{eq-eqb}
 use Rattle.cut_measure.proofs.Cells.{length-below}
 use Rattle.cut_measure.specs.Codes.{code_cmp}
 use Rattle.cut_measure.specs.Names.{Name, name_cmp}
@@ -25,7 +26,7 @@ use Rattle.shop_machine.specs.History.{IsIn}
 use Rattle.shop_machine.specs.Soundness.{IsPlaced, PartFits, Fits, made_in}
 use Rattle.shop_machine.proofs.Basics.{in_map, in_append, codes_same, same_some, put_cases}
 use Rattle.shop_machine.proofs.Puts.{Pairwise, all_from, pairs_from, pairs_more, map_pairs, sum_as, is_known, equal, put_other, sum_parts}
-use Rattle.shop_machine.proofs.Allowed.{IsReceipt, eq_true}
+use Rattle.shop_machine.proofs.Allowed.{IsReceipt}
 use Rattle.shop_machine.proofs.AddedUp.{cells_as, cells_left, adds_up, adds_up_so}
 use Rattle.shop_machine.proofs.Grown.{IsStock, Grows, placed_more, job_more, none_later}
 use Rattle.shop_machine.proofs.MaterialStep.{demand_more, no_pairs}
@@ -58,7 +59,7 @@ below_rises (suc n) = append_pairs (λ (a b : ℕ). a < b) (below n) n (below_ri
 -- ---- names
 
 same_self : (name : Name) → same_name name name ≡ true
-same_self name = ap (λ b. b && (name.node == name.node)) (eq_true name.act name.act refl) ∙ eq_true name.node name.node refl
+same_self name = ap (λ b. b && (name.node == name.node)) (eq-eqb name.act name.act refl) ∙ eq-eqb name.node name.node refl
 
 pub earlier_act : (a b : Name) → a.act < b.act → name_cmp a b ≡ Less
 earlier_act a b h = ap (λ (o : Ordering). ordering_then o (nat_cmp a.node b.node)) (sym (nat_cmp_is a.act b.act Less h))

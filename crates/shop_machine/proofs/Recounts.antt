@@ -1,24 +1,23 @@
 -- The demands of a plan's leaves, each once.
-use Rattle.std.proofs.Common.{◌≡◌, ◌≢◌, ℕ, zero, suc, ◌+◌, ◌-◌, ◌<◌, ◌≤◌, List, [], ◌∷◌, ◌++◌, length, get_or, take, drop, map, Bool, true, false, refl, sym, ap, subst, ◌∙◌, arith, inl, inr, ◌⊎◌}
-use Rattle.std.specs.Prelude.{Option, Some, None, All, Any, AllPairs, count_by, nat_eq, MatchOption, ◌||◌, ◌&&◌, if◌then◌else◌}
+use Rattle.std.proofs.Common.{◌≡◌, ◌≢◌, ℕ, suc, ◌+◌, ◌-◌, ◌<◌, ◌≤◌, List, [], ◌∷◌, ◌++◌, length, get_or, take, drop, Bool, true, false, refl, sym, ap, subst, ◌∙◌, arith, inl, inr}
+use Rattle.std.specs.Prelude.{Option, Some, All, Any, AllPairs, MatchOption, ◌||◌, ◌&&◌}
 use Rattle.std.specs.List.{list_any, list_all}
 use Rattle.std.proofs.lemmas.Bool.{cases_lt}
-use Rattle.std.proofs.lemmas.Bool.Decides.{nat_tests}
 use Rattle.std.proofs.lemmas.List.{get_or_append_left, get_or-append_right, get_or_default, length-append, length-map, get_or-map}
 use Rattle.std.proofs.lemmas.List.Elements.{All-append, All-nil}
 use Rattle.std.proofs.lemmas.List.Quantifiers.{Any-push}
-use Rattle.std.proofs.lemmas.List.Sums.{sum_by-cons}
 use Rattle.std.proofs.Math.Seq.{take-length}
 use Rattle.cut_tree.specs.declared.leaves.Leaf.{Leaf}
 use Rattle.cut_tree.specs.Tree.{Tree, count_of}
 use Rattle.cut_tree.specs.Patterns.{Pattern}
-use Rattle.cut_tree.specs.Leaves.{leaves_of}
-use Rattle.cut_tree.proofs.LeafCounts.{counted}
 use Rattle.shop_machine.specs.declared.records.Demand.{Demand}
 use Rattle.shop_machine.specs.declared.plans.FoundLeaf.{FoundLeaf}
 use Rattle.shop_machine.specs.declared.plans.Recount.{Recount}
 use Rattle.shop_machine.specs.declared.plans.Recount.TheVariants.{Reserved, Made, Freed}
 use Rattle.shop_machine.specs.Machine.{AreRecounted, plan_leaves, is_over, has_reserved}
+use Rattle.shop_machine.specs.History.{IsIn}
+use Rattle.shop_machine.proofs.Basics.{at_in, in_at, in_map}
+use Rattle.shop_machine.proofs.Allowed.{leaf_with, leaf_counts}
 use Rattle.shop_machine.specs.Found.{AreDemandsFound, leaves_in, recount_by, HasRoom, HasRow, IsAddedOnce}
 
 -- ---- demands over their numbers
@@ -47,55 +46,6 @@ reserved_more tree at (f ∷ fs) b d some found first e =
     e ∙ ap (λ ls. list_all (λ (leaf : Leaf). has_reserved (count_of tree leaf.demand) (at leaf.demand)) (leaves_in ls)) (all_behind f fs)
     ∙ ap (λ o. o && list_all (λ (leaf : Leaf). has_reserved (count_of tree leaf.demand) (at leaf.demand)) (leaves_in fs))
     (sym (ap (has_reserved (count_of tree f.leaf.demand)) (sym (found 0 d (omega arith))) ∙ first))
-
--- ---- counts of what passes a test
-
-module _ {X : Type 0} (p : X → Bool) where
-  count-cons : (x : X) (xs : List X) (b : Bool) → p x ≡ b → count_by p (x ∷ xs) ≡ (if b then 1 else 0) + count_by p xs
-  count-cons x xs b e = sum_by-cons (λ x. if p x then 1 else 0) x xs ∙ ap (λ c. (if c then 1 else 0) + count_by p xs) e
-
-  some_by : (x : X) (xs : List X) (b : Bool) → p x ≡ b → 1 ≤ count_by p (x ∷ xs) → (1 ≤ count_by p xs → Any (λ x. p x ≡ true) xs) → Any (λ x. p x ≡ true) (x ∷ xs)
-  some_by x xs true e some rest = (0, x, omega arith, refl, e)
-  some_by x xs false e some rest =
-      let more = rest (omega (arith, some, count-cons x xs false e)) in
-      let within : more.0 < length xs = more.2 in
-      (suc more.0, more.1, omega arith, more.3, more.4)
-
-  -- where some are counted, one passes
-  pub some_passes : (xs : List X) → 1 ≤ count_by p xs → Any (λ x. p x ≡ true) xs
-  some_passes [] some = absurd (omega arith)
-  some_passes (x ∷ xs) some = some_by x xs (p x) refl some (some_passes xs)
-
-  -- one that passes is counted
-  pub passes_some : (xs : List X) (k : ℕ) (x : X) → k < length xs → p (get_or xs k x) ≡ true → 1 ≤ count_by p xs
-  passes_some [] k x within e = absurd (omega arith)
-  passes_some (y ∷ ys) zero x within e = omega (arith, count-cons y ys true e)
-  passes_some (y ∷ ys) (suc k) x within e =
-      let rest = passes_some ys k x (omega arith) e in
-      let all = sum_by-cons (λ x. if p x then 1 else 0) y ys in
-      omega (arith, rest, all)
-
--- ---- leaves and their demands
-
-same_number : (a b : ℕ) → nat_eq a b ≡ true → a ≡ b
-same_number a b e = grind (arith, nat_tests)
-
-is_same_number : (a b : ℕ) → a ≡ b → nat_eq a b ≡ true
-is_same_number a b e = grind (arith, nat_tests)
-
--- a leaf's demand has a piece
-pub leaf_counts : (plan : Pattern) (k : ℕ) (d : Leaf) (number : ℕ) → k < length (plan_leaves plan) → (get_or (plan_leaves plan) k d).demand ≡ number → 1 ≤ count_of plan.tree number
-leaf_counts plan k d number within e =
-    let some = passes_some (λ (l : Leaf). nat_eq l.demand number) (plan_leaves plan) k d within (is_same_number _ number e) in
-    let all = counted plan.tree plan.w plan.h plan.kerf number in
-    omega (arith, some, all)
-
--- a demand that has a piece is a leaf's
-pub counts_leaf : (plan : Pattern) (number : ℕ) → 1 ≤ count_of plan.tree number → Any (λ (l : Leaf). l.demand ≡ number) (plan_leaves plan)
-counts_leaf plan number some =
-    let all = counted plan.tree plan.w plan.h plan.kerf number in
-    let any = some_passes (λ (l : Leaf). nat_eq l.demand number) (plan_leaves plan) (omega (arith, some, all)) in
-    (any.0, any.1, any.2, any.3, same_number any.1.demand number any.4)
 
 -- ---- rows of the leaves that were taken
 
@@ -203,17 +153,16 @@ all_added how plan leaves rows at taken same all added found =
           let row_at : from.1.demand ≡ at from.1.leaf.demand = subst (λ (f : FoundLeaf). f.demand ≡ at f.leaf.demand) from.3 (found from.0 from.1 inside) in (
             from.4.0,
             ap at (sym from.4.2) ∙ sym row_at ∙ from.4.1,
-            leaf_counts plan from.0 from.1.leaf row.number (omega (arith, count, inside)) (ap (λ (l : Leaf). l.demand) leaf ∙ from.4.2),
+            subst (λ n. 1 ≤ count_of plan.tree n) (ap (λ (l : Leaf). l.demand) leaf ∙ from.4.2)
+                (leaf_counts plan (get_or (plan_leaves plan) from.0 from.1.leaf) (at_in (plan_leaves plan) from.0 from.1.leaf (omega (arith, count, inside)))),
             from.4.3,
           );
       each = λ number some.
-          let leaf = counts_leaf plan number some in
-          let inside : leaf.0 < length (plan_leaves plan) = leaf.2 in
-          let d : FoundLeaf = record { leaf = leaf.1; demand = None } in
-          let is : (get_or leaves leaf.0 d).leaf ≡ leaf.1 =
-          sym (get_or-map (λ (f : FoundLeaf). f.leaf) leaves leaf.0 d leaf.1 (omega (arith, count, inside))) ∙ ap (λ ls. get_or ls leaf.0 leaf.1) same ∙ leaf.3 in
-          any_row rows (get_or leaves leaf.0 d).leaf.demand number (ap (λ (l : Leaf). l.demand) is ∙ leaf.4)
-          (added.each leaf.0 d (omega (arith, count, inside, all)) (omega (arith, count, inside)));
+          let leaf = leaf_with plan number some in
+          let found = in_map (λ (f : FoundLeaf). f.leaf) leaves leaf.0 (subst (IsIn leaf.0) (sym same) leaf.1) in
+          let at = in_at leaves found.0 found.1 in
+          let is : (get_or leaves at.0 found.0).leaf.demand ≡ number = ap (λ (f : FoundLeaf). f.leaf.demand) at.2 ∙ ap (λ (l : Leaf). l.demand) (sym found.2) ∙ leaf.2 in
+          any_row rows (get_or leaves at.0 found.0).leaf.demand number is (added.each at.0 found.0 (omega (arith, at.1, all)) at.1);
       once = added.once;
     }
 

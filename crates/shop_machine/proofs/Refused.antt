@@ -1,5 +1,5 @@
 -- Why a plan is refused on a part, test by test.
-use Rattle.std.proofs.Common.{◌≡◌, ℕ, nat_eq, nat_lt, ◌≤◌, ◌<◌, arith, Bool, true, false, List, length, map, [], ◌∷◌, refl, sym, ap, subst, ◌∙◌}
+use Rattle.std.proofs.Common.{◌≡◌, ℕ, nat_eq, nat_lt, Bool, true, false, List, length, map, [], ◌∷◌, sym, ap, subst, ◌∙◌}
 use Rattle.std.specs.Prelude.{Option, Some, None, is_some, not, IfSome, MatchOption}
 use Rattle.cut_measure.specs.Measures.{Rule}
 use Rattle.shop_machine.specs.declared.changes.Change.{Change}
@@ -11,25 +11,14 @@ use Rattle.shop_machine.specs.declared.records.Material.{Material}
 use Rattle.shop_machine.specs.Columns.{is_free, is_waiting}
 use Rattle.shop_machine.specs.declared.records.Job.{Job}
 use Rattle.std.specs.Option.{option_or}
-use Rattle.std.proofs.lemmas.Bool.Decides.{nat_tests}
 use Rattle.std.proofs.lemmas.List.{length-map}
 use Rattle.shop_machine.specs.declared.plans.FoundLeaf.{FoundLeaf}
 use Rattle.shop_machine.specs.Found.{leaves_in}
 use Rattle.cut_tree.specs.Patterns.{Pattern}
 use Rattle.shop_machine.specs.declared.records.Part.{Part}
 use Rattle.shop_machine.specs.declared.records.Demand.{Demand}
-use Rattle.shop_machine.specs.declared.refusals.Refusal.{Refusal}
 use Rattle.shop_machine.specs.declared.refusals.Refusal.TheVariants.{BadTree, TooMany, NumbersSpent, NotStanding, StoreFault, JobOver}
-use Rattle.shop_machine.specs.Machine.{first_of, plan_refusal, reserve_refusal, job_refusal, rests, IsDone, no_change, in_state, row_part, done_reply, done_change, plan_leaves, leaves_refusal, is_too_many, most_numbers}
-
-pub at_most : (most n : ℕ) → nat_lt most n ≡ false → n ≤ most
-at_most most n e = grind (arith, nat_tests)
-
-pub above : (most n : ℕ) → most < n → nat_lt most n ≡ true
-above most n h = grind (arith, nat_tests)
-
-pub not_above : (most n : ℕ) → n ≤ most → nat_lt most n ≡ false
-not_above most n h = grind (arith, nat_tests)
+use Rattle.shop_machine.specs.Machine.{first_of, plan_refusal, reserve_refusal, job_refusal, rests, no_change, in_state, row_part, done_reply, done_change, plan_leaves, leaves_refusal, is_too_many, most_numbers}
 
 pub has_leaves : (plan : Pattern) (leaves : List FoundLeaf) → leaves_in leaves ≡ plan_leaves plan → false ≡ nat_eq (length leaves) 0 → nat_eq (length (plan_leaves plan)) 0 ≡ false
 has_leaves plan leaves same some = ap (λ n. nat_eq n 0) (ap length (sym same) ∙ length-map leaves (λ (f : FoundLeaf). f.leaf)) ∙ sym some

@@ -25,7 +25,7 @@ use Rattle.shop_machine.specs.Machine.{AreRecounted, IsReading, in_state, with_r
 use Rattle.shop_machine.specs.Soundness.{IsWaiting, IsJob, IsCounted, Fits, reserved_in, made_in}
 use Rattle.shop_machine.proofs.Basics.{names_total, names_same, same_some, none_at, get_same}
 use Rattle.shop_machine.proofs.Puts.{not_both, is_known, sum_new}
-use Rattle.shop_machine.proofs.Allowed.{IsFitting, narrow}
+use Rattle.shop_machine.proofs.Allowed.{IsFitting, narrow, free_stands}
 use Rattle.shop_machine.proofs.AddedUp.{cells_left, is_uncut}
 use Rattle.shop_machine.proofs.Moved.{demand_there, found_moved, no_reserved}
 use Rattle.shop_machine.proofs.Grown.{IsStock, none_later}
@@ -44,14 +44,6 @@ demands_in_range (Trim axis a f) h = demands_in_range f h.1
 demands_in_range (Cut axis a f s) h = let r = tokens_of_two (tokens f) (tokens s) h.1 in (demands_in_range f r.0, demands_in_range s r.1)
 
 -- ---- states
-
-pub free_stands : (s : State) → is_free s ≡ true → is_there s ≡ true
-free_stands state.Standing e = refl
-free_stands (state.Reserved job) e = cc
-free_stands (state.Cut job) e = cc
-free_stands (state.Piece demand) e = cc
-free_stands state.Kerf e = cc
-free_stands state.Scrap e = cc
 
 free_unreserved : (s : State) (number : ℕ) → is_free s ≡ true → s ≡ state.Reserved number → ⊥
 free_unreserved s number e f = let no : false ≡ true = ap is_free (sym f) ∙ e in cc
@@ -91,7 +83,7 @@ module _ (m : Content) (stock : IsStock m) (name : Name) (text : List ℕ) (row 
   step : IsPartStep m row (state.Reserved act) [] (Some act)
   step = record {
     there = here;
-    stands = free_stands row.state fitting.free;
+    stands = ap is_there (free_stands row.state fitting.free);
     plain = λ number. refl;
     new = λ x i. absurd i;
     rising = (λ y i. absurd i, tt);
@@ -100,7 +92,7 @@ module _ (m : Content) (stock : IsStock m) (name : Name) (text : List ℕ) (row 
     more = omega arith;
     numbers = (omega arith, fitting.number);
     received = λ code. refl;
-    left = λ code. left_as_before code row (state.Reserved act) (free_stands row.state fitting.free) refl;
+    left = λ code. left_as_before code row (state.Reserved act) (ap is_there (free_stands row.state fitting.free)) refl;
   }
 
   keeps : (n : ℕ) (d : Demand) → with_reserved n d ≡ record d { reserved = (with_reserved n d).reserved; made = (with_reserved n d).made }

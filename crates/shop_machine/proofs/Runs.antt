@@ -1,23 +1,20 @@
 -- Runs of the machine, and the histories that they leave.
 use Rattle.std.proofs.Common.{◌≡◌, ℕ, nat_eq, arith, List, [], ◌∷◌, ◌++◌, Bool, true, false, Option, Some, None, refl, sym, ap, subst, ◌∙◌}
-use Rattle.std.specs.Prelude.{MatchOption, is_some, ◌&&◌, ◌||◌, not, cond, if◌then◌else◌, IsTrue}
-use Rattle.std.specs.List.{list_any}
+use Rattle.std.specs.Prelude.{MatchOption, is_some, ◌&&◌, ◌||◌, not, cond, if◌then◌else◌}
 use Rattle.std.specs.declared.cmp.Ordering.{Ordering}
 use Rattle.std.specs.declared.cmp.Ordering.TheVariants.{Less, Equal, Greater}
 use Rattle.std.specs.Ordering.{nat_cmp, is_eq, ordering_then, eq_by_cmp}
 use Rattle.std.proofs.lemmas.Bool.Decides.{nat_tests}
-use Rattle.std.specs.FinMap.{FinMap, get, get-empty, get-insert, IsAntisymmetric, nat_cmp-IsAntisymmetric}
-use Rattle.std.specs.Cmp.{IsTotalOrder, on_total, then_total, nat_cmp_total}
+use Rattle.std.specs.FinMap.{get-empty, get-insert}
 use Rattle.shop_machine.specs.declared.kept_texts.Pair.{Pair}
 use Rattle.shop_machine.specs.declared.kept_texts.Kept.{Kept}
-use Rattle.shop_machine.specs.declared.changes.Change.{Change}
 use Rattle.shop_machine.specs.declared.messages.Message.{Message}
 use Rattle.shop_machine.specs.declared.messages.Reply.{Reply}
 use Rattle.shop_machine.specs.Messages.{Texts, IsMessage, refusal_in, is_accepted, pair_of}
-use Rattle.shop_machine.specs.Content.{Content, pair_cmp, kept_at, changed}
+use Rattle.shop_machine.specs.Content.{Content, pair_cmp, kept_at}
 use Rattle.cut_tree.specs.Patterns.{Pattern}
 use Rattle.shop_machine.specs.declared.refusals.Refusal.{Refusal}
-use Rattle.shop_machine.specs.Machine.{Accepts, Refuses, StepNew, StepAgain, Step, Run, keeping}
+use Rattle.shop_machine.specs.Machine.{Accepts, Refuses, StepNew, StepAgain, Step, Run}
 use Rattle.shop_machine.specs.History.{Entry, messages_of, Gives, history_after, has_pair, same_pair}
 use Rattle.shop_machine.proofs.Puts.{pairs_total}
 

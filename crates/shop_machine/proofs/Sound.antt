@@ -18,14 +18,14 @@ use Rattle.shop_machine.specs.Machine.{Reads, refusal_of, Makes, keeping, most_r
 use Rattle.shop_machine.specs.History.{Entry, Gives}
 use Rattle.shop_machine.specs.Soundness.{IsSound, Fits}
 use Rattle.shop_machine.proofs.Puts.{not_both}
-use Rattle.shop_machine.proofs.Allowed.{order_of}
+use Rattle.shop_machine.proofs.Allowed.{order_of, job_waits}
 use Rattle.shop_machine.proofs.Grown.{IsStock}
 use Rattle.shop_machine.proofs.MaterialStep.{material_stock, material_fits}
 use Rattle.shop_machine.proofs.ReceiveStep.{receive_stock, receive_fits}
 use Rattle.shop_machine.proofs.OrderStep.{order_stock, order_fits}
 use Rattle.shop_machine.proofs.ReserveStep.{reserve_stock, reserve_fits}
 use Rattle.shop_machine.proofs.JobEnds.{done_stock, done_fits, release_stock, release_fits}
-use Rattle.shop_machine.proofs.Told.{stock_of, receipt, reading, fitting, job_waits, told_by, kept_after}
+use Rattle.shop_machine.proofs.Told.{stock_of, receipt, reading, fitting, told_by, kept_after}
 use Rattle.shop_machine.proofs.Agreeing.{agrees_by}
 
 -- ---- by cases on the command

@@ -13,7 +13,6 @@ use Rattle.cut_tree.specs.Cells.{all_made}
 use Rattle.cut_tree.specs.Laying.{IsLaid}
 use Rattle.shop_machine.specs.declared.records.Material.{Material}
 use Rattle.shop_machine.specs.declared.records.Part.{Part}
-use Rattle.shop_machine.specs.declared.records.State.{State}
 use Rattle.shop_machine.specs.declared.records.Job.{Job}
 use Rattle.shop_machine.specs.declared.kept_texts.Pair.{Pair}
 use Rattle.shop_machine.specs.declared.kept_texts.Kept.{Kept}
@@ -25,11 +24,11 @@ use Rattle.shop_machine.specs.Columns.{is_counted, is_waiting}
 use Rattle.shop_machine.specs.declared.records.Column.{Column}
 use Rattle.shop_machine.specs.declared.records.Column.TheVariants as column
 use Rattle.shop_machine.specs.Messages.{Texts, IsMessage, IsCommand, IsMade, IsWide, pair_of}
-use Rattle.shop_machine.specs.Content.{Content, material_at, part_at, job_at, has_order, demand_at, kept_at, totals_of, changed}
-use Rattle.shop_machine.specs.Machine.{Reads, IsReading, IsWork, refusal_of, reserve_refusal, end_refusal, Makes, material_of, keeping, material_change, done_reply, cells_counted}
+use Rattle.shop_machine.specs.Content.{Content, material_at, part_at, has_order, demand_at, kept_at, totals_of, changed}
+use Rattle.shop_machine.specs.Machine.{Reads, IsReading, IsWork, refusal_of, reserve_refusal, Makes, material_of, keeping, material_change, done_reply, cells_counted}
 use Rattle.shop_machine.specs.Soundness.{IsKept, IsSound}
 use Rattle.shop_machine.proofs.Puts.{found_one, pairs_total, pairs_exact, sum_map}
-use Rattle.shop_machine.proofs.Allowed.{IsReceipt, receipt_of, order_of, IsFitting, fitting_of, waiting_of}
+use Rattle.shop_machine.proofs.Allowed.{IsReceipt, receipt_of, order_of, IsFitting, fitting_of, job_waits}
 use Rattle.shop_machine.proofs.Grown.{IsStock}
 use Rattle.shop_machine.proofs.JobEnds.{made, all_cells, so_far, placed}
 
@@ -51,10 +50,6 @@ fitting m part text read row plan there is allowed =
     fitting_of row (material_at m row.material) plan (demand_at m) (m.last_act + 1)
     (subst (λ r. reserve_refusal (Some row) (material_at m row.material) r (demand_at m) (m.last_act + 1) ≡ None) is
     (subst (λ o. reserve_refusal o (material_of m o) read (demand_at m) (m.last_act + 1) ≡ None) there allowed))
-
-pub job_waits : (m : Content) (number : ℕ) (j : Job) → job_at m number ≡ Some j → end_refusal m (job_at m number) ≡ None → is_waiting j.state ≡ true
-job_waits m number j found allowed =
-    waiting_of j (part_at m j.part) (material_of m (part_at m j.part)) (demand_at m) (subst (λ o. end_refusal m o ≡ None) found allowed)
 
 -- ---- replies
 

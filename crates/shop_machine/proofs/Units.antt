@@ -1,8 +1,7 @@
 -- Units that are received one after another.
-use Rattle.std.proofs.Common.{◌≡◌, ℕ, zero, suc, ◌+◌, List, [], ◌∷◌, ◌++◌, map, sym, ap, ◌∙◌, arith, add-one}
+use Rattle.std.proofs.Common.{◌≡◌, ℕ, ◌+◌, List, [], ◌∷◌, ◌++◌, map, ap, ◌∙◌, add-one}
 use Rattle.std.proofs.lemmas.List.{map-append}
 use Rattle.cut_measure.specs.Measures.{Extent, below}
-use Rattle.shop_machine.specs.declared.records.Part.{Part}
 use Rattle.shop_machine.specs.Machine.{unit_part, unit_parts}
 
 pub below_more : (n : ℕ) → below (n + 1) ≡ below n ++ n ∷ []

@@ -1,5 +1,5 @@
 -- Rows that were found for the lines of an order and for the leaves of a plan.
-use Rattle.std.specs.Prelude.{◌≡◌, ◌≢◌, ◌⊎◌, ◌++◌, ◌∷◌, [], Any, ℕ, ◌+◌, ◌≤◌, ◌<◌, ◌^◌, List, All, map, Option, Some, None, MatchOption, IfSome, ⊤}
+use Rattle.std.specs.Prelude.{◌≡◌, ◌≢◌, ◌⊎◌, ◌++◌, ◌∷◌, [], Any, ℕ, ◌+◌, ◌≤◌, ◌<◌, ◌^◌, List, All, map, Option, MatchOption, IfSome}
 use Rattle.cut_tree.specs.declared.leaves.Leaf.{Leaf}
 use Rattle.cut_tree.specs.Tree.{Tree, count_of}
 use Rattle.cut_tree.specs.Patterns.{Pattern}

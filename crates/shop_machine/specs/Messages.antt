@@ -1,8 +1,8 @@
 -- Messages: what holds of each, what they are known by, and how they are written down.
-use Rattle.std.specs.Prelude.{ℕ, ◌<◌, ◌^◌, List, IsTrue, ⊤, Bool, true, false, not, Option, Some, None, is_some, All}
+use Rattle.std.specs.Prelude.{ℕ, ◌<◌, ◌^◌, List, IsTrue, Bool, not, Option, Some, None, is_some, All}
 use Rattle.std.specs.Str.{is_utf8}
 use Rattle.cut_measure.specs.Codes.{is_code}
-use Rattle.cut_measure.specs.Names.{Name, IsName}
+use Rattle.cut_measure.specs.Names.{IsName}
 use Rattle.shop_machine.specs.declared.kept_texts.Pair.{Pair}
 use Rattle.shop_machine.specs.declared.messages.Command.{Command}
 use Rattle.shop_machine.specs.declared.messages.Command.TheVariants.{AddMaterial, Receive, AddOrder, Reserve, Done, Release}

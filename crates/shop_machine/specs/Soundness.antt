@@ -1,5 +1,5 @@
 -- What holds of every content that a history gives, and what a change has to fit so that each book can make it.
-use Rattle.std.specs.Prelude.{◌≡◌, ◌≢◌, ℕ, ◌+◌, ◌<◌, ◌≤◌, ◌⊎◌, List, All, AllPairs, IsSome, IfSome, Option, Some, None, MatchOption, true, false, ⊤, if◌then◌else◌, sum_by, count_by}
+use Rattle.std.specs.Prelude.{◌≡◌, ◌≢◌, ℕ, ◌+◌, ◌<◌, ◌≤◌, List, All, AllPairs, IsSome, IfSome, Some, None, MatchOption, true, false, ⊤, if◌then◌else◌, sum_by, count_by}
 use Rattle.std.specs.declared.cmp.Ordering.TheVariants.{Less}
 use Rattle.std.specs.FinMap as map
 use Rattle.cut_measure.specs.Names.{Name, name_cmp}

@@ -9,7 +9,7 @@ use Rattle.std.specs.Cmp.{IsTotalOrder, tied_itself}
 use Rattle.std.specs.Cmp.Lexicographic.{nat_list_cmp_total}
 use Rattle.std.specs.FinMap.{put, find, slice_cmp-IsAntisymmetric, nat_cmp-IsAntisymmetric}
 use Rattle.std.specs.FinMap.Entries.{find-put, by_order}
-use Rattle.std.proofs.lemmas.Bool.Decides.{nat_tests}
+use Rattle.std.proofs.lemmas.Bool.{leb-true, le-leb}
 use Rattle.std.proofs.lemmas.List.Sums.{sum_by-cons}
 use Rattle.cut_measure.specs.Codes.{code_cmp}
 use Rattle.cut_measure.specs.Names.{Name, name_cmp}
@@ -103,14 +103,11 @@ both : (a b : Bool) → (a && b) ≡ true → (a ≡ true) × (b ≡ true)
 both true b e = (refl, e)
 both false b e = cc
 
-small_le : (n : ℕ) → nat_le n most_cells ≡ true → n ≤ most_cells
-small_le n e = grind (arith, nat_tests)
-
 pub cells_bounded : (column : Column) (code : List ℕ) (parts : List Part) → all_small parts ≡ true → cells_in column code parts ≤ length parts * most_cells
 cells_bounded column code [] e = omega arith
 cells_bounded column code (p ∷ ps) e =
     let t = both (nat_le (p.size.w * p.size.h) most_cells) (all_small ps) e in
-    omega (arith, sum_by-cons (cells_for column code) p ps, cells_le (counts_for column code p) (p.size.w * p.size.h), small_le (p.size.w * p.size.h) t.0, cells_bounded column code ps t.1)
+    omega (arith, sum_by-cons (cells_for column code) p ps, cells_le (counts_for column code p) (p.size.w * p.size.h), leb-true (p.size.w * p.size.h) most_cells t.0, cells_bounded column code ps t.1)
 
 -- ---- a part that is replaced was counted
 
@@ -148,10 +145,7 @@ small_entries part (e ∷ es) own old =
       | Greater ↦ ap (λ b. b && all_small (map (λ (e : Name × Part). e.1) (put name_cmp part.name part es))) t.0 ∙ small_entries part es own t.1
     ]
 
-small_test : (n : ℕ) → n ≤ most_cells → nat_le n most_cells ≡ true
-small_test n h = grind (arith, nat_tests)
-
 pub small-put : (part : Part) (old new : List Part) → part.size.w * part.size.h ≤ most_cells → all_small old ≡ true → IsPut part_key name_cmp part old new → all_small new ≡ true
 small-put part old new own small is_put =
     ap all_small (sym (seconds part_key name_cmp new) ∙ ap (map (λ (e : Name × Part). e.1)) is_put)
-    ∙ small_entries part (entries_of part_key name_cmp old) (small_test (part.size.w * part.size.h) own) (ap all_small (seconds part_key name_cmp old) ∙ small)
+    ∙ small_entries part (entries_of part_key name_cmp old) (le-leb (part.size.w * part.size.h) most_cells own) (ap all_small (seconds part_key name_cmp old) ∙ small)

@@ -1,8 +1,10 @@
 ghost use Rattle.std.specs.Prelude.{◌≡◌};
 ghost use Rattle.shop_text.specs.Streams.{one_more};
 
-use crate::streams::{Failed, Sink, Source};
-use std::io::{ErrorKind, Read, Write};
+mod reads;
+mod writes;
+
+use crate::streams::Failed;
 use std::marker::Model;
 
 const MOST_TRIES: u32 = 1000;
@@ -39,54 +41,5 @@ impl<T> Counted<T> {
     {
         self.failures = self.failures.saturating_add(1);
         Failed
-    }
-}
-
-impl<R: Read> Source for Counted<R> {
-    ghost left = { λ s. R.remaining s.inner };
-
-    ghost failed = { λ s. s.failures };
-
-    fn read(&mut self, buffer: &mut [u8]) -> Result<usize, Failed> {
-        for _ in 0..MOST_TRIES {
-            match self.inner.read(buffer) {
-                Ok(count) => return Ok(count),
-                Err(error) => {
-                    if error.kind() != ErrorKind::Interrupted {
-                        break;
-                    }
-                }
-            }
-        }
-        Err(self.fail())
-    }
-
-    fn failures(&self) -> u64 {
-        self.failures
-    }
-}
-
-impl<W: Write> Sink for Counted<W> {
-    ghost held = { λ s. W.contents s.inner };
-
-    ghost failed = { λ s. s.failures };
-
-    fn write(&mut self, bytes: &[u8]) -> Result<usize, Failed> {
-        for _ in 0..MOST_TRIES {
-            match self.inner.write(bytes) {
-                Ok(0) => break,
-                Ok(count) => return Ok(count),
-                Err(error) => {
-                    if error.kind() != ErrorKind::Interrupted {
-                        break;
-                    }
-                }
-            }
-        }
-        Err(self.fail())
-    }
-
-    fn failures(&self) -> u64 {
-        self.failures
     }
 }

@@ -4,6 +4,7 @@ use Rattle.std.specs.Prelude.{MatchOption, ◌&&◌, if◌then◌else◌}
 use Rattle.std.specs.Option.{ok_or}
 use Rattle.std.specs.Str.{IsUtf8, is_utf8}
 use Rattle.std.proofs.lemmas.Str.{IsUtf8-from_is_utf8, is_utf8-from_IsUtf8}
+use Rattle.std.proofs.lemmas.Bool.{le-leb, lt-leb}
 use Rattle.std.proofs.lemmas.Bool.Decides.{nat_tests}
 use Rattle.std.proofs.lemmas.List.{take_all, length-take}
 use Rattle.shop_machine.specs.declared.messages.Message.{Message}
@@ -65,14 +66,8 @@ of_no_memory old d = by_message (message_of d)
 
 -- ---- lines
 
-short_test : (n : ℕ) → n ≤ 131072 → nat_le n 131072 ≡ true
-short_test n h = grind (arith, nat_tests)
-
-long_test : (n : ℕ) → 131072 < n → nat_le n 131072 ≡ false
-long_test n h = grind (arith, nat_tests)
-
 pub data_read : (line : List ℕ) (d : Data) → length line ≤ 131072 → IsUtf8 line → read line ≡ Some d → data_of line ≡ Some d
-data_read line d short text is = rw (short_test (length line) short, is_utf8-from_IsUtf8 line text) is
+data_read line d short text is = rw (le-leb (length line) 131072 short, is_utf8-from_IsUtf8 line text) is
 
 unread : (line : List ℕ) (b : Bool) → is_utf8 line ≡ b → (short : Bool) → (IsUtf8 line → read line ≡ None) → (if short && b then read line else None) ≡ None
 unread line true e true none = none (IsUtf8-from_is_utf8 line e)
@@ -84,7 +79,7 @@ pub data_none : (line : List ℕ) → (IsUtf8 line → read line ≡ None) → d
 data_none line none = unread line (is_utf8 line) refl (nat_le (length line) 131072) none
 
 pub data_long : (line : List ℕ) → 131072 < length line → data_of line ≡ None
-data_long line long = ap (λ (short : Bool). if short && is_utf8 line then read line else None) (long_test (length line) long)
+data_long line long = ap (λ (short : Bool). if short && is_utf8 line then read line else None) (lt-leb (length line) 131072 long)
 
 pub line_answered : (old new : Content) (line : List ℕ) (d : Data) (reply : Reply) → data_of line ≡ Some d → ValueStep old d reply new → LineStep old line reply new
 line_answered old new line d reply is step = subst (λ (o : Option Data). MatchOption o (IsNoMessage old reply new) (λ d. ValueStep old d reply new)) (sym is) step

@@ -1,7 +1,7 @@
 -- A part of a buffer up to a line feed.
 use Rattle.std.proofs.Common.{◌≡◌, ℕ, zero, suc, ◌+◌, ◌-◌, ◌<◌, ◌≤◌, List, [], ◌∷◌, ◌++◌, length, take, drop, get_or, Bool, true, false, nat_eq, refl, sym, ap, ◌∙◌, arith, length-drop}
 use Rattle.std.proofs.Math.Seq.{take-length, drop-cons}
-use Rattle.std.proofs.lemmas.Bool.Decides.{nat_tests}
+use Rattle.std.proofs.lemmas.Bool.{eqb-true}
 use Rattle.std.proofs.lemmas.List.{take-append-drop, drop-drop, drop-take}
 use Rattle.std.specs.Prelude.{slice_index}
 use Rattle.memchr.specs.Find.{Nowhere, Passes, is_byte}
@@ -20,9 +20,6 @@ no_feed (b ∷ bs) (suc k) h = (false_from (nat_eq b 10) (h 0 (omega arith) (ome
 pub no_feed_whole : (hay : List ℕ) → Nowhere (Passes (is_byte 10) hay) 0 (length hay) → HasNoFeed hay
 no_feed_whole hay h = let part = no_feed hay (length hay) h in rw (sym (take-length hay)) part
 
-is_feed : (b : ℕ) → nat_eq b 10 ≡ true → b ≡ 10
-is_feed b h = grind (arith, nat_tests)
-
 taken_on : (buffer : List ℕ) (start end at : ℕ) → suc at ≤ end - start → drop (suc at) (pending buffer start end) ≡ pending buffer (start + (at + 1)) end
 taken_on buffer start end at h =
     let m = end - start - suc at in
@@ -37,7 +34,7 @@ pub split_at_feed : (buffer : List ℕ) (start end at : ℕ) → at < length (pe
 split_at_feed buffer start end at within inside is =
     let rest = pending buffer start end in
     sym (take-append-drop at rest)
-    ∙ ap (λ l. take at rest ++ l) (drop-cons rest at 0 within ∙ ap (λ b. b ∷ drop (suc at) rest) (is_feed (get_or rest at 0) is) ∙ ap (λ l. 10 ∷ l) (taken_on buffer start end at inside))
+    ∙ ap (λ l. take at rest ++ l) (drop-cons rest at 0 within ∙ ap (λ b. b ∷ drop (suc at) rest) (eqb-true (get_or rest at 0) 10 is) ∙ ap (λ l. 10 ∷ l) (taken_on buffer start end at inside))
 
 pub pending_none : (buffer : List ℕ) (n : ℕ) → pending buffer n n ≡ []
 pending_none buffer n = let none : n - n ≡ 0 = omega arith in ap (λ m. take m (drop n buffer)) none

@@ -1,8 +1,8 @@
-use Rattle.std.proofs.Common.{◌≡◌, ◌++◌, ◌∷◌, [], List, sym, ap, ◌∙◌}
+use Rattle.std.proofs.Common.{◌≡◌, ◌++◌, ◌∷◌, [], sym, ap, ◌∙◌}
 use Rattle.cut_measure.specs.Names.{Name}
 use Rattle.shop_machine.specs.declared.records.Part.{Part}
 use Rattle.shop_machine.specs.declared.records.State.TheVariants.{Standing}
-use Rattle.shop_machine.specs.Machine.{unit_part, unit_parts}
+use Rattle.shop_machine.specs.Machine.{unit_parts}
 use Rattle.shop_machine.proofs.Units.{unit_parts_more}
 use Rattle.shop_machine.proofs.decisions.received_parts.Goals as goal
 

@@ -1,5 +1,4 @@
-use Rattle.std.proofs.Common.{◌≡◌, ◌+◌, ◌*◌, ◌≤◌, ◌∷◌, List, drop, map, sym, ap, subst, ◌∙◌, arith}
-use Rattle.cut_tree.specs.declared.lay.Row.{Row}
+use Rattle.std.proofs.Common.{◌≡◌, ◌*◌, drop, map, sym, ap, subst, ◌∙◌, arith}
 use Rattle.cut_tree.specs.Laying.{IsLaid}
 use Rattle.cut_tree.specs.Cells.{all_made}
 use Rattle.std.specs.Prelude.{sum_by}

@@ -1,4 +1,4 @@
-use Rattle.std.proofs.Common.{◌≡◌, refl, sym, ap, ◌∙◌}
+use Rattle.std.proofs.Common.{sym, ◌∙◌}
 use Rattle.shop_machine.proofs.Refused.{job_test}
 use Rattle.shop_machine.proofs.jobs.work_of.Goals as goal
 

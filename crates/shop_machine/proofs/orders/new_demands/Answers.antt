@@ -1,4 +1,4 @@
-use Rattle.std.proofs.Common.{◌≡◌, ◌+◌, ◌++◌, ◌∷◌, [], sym, ap, take, ◌∙◌, arith}
+use Rattle.std.proofs.Common.{◌+◌, ◌++◌, ◌∷◌, [], sym, ap, take, ◌∙◌, arith}
 use Rattle.shop_machine.specs.Machine.{new_demand, new_demands}
 use Rattle.shop_machine.specs.declared.orders.FoundLine.{FoundLine}
 use Rattle.shop_machine.specs.Found.{lines_in}

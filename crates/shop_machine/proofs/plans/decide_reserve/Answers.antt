@@ -1,4 +1,4 @@
-use Rattle.std.proofs.Common.{◌≡◌, refl, sym, ap, ◌∙◌}
+use Rattle.std.proofs.Common.{sym, ap, ◌∙◌}
 use Rattle.std.specs.Prelude.{is_some}
 use Rattle.shop_machine.proofs.Refused.{reserve_allowed}
 use Rattle.shop_machine.proofs.plans.decide_reserve.Goals as goal

@@ -1,9 +1,9 @@
-use Rattle.std.proofs.Common.{◌≡◌, ℕ, Bool, true, false, nat_lt, List, length, refl, sym, ap, ◌∙◌, Some, None}
-use Rattle.std.specs.Prelude.{Option}
+use Rattle.std.proofs.Common.{true, false, nat_lt, refl, sym, ap, ◌∙◌}
 use Rattle.std.specs.List.{list_any}
 use Rattle.cut_tree.specs.Tree.{count_of}
+use Rattle.std.proofs.lemmas.Bool.{lt-ltb, le-ltb}
 use Rattle.shop_machine.specs.Machine.{leaves_refusal, is_over, most_numbers}
-use Rattle.shop_machine.proofs.Refused.{plan_refused, has_leaves, above, not_above}
+use Rattle.shop_machine.proofs.Refused.{plan_refused, has_leaves}
 use Rattle.shop_machine.proofs.plans.plan_refusal.Goals as goal
 
 pub returns-then-is_too_many-clause-refusal : goal.returns-then-is_too_many-clause-refusal
@@ -21,7 +21,7 @@ returns-then-act-gt-MOST_NUMBERS-clause-refusal c =
     (has_leaves c.args.plan.now c.args.leaves.now c.requires.leaves c.if-is_empty.ensures)
     (ap (leaves_refusal at c.args.part.now.material) (sym c.requires.leaves) ∙ sym (c.in_default.ensures.refusal at found))
     (ap (list_any (λ leaf. is_over (count_of c.args.plan.now.tree leaf.demand) (at leaf.demand))) (sym c.requires.leaves) ∙ sym (c.is_too_many.ensures.test at found) ∙ c.if-is_too_many.false)
-    (above most_numbers c.args.act c.if-act-gt-MOST_NUMBERS.true))
+    (lt-ltb most_numbers c.args.act c.if-act-gt-MOST_NUMBERS.true))
 
 pub returns-clause-refusal : goal.returns-clause-refusal
 returns-clause-refusal c =
@@ -30,4 +30,4 @@ returns-clause-refusal c =
     (has_leaves c.args.plan.now c.args.leaves.now c.requires.leaves c.if-is_empty.ensures)
     (ap (leaves_refusal at c.args.part.now.material) (sym c.requires.leaves) ∙ sym (c.in_default.ensures.refusal at found))
     (ap (list_any (λ leaf. is_over (count_of c.args.plan.now.tree leaf.demand) (at leaf.demand))) (sym c.requires.leaves) ∙ sym (c.is_too_many.ensures.test at found) ∙ c.if-is_too_many.false)
-    (not_above most_numbers c.args.act c.if-act-gt-MOST_NUMBERS.false))
+    (le-ltb most_numbers c.args.act c.if-act-gt-MOST_NUMBERS.false))

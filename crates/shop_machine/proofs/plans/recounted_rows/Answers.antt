@@ -1,7 +1,7 @@
-use Rattle.std.proofs.Common.{◌≡◌, ◌≤◌, length, sym, ap, subst, ◌∙◌, arith}
+use Rattle.std.proofs.Common.{◌≤◌, length, sym, ap, subst, ◌∙◌, arith}
 use Rattle.shop_machine.specs.declared.records.Demand.{Demand}
 use Rattle.shop_machine.specs.Found.{HasRoom, HasRow, IsAddedOnce, recount_by}
-use Rattle.shop_machine.proofs.Recounts.{added_more, all_added, none_added, row_of}
+use Rattle.shop_machine.proofs.Recounts.{added_more, all_added, row_of}
 use Rattle.shop_machine.proofs.plans.recounted_rows.Goals as goal
 
 pub recounted-requires : goal.recounted-requires

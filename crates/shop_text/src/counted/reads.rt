@@ -1,0 +1,27 @@
+use crate::counted::{Counted, MOST_TRIES};
+use crate::streams::{Failed, Source};
+use std::io::{ErrorKind, Read};
+
+impl<R: Read> Source for Counted<R> {
+    ghost left = { λ s. R.remaining s.inner };
+
+    ghost failed = { λ s. s.failures };
+
+    fn read(&mut self, buffer: &mut [u8]) -> Result<usize, Failed> {
+        for _ in 0..MOST_TRIES {
+            match self.inner.read(buffer) {
+                Ok(count) => return Ok(count),
+                Err(error) => {
+                    if error.kind() != ErrorKind::Interrupted {
+                        break;
+                    }
+                }
+            }
+        }
+        Err(self.fail())
+    }
+
+    fn failures(&self) -> u64 {
+        self.failures
+    }
+}
