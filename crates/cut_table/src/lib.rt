@@ -4,8 +4,10 @@
 pub mod bar;
 pub mod bound;
 pub mod keep;
+mod number;
 pub mod place;
 pub mod reach;
 pub mod read;
+mod row;
 pub mod sheet;
 pub mod wants;
