@@ -67,22 +67,7 @@ pub dearer : (x : Want) (low high : ℕ) → (1 ≤ x.size.w) × (1 ≤ x.size.h
     → (1 ≤ x.size.w) × (1 ≤ x.size.h) × (x.worth ≤ high * (x.size.w * x.size.h))
 dearer x low high at le = (at.0, at.1, omega (arith, at.2, mul-le low (x.size.w * x.size.h) high (x.size.w * x.size.h) le (omega arith)))
 
--- what is cut from a rectangle is cut from a taller one
-pub taller : (price : ℕ) (wants : List Want) (t : Tree) (w b h : ℕ) → HaveOwnDemands wants → ArePriced price wants → Legal wants 0 t w b → b ≤ h
-    → (u : Tree) × Legal wants 0 u w h × (worth_of wants u ≡ worth_of wants t)
-taller price wants t w b h own priced legal le = elim (cases_eq b h) [
-  | inl e ↦ (t, subst (λ c. Legal wants 0 t w c) e legal, refl)
-  | inr ne ↦ elim (cases_lt 0 b) [
-    | inl some ↦ let sum : worth_of wants t + 0 ≡ worth_of wants t = omega arith in (Cut Y b t Rest, (some, omega arith, legal, tt), sum)
-    | inr none ↦
-        let e : b ≡ 0 = omega arith in
-        let area : price * (w * b) ≡ price * (w * 0) = ap (λ n. price * (w * n)) e in
-        let worthless : 0 ≡ worth_of wants t = omega (arith, worth_of-le_price price wants t w b own priced legal, area) in
-        (Rest, tt, worthless)
-  ]
-]
-
--- and from a wider one
+-- what is cut from a rectangle is cut from a wider one
 pub wider : (price : ℕ) (wants : List Want) (t : Tree) (b w h : ℕ) → HaveOwnDemands wants → ArePriced price wants → Legal wants 0 t b h → b ≤ w
     → (u : Tree) × Legal wants 0 u w h × (worth_of wants u ≡ worth_of wants t)
 wider price wants t b w h own priced legal le = elim (cases_eq b w) [
@@ -250,29 +235,46 @@ tried_next wants w h n m v low high v' one nm sum old lows highs is = record {
   most = tried_up wants w h n m v low high v' sum old.most lows highs (omega arith) (omega arith);
 }
 
--- a cut at a height that gives no more than the one below it needs no trial
-pub tried_same : (price : ℕ) (wants : List Want) (w h n m v low high : ℕ) → HaveOwnDemands wants → ArePriced price wants → 1 ≤ n → n ≤ m → n + m ≡ h
-    → IsBestTried wants n w h v → IsBestOf wants 0 w n low → IsBestOf wants 0 w (n - 1) low → IsBestOf wants 0 w m high → IsBestTried wants (n + 1) w h v
-tried_same price wants w h n m v low high own priced one nm sum old lows belows highs = record {
+-- two heights together give no less than each by itself
+together : (price : ℕ) (wants : List Want) (w a b low high top : ℕ) → HaveOwnDemands wants → ArePriced price wants
+    → IsBestOf wants 0 w a low → IsBestOf wants 0 w b high → IsBestOf wants 0 w (a + b) top → low + high ≤ top
+together price wants w a b low high top own priced lows highs tops = elim (cases_lt 0 a) [
+  | inr no_low ↦
+      let e : a ≡ 0 = omega arith in
+      let area : price * (w * a) ≡ price * (w * 0) = ap (λ n. price * (w * n)) e in
+      let all : a + b ≡ b = omega arith in
+      omega (arith, best-le_price price wants w a low own priced lows, area, highs.found.2, tops.most highs.found.0 (subst (λ n. Legal wants 0 highs.found.0 w n) (sym all) highs.found.1))
+  | inl some ↦ elim (cases_lt 0 b) [
+    | inr no_high ↦
+        let e : b ≡ 0 = omega arith in
+        let area : price * (w * b) ≡ price * (w * 0) = ap (λ n. price * (w * n)) e in
+        let all : a + b ≡ a = omega arith in
+        omega (arith, best-le_price price wants w b high own priced highs, area, lows.found.2, tops.most lows.found.0 (subst (λ n. Legal wants 0 lows.found.0 w n) (sym all) lows.found.1))
+    | inl some_high ↦
+        let there : b ≡ a + b - a - 0 = omega arith in
+        let u_legal : Legal wants 0 highs.found.0 w (a + b - a - 0) = subst (λ n. Legal wants 0 highs.found.0 w n) there highs.found.1 in
+        omega (arith, lows.found.2, highs.found.2, tops.most (Cut Y a lows.found.0 highs.found.0) (some, omega arith, lows.found.1, u_legal))
+  ]
+]
+
+-- a cut needs no trial where one of its heights gives no more than the one below it
+pub tried_same : (price : ℕ) (wants : List Want) (w h n m v low high top : ℕ) → HaveOwnDemands wants → ArePriced price wants → 1 ≤ n → 1 ≤ m → n + m ≡ h
+    → IsBestTried wants n w h v → IsBestOf wants 0 w n low → IsBestOf wants 0 w m high → IsBestOf wants 0 w (h - 1) top
+    → IsBestOf wants 0 w (n - 1) low ⊎ IsBestOf wants 0 w (m - 1) high → IsBestTried wants (n + 1) w h v
+tried_same price wants w h n m v low high top own priced one one' sum old lows highs tops way = record {
   above = old.above;
   found = old.found;
   most = tried_up wants w h n m v low high v sum old.most lows highs (omega arith) parts;
 }
   where
     parts : low + high ≤ v
-    parts = elim (cases_lt 1 n) [
-      | inl more ↦
-          let t = belows.found in
-          let there : m ≤ h - (n - 1) - 0 = omega arith in
-          let u = taller price wants highs.found.0 w m (h - (n - 1) - 0) own priced highs.found.1 there in
-          let some : 1 ≤ n - 1 = omega arith in
-          let tried : n - 1 < n = omega arith in
-          omega (arith, t.2, u.2, highs.found.2, old.most (Cut Y (n - 1) t.0 u.0) (some, omega arith, t.1, u.1) (inl tried))
-      | inr first ↦
-          let e : n - 1 ≡ 0 = omega arith in
-          let area : price * (w * (n - 1)) ≡ price * (w * 0) = ap (λ i. price * (w * i)) e in
-          let last : m ≡ h - 1 = omega arith in
-          omega (arith, best-le_price price wants w (n - 1) low own priced belows, area, old.above high (omega arith) (subst (λ i. IsBestOf wants 0 w i high) last highs))
+    parts = elim way [
+      | inl less ↦
+          let e : h - 1 ≡ n - 1 + m = omega arith in
+          omega (arith, together price wants w (n - 1) m low high top own priced less highs (subst (λ i. IsBestOf wants 0 w i top) e tops), old.above top (omega arith) tops)
+      | inr less ↦
+          let e : h - 1 ≡ n + (m - 1) = omega arith in
+          omega (arith, together price wants w n (m - 1) low high top own priced lows less (subst (λ i. IsBestOf wants 0 w i top) e tops), old.above top (omega arith) tops)
     ]
 
 -- once half the height was tried, all was

@@ -74,7 +74,7 @@ fn stack_all<T: Number>(row: &mut [T], wants: &[Scaled], rows: &[Vec<T>], useful
 {
     let height = rows.len();
     for a in 1..height / 2 + 1 {
-        if useful[a] {
+        if useful[a] && useful[height - a] {
             stack_rows(row, &rows[a], &rows[height - a]);
         }
     }
