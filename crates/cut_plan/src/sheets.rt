@@ -57,9 +57,9 @@ fn kept_leaves(
     requires down { down ≤ 500 }
     ensures { IfOk result (λ c. spec.IsCutting wants.now across down c.counts.items (tree_of c.kept)) }
 {
-    let rows = best_table(alloc, wants, across, down)?;
+    let table = best_table(alloc, wants, across, down)?;
     let mut counts = vec![in alloc; 0u32; wants.len()]?;
-    let kept = keep(alloc, wants, &rows, across + 1, across, down, &mut counts)?;
+    let kept = keep(alloc, wants, &table, across + 1, across, down, &mut counts)?;
     Ok(Cutting { counts, kept })
 }
 

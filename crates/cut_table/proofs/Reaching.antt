@@ -1,36 +1,28 @@
 -- A best worth is reached by nothing, by a piece, or by a cut into two best worths.
-use Rattle.std.proofs.Common.{◌≡◌, ◌≢◌, ℕ, zero, suc, ◌+◌, ◌-◌, ◌*◌, ◌^◌, ◌<◌, ◌≤◌, Bool, true, false, List, [], ◌∷◌, length, get_or, sym, refl, ap, ◌∙◌, subst, inl, inr, arith, Vec, Global, Some, cond, eqb}
+use Rattle.std.proofs.Common.{◌≡◌, ◌≢◌, ℕ, zero, suc, ◌+◌, ◌-◌, ◌*◌, ◌^◌, ◌<◌, ◌≤◌, Bool, true, false, List, [], ◌∷◌, length, get_or, sym, refl, ap, ◌∙◌, subst, inl, inr, arith, Some, cond, eqb}
 use Rattle.std.specs.Prelude.{Contains, slice_get, slice_set}
 use Rattle.std.proofs.lemmas.Bool.{cases_lt}
 use Rattle.std.proofs.lemmas.Nat.{mul-le}
 use Rattle.std.proofs.Math.Nat.{le_refl}
-use Rattle.std.proofs.lemmas.List.{get_or_default}
 use Rattle.std.proofs.lemmas.Option.{slice_get-get_or}
 use Rattle.cut_table.specs.declared.wants.Want.{Want}
 use Rattle.cut_tree.specs.Tree.{Tree, count_of, Rest, Piece, Trim, Cut}
 use Rattle.cut_measure.specs.declared.sizes.Axis.TheVariants.{X, Y}
 use Rattle.cut_table.specs.Legal.{HasSides, IsPiece, Legal, worth_of, HaveOwnDemands}
 use Rattle.cut_table.specs.Best.{IsBestOf}
-use Rattle.cut_table.specs.Table.{IsTable, AreSmall, IsCutX, IsCutY, IsPieceAt, CountsLeaves}
+use Rattle.cut_table.specs.declared.sheet.Table.{Table}
+use Rattle.cut_table.specs.declared.sheet.Table.TheVariants.{Narrow, Wide}
+use Rattle.cut_table.specs.Table.{IsTable, heights, AreSmall, IsCutX, IsCutY, IsPieceAt, CountsLeaves}
 use Rattle.std.proofs.lemmas.Bool.Decides.{eqb_tells}
 use Rattle.cut_table.proofs.Joins.{set_here, set_other}
 use Rattle.cut_table.proofs.Trees.{Contains-tail}
-use Rattle.cut_table.proofs.Sheets.{piece_worth, best-le_area, row_best}
+use Rattle.cut_table.proofs.Sheets.{piece_worth, best-le_price, small_priced, row_worth}
 
 pub value_small : (wants : List Want) (w h v : ℕ) → HaveOwnDemands wants → AreSmall wants → w ≤ 500 → h ≤ 500 → IsBestOf wants 0 w h v → v ≤ 250000 * 2 ^ 30
-value_small wants w h v own small ws hs b = omega (arith, best-le_area wants w h v own small b, mul-le w h 500 500 ws hs)
+value_small wants w h v own small ws hs b = omega (arith, best-le_price (2 ^ 30) wants w h v own (small_priced wants small) b, mul-le w h 500 500 ws hs)
 
 pub best_same : (wants : List Want) (w h u v : ℕ) → IsBestOf wants 0 w h u → IsBestOf wants 0 w h v → u ≡ v
 best_same wants w h u v a b = omega (arith, a.found.2, b.found.2, a.most b.found.0 b.found.1, b.most a.found.0 a.found.1)
-
-pub read_best : (wants : List Want) (places : ℕ) (rows : List (Vec ℕ Global)) (w h n : ℕ) (row : Vec ℕ Global) → IsTable wants places rows → w < places → h < length rows
-    → row ≡ get_or rows h row → n ≡ get_or row.items w n → w < length row.items → IsBestOf wants 0 w h n
-read_best wants places rows w h n row table wp hl is e wl =
-    let b = row_best wants places rows h row row.items table is refl hl w wp in
-    subst (λ v. IsBestOf wants 0 w h v) (sym (e ∙ get_or_default row.items w n 0 wl)) b
-
-pub row_len : (wants : List Want) (places : ℕ) (rows : List (Vec ℕ Global)) (h : ℕ) (row : Vec ℕ Global) → IsTable wants places rows → h < length rows → row ≡ get_or rows h row → length row.items ≡ places
-row_len wants places rows h row table hl is = ap (λ (r : Vec ℕ Global). length r.items) is ∙ (table h row hl).len
 
 pub no_cut_x : (wants : List Want) (w h best a f s : ℕ) → IsBestOf wants 0 a h f → IsBestOf wants 0 (w - a) h s → (f + s ≡ best → ⊥) → IsCutX wants w h best a → ⊥
 no_cut_x wants w h best a f s fs ss ne c = ne (omega (arith, best_same wants a h f c.first fs c.firsts, best_same wants (w - a) h s c.second ss c.seconds, c.sum))
@@ -107,15 +99,10 @@ count_of-le_area wants (Cut Y a t u) w h d small l =
     let e : a + (h - a - 0) ≡ h = omega (arith, l.1) in
     omega (arith, count_of-le_area wants t w a d small l.2, count_of-le_area wants u w (h - a - 0) d small l.3, ap (λ n. w * n) e)
 
-some_of : (rows : List (Vec ℕ Global)) → 0 < length rows → Vec ℕ Global
-some_of [] lt = absurd (omega arith)
-some_of (row ∷ rows) lt = row
-
-pub all_best : (wants : List Want) (places : ℕ) (rows : List (Vec ℕ Global)) (w h : ℕ) → IsTable wants places rows → w < places → h < length rows
+pub all_best : (wants : List Want) (places : ℕ) (table : Table) (w h : ℕ) → IsTable wants places table → w < places → h < heights table
     → (v u : ℕ) → v ≤ w → u ≤ h → (b : ℕ) × IsBestOf wants 0 v u b
-all_best wants places rows w h table wp hl v u vw uh =
-    let d = some_of rows (omega arith) in
-    (get_or (get_or rows u d).items v 0, (table u d (omega arith)).best v (omega arith))
+all_best wants places (Narrow rows) w h table wp hl = λ v u vw uh. row_worth (λ n. n) wants places rows.items v u table (omega arith) (omega arith)
+all_best wants places (Wide rows) w h table wp hl = λ v u vw uh. row_worth (λ n. n) wants places rows.items v u table (omega arith) (omega arith)
 
 pub contains_get : (xs : List Want) (i : ℕ) (x : Want) → slice_get xs i ≡ Some x → Contains xs x
 contains_get [] i x h = absurd (cc)

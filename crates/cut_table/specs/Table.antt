@@ -1,5 +1,7 @@
 -- Tables of best worths, a row for each height.
-use Rattle.std.specs.Prelude.{◌≡◌, ℕ, ◌+◌, ◌-◌, ◌*◌, ◌^◌, ◌<◌, ◌≤◌, Bool, List, length, max, slice_index, slice_index_or, Contains, Vec, Some, slice_get}
+use Rattle.std.specs.Prelude.{◌≡◌, ℕ, ◌+◌, ◌-◌, ◌*◌, ◌^◌, ◌<◌, ◌≤◌, Bool, false, List, map, length, max, slice_index, slice_index_or, Contains, Vec, Some, slice_get}
+use Rattle.cut_table.specs.declared.sheet.Table.{Table}
+use Rattle.cut_table.specs.declared.sheet.Table.TheVariants.{Narrow, Wide}
 use Rattle.cut_table.specs.declared.read.Choice.{Choice}
 use Rattle.cut_table.specs.declared.read.Choice.TheVariants.{Waste, Whole, CutX, CutY}
 use Rattle.std.specs.declared.alloc.Global.{Global}
@@ -27,24 +29,50 @@ abbrev pub IsStacked : List ℕ → List ℕ → List ℕ → List ℕ → Type 
 IsStacked old low high new =
     (p : ℕ) → p < length old → slice_index new p ≡ max (slice_index old p) (slice_index low p + slice_index high p)
 
--- a worth of less than 2^39 for each unit of width
-abbrev pub IsBelow : List ℕ → Type 0
-IsBelow row = (length row ≤ 501) × ((p : ℕ) → p < length row → slice_index row p ≤ p * 2 ^ 39)
+-- a worth for each unit of width, all of which stay below the limit
+pub record IsBelow (limit : ℕ) (row : List ℕ) : Type 0 where
+  pub per : ℕ
+  pub each : (p : ℕ) → p < length row → slice_index row p ≤ p * per
+  pub below : (p : ℕ) → p < length row → p * per < limit
 
--- each place is the best sum of two parts, or what stood there
+-- the sums of this part and each that isn't wider were offered to the places of their widths
+pub record IsOfferedFrom (part : ℕ) (old new : List ℕ) : Type 0 where
+  pub same : (k : ℕ) → k ≤ part → slice_index new k ≡ slice_index old k
+  pub kept : (k : ℕ) → slice_index old k ≤ slice_index new k
+  pub sums : (a : ℕ) → 1 ≤ a → a ≤ part → part + a < length old → slice_index old part + slice_index old a ≤ slice_index new (part + a)
+  pub found : (k : ℕ) → slice_index old k < slice_index new k →
+      (a : ℕ) × (1 ≤ a) × (a ≤ part) × (k ≡ part + a) × (slice_index new k ≡ slice_index old part + slice_index old a)
+
+-- each place is the best sum of two parts that its width has room for, or what stood there
 pub record IsJoined (old new : List ℕ) : Type 0 where
   pub kept : (p : ℕ) → p < length old → slice_index old p ≤ slice_index new p
   pub cuts : (p a : ℕ) → p < length old → 1 ≤ a → a + a ≤ p → slice_index new a + slice_index new (p - a) ≤ slice_index new p
   pub found : (p : ℕ) → p < length old → slice_index old p < slice_index new p →
-      (a : ℕ) × (1 ≤ a) × (a + a ≤ p) × (slice_index new p ≡ slice_index new a + slice_index new (p - a))
+      (a b : ℕ) × (a < p) × (b < p) × (a + b ≤ p) × (slice_index new p ≡ slice_index new a + slice_index new b)
 
 -- the row has this many places, each with the best worth of its width
 pub record IsBestRow (wants : List Want) (places h : ℕ) (row : List ℕ) : Type 0 where
   pub len : length row ≡ places
   pub best : (w : ℕ) → w < places → IsBestOf wants 0 w h (slice_index row w)
 
-abbrev pub IsTable : List Want → ℕ → List (Vec ℕ Global) → Type 0
-IsTable wants places rows = (h : ℕ) (d : Vec ℕ Global) → h < length rows → IsBestRow wants places h (slice_index_or rows h d).items
+-- the rows of the heights from 0 on, their numbers having these worths
+abbrev pub AreRows : {T : Type 0} → (T → ℕ) → List Want → ℕ → List (Vec T Global) → Type 0
+AreRows {T = T} value wants places rows =
+    (h : ℕ) (d : Vec T Global) → h < length rows → IsBestRow wants places h (map value (slice_index_or rows h d).items)
+
+abbrev pub heights : Table → ℕ
+heights (Narrow rows) = length rows.items
+heights (Wide rows) = length rows.items
+
+abbrev pub IsTable : List Want → ℕ → Table → Type 0
+IsTable wants places (Narrow rows) = AreRows (λ v. v) wants places rows.items
+IsTable wants places (Wide rows) = AreRows (λ v. v) wants places rows.items
+
+-- a height that isn't useful gives no more than the one below it
+abbrev pub AreUseful : List Want → ℕ → List Bool → Type 0
+AreUseful wants places useful =
+    (h : ℕ) (d : Bool) → h < length useful → slice_index_or useful h d ≡ false
+    → (w v : ℕ) → w < places → IsBestOf wants 0 w h v → IsBestOf wants 0 w (h - 1) v
 
 -- the topmost cut isn't one across the width
 abbrev pub IsUncut : Tree → Type 0
@@ -59,6 +87,26 @@ IsUncut (Cut X a t u) = ⊥
 abbrev pub IsUncutRow : List Want → ℕ → List ℕ → Type 0
 IsUncutRow wants h row =
     (w : ℕ) → w < length row → IsBest wants (λ t. Legal wants 0 t w h × IsUncut t) (slice_index row w)
+
+-- a tree that doesn't begin with a cut across the width, worth no less than a piece or the best of the height below
+pub record IsLifted (wants : List Want) (w h v : ℕ) : Type 0 where
+  pub most : (x : Want) (turned : Bool) → Contains wants x → HasSides x turned w h → x.worth ≤ v
+  pub above : (u : ℕ) → 1 ≤ h → IsBestOf wants 0 w (h - 1) u → u ≤ v
+  pub found : (t : Tree) × Legal wants 0 t w h × IsUncut t × (worth_of wants t ≡ v)
+
+abbrev pub IsLiftedRow : List Want → ℕ → List ℕ → Type 0
+IsLiftedRow wants h row = (w : ℕ) → w < length row → IsLifted wants w h (slice_index row w)
+
+-- each side is at least 1, and no worth is more than this for each unit of its area
+abbrev pub ArePriced : ℕ → List Want → Type 0
+ArePriced price wants =
+    (x : Want) → Contains wants x → (1 ≤ x.size.w) × (1 ≤ x.size.h) × (x.worth ≤ price * (x.size.w * x.size.h))
+
+-- a price at which every rectangle of the height stays below the limit
+pub record Fits (limit : ℕ) (wants : List Want) (places h : ℕ) : Type 0 where
+  pub price : ℕ
+  pub priced : ArePriced price wants
+  pub below : (w : ℕ) → w < places → price * (w * h) < limit
 
 -- each side is at least 1, and each worth at most 2^30
 abbrev pub AreSmall : List Want → Type 0

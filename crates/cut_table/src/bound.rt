@@ -8,6 +8,7 @@ ghost use Rattle.cut_table.specs.Rounded.{want_down, wants_down, want_up, wants_
 ghost use Rattle.cut_table.specs.Bound.{Meets, worth_left, div_up};
 ghost use Rattle.cut_table.specs.Table.{AreWorthy, HaveSides};
 
+use crate::read::worth_at;
 use crate::sheet::best_table;
 use crate::wants::{Scaled, Want};
 use cut_measure::Size;
@@ -99,8 +100,8 @@ pub fn ceiling(
     let rounded = all_down(alloc, wants, kerf, step)?;
     let across = ((size.w() + kerf) / step) as usize;
     let down = ((size.h() + kerf) / step) as usize;
-    let rows = best_table(alloc, &rounded, across, down)?;
-    let best = rows[down][across];
+    let table = best_table(alloc, &rounded, across, down)?;
+    let best = worth_at(&rounded, &table, across + 1, across, down);
     Ok(best)
 }
 

@@ -4,10 +4,11 @@ ghost use Rattle.cut_tree.specs.Tree.{Piece, Rest};
 ghost use Rattle.cut_tree.specs.Nodes.{tree_of};
 ghost use Rattle.cut_table.specs.declared.wants.Want.{Want};
 ghost use Rattle.cut_table.specs.Legal.{HaveOwnDemands};
-ghost use Rattle.cut_table.specs.Table.{IsTable, AreSmall};
+ghost use Rattle.cut_table.specs.Table.{IsTable, heights, AreSmall};
 ghost use Rattle.cut_table.specs.Kept.{joined, Keeps};
 
 use crate::read::{Choice, choose, worth_at};
+use crate::sheet::Table;
 use crate::wants::Scaled;
 use cut_measure::Axis;
 use cut_tree::Node;
@@ -69,7 +70,7 @@ fn keep_leaf(wants: &[Scaled], i: usize, turned: bool, counts: &mut [u32]) -> No
 pub fn keep(
     alloc: Global,
     wants: &[Scaled],
-    rows: &[Vec<u64>],
+    table: &Table,
     places: usize,
     w: usize,
     h: usize,
@@ -78,28 +79,28 @@ pub fn keep(
     requires own { HaveOwnDemands wants.now }
     requires small { AreSmall wants.now }
     requires places { places ≤ 501 }
-    requires heights { length rows.now ≤ 501 }
-    requires table { IsTable wants.now places rows.now }
+    requires heights { heights table.now ≤ 501 }
+    requires table { IsTable wants.now places table.now }
     requires w { w < places }
-    requires h { h < length rows.now }
+    requires h { h < heights table.now }
     requires len { length counts.old ≡ length wants.now }
     requires fits { (i : ℕ) → i < length counts.old → slice_index counts.old i + w * h < 2 ^ 32 }
     ensures kept { IfOk result (λ node. Keeps wants.now w h counts.old counts.new (tree_of node)) }
     ensures grown { OnOk result ((i : ℕ) → i < length counts.old → slice_index counts.new i ≤ slice_index counts.old i + w * h) }
 {
-    let best = worth_at(wants, rows, places, w, h);
-    match choose(wants, rows, places, w, h, best) {
+    let best = worth_at(wants, table, places, w, h);
+    match choose(wants, table, places, w, h, best) {
         Choice::Waste => Ok(Node::Rest),
         Choice::Whole(i, turned) => Ok(keep_leaf(wants, i, turned, counts)),
         Choice::CutX(a) => {
-            let first = keep(alloc, wants, rows, places, a, h, counts)?;
-            let second = keep(alloc, wants, rows, places, w - a, h, counts)?;
+            let first = keep(alloc, wants, table, places, a, h, counts)?;
+            let second = keep(alloc, wants, table, places, w - a, h, counts)?;
             let node = join(alloc, Axis::X, a as u32, first, second)?;
             Ok(node)
         }
         Choice::CutY(a) => {
-            let first = keep(alloc, wants, rows, places, w, a, counts)?;
-            let second = keep(alloc, wants, rows, places, w, h - a, counts)?;
+            let first = keep(alloc, wants, table, places, w, a, counts)?;
+            let second = keep(alloc, wants, table, places, w, h - a, counts)?;
             let node = join(alloc, Axis::Y, a as u32, first, second)?;
             Ok(node)
         }

@@ -3,8 +3,10 @@ ghost use Rattle.std.specs.Prelude.{◌≡◌, ℕ, ◌+◌, ◌-◌, ◌*◌, �
 ghost use Rattle.cut_table.specs.declared.wants.Want.{Want};
 ghost use Rattle.cut_table.specs.Best.{IsBestOf};
 ghost use Rattle.cut_table.specs.Legal.{HaveOwnDemands, HasSides};
-ghost use Rattle.cut_table.specs.Table.{IsTable, AreSmall, IsCutX, IsCutY, IsPieceAt, Explains};
+ghost use Rattle.cut_table.specs.Table.{IsTable, AreRows, heights, AreSmall, IsCutX, IsCutY, IsPieceAt, Explains};
 
+use crate::number::Number;
+use crate::sheet::Table;
 use crate::wants::Scaled;
 
 /// What stands first in a best tree of a rectangle.
@@ -16,19 +18,31 @@ pub enum Choice {
     CutY(usize),
 }
 
-/// The best worth of a rectangle.
-pub fn worth_at(wants: &[Scaled], rows: &[Vec<u64>], places: usize, w: usize, h: usize) -> u64
-    requires table { IsTable wants.now places rows.now }
+fn worth_in<T: Number>(wants: &[Scaled], rows: &[Vec<T>], places: usize, w: usize, h: usize) -> u64
+    requires table { AreRows T.value wants.now places rows.now }
     requires w { w < places }
     requires h { h < length rows.now }
     ensures { IsBestOf wants.now 0 w h result }
 {
-    rows[h][w]
+    rows[h][w].worth()
+}
+
+/// The best worth of a rectangle.
+pub fn worth_at(wants: &[Scaled], table: &Table, places: usize, w: usize, h: usize) -> u64
+    requires table { IsTable wants.now places table.now }
+    requires w { w < places }
+    requires h { h < heights table.now }
+    ensures { IsBestOf wants.now 0 w h result }
+{
+    match table {
+        Table::Narrow(rows) => worth_in(wants, rows, places, w, h),
+        Table::Wide(rows) => worth_in(wants, rows, places, w, h),
+    }
 }
 
 fn find_cut_x(
     wants: &[Scaled],
-    rows: &[Vec<u64>],
+    table: &Table,
     places: usize,
     w: usize,
     h: usize,
@@ -37,16 +51,16 @@ fn find_cut_x(
     requires own { HaveOwnDemands wants.now }
     requires small { AreSmall wants.now }
     requires places { places ≤ 501 }
-    requires heights { length rows.now ≤ 501 }
-    requires table { IsTable wants.now places rows.now }
+    requires heights { heights table.now ≤ 501 }
+    requires table { IsTable wants.now places table.now }
     requires w { w < places }
-    requires h { h < length rows.now }
+    requires h { h < heights table.now }
     ensures found { IfSome result (IsCutX wants.now w h best) }
     ensures none { IfNone result ((a : ℕ) → a + a ≤ w → IsCutX wants.now w h best a → ⊥) }
 {
     for a in 1..w / 2 + 1 {
-        let first = worth_at(wants, rows, places, a, h);
-        let second = worth_at(wants, rows, places, w - a, h);
+        let first = worth_at(wants, table, places, a, h);
+        let second = worth_at(wants, table, places, w - a, h);
         if first + second == best {
             return Some(a);
         }
@@ -56,7 +70,7 @@ fn find_cut_x(
 
 fn find_cut_y(
     wants: &[Scaled],
-    rows: &[Vec<u64>],
+    table: &Table,
     places: usize,
     w: usize,
     h: usize,
@@ -65,16 +79,16 @@ fn find_cut_y(
     requires own { HaveOwnDemands wants.now }
     requires small { AreSmall wants.now }
     requires places { places ≤ 501 }
-    requires heights { length rows.now ≤ 501 }
-    requires table { IsTable wants.now places rows.now }
+    requires heights { heights table.now ≤ 501 }
+    requires table { IsTable wants.now places table.now }
     requires w { w < places }
-    requires h { h < length rows.now }
+    requires h { h < heights table.now }
     ensures found { IfSome result (IsCutY wants.now w h best) }
     ensures none { IfNone result ((a : ℕ) → a + a ≤ h → IsCutY wants.now w h best a → ⊥) }
 {
     for a in 1..h / 2 + 1 {
-        let first = worth_at(wants, rows, places, w, a);
-        let second = worth_at(wants, rows, places, w, h - a);
+        let first = worth_at(wants, table, places, w, a);
+        let second = worth_at(wants, table, places, w, h - a);
         if first + second == best {
             return Some(a);
         }
@@ -112,7 +126,7 @@ fn find_piece(wants: &[Scaled], w: usize, h: usize, best: u64) -> Option<(usize,
 /// How the best worth of a rectangle is reached.
 pub fn choose(
     wants: &[Scaled],
-    rows: &[Vec<u64>],
+    table: &Table,
     places: usize,
     w: usize,
     h: usize,
@@ -121,18 +135,18 @@ pub fn choose(
     requires own { HaveOwnDemands wants.now }
     requires small { AreSmall wants.now }
     requires places { places ≤ 501 }
-    requires heights { length rows.now ≤ 501 }
-    requires table { IsTable wants.now places rows.now }
+    requires heights { heights table.now ≤ 501 }
+    requires table { IsTable wants.now places table.now }
     requires w { w < places }
-    requires h { h < length rows.now }
+    requires h { h < heights table.now }
     requires best { IsBestOf wants.now 0 w h best }
     ensures { Explains wants.now w h best result }
 {
     match find_piece(wants, w, h, best) {
         Some((i, turned)) => Choice::Whole(i, turned),
-        None => match find_cut_x(wants, rows, places, w, h, best) {
+        None => match find_cut_x(wants, table, places, w, h, best) {
             Some(a) => Choice::CutX(a),
-            None => match find_cut_y(wants, rows, places, w, h, best) {
+            None => match find_cut_y(wants, table, places, w, h, best) {
                 Some(a) => Choice::CutY(a),
                 None => Choice::Waste,
             },

@@ -1,25 +1,25 @@
 // The best worth of a sheet without kerf, for every rectangle up to a size.
-ghost use Rattle.std.specs.Prelude.{◌≡◌, ℕ, ◌+◌, ◌-◌, ◌*◌, ◌/◌, ◌^◌, ◌<◌, ◌≤◌, ◌≢◌, length, max, slice_index, IfOk, vec_len, All, true, false};
+ghost use Rattle.std.specs.Prelude.{◌≡◌, ℕ, ◌+◌, ◌-◌, ◌*◌, ◌/◌, ◌^◌, ◌<◌, ◌≤◌, length, map, IfOk, All, true, false};
+ghost use Rattle.cut_table.specs.Legal.{HaveOwnDemands, HasSides};
 ghost use Rattle.cut_table.specs.Best.{IsBestOf};
-ghost use Rattle.cut_table.specs.Legal.{HaveOwnDemands};
-ghost use Rattle.cut_table.specs.Table.{IsOffered, IsPlainRow, IsJoined, IsStacked, IsUncutRow, IsBestRow, IsTable, AreSmall, IsBelow};
+ghost use Rattle.cut_table.specs.Table.{IsOffered, IsPlainRow, IsLiftedRow, IsUncutRow, IsBestRow, AreRows, AreUseful, ArePriced, Fits, IsTable, AreSmall, heights};
 
+use crate::number::Number;
+use crate::row::{is_same, join_row, offer, stack_rows};
 use crate::wants::Scaled;
 use std::alloc::{AllocError, Global};
 
-/// A worth at a place of the row, where it is greater than what stands there.
-fn offer(row: &mut [u64], at: usize, worth: u64)
-    ensures at { at < length row.old → slice_index row.new at ≡ max (slice_index row.old at) worth }
-    ensures others { (p : ℕ) → p ≢ at → slice_index row.new p ≡ slice_index row.old p }
-{
-    if at < row.len() && row[at] < worth {
-        row[at] = worth;
-    }
+/// The best worths of rectangles by height and then width, in narrow numbers where they do.
+#[derive(Drop)]
+pub enum Table {
+    Narrow(Vec<Vec<u32>>),
+    Wide(Vec<Vec<u64>>),
 }
 
 /// The worth of one want, where it has the height as it stands.
-fn offer_upright(row: &mut [u64], want: &Scaled, height: usize)
-    ensures { IsOffered want.now false height row.old row.new }
+fn offer_upright<T: Number>(row: &mut [T], want: &Scaled, height: usize)
+    requires { (w : ℕ) → w < length row.old → HasSides want.now false w height → want.now.worth < T.limit }
+    ensures { IsOffered want.now false height (map T.value row.old) (map T.value row.new) }
 {
     if want.h as usize == height {
         offer(row, want.w as usize, want.worth as u64);
@@ -27,8 +27,9 @@ fn offer_upright(row: &mut [u64], want: &Scaled, height: usize)
 }
 
 /// The worth of one want, where it may be turned and then has the height.
-fn offer_turned(row: &mut [u64], want: &Scaled, height: usize)
-    ensures { IsOffered want.now true height row.old row.new }
+fn offer_turned<T: Number>(row: &mut [T], want: &Scaled, height: usize)
+    requires { (w : ℕ) → w < length row.old → HasSides want.now true w height → want.now.worth < T.limit }
+    ensures { IsOffered want.now true height (map T.value row.old) (map T.value row.new) }
 {
     if want.may_turn && want.w as usize == height {
         offer(row, want.h as usize, want.worth as u64);
@@ -36,9 +37,10 @@ fn offer_turned(row: &mut [u64], want: &Scaled, height: usize)
 }
 
 /// For each width, the best single piece of the height.
-fn fill_plain(row: &mut [u64], wants: &[Scaled], height: usize)
-    requires { All (λ v. v ≡ 0) row.old }
-    ensures { IsPlainRow wants.now height row.new }
+fn fill_plain<T: Number>(row: &mut [T], wants: &[Scaled], height: usize)
+    requires fits { Fits T.limit wants.now (length row.old) height }
+    requires zeros { All (λ v. v ≡ 0) (map T.value row.old) }
+    ensures { IsPlainRow wants.now height (map T.value row.new) }
 {
     for want in wants {
         offer_upright(row, want, height);
@@ -46,117 +48,151 @@ fn fill_plain(row: &mut [u64], wants: &[Scaled], height: usize)
     }
 }
 
-/// Each place is raised to the sum of the two rows there.
-fn stack_rows(row: &mut [u64], low: &[u64], high: &[u64])
-    requires low_len { length low.now ≡ length row.old }
-    requires high_len { length high.now ≡ length row.old }
-    requires fits { (p : ℕ) → p < length row.old → slice_index low.now p + slice_index high.now p < 2 ^ 64 }
-    ensures { IsStacked row.old low.now high.now row.new }
-{
-    for p in 0..row.len() {
-        let sum = low[p] + high[p];
-        if row[p] < sum {
-            row[p] = sum;
-        }
-    }
-}
-
-/// The greatest sum of two parts of the width, or what stands there.
-fn best_cut(row: &[u64], width: usize) -> u64
-    requires within { width < length row.now }
-    requires fits { (a : ℕ) → a ≤ width → slice_index row.now a + slice_index row.now (width - a) < 2 ^ 64 }
-    ensures here { slice_index row.now width ≤ result }
-    ensures cuts { (a : ℕ) → 1 ≤ a → a + a ≤ width → slice_index row.now a + slice_index row.now (width - a) ≤ result }
-    ensures found { slice_index row.now width < result → (a : ℕ) × (1 ≤ a) × (a + a ≤ width) × (result ≡ slice_index row.now a + slice_index row.now (width - a)) }
-{
-    let mut best = row[width];
-    for a in 1..width / 2 + 1 {
-        let sum = row[a] + row[width - a];
-        if best < sum {
-            best = sum;
-        }
-    }
-    best
-}
-
-/// Each place is raised to the best sum of two parts of its width.
-fn join_row(row: &mut [u64])
-    requires small { IsBelow row.old }
-    ensures { IsJoined row.old row.new }
-{
-    for p in 0..row.len() {
-        let best = best_cut(row, p);
-        row[p] = best;
-    }
-}
-
-/// Raises each place to the best of two rows that have the height together.
-fn stack_all(row: &mut [u64], wants: &[Scaled], rows: &[Vec<u64>])
+/// Raises each place to the best worth of the height below.
+fn lift<T: Number>(row: &mut [T], wants: &[Scaled], rows: &[Vec<T>])
     requires own { HaveOwnDemands wants.now }
-    requires small { AreSmall wants.now }
-    requires width { length row.old ≤ 501 }
-    requires height { length rows.now ≤ 500 }
-    requires table { IsTable wants.now (length row.old) rows.now }
-    requires plain { IsPlainRow wants.now (length rows.now) row.old }
-    ensures { IsUncutRow wants.now (length rows.now) row.new }
+    requires fits { Fits T.limit wants.now (length row.old) (length rows.now) }
+    requires table { AreRows T.value wants.now (length row.old) rows.now }
+    requires plain { IsPlainRow wants.now (length rows.now) (map T.value row.old) }
+    ensures { IsLiftedRow wants.now (length rows.now) (map T.value row.new) }
+{
+    if rows.len() > 0 {
+        stack_rows(row, &rows[0], &rows[rows.len() - 1]);
+    }
+}
+
+/// Raises each place to the best of two rows that have the height together. A height that is worth no more than the one
+/// below it gives no more with any other.
+fn stack_all<T: Number>(row: &mut [T], wants: &[Scaled], rows: &[Vec<T>], useful: &[bool])
+    requires own { HaveOwnDemands wants.now }
+    requires fits { Fits T.limit wants.now (length row.old) (length rows.now) }
+    requires table { AreRows T.value wants.now (length row.old) rows.now }
+    requires len { length useful.now ≡ length rows.now }
+    requires useful { AreUseful wants.now (length row.old) useful.now }
+    requires lifted { IsLiftedRow wants.now (length rows.now) (map T.value row.old) }
+    ensures { IsUncutRow wants.now (length rows.now) (map T.value row.new) }
 {
     let height = rows.len();
     for a in 1..height / 2 + 1 {
-        stack_rows(row, &rows[a], &rows[height - a]);
+        if useful[a] && useful[height - a] {
+            stack_rows(row, &rows[a], &rows[height - a]);
+        }
     }
 }
 
 /// Each place of the row of zeros becomes the best worth of its width and the next height.
-fn fill_best(row: &mut [u64], wants: &[Scaled], rows: &[Vec<u64>])
+fn fill_best<T: Number>(row: &mut [T], wants: &[Scaled], rows: &[Vec<T>], useful: &[bool])
     requires own { HaveOwnDemands wants.now }
-    requires small { AreSmall wants.now }
-    requires width { length row.old ≤ 501 }
-    requires height { length rows.now ≤ 500 }
-    requires table { IsTable wants.now (length row.old) rows.now }
-    requires zeros { All (λ v. v ≡ 0) row.old }
-    ensures { (w : ℕ) → w < length row.new → IsBestOf wants.now 0 w (length rows.now) (slice_index row.new w) }
+    requires fits { Fits T.limit wants.now (length row.old) (length rows.now) }
+    requires table { AreRows T.value wants.now (length row.old) rows.now }
+    requires len { length useful.now ≡ length rows.now }
+    requires useful { AreUseful wants.now (length row.old) useful.now }
+    requires zeros { All (λ v. v ≡ 0) (map T.value row.old) }
+    ensures { IsBestRow wants.now (length row.old) (length rows.now) (map T.value row.new) }
 {
     fill_plain(row, wants, rows.len());
-    stack_all(row, wants, rows);
+    lift(row, wants, rows);
+    stack_all(row, wants, rows, useful);
     join_row(row);
 }
 
-fn best_row(
+fn best_row<T: Number>(
     alloc: Global,
     wants: &[Scaled],
-    rows: &[Vec<u64>],
+    rows: &[Vec<T>],
+    useful: &[bool],
     width: usize,
-) -> Result<Vec<u64>, AllocError>
+) -> Result<Vec<T>, AllocError>
     requires own { HaveOwnDemands wants.now }
-    requires small { AreSmall wants.now }
     requires width { width ≤ 500 }
-    requires height { length rows.now ≤ 500 }
-    requires table { IsTable wants.now (width + 1) rows.now }
-    ensures { IfOk result (λ row. IsBestRow wants.now (width + 1) (length rows.now) row.items) }
+    requires fits { Fits T.limit wants.now (width + 1) (length rows.now) }
+    requires table { AreRows T.value wants.now (width + 1) rows.now }
+    requires len { length useful.now ≡ length rows.now }
+    requires useful { AreUseful wants.now (width + 1) useful.now }
+    ensures { IfOk result (λ row. IsBestRow wants.now (width + 1) (length rows.now) (map T.value row.items)) }
 {
-    let mut row = vec![in alloc; 0u64; width + 1]?;
-    fill_best(&mut row, wants, rows);
+    let mut row = T::zeros(alloc, width + 1)?;
+    fill_best(&mut row, wants, rows, useful);
     Ok(row)
 }
 
-/// The best worth of every rectangle up to the size, by height and then width.
+/// Whether the next row is worth more than the last one somewhere.
+fn is_useful<T: Number>(rows: &[Vec<T>], row: &[T], wants: &[Scaled], places: usize) -> bool
+    requires table { AreRows T.value wants.now places rows.now }
+    requires row { IsBestRow wants.now places (length rows.now) (map T.value row.now) }
+    ensures { result ≡ false → (w v : ℕ) → w < places → IsBestOf wants.now 0 w (length rows.now) v → IsBestOf wants.now 0 w (length rows.now - 1) v }
+{
+    rows.len() == 0 || !is_same(&rows[rows.len() - 1], row)
+}
+
+/// The rows of every height up to one.
+fn best_rows<T: Number>(
+    alloc: Global,
+    wants: &[Scaled],
+    width: usize,
+    height: usize,
+) -> Result<Vec<Vec<T>>, AllocError>
+    requires own { HaveOwnDemands wants.now }
+    requires width { width ≤ 500 }
+    requires height { height ≤ 500 }
+    requires fits { Fits T.limit wants.now (width + 1) height }
+    ensures len { IfOk result (λ rows. length rows.items ≡ height + 1) }
+    ensures table { IfOk result (λ rows. AreRows T.value wants.now (width + 1) rows.items) }
+{
+    let mut rows: Vec<Vec<T>> = Vec::new(alloc);
+    let mut useful = Vec::new(alloc);
+    for _ in 0..height + 1 {
+        let row = best_row(alloc, wants, &rows, &useful, width)?;
+        useful.push(is_useful(&rows, &row, wants, width + 1))?;
+        rows.push(row)?;
+    }
+    Ok(rows)
+}
+
+/// The worth of a want for each unit of its area, rounded up.
+fn price(want: &Scaled) -> u64
+    requires sides { (1 ≤ want.now.size.w) × (1 ≤ want.now.size.h) }
+    requires worth { want.now.worth ≤ 2 ^ 30 }
+    ensures enough { want.now.worth ≤ result * (want.now.size.w * want.now.size.h) }
+    ensures small { result ≤ 2 ^ 30 }
+{
+    let area = want.w as u64 * want.h as u64;
+    (want.worth as u64 + (area - 1)) / area
+}
+
+/// The highest price of a want.
+fn highest_price(wants: &[Scaled]) -> u64
+    requires small { AreSmall wants.now }
+    ensures priced { ArePriced result wants.now }
+    ensures small { result ≤ 2 ^ 30 }
+{
+    let mut highest = 0;
+    for want in wants {
+        highest = price(want).max(highest);
+    }
+    highest
+}
+
+/// The best worth of every rectangle up to the size.
 pub fn best_table(
     alloc: Global,
     wants: &[Scaled],
     width: usize,
     height: usize,
-) -> Result<Vec<Vec<u64>>, AllocError>
+) -> Result<Table, AllocError>
     requires own { HaveOwnDemands wants.now }
     requires small { AreSmall wants.now }
     requires width { width ≤ 500 }
     requires height { height ≤ 500 }
-    ensures len { IfOk result (λ rows. vec_len rows ≡ height + 1) }
-    ensures table { IfOk result (λ rows. IsTable wants.now (width + 1) rows.items) }
+    ensures len { IfOk result (λ table. heights table ≡ height + 1) }
+    ensures table { IfOk result (IsTable wants.now (width + 1)) }
 {
-    let mut rows = Vec::new(alloc);
-    for _ in 0..height + 1 {
-        let row = best_row(alloc, wants, &rows, width)?;
-        rows.push(row)?;
+    let area = width as u64 * height as u64;
+    if highest_price(wants) * area < 4294967296 {
+        let rows = best_rows(alloc, wants, width, height)?;
+        Ok(Table::Narrow(rows))
+    } else {
+        let rows = best_rows(alloc, wants, width, height)?;
+        Ok(Table::Wide(rows))
     }
-    Ok(rows)
 }
