@@ -1,13 +1,23 @@
 -- The account of a history.
-use Rattle.std.proofs.Common.{List}
+use Rattle.std.proofs.Common.{◌≡◌, List, sym, ap, ◌∙◌, subst, arith}
+use Rattle.shop_machine.specs.declared.records.Part.{Part}
 use Rattle.shop_machine.specs.Messages.{Texts}
 use Rattle.shop_machine.specs.Content.{Content}
 use Rattle.shop_machine.specs.Soundness.{IsSound}
-use Rattle.shop_machine.specs.History.{Entry, Gives, IsAccountOf}
+use Rattle.shop_machine.specs.History.{Entry, Gives, Holds, IsOwner, EachPartOwnsItsCells, IsAccountOf, owner_of}
 use Rattle.shop_machine.proofs.Sound.{gives_sound}
 use Rattle.shop_machine.proofs.Accounts.{Follows}
 use Rattle.shop_machine.proofs.Given.{follows}
 use Rattle.shop_machine.proofs.CellCounts.{totals_counted}
+
+-- the part of a cell is the one that has it
+parts_own : (history : List Entry) (content : Content) → Follows history content → EachPartOwnsItsCells history content
+parts_own history content says name part found x y holds =
+    let row = says.rows name part found in
+    let root : row.unit.name ≡ part.root = row.root in
+    let cell = says.cells row.unit row.received x y (omega (arith, holds.left, row.across)) (omega (arith, holds.above, row.down)) in
+    let same : part ≡ cell.part = cell.alone name part found (subst (λ unit. Holds unit x y part) (sym root) holds) in
+    (cell.owner, ap (λ unit. owner_of history unit x y) (sym root) ∙ cell.owned, subst (λ (p : Part). IsOwner cell.owner x y p) (sym same) cell.same)
 
 -- where each content that a history gives is sound
 pub account_from : ((texts : Texts) (history : List Entry) (content : Content) → Gives texts history content → IsSound texts content)
@@ -18,6 +28,7 @@ account_from sound texts history content given =
     record {
       given = given;
       owners = says.cells;
+      parts = parts_own history content says;
       totals = totals_counted texts history content is says;
       adds_up = is.in_range.adds_up;
       demands = λ number demand found. (is.demands number demand found).counted;

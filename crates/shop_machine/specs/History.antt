@@ -22,7 +22,7 @@ use Rattle.shop_machine.specs.declared.messages.Message.{Message}
 use Rattle.shop_machine.specs.declared.messages.Reply.{Reply}
 use Rattle.shop_machine.specs.Columns.{same_name, is_there, is_piece, is_kerf, is_scrap, is_free}
 use Rattle.shop_machine.specs.Messages.{Texts, IsMessage, is_accepted, pair_of}
-use Rattle.shop_machine.specs.Content.{Content, fresh, demand_at, kept_at, totals_of, AddsUp}
+use Rattle.shop_machine.specs.Content.{Content, fresh, part_at, demand_at, kept_at, totals_of, AddsUp}
 use Rattle.shop_machine.specs.Machine.{Accepts, fate, same_code}
 use Rattle.shop_machine.specs.Soundness.{IsCounted}
 
@@ -246,6 +246,12 @@ abbrev pub EachCellIsOwned : List Entry → Content → Type 0
 EachCellIsOwned history content =
     (unit : ReceivedUnit) → IsIn unit (units_of history) → (x y : ℕ) → x < unit.size.w → y < unit.size.h → OneOwner history content unit.name x y
 
+-- a part that isn't cut is the owner of each of its cells, in the state, at the place and with the sides that its row says
+abbrev pub EachPartOwnsItsCells : List Entry → Content → Type 0
+EachPartOwnsItsCells history content =
+    (name : Name) (part : Part) → part_at content name ≡ Some part → (x y : ℕ) → Holds part.root x y part
+    → (owner : Owner) × (owner_of history part.root x y ≡ Some owner) × IsOwner owner x y part
+
 -- ---- counts
 
 -- whether an owner's cells are counted in a column, the unit being this
@@ -282,6 +288,7 @@ TotalsAreCounts history content = (code : List ℕ) →
 pub record IsAccountOf (texts : Texts) (history : List Entry) (content : Content) : Type 0 where
   pub given : Gives texts history content
   pub owners : EachCellIsOwned history content
+  pub parts : EachPartOwnsItsCells history content
   pub totals : TotalsAreCounts history content
   pub adds_up : (code : List ℕ) → AddsUp (totals_of content code)
   pub demands : (number : ℕ) (demand : Demand) → demand_at content number ≡ Some demand → IsCounted content number demand

@@ -9,9 +9,10 @@ ghost use Rattle.shop_machine.specs.Machine.{Reads, refusal_of, Makes, keeping};
 ghost use Rattle.shop_machine.specs.History.{Entry, Gives, IsAccountOf};
 ghost use Rattle.shop_machine.specs.Soundness.{IsSound, Fits};
 
-/// Every history gives a sound content, and has its account: each cell of each received unit has exactly one owner,
-/// the totals are the counts of cells and add up, and of each demand no more is reserved and made than wanted, what is
-/// reserved being in the plans of waiting jobs, and what is made being pieces.
+/// Every history gives a sound content, and has its account: each cell of each received unit has exactly one owner, a
+/// part that isn't cut is the owner of each of its cells, as its row says, the totals are the counts of cells and add up,
+/// and of each demand no more is reserved and made than wanted, what is reserved being in the plans of waiting jobs, and
+/// what is made being pieces.
 pub fn histories_have_accounts()
     ensures sound { (texts : Texts) (history : List Entry) (content : Content) →
         Gives texts history content → IsSound texts content }
