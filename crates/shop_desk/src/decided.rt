@@ -14,8 +14,9 @@ use crate::found::{found_leaves, found_lines, material_for, part_for, plan_for};
 use cut_measure::{Kind, PartName};
 use cut_tree::Plan;
 use shop_rules::{
-    Change, Code, Command, FoundLeaf, Job, KeptMessage, LineList, Material, Part, Refusal, Reply, Text,
-    decide_done, decide_material, decide_order, decide_receive, decide_release, decide_reserve,
+    Change, Code, Command, FoundLeaf, Job, KeptMessage, LineList, Material, Part, Refusal, Reply,
+    Text, decide_done, decide_material, decide_order, decide_receive, decide_release,
+    decide_reserve,
 };
 use shop_store::{Book, BookFault};
 use std::alloc::Global;
