@@ -1,12 +1,13 @@
 -- The sixteen bytes of a code that was just copied.
-use Rattle.std.proofs.Common.{◌≡◌, ◌++◌, ◌∷◌, [], ◌-◌, ◌≤◌, ◌<◌, ℕ, zero, suc, get_or, lit<, Bool, true, false, ◌&&◌, nat_le, List, length, take, drop, ◌∙◌, arith, length-append, length-drop}
-use Rattle.std.specs.Prelude.{replicate, refl}
+use Rattle.std.proofs.Common.{◌≡◌, ◌++◌, ◌∷◌, [], ◌-◌, ◌≤◌, ◌<◌, ℕ, zero, suc, get_or, lit<, true, nat_le, List, length, take, drop, ◌∙◌, arith, length-append, length-drop}
+use Rattle.std.specs.Prelude.{replicate}
 use Rattle.std.proofs.Math.Seq.{take-append_seam, drop-append_seam}
 use Rattle.std.proofs.lemmas.List.{length-replicate, drop-replicate}
 use Rattle.std.proofs.lemmas.Bool.Decides.{nat_tests}
 use Rattle.std.specs.List.{list_all}
 use Rattle.std.specs.Str.{IsUtf8}
 use Rattle.std.proofs.lemmas.Str.{IsUtf8-from_ascii}
+use Rattle.std.proofs.lemmas.Bool.{and_parts}
 use Rattle.cut_measure.specs.Codes.{is_code, is_code_byte}
 
 module _ (text : List ℕ) (short : length text ≤ 16) where
@@ -19,20 +20,16 @@ module _ (text : List ℕ) (short : length text ≤ 16) where
   pub text_before : take (length text) (text ++ drop (length text) (replicate 16 0)) ≡ text
   text_before = take-append_seam text _
 
-both : (a b : Bool) → (a && b) ≡ true → (a ≡ true) × (b ≡ true)
-both true b e = (refl, e)
-both false b e = (cc, cc)
-
 pub code_short : (text : List ℕ) → is_code text ≡ true → length text ≤ 16
-code_short text e = let t : nat_le (length text) 16 ≡ true = (both (nat_le 1 (length text)) _ (both _ _ e).0).1 in grind (arith, nat_tests)
+code_short text e = let t : nat_le (length text) 16 ≡ true = (and_parts (nat_le 1 (length text)) _ (and_parts _ _ e).0).1 in grind (arith, nat_tests)
 
 small_byte : (b : ℕ) → is_code_byte b ≡ true → b < 128
 small_byte b e = grind (arith, nat_tests)
 
 all_small : (text : List ℕ) → list_all is_code_byte text ≡ true → (i : ℕ) → get_or text i 0 < 128
 all_small [] e i = lit< tt
-all_small (b ∷ bs) e zero = small_byte b (both _ _ e).0
-all_small (b ∷ bs) e (suc i) = all_small bs (both (is_code_byte b) _ e).1 i
+all_small (b ∷ bs) e zero = small_byte b (and_parts _ _ e).0
+all_small (b ∷ bs) e (suc i) = all_small bs (and_parts (is_code_byte b) _ e).1 i
 
 pub code_utf8 : (text : List ℕ) → is_code text ≡ true → IsUtf8 text
-code_utf8 text e = IsUtf8-from_ascii text (all_small text (both _ (list_all is_code_byte text) e).1)
+code_utf8 text e = IsUtf8-from_ascii text (all_small text (and_parts _ (list_all is_code_byte text) e).1)

@@ -1,8 +1,9 @@
 -- The trees of bars: which pieces have room, how many cuts they take, and what stands at the leaves.
-use Rattle.std.proofs.Common.{◌≡◌, ℕ, suc, ◌+◌, ◌-◌, ◌*◌, ◌≤◌, ◌<◌, Bool, true, false, List, [], ◌∷◌, length, refl, ap, subst, sym, ◌∙◌, inl, inr, arith}
-use Rattle.std.specs.Prelude.{All, sum_by, ◌⊎◌, nat_le, ◌==◌, if◌then◌else◌}
+use Rattle.std.proofs.Common.{◌≡◌, ℕ, suc, ◌+◌, ◌-◌, ◌*◌, ◌≤◌, ◌<◌, Bool, false, List, [], ◌∷◌, length, refl, ap, subst, sym, ◌∙◌, inl, inr, arith}
+use Rattle.std.specs.Prelude.{All, sum_by, ◌⊎◌, nat_le, ◌==◌}
 use Rattle.std.proofs.lemmas.Bool.{eqb-true, eqb-false, leb-true, leb-false}
 use Rattle.std.proofs.lemmas.List.Sums.{sum_by-cons}
+use Rattle.std.proofs.lemmas.Bool.{cond_both}
 use Rattle.cut_measure.specs.declared.sizes.Axis.TheVariants.{X}
 use Rattle.cut_tree.specs.Tree.{Tree, Piece, Trim, Cut, CutsInto, cut_count, leaf_sum}
 use Rattle.cut_tree.specs.Patterns.{HasDemands}
@@ -53,10 +54,6 @@ none_left : (ps : List (ℕ × ℕ)) (k m : ℕ) → All (λ p. 1 ≤ p.1) ps �
 none_left [] k m all h small = refl
 none_left (p ∷ ps) k m all h small = absurd (let one : 1 ≤ p.1 = all 0 p (omega arith) in omega (arith, spent-cons k p ps, one, h, small))
 
-by_test : (P : Tree → Type 0) (b : Bool) (x y : Tree) → (b ≡ true → P x) → (b ≡ false → P y) → P (if b then x else y)
-by_test P true x y p q = p refl
-by_test P false x y p q = q refl
-
 -- the tree of one piece more is one of three
 bar_cases : (P : Tree → Type 0) (p : ℕ × ℕ) (ps : List (ℕ × ℕ)) (w k : ℕ) → All (λ q. 1 ≤ q.1) (p ∷ ps) → spent k (p ∷ ps) ≤ w + k →
     (p.1 ≡ w → ps ≡ [] → P (Piece p.0 false)) →
@@ -66,11 +63,11 @@ bar_cases : (P : Tree → Type 0) (p : ℕ × ℕ) (ps : List (ℕ × ℕ)) (w k
 bar_cases P p ps w k all fits whole trim cut =
     let more : All (λ q. 1 ≤ q.1) ps = λ i d l. all (suc i) d (omega arith) in
     let sum : spent k (p ∷ ps) ≡ p.1 + k + spent k ps = spent-cons k p ps in
-    by_test P (p.1 == w) _ _
+    cond_both (p.1 == w) _ _ P
     (λ e. let same : p.1 ≡ w = eqb-true p.1 w e in whole same (none_left ps k 0 more (omega (arith, sum, fits, same)) (omega arith)))
     (λ e.
     let other : p.1 ≡ w → ⊥ = eqb-false p.1 w e in
-    by_test P (nat_le w (p.1 + k)) _ _
+    cond_both (nat_le w (p.1 + k)) _ _ P
     (λ f. let near : w ≤ p.1 + k = leb-true w (p.1 + k) f in trim (omega (arith, sum, fits, other)) near (none_left ps k (w - p.1) more (omega (arith, sum, fits)) (omega arith)))
     (λ f. let far : p.1 + k < w = leb-false w (p.1 + k) f in cut far more (omega (arith, sum, fits))))
 

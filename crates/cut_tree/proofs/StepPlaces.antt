@@ -1,9 +1,9 @@
 -- Where the steps of a tree lie, by the numbers of its nodes.
-use Rattle.std.proofs.Common.{◌≡◌, ℕ, zero, suc, ◌+◌, ◌-◌, ◌≤◌, ◌<◌, Bool, true, false, List, [], ◌∷◌, ◌++◌, length, refl, ap, ◌∙◌, arith, length-append}
-use Rattle.std.specs.Prelude.{slice_get, Some, nat_lt, if◌then◌else◌}
+use Rattle.std.proofs.Common.{◌≡◌, ℕ, zero, suc, ◌+◌, ◌-◌, ◌≤◌, ◌<◌, List, [], ◌∷◌, ◌++◌, length, refl, ap, ◌∙◌, arith, length-append}
+use Rattle.std.specs.Prelude.{slice_get, Some, nat_lt}
 use Rattle.std.proofs.lemmas.Bool.{ltb-true, ltb-false}
+use Rattle.std.proofs.lemmas.Bool.{cond_both}
 use Rattle.cut_measure.specs.declared.sizes.Axis.TheVariants.{X, Y}
-use Rattle.cut_tree.specs.declared.steps.Step.{Step}
 use Rattle.cut_tree.specs.Tree.{Tree, Piece, Rest, Trim, Cut, node_count}
 use Rattle.cut_tree.specs.Stepping.{head_of, step_at, AreSteps}
 use Rattle.cut_tree.specs.StepRows.{steps_of}
@@ -38,10 +38,6 @@ length-steps_of (Cut Y a f s) x y w h k n =
       length-steps_of s x (y + a + k) w (h - a - k) k (n + 1 + node_count f),
     )
 
-by_test : (P : Step → Type 0) (b : Bool) (x y : Step) → (b ≡ true → P x) → (b ≡ false → P y) → P (if b then x else y)
-by_test P true x y p q = p refl
-by_test P false x y p q = q refl
-
 first_step : (t : Tree) (x y w h k n m : ℕ) → n ≡ m → slice_get (steps_of t x y w h k n) 0 ≡ Some (step_at t x y w h k 0 m)
 first_step (Piece d b) x y w h k n m e = ap (λ z. Some (record { node = z; x = x; y = y; w = w; h = h; what = head_of (Piece d b) })) e
 first_step Rest x y w h k n m e = ap (λ z. Some (record { node = z; x = x; y = y; w = w; h = h; what = head_of Rest })) e
@@ -60,7 +56,7 @@ get-steps_of (Trim Y a f) x y w h k n (suc i) m inside e = get-steps_of f x y w 
 get-steps_of (Cut X a f s) x y w h k n (suc i) m inside e =
     let front = steps_of f x y a h k (n + 1) in
     let behind = steps_of s (x + a + k) y (w - a - k) h k (n + 1 + node_count f) in
-    by_test (λ r. slice_get (front ++ behind) i ≡ Some r) (nat_lt i (node_count f)) _ _
+    cond_both (nat_lt i (node_count f)) _ _ (λ r. slice_get (front ++ behind) i ≡ Some r)
     (λ near. get-left front behind i (omega (arith, length-steps_of f x y a h k (n + 1), ltb-true i (node_count f) near)) ∙ get-steps_of f x y a h k (n + 1) i m (ltb-true i (node_count f) near) (omega arith))
     (λ beyond.
     let far : node_count f ≤ i = ltb-false i (node_count f) beyond in
@@ -69,7 +65,7 @@ get-steps_of (Cut X a f s) x y w h k n (suc i) m inside e =
 get-steps_of (Cut Y a f s) x y w h k n (suc i) m inside e =
     let front = steps_of f x y w a k (n + 1) in
     let behind = steps_of s x (y + a + k) w (h - a - k) k (n + 1 + node_count f) in
-    by_test (λ r. slice_get (front ++ behind) i ≡ Some r) (nat_lt i (node_count f)) _ _
+    cond_both (nat_lt i (node_count f)) _ _ (λ r. slice_get (front ++ behind) i ≡ Some r)
     (λ near. get-left front behind i (omega (arith, length-steps_of f x y w a k (n + 1), ltb-true i (node_count f) near)) ∙ get-steps_of f x y w a k (n + 1) i m (ltb-true i (node_count f) near) (omega arith))
     (λ beyond.
     let far : node_count f ≤ i = ltb-false i (node_count f) beyond in

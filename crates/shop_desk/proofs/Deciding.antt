@@ -1,20 +1,21 @@
 -- What is decided from rows that were found is what is decided over the content.
-use Rattle.std.proofs.Common.{◌≡◌, ◌≢◌, ℕ, ◌+◌, List, Option, Some, None, Ok, Err, inl, inr, refl, sym, ap, subst, ◌∙◌}
-use Rattle.std.specs.Prelude.{◌⊎◌, Bool, Result, MatchOption}
+use Rattle.std.proofs.Common.{◌≡◌, ℕ, ◌+◌, List, Option, Some, None, Ok, Err, inr, refl, sym, ap, subst, ◌∙◌}
+use Rattle.std.specs.Prelude.{Bool, Result, MatchOption}
 use Rattle.cut_measure.specs.Names.{Name}
 use Rattle.cut_tree.specs.Patterns.{Pattern}
 use Rattle.shop_machine.specs.declared.records.Material.{Material}
 use Rattle.shop_machine.specs.declared.records.Part.{Part}
+use Rattle.shop_machine.specs.declared.plans.FoundLeaf.{FoundLeaf}
 use Rattle.shop_machine.specs.declared.records.Job.{Job}
 use Rattle.shop_machine.specs.declared.messages.OrderLine.{OrderLine}
 use Rattle.shop_machine.specs.declared.messages.Command.{Command}
-use Rattle.shop_machine.specs.declared.messages.Command.TheVariants.{AddOrder, Reserve, Done, Release}
+use Rattle.shop_machine.specs.declared.messages.Command.TheVariants.{AddOrder, Reserve}
 use Rattle.shop_machine.specs.declared.changes.Change.{Change}
 use Rattle.shop_machine.specs.declared.refusals.Refusal.{Refusal}
 use Rattle.shop_machine.specs.declared.refusals.Refusal.TheVariants.{NoMemory, StoreFault}
 use Rattle.shop_machine.specs.Content.{Content, material_at, part_at, job_at, has_order, demand_at}
-use Rattle.shop_machine.specs.Machine.{Decides, Reads, refusal_of, Makes, IsWork, IsReservation, IsDone, IsRelease, material_of, part_of, order_refusal, order_change, reserve_refusal, job_refusal, end_refusal}
-use Rattle.shop_desk.specs.Decided.{IsDecided, BlamesStore}
+use Rattle.shop_machine.specs.Machine.{Decides, Reads, refusal_of, Makes, IsWork, IsReservation, material_of, part_of, order_refusal, order_change, reserve_refusal, job_refusal, end_refusal}
+use Rattle.shop_desk.specs.Decided.{IsDecided, BlamesStore, AreJobRows}
 
 -- a decision over the content's own refusal, what the text stands for being read
 module _ (m : Content) (command : Command) (read : Option Pattern) (reads : Reads m command read) (before after : ℕ) (first : Option Refusal) (same : refusal_of m command read ≡ first)
@@ -32,11 +33,11 @@ module _ (m : Content) (command : Command) (read : Option Pattern) (reads : Read
 
 -- the rows of a job
 module _ (m : Content) (number : ℕ) (found : Option Job) (on : Option Part) (of : Option Material) (is_j : found ≡ job_at m number) (is_p : on ≡ part_of m found) (is_m : of ≡ material_of m on) where
-  pub same_end : end_refusal m (job_at m number) ≡ job_refusal found on of (demand_at m)
+  same_end : end_refusal m (job_at m number) ≡ job_refusal found on of (demand_at m)
   same_end =
       ap (end_refusal m) (sym is_j) ∙ ap (λ p. job_refusal found p (material_of m p) (demand_at m)) (sym is_p) ∙ ap (λ t. job_refusal found on t (demand_at m)) (sym is_m)
 
-  pub work_by : (E : Job → Part → Material → Type 0) → MatchOption found ⊥ (λ j. MatchOption on ⊥ (λ p. MatchOption of ⊥ (λ t. E j p t)))
+  work_by : (E : Job → Part → Material → Type 0) → MatchOption found ⊥ (λ j. MatchOption on ⊥ (λ p. MatchOption of ⊥ (λ t. E j p t)))
       → (j : Job) × (part : Part) × (material : Material) × IsWork m number j part material × E j part material
   work_by E it = by found on of is_j is_p is_m it
     where
@@ -46,6 +47,25 @@ module _ (m : Content) (number : ℕ) (found : Option Job) (on : Option Part) (o
       by (Some j) None of a b d it = absurd it
       by (Some j) (Some p) None a b d it = absurd it
       by (Some j) (Some p) (Some t) a b d it = (j, p, t, record { found = sym a; on = sym b; of = sym d }, it)
+
+-- the end of a job, by its rows
+module _ (m : Content) (number : ℕ) (found : Option Job) (on : Option Part) (of : Option Material) (leaves : List FoundLeaf) (rows : AreJobRows m number found on of leaves)
+    (command : Command) (reads : Reads m command None) (same : refusal_of m command None ≡ end_refusal m (job_at m number)) (E : Change → Job → Part → Material → Type 0)
+    (makes : (change : Change) → (j : Job) × (part : Part) × (material : Material) × IsWork m number j part material × E change j part material → Makes m command None change) where
+  abbrev Ended : Change → Type 0
+  Ended change = MatchOption found ⊥ (λ j. MatchOption on ⊥ (λ p. MatchOption of ⊥ (λ t. E change j p t)))
+
+  refused : refusal_of m command None ≡ job_refusal found on of (demand_at m)
+  refused = same ∙ same_end m number found on of rows.of_job rows.of_part rows.of_material
+
+  ended : (change : Change) → Ended change → Makes m command None change
+  ended change it = makes change (work_by m number found on of rows.of_job rows.of_part rows.of_material (E change) it)
+
+  pub end_decided : (result : Result Change Refusal) → Decides (job_refusal found on of (demand_at m)) Ended result → IsDecided m command result
+  end_decided = decided_by m command None reads 0 0 _ refused Ended ended
+
+  pub end_blames : (before after : ℕ) (result : Result Change Refusal) → Decides (job_refusal found on of (demand_at m)) Ended result → BlamesStore m command before result after
+  end_blames before after = blames_by m command None reads before after _ refused Ended ended
 
 -- the rows of a reservation
 module _ (m : Content) (part : Name) (text : List ℕ) (row : Option Part) (material : Option Material) (read : Option Pattern) (act : ℕ)

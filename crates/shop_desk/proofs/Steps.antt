@@ -1,5 +1,5 @@
 -- Steps of a book, and runs of them.
-use Rattle.std.proofs.Common.{◌≡◌, ◌≢◌, ℕ, List, [], ◌∷◌, ◌++◌, Option, Some, None, Ok, Err, inl, inr, refl, sym, ap, subst, ◌∙◌, arith}
+use Rattle.std.proofs.Common.{◌≡◌, ◌≢◌, ℕ, List, [], ◌∷◌, ◌++◌, Option, Some, None, Ok, Err, inl, inr, refl, sym, subst, arith}
 use Rattle.std.specs.Prelude.{◌⊎◌, ◌+◌, Bool, true, false, nat_lt, if◌then◌else◌, MatchOption, is_some, not}
 use Rattle.shop_store.specs.Failures.{most_failures, refusal_for}
 use Rattle.shop_store.specs.declared.books.BookFault.{BookFault}
@@ -17,7 +17,7 @@ use Rattle.shop_machine.specs.Content.{Content, kept_at, changed}
 use Rattle.shop_machine.specs.Machine.{Accepts, Keeps, Reads, Makes, Refuses, StepNew, StepAgain, Step, Run, refusal_of, keeping}
 use Rattle.shop_machine.specs.Soundness.{IsSound, Fits}
 use Rattle.shop_machine.proofs.Sound.{told_accepted, sound_after, fits_accepted, agrees}
-use Rattle.shop_desk.specs.Faults.{CountsRefusal, CountsReply, CountsOrContradicts, StoreFailed}
+use Rattle.shop_desk.specs.Faults.{CountsRefusal, CountsReply, StoreFailed}
 use Rattle.shop_desk.specs.Decided.{BlamesStore, Contradicts, CountsOrDisagrees}
 use Rattle.shop_desk.specs.Handled.{LeftByNew, LeftBy, IsHandled, Leads}
 

@@ -1,12 +1,17 @@
 -- What is decided on a command, over the content that a book holds.
-use Rattle.std.specs.Prelude.{◌≡◌, ◌≢◌, ◌⊎◌, ℕ, Option, Some, None, Result, Ok, Err, IfErr}
+use Rattle.std.specs.Prelude.{◌≡◌, ◌⊎◌, ℕ, List, Option, Some, None, Result, Ok, Err, IfErr}
 use Rattle.cut_tree.specs.Patterns.{Pattern}
+use Rattle.shop_machine.specs.declared.records.Material.{Material}
+use Rattle.shop_machine.specs.declared.records.Part.{Part}
+use Rattle.shop_machine.specs.declared.records.Job.{Job}
+use Rattle.shop_machine.specs.declared.plans.FoundLeaf.{FoundLeaf}
 use Rattle.shop_machine.specs.declared.changes.Change.{Change}
 use Rattle.shop_machine.specs.declared.messages.Command.{Command}
 use Rattle.shop_machine.specs.declared.refusals.Refusal.{Refusal}
 use Rattle.shop_machine.specs.declared.refusals.Refusal.TheVariants.{StoreFault}
-use Rattle.shop_machine.specs.Content.{Content}
-use Rattle.shop_machine.specs.Machine.{Reads, refusal_of, Makes, Refuses}
+use Rattle.shop_machine.specs.Content.{Content, job_at, demand_at}
+use Rattle.shop_machine.specs.Found.{AreDemandsFound}
+use Rattle.shop_machine.specs.Machine.{Reads, refusal_of, Makes, Refuses, part_of, material_of}
 use Rattle.shop_desk.specs.Faults.{StoreFailed, CountsDecision}
 
 -- The command is allowed and the change is its own, what its text stands for being read; or it is refused.
@@ -28,3 +33,10 @@ BlamesStore m command before result after =
 abbrev pub CountsOrDisagrees : ℕ → Result Change Refusal → ℕ → Type 0
 CountsOrDisagrees before result after =
     CountsDecision before result after ⊎ ((result ≡ Err StoreFault) × (after ≡ before))
+
+-- a job, its part and its material in a content, as far as they are there, and leaves with the rows of their demands
+pub record AreJobRows (m : Content) (number : ℕ) (job : Option Job) (part : Option Part) (material : Option Material) (leaves : List FoundLeaf) : Type 0 where
+  pub of_job : job ≡ job_at m number
+  pub of_part : part ≡ part_of m job
+  pub of_material : material ≡ material_of m part
+  pub demands : AreDemandsFound (demand_at m) leaves

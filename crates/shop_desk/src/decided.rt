@@ -8,14 +8,15 @@ ghost use Rattle.shop_store.specs.Failures.{CountsFailure};
 ghost use Rattle.shop_machine.specs.declared.messages.Command.TheVariants.{AddMaterial, Receive, AddOrder, Reserve, Done, Release};
 ghost use Rattle.shop_machine.specs.declared.messages.Reply.TheVariants.{Refused};
 ghost use Rattle.shop_machine.specs.declared.refusals.Refusal.TheVariants.{BadMessage};
-ghost use Rattle.shop_desk.specs.Decided.{IsDecided, BlamesStore, CountsOrDisagrees};
+ghost use Rattle.shop_desk.specs.Decided.{IsDecided, BlamesStore, CountsOrDisagrees, AreJobRows};
 
 use crate::found::{found_leaves, found_lines, material_for, part_for, plan_for};
 use cut_measure::{Kind, PartName};
 use cut_tree::Plan;
 use shop_rules::{
-    Change, Code, Command, FoundLeaf, Job, KeptMessage, LineList, Refusal, Reply, Text,
-    decide_done, decide_material, decide_order, decide_receive, decide_release, decide_reserve,
+    Change, Code, Command, FoundLeaf, Job, KeptMessage, LineList, Material, Part, Refusal, Reply,
+    Text, decide_done, decide_material, decide_order, decide_receive, decide_release,
+    decide_reserve,
 };
 use shop_store::{Book, BookFault};
 use std::alloc::Global;
@@ -150,6 +151,35 @@ fn reserve<B: Book>(
     decide_reserve(alloc, row, material, plan, &leaves, act)
 }
 
+// A job, its part and its material, as far as they were found, and its plan's leaves with the rows of their demands.
+struct JobRows {
+    job: Option<Job>,
+    part: Option<Part>,
+    material: Option<Material>,
+    leaves: Vec<FoundLeaf>,
+}
+
+fn job_rows<B: Book>(alloc: Global, book: &mut B, number: u32) -> Result<JobRows, BookFault>
+    ensures rows { B.is_honest book.new → (m : Content) → B.holds book.old m → IfOk result (λ rows. AreJobRows m number rows.job rows.part rows.material rows.leaves.items) }
+    ensures leaves { IfOk result (λ rows. IfSome rows.job (λ j. leaves_in rows.leaves.items ≡ plan_leaves j.plan)) }
+    ensures numbered { IfOk result (λ rows. All IsNumbered rows.leaves.items) }
+    ensures stays { B.is_honest book.new → (m : Content) → B.holds book.old m → B.holds book.new m }
+    ensures crash { B.is_honest book.new → (m : Content) → B.holds book.old m → (left : B.Left) → B.may_leave book.new left → B.may_leave book.old left }
+    ensures honest { B.is_honest book.new → B.is_honest book.old }
+    ensures failures { CountsFailure (B.failed book.old) result (B.failed book.new) }
+{
+    let job = book.job(alloc, number)?;
+    let part = part_for(book, &job)?;
+    let material = material_for(book, &part)?;
+    let leaves = job_leaves(alloc, book, &job)?;
+    Ok(JobRows {
+        job,
+        part,
+        material,
+        leaves,
+    })
+}
+
 // Finishes a job.
 fn done<B: Book>(alloc: Global, book: &mut B, number: u32) -> Result<Change, Refusal>
     ensures decision { B.is_honest book.new → (m : Content) → B.holds book.old m → IsDecided m (Done number) result }
@@ -160,10 +190,12 @@ fn done<B: Book>(alloc: Global, book: &mut B, number: u32) -> Result<Change, Ref
     ensures told { IfOk result (λ change. IsTrue (is_accepted change.reply)) }
     ensures failures { CountsOrDisagrees (B.failed book.old) result (B.failed book.new) }
 {
-    let job = book.job(alloc, number)?;
-    let part = part_for(book, &job)?;
-    let material = material_for(book, &part)?;
-    let leaves = job_leaves(alloc, book, &job)?;
+    let JobRows {
+        job,
+        part,
+        material,
+        leaves,
+    } = job_rows(alloc, book, number)?;
     decide_done(alloc, job, part, material, &leaves)
 }
 
@@ -177,10 +209,12 @@ fn release<B: Book>(alloc: Global, book: &mut B, number: u32) -> Result<Change, 
     ensures told { IfOk result (λ change. IsTrue (is_accepted change.reply)) }
     ensures failures { CountsOrDisagrees (B.failed book.old) result (B.failed book.new) }
 {
-    let job = book.job(alloc, number)?;
-    let part = part_for(book, &job)?;
-    let material = material_for(book, &part)?;
-    let leaves = job_leaves(alloc, book, &job)?;
+    let JobRows {
+        job,
+        part,
+        material,
+        leaves,
+    } = job_rows(alloc, book, number)?;
     decide_release(alloc, job, part, material, &leaves)
 }
 

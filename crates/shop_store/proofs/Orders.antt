@@ -6,9 +6,9 @@ use Rattle.std.specs.Bool.{Decides}
 use Rattle.std.specs.Ordering.{is_lt, eq_by_cmp}
 use Rattle.std.specs.Cmp.Lexicographic.{nat_list_cmp_total, pointwise, bytes_decides}
 use Rattle.std.specs.Prelude.{nat_eq}
-use Rattle.std.specs.FinMap.{IsAntisymmetric, is_sorted, find, put, slice_cmp-IsAntisymmetric, nat_cmp-IsAntisymmetric}
+use Rattle.std.specs.FinMap.{IsAntisymmetric, is_sorted, find, slice_cmp-IsAntisymmetric, nat_cmp-IsAntisymmetric}
 use Rattle.std.specs.FinMap.Entries.{below_all, is_some-find, find-put, same_entries}
-use Rattle.std.specs.FinSet.{contains, insert, from_list, contains-from_list, contains-insert, same_set}
+use Rattle.std.specs.FinSet.{contains, insert, contains-from_list, contains-insert, same_set}
 use Rattle.std.proofs.lemmas.Bool.Decides.{Decides-like}
 use Rattle.std.proofs.lemmas.Slice.Eq.{slice_eq-Decides}
 use Rattle.cut_measure.specs.Codes.{code_cmp}

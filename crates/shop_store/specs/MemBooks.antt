@@ -1,5 +1,5 @@
 -- What a book in memory contains, and what its rows keep.
-use Rattle.std.specs.Prelude.{ℕ, IsTrue}
+use Rattle.std.specs.Prelude.{IsTrue}
 use Rattle.std.specs.Ordering.{nat_cmp}
 use Rattle.std.specs.FinMap.{is_sorted}
 use Rattle.cut_measure.specs.Codes.{code_cmp}

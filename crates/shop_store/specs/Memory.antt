@@ -1,5 +1,5 @@
 -- What the rows of a book in memory stand for.
-use Rattle.std.specs.Prelude.{◌≡◌, ℕ, List, Option, Some, None, IsTrue}
+use Rattle.std.specs.Prelude.{ℕ, List, Option, Some, None}
 use Rattle.std.specs.Prelude.{refl}
 use Rattle.std.proofs.Common.{ap}
 use Rattle.std.proofs.lemmas.Map.Lookups.{exact_pairs, exact_unsigned}
@@ -25,7 +25,7 @@ use Rattle.shop_machine.specs.declared.kept_texts.Pair.{Pair}
 use Rattle.shop_machine.specs.declared.kept_texts.Kept.{Kept}
 use Rattle.shop_machine.specs.declared.kept_texts.KeptMessage.{KeptMessage}
 use Rattle.shop_machine.specs.Content.{Content, pair_cmp}
-use Rattle.shop_store.specs.Rows.{entries_of, rise}
+use Rattle.shop_store.specs.Rows.{entries_of}
 
 abbrev pub material_key : Material → List ℕ
 material_key m = m.code

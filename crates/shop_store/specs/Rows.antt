@@ -1,5 +1,5 @@
 -- Rows in the order of their keys, as entries of a map.
-use Rattle.std.specs.Prelude.{◌≡◌, List, map, Bool, Option, Some, None, ℕ}
+use Rattle.std.specs.Prelude.{◌≡◌, List, map, Bool, Option}
 use Rattle.std.specs.declared.cmp.Ordering.{Ordering}
 use Rattle.std.specs.FinMap.{is_sorted, find, put}
 

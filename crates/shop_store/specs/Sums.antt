@@ -1,7 +1,6 @@
 -- The sums of each material's parts, kept beside the parts.
-use Rattle.std.specs.Prelude.{◌≡◌, ℕ, ◌*◌, ◌≤◌, List, Bool, nat_le, Option, Some, None, if◌then◌else◌}
+use Rattle.std.specs.Prelude.{◌≡◌, ℕ, ◌*◌, List, Bool, nat_le, Option, Some, None, if◌then◌else◌}
 use Rattle.std.specs.List.{list_all}
-use Rattle.std.specs.declared.cmp.Ordering.{Ordering}
 use Rattle.cut_measure.specs.Codes.{code_cmp}
 use Rattle.shop_machine.specs.declared.records.Part.{Part}
 use Rattle.shop_machine.specs.declared.records.Column.{Column}

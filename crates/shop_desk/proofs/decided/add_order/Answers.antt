@@ -1,7 +1,7 @@
-use Rattle.std.proofs.Common.{◌≡◌, None, refl, sym, ap, ◌∙◌}
+use Rattle.std.proofs.Common.{◌≡◌, None, refl, ◌∙◌}
 use Rattle.shop_machine.specs.declared.changes.Change.{Change}
 use Rattle.shop_machine.specs.declared.messages.Command.TheVariants.{AddOrder}
-use Rattle.shop_machine.specs.Content.{Content, material_at}
+use Rattle.shop_machine.specs.Content.{material_at}
 use Rattle.shop_machine.specs.Found.{AreMaterialsFound, lines_in}
 use Rattle.shop_machine.specs.Machine.{order_change}
 use Rattle.shop_desk.proofs.Deciding.{decided_by, blames_by, same_order, order_by}

@@ -1,8 +1,8 @@
-use Rattle.std.proofs.Common.{◌≡◌, refl, sym, ap, subst, ◌∙◌}
+use Rattle.std.proofs.Common.{subst}
 use Rattle.std.specs.Prelude.{MatchOption}
 use Rattle.shop_machine.specs.declared.changes.Change.{Change}
 use Rattle.shop_machine.specs.declared.messages.Command.TheVariants.{Reserve}
-use Rattle.shop_machine.specs.Content.{Content, demand_at}
+use Rattle.shop_machine.specs.Content.{demand_at}
 use Rattle.shop_machine.specs.Found.{AreDemandsFound}
 use Rattle.shop_machine.specs.Machine.{IsReservation, Reads}
 use Rattle.shop_desk.proofs.Deciding.{decided_by, blames_by, same_reserve, reserve_by}

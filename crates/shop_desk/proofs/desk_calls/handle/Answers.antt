@@ -1,4 +1,4 @@
-use Rattle.std.proofs.Common.{◌≡◌, refl, sym, ap, inl, ◌∙◌}
+use Rattle.std.proofs.Common.{◌≡◌, refl, sym, ◌∙◌}
 use Rattle.std.specs.Prelude.{Some, None}
 use Rattle.shop_machine.specs.Messages.{pair_of}
 use Rattle.shop_machine.specs.Content.{kept_at}

@@ -1,7 +1,5 @@
 use Rattle.std.specs.Prelude.{Some}
 use Rattle.std.proofs.Common.{◌≡◌, refl, sym, ap, subst, inl, ◌∙◌}
-use Rattle.shop_machine.specs.declared.kept_texts.Kept.{Kept}
-use Rattle.shop_machine.specs.declared.changes.Change.{Change}
 use Rattle.shop_machine.specs.Messages.{pair_of}
 use Rattle.shop_machine.specs.Content.{changed}
 use Rattle.shop_machine.specs.Machine.{keeping}

@@ -1,4 +1,4 @@
-use Rattle.std.proofs.Common.{ap, sym, ◌∙◌}
+use Rattle.std.proofs.Common.{ap, ◌∙◌}
 use Rattle.std.specs.Prelude.{Some}
 use Rattle.shop_machine.specs.Content.{pair_cmp}
 use Rattle.shop_store.proofs.Held.{lookup_is_find}

@@ -1,4 +1,4 @@
-use Rattle.std.proofs.Common.{◌≡◌, ◌+◌, ◌*◌, ◌≤◌, ap, sym, ◌∙◌, arith}
+use Rattle.std.proofs.Common.{ap, sym, ◌∙◌, arith}
 use Rattle.shop_machine.specs.Content.{of_found}
 use Rattle.shop_store.specs.Sums.{cells_for}
 use Rattle.shop_store.proofs.Summed.{replaced_counted, cells-put, cells_bounded, small-put}

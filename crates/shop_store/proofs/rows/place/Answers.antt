@@ -1,6 +1,6 @@
-use Rattle.std.proofs.Common.{rules, ◌≡◌, ◌∙◌, sym, ap, subst, List, [], ◌∷◌}
+use Rattle.std.proofs.Common.{rules, ◌≡◌, sym, subst, List, [], ◌∷◌}
 use denote.Param.Members.{Mut, Called}
-use Rattle.std.specs.Fn.{AlwaysReturns, ReturnsEach}
+use Rattle.std.specs.Fn.{ReturnsEach}
 use Rattle.shop_store.proofs.rows.place.Goals as goal
 
 each : {F X R : Type 0} (g : Mut F X R) (P : X → R → Type 0) (f : F) → ((a : X) (r : R) (f' : F) → Called g f a r f' → P a r × (f' ≡ f)) → (xs : List X) → ReturnsEach g P f xs

@@ -1,4 +1,4 @@
-use Rattle.std.proofs.Common.{◌+◌, List, sym, ap, ◌∙◌}
+use Rattle.std.proofs.Common.{◌+◌, List, ap, ◌∙◌}
 use Rattle.shop_store.specs.declared.sums.Sums.{Sums}
 use Rattle.shop_store.specs.Sums.{sum_at, counted_cells}
 use Rattle.shop_store.proofs.Summed.{added}

@@ -1,9 +1,6 @@
-use Rattle.std.proofs.Common.{◌+◌, List, sym, ap, ◌∙◌}
-use Rattle.std.specs.Prelude.{Some}
-use Rattle.cut_measure.specs.Codes.{code_cmp}
+use Rattle.std.proofs.Common.{List, ap, ◌∙◌}
 use Rattle.shop_store.specs.declared.sums.Sums.{Sums}
-use Rattle.shop_store.specs.Rows.{row_at}
-use Rattle.shop_store.specs.Sums.{sums_key, found_sum, sum_at, counted_cells}
+use Rattle.shop_store.specs.Sums.{found_sum, sum_at}
 use Rattle.shop_store.proofs.Summed.{taken}
 use Rattle.shop_store.proofs.sums.take_part.Goals as goal
 

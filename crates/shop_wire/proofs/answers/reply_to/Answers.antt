@@ -1,5 +1,3 @@
-use Rattle.std.proofs.Common.{refl}
-use Rattle.shop_machine.specs.declared.messages.Reply.TheVariants.{Refused}
 use Rattle.serde_json.specs.View.{view}
 use Rattle.shop_wire.proofs.Answered.{of_message, of_no_memory}
 use Rattle.shop_wire.proofs.answers.reply_to.Goals as goal

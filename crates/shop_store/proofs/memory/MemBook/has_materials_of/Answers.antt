@@ -1,4 +1,4 @@
-use Rattle.std.proofs.Common.{◌≡◌, ap, sym, ◌∙◌}
+use Rattle.std.proofs.Common.{ap, sym, ◌∙◌}
 use Rattle.std.proofs.lemmas.Bool.Decides.{Decides-like}
 use Rattle.cut_measure.specs.Codes.{code_cmp}
 use Rattle.shop_store.specs.Memory.{material_key}

@@ -1,4 +1,4 @@
-use Rattle.std.proofs.Common.{◌≡◌, ap, sym, ◌∙◌}
+use Rattle.std.proofs.Common.{ap, sym, ◌∙◌}
 use Rattle.std.proofs.lemmas.Bool.Decides.{Decides-like}
 use Rattle.shop_store.proofs.Orders.{codes_decide}
 use Rattle.shop_store.proofs.memory.MemBook.has_orders_of.Goals as goal

@@ -1,11 +1,11 @@
-use Rattle.std.proofs.Common.{◌≡◌, List, ℕ, ap, sym, ◌∙◌}
+use Rattle.std.proofs.Common.{◌≡◌, List, ℕ, ap, ◌∙◌}
 use Rattle.std.specs.FinMap.{from_sorted}
 use Rattle.shop_machine.specs.declared.records.Material.{Material}
 use Rattle.shop_machine.specs.declared.records.Part.{Part}
 use Rattle.shop_machine.specs.declared.records.Job.{Job}
 use Rattle.shop_machine.specs.declared.records.Demand.{Demand}
 use Rattle.shop_machine.specs.Content.{pair_cmp, with_material, with_parts, with_job, with_order, with_demands, with_kept, with_number, changed}
-use Rattle.shop_store.specs.Memory.{materials_of, parts_in, jobs_in, orders_in, demands_in, put_kept}
+use Rattle.shop_store.specs.Memory.{materials_of, parts_in, jobs_in, orders_in, demands_in}
 use Rattle.shop_store.proofs.Held.{kept_after, kept_sorted, number_after}
 use Rattle.shop_store.proofs.memory.MemBookBook.commit.Goals as goal
 

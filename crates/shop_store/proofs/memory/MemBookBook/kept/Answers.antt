@@ -1,4 +1,4 @@
-use Rattle.std.proofs.Common.{◌≡◌, ap, sym, ◌∙◌}
+use Rattle.std.proofs.Common.{ap, sym, ◌∙◌}
 use Rattle.std.specs.FinMap.{get-from_sorted}
 use Rattle.shop_machine.specs.Content.{pair_cmp, kept_at}
 use Rattle.shop_store.proofs.Places.{tested}

@@ -1,4 +1,4 @@
-use Rattle.std.proofs.Common.{◌≡◌, ◌<◌, ◌≤◌, ap, sym, subst, ◌∙◌, arith}
+use Rattle.std.proofs.Common.{◌<◌, ◌≤◌, ap, sym, subst, ◌∙◌, arith}
 use Rattle.cut_measure.specs.Names.{name_cmp}
 use Rattle.shop_machine.specs.declared.records.Column.{Column}
 use Rattle.shop_machine.specs.declared.records.Column.TheVariants.{Received, Stock, Rack, Pieces, Kerf, Scrap}
