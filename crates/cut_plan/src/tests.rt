@@ -277,6 +277,41 @@ fn plans_sheets(rt: HostRuntime) -> Result<(), Fail> {
 }
 
 #[test]
+fn plans_sheets_of_great_worth(rt: HostRuntime) -> Result<(), Fail> {
+    let four = [want(1, 5, 5, 4, 1000000000)?];
+    let found = sheet(&rt, (10, 10), 0, 1, &four)??;
+    assert_eq!(rt; found, (4000000000, 0, 4000000000));
+    let five = [want(1, 5, 5, 5, 1000000000)?];
+    let found = sheet(&rt, (10, 15), 0, 1, &five)??;
+    assert_eq!(rt; found, (5000000000, 1, 6000000000));
+    Ok(())
+}
+
+// A hundred million times the worth changes no choice.
+#[test]
+fn plans_alike_at_any_worth(rt: HostRuntime) -> Result<(), Fail> {
+    let scale = 100000000u32;
+    for (w, h) in [(17, 13), (9, 20), (12, 12)] {
+        let low = [
+            want(1, 4, 3, 9, 7)?,
+            want(2, 5, 2, 9, 6)?,
+            want(3, 3, 3, 2, 5)?,
+        ];
+        let high = [
+            want(1, 4, 3, 9, 7 * scale)?,
+            want(2, 5, 2, 9, 6 * scale)?,
+            want(3, 3, 3, 2, 5 * scale)?,
+        ];
+        let narrow = sheet(&rt, (w, h), 0, 1, &low)??;
+        let wide = sheet(&rt, (w, h), 0, 1, &high)??;
+        let scale = scale as u64;
+        assert_eq!(rt; (wide.0 % scale, wide.2 % scale), (0, 0), "{w}");
+        assert_eq!(rt; (wide.0 / scale, wide.1, wide.2 / scale), narrow, "{w}");
+    }
+    Ok(())
+}
+
+#[test]
 fn bounds_units(rt: HostRuntime) -> Result<(), Fail> {
     let bar = Size::new(Kind::Bar, 100, 1).ok_or("no size")?;
     for (want, best, units) in [
