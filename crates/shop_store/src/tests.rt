@@ -6,6 +6,7 @@ use shop_machine::{
     Reply, State, Text, Totals,
 };
 use std::alloc::{AllocError, Global};
+use std::process::Abort;
 use std::test::Fail;
 
 fn iron() -> Result<Material, Fail> {
@@ -300,43 +301,78 @@ fn a_job_is_put_again(rt: HostRuntime) -> Result<(), Fail> {
     Ok(())
 }
 
+// A material, two bars of it received by act 1, and an order of demands 1 and 2 for its code.
+fn everything(
+    alloc: Global,
+    material: Material,
+    bars: (Part, Part),
+    demands: (Demand, Demand),
+) -> Result<Change, AllocError> {
+    let receipt = receipt(alloc, material, bars.0, bars.1)?;
+    let ordered = ordered(alloc, material.code, demands.0, demands.1)?;
+    Ok(Change {
+        order: ordered.order,
+        demands: ordered.demands,
+        demand: ordered.demand,
+        ..receipt
+    })
+}
+
+// Whether a change was made: the one fault that there may be is want of memory.
+fn is_made(rt: &impl Abort, made: Result<(), BookFault>) -> bool {
+    match made {
+        Ok(()) => true,
+        Err(fault) => {
+            assert_eq!(rt; fault, BookFault::NoMemory);
+            false
+        }
+    }
+}
+
+// The receipt is there, or nothing of it.
+fn tells_receipt(
+    rt: &impl Abort,
+    book: &mut MemBook,
+    code: Code,
+    made: bool,
+) -> Result<(), BookFault> {
+    let (act, cells) = if made { (2, 200) } else { (1, 0) };
+    assert_eq!(rt; book.next_act()?, act);
+    assert_eq!(rt; book.material(code)?.is_some(), made);
+    assert_eq!(rt; book.part(PartName::new(1, 0))?.is_some(), made);
+    assert_eq!(rt; book.part(PartName::new(1, 1))?.is_some(), made);
+    assert_eq!(rt; book.totals(code)?, totals(cells, cells));
+    Ok(())
+}
+
+// The order is there, or nothing of it.
+fn tells_order(
+    rt: &impl Abort,
+    book: &mut MemBook,
+    code: Code,
+    made: bool,
+) -> Result<(), BookFault> {
+    assert_eq!(rt; book.next_demand()?, if made { 3 } else { 1 });
+    assert_eq!(rt; book.order(code)?, made);
+    assert_eq!(rt; book.demand(1)?.is_some(), made);
+    assert_eq!(rt; book.demand(2)?.is_some(), made);
+    Ok(())
+}
+
 // With memory wanting anywhere, the whole change is made or none of it.
 #[test]
 fn a_commit_is_whole_or_nothing(rt: HostRuntime) -> Result<(), Fail> {
     let mut book = MemBook::new(rt.alloc());
     let material = iron()?;
     let code = material.code;
-    let (first, second) = (bar(code, 0)?, bar(code, 1)?);
-    let (one, two) = (demand(code, 1, 1)?, demand(code, 2, 2)?);
-    let Ok(receipt) = receipt(rt.alloc(), material, first, second) else {
+    let bars = (bar(code, 0)?, bar(code, 1)?);
+    let demands = (demand(code, 1, 1)?, demand(code, 2, 2)?);
+    let Ok(change) = everything(rt.alloc(), material, bars, demands) else {
         return Ok(());
     };
-    let Ok(ordered) = ordered(rt.alloc(), code, one, two) else {
-        return Ok(());
-    };
-    let change = Change {
-        order: ordered.order,
-        demands: ordered.demands,
-        demand: ordered.demand,
-        ..receipt
-    };
-    let made = match book.commit(change) {
-        Ok(()) => true,
-        Err(fault) => {
-            assert_eq!(rt; fault, BookFault::NoMemory);
-            false
-        }
-    };
-    let (act, demand, cells) = if made { (2, 3, 200) } else { (1, 1, 0) };
-    assert_eq!(rt; book.next_act()?, act);
-    assert_eq!(rt; book.next_demand()?, demand);
-    assert_eq!(rt; book.material(code)?.is_some(), made);
-    assert_eq!(rt; book.part(PartName::new(1, 0))?.is_some(), made);
-    assert_eq!(rt; book.part(PartName::new(1, 1))?.is_some(), made);
-    assert_eq!(rt; book.order(code)?, made);
-    assert_eq!(rt; book.demand(1)?.is_some(), made);
-    assert_eq!(rt; book.demand(2)?.is_some(), made);
-    assert_eq!(rt; book.totals(code)?, totals(cells, cells));
+    let made = is_made(&rt, book.commit(change));
+    tells_receipt(&rt, &mut book, code, made)?;
+    tells_order(&rt, &mut book, code, made)?;
     assert_eq!(rt; book.failures(), 0);
     Ok(())
 }
@@ -346,13 +382,7 @@ fn a_commit_is_whole_or_nothing(rt: HostRuntime) -> Result<(), Fail> {
 fn a_job_is_put_or_nothing(rt: HostRuntime) -> Result<(), Fail> {
     let mut book = MemBook::new(rt.alloc());
     let job = job(rt.alloc(), JobState::Waiting)?;
-    let made = match book.commit(worked(rt.alloc(), job)) {
-        Ok(()) => true,
-        Err(fault) => {
-            assert_eq!(rt; fault, BookFault::NoMemory);
-            false
-        }
-    };
+    let made = is_made(&rt, book.commit(worked(rt.alloc(), job)));
     match book.job(rt.alloc(), 2) {
         Ok(row) => assert_eq!(rt; row.is_some(), made),
         Err(fault) => assert_eq!(rt; fault, BookFault::NoMemory),
