@@ -1,5 +1,5 @@
 // The best worth of a sheet without kerf, for every rectangle up to a size.
-ghost use Rattle.std.specs.Prelude.{◌≡◌, ℕ, ◌+◌, ◌-◌, ◌*◌, ◌/◌, ◌^◌, ◌<◌, ◌≤◌, length, map, IfOk, All, true, false};
+ghost use Rattle.std.specs.Prelude.{◌≡◌, ℕ, ◌+◌, ◌-◌, ◌*◌, ◌/◌, ◌^◌, ◌<◌, ◌≤◌, length, map, IfOk, IsTrue, All, true, false};
 ghost use Rattle.cut_table.specs.Legal.{HaveOwnDemands, HasSides};
 ghost use Rattle.cut_table.specs.Best.{IsBestOf};
 ghost use Rattle.cut_table.specs.Table.{IsOffered, IsPlainRow, IsLiftedRow, IsUncutRow, IsBestRow, AreRows, AreUseful, ArePriced, Fits, IsTable, AreSmall, heights};
@@ -120,7 +120,9 @@ fn best_row<T: Number>(
 fn is_useful<T: Number>(rows: &[Vec<T>], row: &[T], wants: &[Scaled], places: usize) -> bool
     requires table { AreRows T.value wants.now places rows.now }
     requires row { IsBestRow wants.now places (length rows.now) (map T.value row.now) }
-    ensures { result ≡ false → (w v : ℕ) → w < places → IsBestOf wants.now 0 w (length rows.now) v → IsBestOf wants.now 0 w (length rows.now - 1) v }
+    ensures no { result ≡ false → (w v : ℕ) → w < places → IsBestOf wants.now 0 w (length rows.now) v → IsBestOf wants.now 0 w (length rows.now - 1) v }
+    ensures yes { IsTrue result → 1 ≤ length rows.now
+        → ((w v : ℕ) → w < places → IsBestOf wants.now 0 w (length rows.now) v → IsBestOf wants.now 0 w (length rows.now - 1) v) → ⊥ }
 {
     rows.len() == 0 || !is_same(&rows[rows.len() - 1], row)
 }

@@ -20,5 +20,5 @@ loop-preserved g c =
       omega (arith, length-append c.loop.useful.items (c.is_useful.result ∷ [])),
       table_push g.T.Number.value c.args.wants.now (c.args.width + 1) c.loop.rows.items c.in_ok-row.row c.loop.invariant.2 (rw c.deref.ensures.value at c.in_ok-row.ensures),
       useful_push c.args.wants.now (c.args.width + 1) c.loop.useful.items c.is_useful.result c.loop.invariant.3
-          (λ is w v wp b. subst (λ n. IsBestOf c.args.wants.now 0 w (n - 1) v) same (c.is_useful.ensures is w v wp (subst (λ n. IsBestOf c.args.wants.now 0 w n v) (sym same) b))),
+          (λ is w v wp b. subst (λ n. IsBestOf c.args.wants.now 0 w (n - 1) v) same (c.is_useful.ensures.no is w v wp (subst (λ n. IsBestOf c.args.wants.now 0 w n v) (sym same) b))),
     )
