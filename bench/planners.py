@@ -22,18 +22,19 @@ cut_plan: cut_measure cut_tree cut_table
 planner_bench: cut_measure cut_table cut_plan anyhow
 """
 
-# name, then width, height, kerf, step, wants, shortest side, spread of sides, unit of sides, left of each
+# name, then width, height, kerf, step, wants, shortest side, spread of sides, unit of sides, left of each, factor of worths
 CASES = [
-    ("bar of 150000, 40 wants, few lengths", 150000, 1, 0, 1, 40, 10, 40, 1000, 10),
-    ("bar of 150000, 40 wants, some lengths", 150000, 1, 0, 1, 40, 20, 180, 50, 10),
-    ("bar of 150000, 40 wants, many lengths", 150000, 1, 3, 1, 40, 1000, 9000, 1, 10),
-    ("bar of 75000, 40 wants, many lengths", 75000, 1, 3, 1, 40, 500, 4500, 1, 10),
-    ("bar of 150000, 20 wants, many lengths", 150000, 1, 3, 1, 20, 1000, 9000, 1, 10),
-    ("bar of 150000, 1 want of 1, 150000 left", 150000, 1, 0, 1, 1, 1, 1, 1, 150000),
-    ("bar of 150000, 40 wants from 1, 150000 left", 150000, 1, 0, 1, 40, 1, 40, 1, 150000),
-    ("sheet of 500 by 500 steps, 40 wants", 500, 500, 0, 1, 40, 30, 200, 1, 3),
-    ("sheet of 250 by 250 steps, 40 wants", 250, 250, 0, 1, 40, 30, 100, 1, 3),
-    ("sheet of 500 by 500 steps, 10 wants", 500, 500, 0, 1, 10, 30, 200, 1, 3),
+    ("bar of 150000, 40 wants, few lengths", 150000, 1, 0, 1, 40, 10, 40, 1000, 10, 1),
+    ("bar of 150000, 40 wants, some lengths", 150000, 1, 0, 1, 40, 20, 180, 50, 10, 1),
+    ("bar of 150000, 40 wants, many lengths", 150000, 1, 3, 1, 40, 1000, 9000, 1, 10, 1),
+    ("bar of 75000, 40 wants, many lengths", 75000, 1, 3, 1, 40, 500, 4500, 1, 10, 1),
+    ("bar of 150000, 20 wants, many lengths", 150000, 1, 3, 1, 20, 1000, 9000, 1, 10, 1),
+    ("bar of 150000, 1 want of 1, 150000 left", 150000, 1, 0, 1, 1, 1, 1, 1, 150000, 1),
+    ("bar of 150000, 40 wants from 1, 150000 left", 150000, 1, 0, 1, 40, 1, 40, 1, 150000, 1),
+    ("sheet of 500 by 500 steps, 40 wants", 500, 500, 0, 1, 40, 30, 200, 1, 3, 1),
+    ("sheet of 250 by 250 steps, 40 wants", 250, 250, 0, 1, 40, 30, 100, 1, 3, 1),
+    ("sheet of 500 by 500 steps, 40 wants, wide", 500, 500, 0, 1, 40, 30, 200, 1, 3, 18000),
+    ("sheet of 500 by 500 steps, 10 wants", 500, 500, 0, 1, 10, 30, 200, 1, 3, 1),
 ]
 
 
