@@ -308,14 +308,12 @@ fn everything(
     bars: (Part, Part),
     demands: (Demand, Demand),
 ) -> Result<Change, AllocError> {
-    let receipt = receipt(alloc, material, bars.0, bars.1)?;
     let ordered = ordered(alloc, material.code, demands.0, demands.1)?;
-    Ok(Change {
-        order: ordered.order,
-        demands: ordered.demands,
-        demand: ordered.demand,
-        ..receipt
-    })
+    let mut change = receipt(alloc, material, bars.0, bars.1)?;
+    change.order = ordered.order;
+    change.demand = ordered.demand;
+    change.demands = ordered.demands;
+    Ok(change)
 }
 
 // Whether a change was made: the one fault that there may be is want of memory.
