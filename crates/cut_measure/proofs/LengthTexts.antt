@@ -3,33 +3,33 @@ use Rattle.std.proofs.Common.{◌≡◌, ℕ, ◌+◌, ◌*◌, ◌/◌, ◌%◌
 use Rattle.std.specs.Fmt.{decimal}
 use Rattle.std.specs.Str.Parse.{digits_value}
 use Rattle.std.proofs.lemmas.Fmt.{digits_decimal, digits_value-decimal, decimal_digit, decimal_nonempty, length-decimal-le}
-use Rattle.cut_measure.specs.Lengths.{IsWhole, IsLengthText, mm_text}
+use Rattle.cut_measure.specs.Lengths.{IsWholeMillimetres, IsLengthText, mm_text}
 use Rattle.cut_measure.proofs.Digits.{own}
 use Rattle.cut_measure.proofs.Splits.{Lacks, digits_lack, has_it, one_split}
 
 -- a text without a point
-pub no_whole : (text : List ℕ) → Lacks 46 text → (IsWhole text → ⊥) → (n : ℕ) → IsLengthText text n → ⊥
+pub no_whole : (text : List ℕ) → Lacks 46 text → (IsWholeMillimetres text → ⊥) → (n : ℕ) → IsLengthText text n → ⊥
 no_whole text none not n h =
     elim h.2 [
-      | inl p ↦ not (subst IsWhole (sym p.0) h.1)
+      | inl p ↦ not (subst IsWholeMillimetres (sym p.0) h.1)
       | inr p ↦ has_it 46 h.0 ((48 + p.0) ∷ []) (subst (Lacks 46) p.2 none)
     ]
 
-pub only_whole : (text : List ℕ) → IsWhole text → IsLengthText text (10 * digits_value 10 text)
+pub only_whole : (text : List ℕ) → IsWholeMillimetres text → IsLengthText text (10 * digits_value 10 text)
 only_whole text is = (text, is, inl (refl, refl))
 
 -- a text that a point divides
 module _ (text whole behind : List ℕ) (parts : text ≡ whole ++ 46 ∷ behind) (none : Lacks 46 whole) where
-  pub pointed : (n : ℕ) → IsLengthText text n → (d : ℕ) × (d < 10) × (behind ≡ (48 + d) ∷ []) × IsWhole whole
+  pub pointed : (n : ℕ) → IsLengthText text n → (d : ℕ) × (d < 10) × (behind ≡ (48 + d) ∷ []) × IsWholeMillimetres whole
   pointed n h =
       elim h.2 [
         | inl p ↦ absurd (has_it 46 whole behind (subst (Lacks 46) (sym p.0 ∙ parts) (digits_lack 46 h.0 (omega arith) h.1.2)))
         | inr p ↦
             let same = one_split 46 h.0 ((48 + p.0) ∷ []) whole behind (sym p.2 ∙ parts) (digits_lack 46 h.0 (omega arith) h.1.2) none in
-            (p.0, p.1, sym same.1, subst IsWhole same.0 h.1)
+            (p.0, p.1, sym same.1, subst IsWholeMillimetres same.0 h.1)
       ]
 
-  pub with_tenth : IsWhole whole → (d : ℕ) → d < 10 → behind ≡ (48 + d) ∷ [] → IsLengthText text (10 * digits_value 10 whole + d)
+  pub with_tenth : IsWholeMillimetres whole → (d : ℕ) → d < 10 → behind ≡ (48 + d) ∷ [] → IsLengthText text (10 * digits_value 10 whole + d)
   with_tenth is d small tenth = (whole, is, inr (d, small, parts ∙ ap (λ l. whole ++ 46 ∷ l) tenth, refl))
 
 digit_of : (c d : ℕ) → (48 + c) ∷ [] ≡ (48 + d) ∷ [] → c ≡ d

@@ -8,7 +8,8 @@ use Rattle.std.proofs.Math.Seq.{take-append_seam, drop-append-add}
 use Rattle.std.proofs.lemmas.Bool.{ne_eqb, and_parts, leb-true, ltb-true}
 use Rattle.std.proofs.lemmas.Slice.Eq.{bytes_eq-Decides}
 use Rattle.std.proofs.lemmas.Fmt.{decimal_injective, digits_value-decimal}
-use Rattle.cut_measure.specs.Names.{Name, IsName, IsNameOf, is_name, name_in, name_of, name_text}
+use Rattle.cut_measure.specs.declared.ranges.TheConstants.{MOST_NUMBERS}
+use Rattle.cut_measure.specs.Names.{Name, IsName, IsNameOf, is_name, name_in, spelled_name, name_text}
 use Rattle.cut_measure.proofs.Digits.{own}
 use Rattle.cut_measure.proofs.Splits.{Lacks, decimal_lacks, has_it, lacks_rest, one_split}
 
@@ -45,20 +46,20 @@ name_in_text n is =
     (ap (digits_value 10) there.1 ∙ digits_value-decimal own n.node (omega (arith, is.2)))
 
 is_name_there : (n : Name) → IsName n → is_name n ≡ true
-is_name_there n is = rw (le-leb 1 n.act is.0, le-leb n.act 2147483647 is.1, lt-ltb n.node (2 ^ 32) is.2) refl
+is_name_there n is = rw (le-leb 1 n.act is.0, le-leb n.act MOST_NUMBERS is.1, lt-ltb n.node (2 ^ 32) is.2) refl
 
 is_name_only : (n : Name) → is_name n ≡ true → IsName n
 is_name_only n is =
     let p = and_parts _ (nat_lt n.node (2 ^ 32)) is in
-    let q = and_parts (nat_le 1 n.act) (nat_le n.act 2147483647) p.0 in
-    (leb-true 1 n.act q.0, leb-true n.act 2147483647 q.1, ltb-true n.node (2 ^ 32) p.1)
+    let q = and_parts (nat_le 1 n.act) (nat_le n.act MOST_NUMBERS) p.0 in
+    (leb-true 1 n.act q.0, leb-true n.act MOST_NUMBERS q.1, ltb-true n.node (2 ^ 32) p.1)
 
 same_text : (s t : List ℕ) → s ≡ t → bytes_eq s t ≡ true
 same_text s t same = (bytes_eq-Decides s t).1 same
 
 -- a name is read out of its text
-pub name_back : (n : Name) → IsName n → name_of (name_text n) ≡ Some n
-unfolding name_of
+pub name_back : (n : Name) → IsName n → spelled_name (name_text n) ≡ Some n
+unfolding spelled_name
 name_back n is =
     ap (λ m. if is_name m && bytes_eq (name_text m) (name_text n) then Some m else None) (name_in_text n is)
     ∙ ap (λ (b : Bool). if b && bytes_eq (name_text n) (name_text n) then Some n else None) (is_name_there n is)
@@ -68,17 +69,17 @@ spelled : (b : Bool) (m n : Name) → (if b then Some m else None) ≡ Some n �
 spelled true m n e = (refl, cc)
 spelled false m n e = absurd (cc e)
 
-name_only : (text : List ℕ) (o : Option Name) (n : Name) → IsNameOf o text → name_of text ≡ Some n → IsName n × (name_text n ≡ text)
-unfolding name_of
+name_only : (text : List ℕ) (o : Option Name) (n : Name) → IsNameOf o text → spelled_name text ≡ Some n → IsName n × (name_text n ≡ text)
+unfolding spelled_name
 name_only text o n is e =
     let p = spelled _ (name_in text) n e in
     let q = and_parts (is_name (name_in text)) _ p.0 in
     subst (λ m. IsName m × (name_text m ≡ text)) p.1 (is_name_only (name_in text) q.0, (bytes_eq-Decides (name_text (name_in text)) text).0 q.1)
 
-no_name_of : (text : List ℕ) (o : Option Name) → IsNameOf None text → name_of text ≡ o → None ≡ o
+no_name_of : (text : List ℕ) (o : Option Name) → IsNameOf None text → spelled_name text ≡ o → None ≡ o
 no_name_of text None is e = refl
 no_name_of text (Some n) is e = let p = name_only text None n is e in absurd (is n p.0 p.1)
 
-pub name_of_is : (text : List ℕ) (o : Option Name) → IsNameOf o text → o ≡ name_of text
-name_of_is text None is = no_name_of text (name_of text) is refl
-name_of_is text (Some n) is = sym (ap name_of (sym is.1) ∙ name_back n is.0)
+pub name_of_is : (text : List ℕ) (o : Option Name) → IsNameOf o text → o ≡ spelled_name text
+name_of_is text None is = no_name_of text (spelled_name text) is refl
+name_of_is text (Some n) is = sym (ap spelled_name (sym is.1) ∙ name_back n is.0)

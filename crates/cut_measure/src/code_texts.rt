@@ -2,6 +2,7 @@ ghost use Rattle.std.specs.Prelude.{◌≡◌, ◌++◌, IsTrue, ◌↔◌, OnOk
 ghost use Rattle.std.specs.List.{list_all};
 ghost use Rattle.cut_measure.specs.Codes.{code_of, code_cmp, is_code, is_code_byte};
 
+use crate::ranges::LONGEST_CODE;
 use std::alloc::AllocError;
 use std::cmp::Ordering;
 use std::marker::Model;
@@ -9,12 +10,13 @@ use std::marker::Model;
 /// The code of a material, a batch or an order: 1 to 16 characters of `A-Z0-9-`.
 #[derive(Clone, Copy, Debug)]
 pub struct Code {
-    text: [u8; 16],
+    text: [u8; LONGEST_CODE],
     len: usize,
 }
 
 impl Model for Code {
     ghost use Rattle.std.specs.Prelude.{◌≡◌, ◌-◌, ◌++◌, ◌≤◌, List, ℕ, length, take, drop, replicate};
+    ghost use Rattle.cut_measure.specs.declared.ranges.TheConstants.{LONGEST_CODE};
     ghost use Rattle.cut_measure.specs.Codes.{is_code};
     ghost use Rattle.std.specs.Prelude.{IsTrue};
 
@@ -24,9 +26,9 @@ impl Model for Code {
 
     ghost view = { λ c. take c.len c.text };
 
-    ghost invariant = { λ c. (length c.text ≡ 16) × (c.len ≤ 16) × (drop c.len c.text ≡ replicate (16 - c.len) 0) × IsTrue (is_code (take c.len c.text)) };
+    ghost invariant = { λ c. (length c.text ≡ LONGEST_CODE) × (c.len ≤ LONGEST_CODE) × (drop c.len c.text ≡ replicate (LONGEST_CODE - c.len) 0) × IsTrue (is_code (take c.len c.text)) };
 
-    ghost inverse = { λ text. record { text = text ++ replicate (16 - length text) 0; len = length text } };
+    ghost inverse = { λ text. record { text = text ++ replicate (LONGEST_CODE - length text) 0; len = length text } };
 
     ghost inverse_ok = { λ a h. fields_back a h.0 h.1 h.2 };
 }
@@ -64,7 +66,7 @@ fn is_code_text(text: &str) -> bool
 {
     let bytes = text.as_bytes();
     let len = bytes.len();
-    if len < 1 || len > 16 {
+    if len < 1 || len > LONGEST_CODE {
         return false;
     }
     has_code_bytes(bytes)
@@ -80,7 +82,7 @@ impl Code {
         }
         let bytes = text.as_bytes();
         let len = bytes.len();
-        let mut text = [0u8; 16];
+        let mut text = [0u8; LONGEST_CODE];
         text[..len].copy_from_slice(bytes);
         Some(Code { text, len })
     }

@@ -1,14 +1,14 @@
 ghost use Rattle.std.specs.Prelude.{◌≡◌, ◌+◌, ◌<◌, ◌≤◌, ℕ, [], ◌∷◌, ◌++◌, IfSome, Some, MatchOption, OnOk, OnErr, string_bytes};
 ghost use Rattle.std.specs.Option.{SomeIff};
 ghost use Rattle.std.specs.Str.Parse.{digits_value};
-ghost use Rattle.cut_measure.specs.Lengths.{IsWhole, IsLengthText, mm_text};
+ghost use Rattle.cut_measure.specs.Lengths.{IsWholeMillimetres, IsLengthText, mm_text};
 
 use crate::numbers::digits_value_of;
 use std::alloc::AllocError;
 
 // The millimetres that one to six digits stand for.
 fn read_whole(digits: &[u8]) -> Option<u32>
-    ensures whole { SomeIff result (IsWhole digits.now) (digits_value 10 digits.now) }
+    ensures whole { SomeIff result (IsWholeMillimetres digits.now) (digits_value 10 digits.now) }
     ensures few { IfSome result (λ n. n ≤ 999999) }
 {
     if digits.is_empty() || digits.len() > 6 {

@@ -2,19 +2,25 @@
 #![tactic(auto)]
 
 mod code_texts;
-mod fate;
 mod laws;
 mod lengths;
+mod limits;
+mod lists;
 mod numbers;
 mod part_names;
+mod ranges;
 mod sizes;
 
 pub use code_texts::Code;
-pub use fate::Limits;
 pub use laws::{lengths_have_one_text, names_have_one_part};
 pub use lengths::{read_mm, write_mm};
-pub use numbers::read_number;
+pub use limits::Limits;
+pub use lists::RowList;
+pub use numbers::{digits_value_of, read_number};
 pub use part_names::PartName;
+pub use ranges::{
+    LONGEST_CODE, MOST_COUNT, MOST_HEIGHT, MOST_KERF, MOST_NUMBERS, MOST_WIDTH, MOST_WORTH,
+};
 pub use sizes::{Axis, Kind, Size};
 
 #[cfg(test)]

@@ -1,6 +1,7 @@
 ghost use Rattle.cut_measure.specs.Names.{IsNameOf};
 
 use crate::numbers::read_number;
+use crate::ranges::MOST_NUMBERS;
 use std::alloc::AllocError;
 use std::cmp::Ordering;
 use std::marker::Model;
@@ -14,13 +15,14 @@ pub struct PartName {
 
 impl Model for PartName {
     ghost use Rattle.std.specs.Prelude.{◌≤◌};
+    ghost use Rattle.cut_measure.specs.declared.ranges.TheConstants.{MOST_NUMBERS};
     ghost use Rattle.cut_measure.specs.Names.{Name};
 
     ghost Value = { Name };
 
     ghost view = { λ n. record { act = n.act; node = n.node } };
 
-    ghost invariant = { λ n. (1 ≤ n.act) × (n.act ≤ 2147483647) };
+    ghost invariant = { λ n. (1 ≤ n.act) × (n.act ≤ MOST_NUMBERS) };
 
     ghost inverse = { λ n. record { act = n.act; node = n.node } };
 }
@@ -32,7 +34,7 @@ fn named(text: &str) -> Option<PartName>
     let (act, node) = text.split_once('/')?;
     let act = read_number(act.as_bytes())?;
     let node = read_number(node.as_bytes())?;
-    if act < 1 || act > 2147483647 {
+    if act < 1 || act > MOST_NUMBERS {
         return None;
     }
     Some(PartName { act, node })
@@ -40,12 +42,12 @@ fn named(text: &str) -> Option<PartName>
 
 impl PartName {
     ghost use Rattle.std.specs.Prelude.{◌≡◌, ◌≤◌, ◌++◌, OnOk, OnErr, string_bytes};
-    ghost use Rattle.cut_measure.specs.Names.{name_cmp, name_text, name_of, IsNameOf};
+    ghost use Rattle.cut_measure.specs.Names.{name_cmp, name_text, spelled_name, IsNameOf};
 
     /// The name of a node of an act.
     pub fn new(act: u32, node: u32) -> PartName
         requires least { 1 ≤ act }
-        requires most { act ≤ 2147483647 }
+        requires most { act ≤ MOST_NUMBERS }
         ensures { result ≡ record { act = act; node = node } }
     {
         PartName { act, node }
@@ -54,7 +56,7 @@ impl PartName {
     /// The part that a text names: its act and its node in decimal digits without leading zeros, joined by a slash.
     pub fn read(text: &str) -> Option<PartName>
         ensures named { IsNameOf result text.now }
-        ensures value { result ≡ name_of text.now }
+        ensures value { result ≡ spelled_name text.now }
     {
         named(text)
     }
@@ -73,7 +75,7 @@ impl PartName {
     pub fn act(&self) -> u32
         ensures value { result ≡ self.now.act }
         ensures least { 1 ≤ result }
-        ensures most { result ≤ 2147483647 }
+        ensures most { result ≤ MOST_NUMBERS }
     {
         self.act
     }

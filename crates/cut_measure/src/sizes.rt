@@ -1,6 +1,7 @@
 ghost use Rattle.std.specs.Prelude.{◌≡◌, ◌*◌, ◌≤◌, length};
 ghost use Rattle.cut_measure.specs.Measures.{size_of, cells_of};
 
+use crate::ranges::{MOST_HEIGHT, MOST_WIDTH};
 use std::marker::Model;
 
 /// What a material comes as.
@@ -30,13 +31,14 @@ pub struct Size {
 
 impl Model for Size {
     ghost use Rattle.std.specs.Prelude.{◌≤◌};
+    ghost use Rattle.cut_measure.specs.declared.ranges.TheConstants.{MOST_WIDTH, MOST_HEIGHT};
     ghost use Rattle.cut_measure.specs.Measures.{Extent};
 
     ghost Value = { Extent };
 
     ghost view = { λ s. record { w = s.w; h = s.h } };
 
-    ghost invariant = { λ s. (1 ≤ s.w) × (s.w ≤ 200000) × (1 ≤ s.h) × (s.h ≤ 60000) };
+    ghost invariant = { λ s. (1 ≤ s.w) × (s.w ≤ MOST_WIDTH) × (1 ≤ s.h) × (s.h ≤ MOST_HEIGHT) };
 
     ghost inverse = { λ e. record { w = e.w; h = e.h } };
 }
@@ -49,9 +51,9 @@ impl Size {
     {
         let fits = match kind {
             Kind::Bar => h == 1,
-            Kind::Sheet => 1 <= h && h <= 60000,
+            Kind::Sheet => 1 <= h && h <= MOST_HEIGHT,
         };
-        if 1 <= w && w <= 200000 && fits {
+        if 1 <= w && w <= MOST_WIDTH && fits {
             Some(Size { w, h })
         } else {
             None
@@ -62,7 +64,7 @@ impl Size {
     pub fn w(&self) -> u32
         ensures value { result ≡ self.now.w }
         ensures least { 1 ≤ result }
-        ensures most { result ≤ 200000 }
+        ensures most { result ≤ MOST_WIDTH }
     {
         self.w
     }
@@ -71,7 +73,7 @@ impl Size {
     pub fn h(&self) -> u32
         ensures value { result ≡ self.now.h }
         ensures least { 1 ≤ result }
-        ensures most { result ≤ 60000 }
+        ensures most { result ≤ MOST_HEIGHT }
     {
         self.h
     }
@@ -80,7 +82,7 @@ impl Size {
     pub fn cells(&self) -> u64
         ensures value { result ≡ self.now.w * self.now.h }
         ensures counted { result ≡ length (cells_of self.now) }
-        ensures most { result ≤ 12000000000 }
+        ensures most { result ≤ MOST_WIDTH * MOST_HEIGHT }
     {
         u64::from(self.w) * u64::from(self.h)
     }

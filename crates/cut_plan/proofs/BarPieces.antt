@@ -1,21 +1,22 @@
 -- The pieces of counts, and the tree of a bar that they make.
 use Rattle.std.proofs.Common.{◌≡◌, ℕ, ◌+◌, ◌<◌, ◌≤◌, false, List, [], ◌∷◌, length, replicate, sym, refl, ap, ◌∙◌, subst, inl, inr, arith}
 use Rattle.std.specs.Prelude.{Contains, All, sum_by}
-use Rattle.std.proofs.lemmas.List.Elements.{All-append, All-replicate}
+use Rattle.std.proofs.lemmas.List.Elements.{All-append, All-contains, All-replicate}
 use Rattle.std.proofs.lemmas.List.Folds.{sum_by-replicate}
 use Rattle.std.proofs.lemmas.List.Sums.{sum_by-append, sum_by-cons}
+use Rattle.cut_tree.specs.declared.token.TheConstants.{MOST_CUTS}
 use Rattle.cut_measure.specs.Measures.{Extent}
-use Rattle.cut_tree.specs.Tree.{Tree, leaf_sum, cut_count}
+use Rattle.cut_tree.specs.Tree.{leaf_sum, cut_count}
 use Rattle.cut_tree.specs.Patterns.{Pattern}
 use Rattle.cut_tree.specs.Bars.{IsBarPiece, bar_tree, bar_length}
 use Rattle.cut_tree.proofs.BarTrees.{spent, spent-cons, fits_bar, leaf_sum-bar_tree, cut_count-bar_tree, CutsInto-bar_tree}
 use Rattle.cut_table.specs.declared.wants.Want.{Want}
-use Rattle.cut_table.specs.Legal.{Legal, IsPiece, IsWithinCounts, HaveOwnDemands, worth_of, leaves_of}
-use Rattle.cut_table.specs.Counts.{total_of, value_of, AreBestCounts, AreFlat, HaveLength}
-use Rattle.cut_table.proofs.Trees.{Contains-head, Contains-tail}
-use Rattle.cut_table.proofs.BarTrees.{bar_wants, counts_best, counted_within, counted_value}
+use Rattle.cut_table.specs.Legal.{Legal, IsWantedPiece, HaveOwnDemands, worth_of, leaf_count}
+use Rattle.cut_table.specs.Counts.{total_of, worth_of_counts, AreBestCounts, AreUprightOfHeightOne, HaveLength}
+use Rattle.cut_table.proofs.LeafSums.{Contains-head, Contains-tail}
+use Rattle.cut_table.proofs.BarCounts.{bar_wants, counts_best, counted_within, counted_value}
 use Rattle.cut_plan.specs.declared.bars.Pieces.{Pieces}
-use Rattle.cut_plan.specs.Proposals.{pieces_of, AreDemands, AreBestPieces, IsBarProposal, HasManyPieces}
+use Rattle.cut_plan.specs.Proposals.{pieces_of, AreDemands, HasDemandNumber, AreBestPieces, IsBarPlan, IsBarProposal, HasManyPieces}
 
 -- what holds of each want's demand and length holds of the pieces
 all_pieces : (P : ℕ × ℕ → Type 0) (xs : List Want) (ns : List ℕ) → ((x : Want) → Contains xs x → P (x.demand, x.size.w)) → All P (pieces_of xs ns)
@@ -37,14 +38,7 @@ length_sum (p ∷ ps) = omega (arith, sum_by-cons (λ (q : ℕ × ℕ). 1) p ps,
 
 pub bar_pieces : (wants : List Want) (ns : List ℕ) (pieces : List (ℕ × ℕ)) → pieces ≡ pieces_of wants ns → AreDemands wants → HaveLength wants → All IsBarPiece pieces
 bar_pieces wants ns pieces list demands some =
-    subst (λ ps. All IsBarPiece ps) (sym list) (all_pieces IsBarPiece wants ns (λ x has. ((demands x has).0, (demands x has).1, some x has)))
-
--- what is known of the tree that best counts give
-pub record IsBestTree (wants : List Want) (k w : ℕ) (ns : List ℕ) (t : Tree) : Type 0 where
-  pub legal : Legal wants k t w 1
-  pub within : IsWithinCounts wants t
-  pub worth : worth_of wants t ≡ value_of wants ns
-  pub best : (u : Tree) → Legal wants k u w 1 → IsWithinCounts wants u → worth_of wants u ≤ value_of wants ns
+    subst (λ ps. All IsBarPiece ps) (sym list) (all_pieces IsBarPiece wants ns (λ x has. (let d = All-contains HasDemandNumber wants x demands has in (d.0, d.1, some x has))))
 
 pub has_room : (wants : List Want) (k w : ℕ) (ns : List ℕ) → AreBestCounts k wants (w + k) ns → spent k (pieces_of wants ns) ≤ w + k
 has_room wants k w ns best = omega (arith, sum_pieces (λ p. p.1 + k) wants ns, best.fit)
@@ -52,66 +46,65 @@ has_room wants k w ns best = omega (arith, sum_pieces (λ p. p.1 + k) wants ns, 
 lengths : (wants : List Want) (ns : List ℕ) → HaveLength wants → All (λ q. 1 ≤ q.1) (pieces_of wants ns)
 lengths wants ns some = all_pieces (λ q. 1 ≤ q.1) wants ns some
 
-pub best_tree : (wants : List Want) (k w : ℕ) (ns : List ℕ) → HaveOwnDemands wants → AreFlat wants → HaveLength wants → AreBestCounts k wants (w + k) ns
-    → IsBestTree wants k w ns (bar_tree (pieces_of wants ns) w k)
-best_tree wants k w ns own flat some best =
-    let sums : (f : ℕ → ℕ) → leaf_sum f (bar_tree (pieces_of wants ns) w k) ≡ total_of (λ x. f x.demand) wants ns =
-    λ f. leaf_sum-bar_tree f (pieces_of wants ns) w k (lengths wants ns some) (has_room wants k w ns best) ∙ sum_pieces (λ p. f p.0) wants ns in
-    record {
-      legal = CutsInto-bar_tree (IsPiece wants) (pieces_of wants ns) w 1 k (lengths wants ns some)
-          (all_pieces (λ q. IsPiece wants q.0 false q.1 1) wants ns (λ x has. (x, has, refl, (refl, (flat x has).flat)))) (has_room wants k w ns best);
-      within = counted_within wants ns (bar_tree (pieces_of wants ns) w k) own best.within sums;
-      worth = counted_value wants ns (bar_tree (pieces_of wants ns) w k) own sums;
-      best = λ u legal within. (counts_best wants k w ns own (bar_wants wants some flat) best).most u (legal, within);
-    }
+-- the tree of best counts is a bar's plan, worth what the counts are
+pub best_tree : (size : Extent) (k : ℕ) (wants : List Want) (ns : List ℕ) → HaveOwnDemands wants → AreUprightOfHeightOne wants → size.h ≡ 1 → HaveLength wants → AreBestCounts k wants (size.w + k) ns
+    → IsBarPlan size k wants (bar_tree (pieces_of wants ns) size.w k) × (worth_of wants (bar_tree (pieces_of wants ns) size.w k) ≡ worth_of_counts wants ns)
+best_tree size k wants ns own flat high some best =
+    let sums : (f : ℕ → ℕ) → leaf_sum f (bar_tree (pieces_of wants ns) size.w k) ≡ total_of (λ x. f x.demand) wants ns =
+    λ f. leaf_sum-bar_tree f (pieces_of wants ns) size.w k (lengths wants ns some) (has_room wants k size.w ns best) ∙ sum_pieces (λ p. f p.0) wants ns in
+    let worth = counted_value wants ns (bar_tree (pieces_of wants ns) size.w k) own sums in (
+      record {
+        counts = ns;
+        few = best.within;
+        same = refl;
+        legal = rw high (CutsInto-bar_tree (IsWantedPiece wants) (pieces_of wants ns) size.w 1 k (lengths wants ns some)
+            (all_pieces (λ q. IsWantedPiece wants q.0 false q.1 1) wants ns (λ x has. (x, has, refl, (refl, (flat x has).flat)))) (has_room wants k size.w ns best));
+        within = counted_within wants ns (bar_tree (pieces_of wants ns) size.w k) own best.within sums;
+        best = λ u legal within. rw worth ((counts_best wants k size.w ns own (bar_wants wants some flat) best).most u (subst (λ h. Legal wants k u size.w h) high legal, within));
+      },
+      worth,
+    )
 
 -- a tree of over 255 cuts has over 255 pieces
-pub many_leaves : (wants : List Want) (k w : ℕ) (ns : List ℕ) → 1 ≤ w → HaveLength wants → AreBestCounts k wants (w + k) ns → 255 < cut_count (bar_tree (pieces_of wants ns) w k)
-    → 255 < leaves_of (bar_tree (pieces_of wants ns) w k)
+pub many_leaves : (wants : List Want) (k w : ℕ) (ns : List ℕ) → 1 ≤ w → HaveLength wants → AreBestCounts k wants (w + k) ns → MOST_CUTS < cut_count (bar_tree (pieces_of wants ns) w k)
+    → MOST_CUTS < leaf_count (bar_tree (pieces_of wants ns) w k)
 many_leaves wants k w ns one some best many =
     let all = lengths wants ns some in
     let room = has_room wants k w ns best in
-    let leaves : leaves_of (bar_tree (pieces_of wants ns) w k) ≡ length (pieces_of wants ns) =
+    let leaves : leaf_count (bar_tree (pieces_of wants ns) w k) ≡ length (pieces_of wants ns) =
     leaf_sum-bar_tree (λ _. 1) (pieces_of wants ns) w k all room ∙ length_sum (pieces_of wants ns) in
     elim (cut_count-bar_tree (pieces_of wants ns) w k one all room) [
       | inl c ↦ omega (arith, c.1, leaves)
       | inr c ↦ omega (arith, c.1, leaves)
     ]
 
-some_bar : (ps : List (ℕ × ℕ)) (w k : ℕ) → All (λ q. 1 ≤ q.1) ps → spent k ps ≤ w + k → 255 < cut_count (bar_tree ps w k) → 1 ≤ w
+some_bar : (ps : List (ℕ × ℕ)) (w k : ℕ) → All (λ q. 1 ≤ q.1) ps → spent k ps ≤ w + k → MOST_CUTS < cut_count (bar_tree ps w k) → 1 ≤ w
 some_bar [] w k all fits many = absurd (omega arith)
 some_bar (p ∷ ps) w k all fits many = let one : 1 ≤ p.1 = all 0 p (omega arith) in omega (arith, spent-cons k p ps, one, fits)
 
--- the plan of best pieces is a best one
-pub is_proposal : (size : Extent) (k : ℕ) (wants : List Want) (pieces : Pieces) (plan : Pattern) → HaveOwnDemands wants → AreFlat wants → size.h ≡ 1 → AreBestPieces size k wants pieces
+-- the plan of best pieces is proposed
+pub is_proposal : (size : Extent) (k : ℕ) (wants : List Want) (pieces : Pieces) (plan : Pattern) → HaveOwnDemands wants → AreUprightOfHeightOne wants → size.h ≡ 1 → AreBestPieces size k wants pieces
     → plan.tree ≡ bar_tree pieces.pieces.items size.w k → (plan.w ≡ size.w) × (plan.h ≡ size.h) × (plan.kerf ≡ k)
     → IsBarProposal size k wants (record { plan = plan; worth = pieces.worth })
 is_proposal size k wants pieces plan own flat high b tree unit =
-    let made = best_tree wants k size.w b.counts own flat b.some b.best in
+    let made = best_tree size k wants b.counts own flat high b.some b.best in
     let same : plan.tree ≡ bar_tree (pieces_of wants b.counts) size.w k = tree ∙ ap (λ ps. bar_tree ps size.w k) b.list in
     record {
-      counts = b.counts;
-      few = b.best.within;
-      tree = same;
+      planned = rw same made.0;
       unit = unit;
-      legal = rw (same, high) made.legal;
-      within = rw same made.within;
-      worth = rw same (b.worth ∙ sym made.worth);
-      best = λ t legal within. rw b.worth (made.best t (subst (λ h. Legal wants k t size.w h) high legal) within);
+      worth = rw same (b.worth ∙ sym made.1);
     }
 
-pub too_many : (size : Extent) (k : ℕ) (wants : List Want) (pieces : Pieces) → HaveOwnDemands wants → AreFlat wants → size.h ≡ 1 → AreBestPieces size k wants pieces
-    → 255 < cut_count (bar_tree pieces.pieces.items size.w k) → HasManyPieces size k wants
+pub too_many : (size : Extent) (k : ℕ) (wants : List Want) (pieces : Pieces) → HaveOwnDemands wants → AreUprightOfHeightOne wants → size.h ≡ 1 → AreBestPieces size k wants pieces
+    → MOST_CUTS < cut_count (bar_tree pieces.pieces.items size.w k) → HasManyPieces size k wants
 too_many size k wants pieces own flat high b cuts =
-    let made = best_tree wants k size.w b.counts own flat b.some b.best in
-    let many = subst (λ ps. 255 < cut_count (bar_tree ps size.w k)) b.list cuts in
+    let many = subst (λ ps. MOST_CUTS < cut_count (bar_tree ps size.w k)) b.list cuts in
     let one = some_bar (pieces_of wants b.counts) size.w k (lengths wants b.counts b.some) (has_room wants k size.w b.counts b.best) many in
     record {
       tree = bar_tree (pieces_of wants b.counts) size.w k;
-      legal = rw high made.legal;
-      within = made.within;
-      best = λ t legal within. rw made.worth (made.best t (subst (λ h. Legal wants k t size.w h) high legal) within);
+      planned = (best_tree size k wants b.counts own flat high b.some b.best).0;
       many = many_leaves wants k size.w b.counts one b.some b.best many;
+      many_cuts = many;
     }
 
 -- the pieces of best counts aren't too long

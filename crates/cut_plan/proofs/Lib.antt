@@ -1,4 +1,7 @@
-pub mod Sound
+-- what holds where there is no fault
+pub mod Faultless
+-- bars
 pub mod BarPieces
+pub mod EntryMaps
+-- sheets
 pub mod SheetPlans
-mod Maps

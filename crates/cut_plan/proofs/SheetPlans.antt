@@ -4,23 +4,25 @@ use Rattle.std.specs.Prelude.{All, Contains, sum_by, slice_get}
 use Rattle.std.proofs.lemmas.Nat.{mul-le}
 use Rattle.std.proofs.lemmas.Bool.{ne_eqb}
 use Rattle.std.proofs.lemmas.Bool.Decides.{eqb_tells}
+use Rattle.std.proofs.lemmas.List.Elements.{All-contains}
 use Rattle.std.proofs.lemmas.List.Sums.{sum_by-cons}
+use Rattle.cut_table.specs.declared.sheet.TheConstants.{MOST_STEPS}
 use Rattle.cut_measure.specs.declared.sizes.Axis.TheVariants.{X, Y}
 use Rattle.cut_measure.specs.Measures.{Extent}
 use Rattle.cut_tree.specs.Tree.{Tree, Rest, Piece, Trim, Cut, IsShaped, leaf_sum, count_of, cut_count}
 use Rattle.cut_tree.specs.Patterns.{HasDemands}
 use Rattle.cut_table.specs.declared.wants.Want.{Want}
-use Rattle.cut_table.specs.Legal.{Legal, of_demand, IsWithinCounts, HaveOwnDemands, leaves_of}
+use Rattle.cut_table.specs.Legal.{Legal, of_demand, IsWithinCounts, HaveOwnDemands, leaf_count}
 use Rattle.cut_table.specs.Rounded.{steps_down, want_up, wants_up}
-use Rattle.cut_table.specs.Counts.{AreCounts, value_of}
-use Rattle.cut_table.specs.Kept.{Keeps, Places}
-use Rattle.cut_table.proofs.Trees.{Contains-cases, Contains-head, Contains-tail, of_demand_found, weigh, weigh-count}
-use Rattle.cut_table.proofs.BarTrees.{tree_counts, tree_total}
-use Rattle.cut_table.proofs.Reaching.{in_get}
-use Rattle.cut_plan.specs.Proposals.{AreDemands}
-use Rattle.cut_plan.specs.Sheets.{IsCutting, kept_counts, dropped_of, IsLaid}
+use Rattle.cut_table.specs.Counts.{AreCounts, worth_of_counts}
+use Rattle.cut_table.specs.Kept.{KeepsLeaves, Places}
+use Rattle.cut_table.proofs.LeafSums.{Contains-cases, Contains-head, Contains-tail, of_demand_found, weigh, weigh-count}
+use Rattle.cut_table.proofs.BarCounts.{tree_counts, tree_total}
+use Rattle.cut_table.proofs.BestWorths.{in_get}
+use Rattle.cut_plan.specs.Proposals.{AreDemands, HasDemandNumber}
+use Rattle.cut_plan.specs.Sheets.{IsCutting, kept_counts, dropped_of, IsSheetPlan}
 
-pub cutting : (wants : List Want) (p q : ℕ) (old new : List ℕ) (kept : Tree) → Keeps wants p q old new kept → length new ≡ length wants → ((i : ℕ) → get_or old i 0 ≡ 0) → p ≤ 500 → q ≤ 500
+pub cutting : (wants : List Want) (p q : ℕ) (old new : List ℕ) (kept : Tree) → KeepsLeaves wants p q old new kept → length new ≡ length wants → ((i : ℕ) → get_or old i 0 ≡ 0) → p ≤ MOST_STEPS → q ≤ MOST_STEPS
     → ((i : ℕ) → i < length new → get_or new i 0 ≤ get_or old i 0 + p * q) → IsCutting wants p q new kept
 cutting wants p q old new kept k len zeros pp qq grown = record {
   tree = k.leaves.tree;
@@ -29,7 +31,7 @@ cutting wants p q old new kept k len zeros pp qq grown = record {
   len = len;
   exact = λ i x has. omega (arith, k.leaves.counts i x has, zeros i);
   few = λ i x has. omega (arith, k.few i x has, zeros i);
-  small = λ i lt. omega (arith, grown i lt, zeros i, mul-le p q 500 500 pp qq);
+  small = λ i lt. omega (arith, grown i lt, zeros i, mul-le p q MOST_STEPS MOST_STEPS pp qq);
   inside = k.inside;
   pruned = k.pruned;
 }
@@ -80,7 +82,7 @@ kept_left (x ∷ xs) [] len = absurd (omega arith)
 kept_left (x ∷ xs) (n ∷ ns) len = (omega arith, kept_left xs ns (omega arith))
 
 -- the sum over wants of the leaves of each is that of all leaves of a legal tree
-ones : (wants : List Want) (k : ℕ) (t : Tree) (w h : ℕ) → HaveOwnDemands wants → Legal wants k t w h → leaf_sum (of_demand (λ _. 1) wants) t ≡ leaves_of t
+ones : (wants : List Want) (k : ℕ) (t : Tree) (w h : ℕ) → HaveOwnDemands wants → Legal wants k t w h → leaf_sum (of_demand (λ _. 1) wants) t ≡ leaf_count t
 ones wants k Rest w h own l = refl
 ones wants k (Piece d b) w h own l = ap (of_demand (λ _. 1) wants) (sym l.2) ∙ of_demand_found (λ _. 1) wants l.0 own l.1
 ones wants k (Trim X a t) w h own l = ones wants k t a h own l.3
@@ -129,7 +131,7 @@ within wants k t w h own l each = λ d.
 
 pub demands_of : (wants : List Want) (k : ℕ) (t : Tree) (w h : ℕ) → AreDemands wants → Legal wants k t w h → HasDemands t
 demands_of wants k Rest w h have l = tt
-demands_of wants k (Piece d b) w h have l = let r = have l.0 l.1 in (omega (arith, r.0, l.2), omega (arith, r.1, l.2))
+demands_of wants k (Piece d b) w h have l = let r = All-contains HasDemandNumber wants l.0 have l.1 in (omega (arith, r.0, l.2), omega (arith, r.1, l.2))
 demands_of wants k (Trim X a t) w h have l = demands_of wants k t a h have l.3
 demands_of wants k (Trim Y a t) w h have l = demands_of wants k t w a have l.3
 demands_of wants k (Cut X a t u) w h have l = (demands_of wants k t a h have l.2, demands_of wants k u (w - a - k) h have l.3)
@@ -146,7 +148,7 @@ shaped_of wants k (Cut Y a t u) w h l = (l.0, l.1, shaped_of wants k t w a l.2, 
 -- what is laid out
 pub laid : (size : Extent) (k s : ℕ) (wants : List Want) (counts : List ℕ) (kept tree : Tree) (worth dropped : ℕ) → HaveOwnDemands wants
     → IsCutting (wants_up k s wants) (steps_down k s size.w) (steps_down k s size.h) counts kept → Places wants k kept size.w size.h tree → length counts ≡ length wants
-    → worth ≡ value_of wants (kept_counts wants counts) → dropped ≡ dropped_of wants counts → IsLaid size k s wants tree worth dropped
+    → worth ≡ worth_of_counts wants (kept_counts wants counts) → dropped ≡ dropped_of wants counts → IsSheetPlan size k s wants tree worth dropped
 laid size k s wants counts kept tree worth dropped own c p len is_worth is_dropped = record {
   up = c.tree;
   best_up = record { legal = c.legal; best = c.best };
@@ -155,11 +157,11 @@ laid size k s wants counts kept tree worth dropped own c p len is_worth is_dropp
   within = within wants k tree size.w size.h own p.legal (λ x has. omega (arith, each x has));
   worth_is =
       is_worth
-      ∙ ap (value_of wants) (kept_is (count_of c.tree) wants counts tree len (λ i x h. (exact i x h, minimum i x h)))
+      ∙ ap (worth_of_counts wants) (kept_is (count_of c.tree) wants counts tree len (λ i x h. (exact i x h, minimum i x h)))
       ∙ tree_total (λ x. x.worth) wants tree
       ∙ weigh-count (λ x. x.worth) wants tree own;
   dropped_is = is_dropped ∙ dropped_is (count_of c.tree) wants counts len exact;
-  few_cuts = λ many. omega (
+  few_cuts = omega (
     arith,
     p.few_cuts,
     p.sums (λ _. 1),

@@ -1,6 +1,10 @@
 -- Why a planner gives no plan: the first of its faults whose condition holds.
 use Rattle.std.specs.Prelude.{ℕ, ◌+◌, ◌&&◌, ◌||◌, ◌==◌, not, Bool, false, nat_le, nat_lt, List, [], ◌∷◌, length, if◌then◌else◌, Option, Some, None, IsTrue, Contains, ◌≤◌}
 use Rattle.std.specs.List.{list_any}
+use Rattle.cut_measure.specs.declared.ranges.TheConstants.{MOST_COUNT, MOST_WORTH}
+use Rattle.cut_plan.specs.declared.faults.TheConstants.{MOST_WANTS}
+use Rattle.cut_table.specs.declared.bar.TheConstants.{LONGEST_BAR}
+use Rattle.cut_table.specs.declared.sheet.TheConstants.{MOST_STEPS}
 use Rattle.cut_measure.specs.declared.sizes.Kind.{Kind}
 use Rattle.cut_measure.specs.declared.sizes.Kind.TheVariants.{Bar, Sheet}
 use Rattle.cut_measure.specs.Measures.{Extent}
@@ -11,7 +15,7 @@ use Rattle.cut_plan.specs.declared.faults.PlanFault.TheVariants.{BadWant, BadSte
 
 -- a worth or a number that is left outside its range
 abbrev pub is_bad_number : Want → Bool
-is_bad_number x = x.worth == 0 || nat_lt 1000000000 x.worth || x.left == 0 || nat_lt 1000000 x.left
+is_bad_number x = x.worth == 0 || nat_lt MOST_WORTH x.worth || x.left == 0 || nat_lt MOST_COUNT x.left
 
 -- a bar's piece is flat, and isn't turned
 abbrev pub is_bad_want : Kind → Want → Bool
@@ -25,7 +29,7 @@ has_twice (x ∷ xs) = list_any (λ y. y.demand == x.demand) xs || has_twice xs
 
 -- there are 1 to 40 wants, each of its own demand and in range
 abbrev pub are_bad_wants : Kind → List Want → Bool
-are_bad_wants kind wants = length wants == 0 || nat_lt 40 (length wants) || has_twice wants || list_any (is_bad_want kind) wants
+are_bad_wants kind wants = length wants == 0 || nat_lt MOST_WANTS (length wants) || has_twice wants || list_any (is_bad_want kind) wants
 
 -- a side of the want and a kerf are shorter than the step
 abbrev pub is_short : (kerf step : ℕ) → Want → Bool
@@ -36,8 +40,8 @@ is_bad_step Bar k s wants = false
 is_bad_step Sheet k s wants = s == 0 || list_any (is_short k s) wants
 
 abbrev pub is_large : Kind → Extent → (kerf step : ℕ) → Bool
-is_large Bar size k s = nat_lt 150000 size.w
-is_large Sheet size k s = nat_lt 500 (steps_down k s size.w) || nat_lt 500 (steps_down k s size.h)
+is_large Bar size k s = nat_lt LONGEST_BAR size.w
+is_large Sheet size k s = nat_lt MOST_STEPS (steps_down k s size.w) || nat_lt MOST_STEPS (steps_down k s size.h)
 
 -- the want fits the unit, turned where it may be
 abbrev pub is_fitting : Extent → Want → Bool

@@ -3,3 +3,4 @@ pub mod Bounds
 pub mod Proposals
 pub mod Sheets
 pub mod Lengths
+pub mod Messages

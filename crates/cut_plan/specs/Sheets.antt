@@ -1,5 +1,6 @@
 -- Plans of a sheet, with a ceiling.
-use Rattle.std.specs.Prelude.{◌≡◌, ℕ, ◌+◌, ◌-◌, ◌≤◌, ◌<◌, List, [], ◌∷◌, length, min, sum_by, slice_get, slice_index, Some, Contains}
+use Rattle.std.specs.Prelude.{◌≡◌, ℕ, ◌+◌, ◌-◌, ◌*◌, ◌≤◌, ◌<◌, List, [], ◌∷◌, length, min, sum_by, slice_get, slice_index, Some, Contains}
+use Rattle.cut_tree.specs.declared.token.TheConstants.{MOST_CUTS}
 use Rattle.cut_measure.specs.Measures.{Extent}
 use Rattle.cut_tree.specs.Tree.{Tree, CutsInto, count_of, cut_count}
 use Rattle.cut_table.specs.declared.wants.Want.{Want}
@@ -38,8 +39,13 @@ dropped_of [] ns = 0
 dropped_of (x ∷ xs) [] = 0
 dropped_of (x ∷ xs) (n ∷ ns) = (n - x.left) + dropped_of xs ns
 
--- a legal tree with the pieces of a best tree of the problem rounded up, of each want as many as are left
-pub record IsLaid (size : Extent) (kerf step : ℕ) (wants : List Want) (tree : Tree) (worth dropped : ℕ) : Type 0 where
+-- how many pieces of a best tree are kept: of each want at most as many as are left
+abbrev pub kept_pieces : List Want → Tree → ℕ
+kept_pieces wants up = sum_by (λ x. min (count_of up x.demand) x.left) wants
+
+-- A legal tree with the pieces of a best tree of the problem rounded up, of each want as many as are left. It has at most
+-- the cuts that part its pieces, one less than there are, and two more for each, which cut it out of what was parted.
+pub record IsSheetPlan (size : Extent) (kerf step : ℕ) (wants : List Want) (tree : Tree) (worth dropped : ℕ) : Type 0 where
   pub up : Tree
   pub best_up : IsBestUp size kerf step wants up
   pub legal : Legal wants kerf tree size.w size.h
@@ -47,7 +53,7 @@ pub record IsLaid (size : Extent) (kerf step : ℕ) (wants : List Want) (tree : 
   pub within : IsWithinCounts wants tree
   pub worth_is : worth ≡ worth_of wants tree
   pub dropped_is : dropped ≡ sum_by (λ x. count_of up x.demand - x.left) wants
-  pub few_cuts : 255 < cut_count tree → 85 < sum_by (λ x. min (count_of up x.demand) x.left) wants
+  pub few_cuts : cut_count tree ≤ 3 * kept_pieces wants up - 1
 
 -- the best worth of the problem rounded down, which no legal tree on the sheet exceeds
 pub record IsCeiling (size : Extent) (kerf step : ℕ) (wants : List Want) (ceiling : ℕ) : Type 0 where
@@ -56,12 +62,15 @@ pub record IsCeiling (size : Extent) (kerf step : ℕ) (wants : List Want) (ceil
 
 -- a plan that is laid out, and a ceiling
 pub record IsSheetProposal (size : Extent) (kerf step : ℕ) (wants : List Want) (proposal : SheetProposal) : Type 0 where
-  pub laid : IsLaid size kerf step wants proposal.plan.tree proposal.worth proposal.dropped
+  pub laid : IsSheetPlan size kerf step wants proposal.plan.tree proposal.worth proposal.dropped
   pub unit : (proposal.plan.w ≡ size.w) × (proposal.plan.h ≡ size.h) × (proposal.plan.kerf ≡ kerf)
   pub ceiling : IsCeiling size kerf step wants proposal.ceiling
 
--- in some best tree of the problem rounded up more than 85 pieces are kept
+-- such a plan of more than 85 pieces that takes over 255 cuts
 pub record HasManyKept (size : Extent) (kerf step : ℕ) (wants : List Want) : Type 0 where
-  pub up : Tree
-  pub best_up : IsBestUp size kerf step wants up
-  pub many : 85 < sum_by (λ x. min (count_of up x.demand) x.left) wants
+  pub tree : Tree
+  pub worth : ℕ
+  pub dropped : ℕ
+  pub laid : IsSheetPlan size kerf step wants tree worth dropped
+  pub many : 85 < kept_pieces wants laid.up
+  pub many_cuts : MOST_CUTS < cut_count tree

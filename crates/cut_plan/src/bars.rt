@@ -1,11 +1,11 @@
-ghost use Rattle.std.specs.Prelude.{◌≡◌, ◌≤◌, ◌++◌, ◌⊎◌, ℕ, IfOk, IfErr, IfSome, OnOk, None, Some, length, replicate};
+ghost use Rattle.std.specs.Prelude.{◌≡◌, ◌≤◌, ◌++◌, ◌⊎◌, ◌↔◌, IsTrue, ℕ, IfOk, IfErr, IfSome, OnOk, None, Some, length, replicate};
 ghost use Rattle.cut_measure.specs.declared.sizes.Kind.TheVariants.{Bar};
 ghost use Rattle.cut_plan.specs.declared.faults.PlanFault.TheVariants.{NoMemory, TableTooLarge};
 ghost use Rattle.cut_plan.specs.Faults.{fault_of};
 ghost use Rattle.cut_plan.specs.Proposals as proposals;
 
 use crate::faults::{PlanFault, first_fault};
-use cut_measure::{Kind, Size};
+use cut_measure::{Kind, MOST_KERF, MOST_NUMBERS, Size};
 use cut_table::bar::{best_counts, counted_worth};
 use cut_table::wants::Want;
 use cut_tree::{BarFault, Plan, bar_plan};
@@ -53,7 +53,7 @@ fn counted_pieces(
 
 // The pieces of best counts.
 fn best_pieces(alloc: Global, size: Size, kerf: u32, wants: &[Want]) -> Result<Pieces, AllocError>
-    requires kerf { kerf ≤ 200 }
+    requires kerf { kerf ≤ MOST_KERF }
     requires faultless { fault_of Bar size kerf 0 wants.now ≡ None }
     ensures { IfOk result (proposals.AreBestPieces size kerf wants.now) }
 {
@@ -71,7 +71,7 @@ fn proposal_of(
     wants: &[Want],
     best: &Pieces,
 ) -> Result<Proposal, PlanFault>
-    requires kerf { kerf ≤ 200 }
+    requires kerf { kerf ≤ MOST_KERF }
     requires flat { size.h ≡ 1 }
     requires demands { proposals.AreDemands wants.now }
     requires faultless { fault_of Bar size kerf 0 wants.now ≡ None }
@@ -96,7 +96,7 @@ fn faultless_bar(
     kerf: u32,
     wants: &[Want],
 ) -> Result<Proposal, PlanFault>
-    requires kerf { kerf ≤ 200 }
+    requires kerf { kerf ≤ MOST_KERF }
     requires flat { size.h ≡ 1 }
     requires demands { proposals.AreDemands wants.now }
     requires faultless { fault_of Bar size kerf 0 wants.now ≡ None }
@@ -109,11 +109,20 @@ fn faultless_bar(
     }
 }
 
+/// Whether each demand has a number that a demand may have: 1 to 2147483647. The planners are called with such wants.
+pub fn have_demands(wants: &[Want]) -> bool
+    ensures { IsTrue result ↔ proposals.AreDemands wants.now }
+{
+    wants
+        .iter()
+        .all(|want| 1 <= want.demand && want.demand <= MOST_NUMBERS)
+}
+
 /// The plan of a bar from which pieces of the wants are cut, each at most as often as is left, such that no legal plan
 /// within those counts is worth more (an integer knapsack, Gilmore and Gomory 1961). Faults in the order of `PlanFault`;
 /// the bar has a height of 1, and demands are in 1..=2147483647.
 pub fn plan_bar(alloc: Global, size: Size, kerf: u32, wants: &[Want]) -> Result<Proposal, PlanFault>
-    requires kerf { kerf ≤ 200 }
+    requires kerf { kerf ≤ MOST_KERF }
     requires flat { size.h ≡ 1 }
     requires demands { proposals.AreDemands wants.now }
     ensures ok { IfOk result (λ p. (fault_of Bar size kerf 0 wants.now ≡ None) × proposals.IsBarProposal size kerf wants.now p) }

@@ -1,13 +1,13 @@
 ghost use Rattle.std.specs.Prelude.{◌≡◌, ◌+◌, ◌≤◌, ◌<◌, ◌^◌, ◌⊎◌, IfOk, IfErr, IfSome, Some, None};
 ghost use Rattle.cut_measure.specs.declared.sizes.Kind.TheVariants.{Bar, Sheet};
-ghost use Rattle.cut_table.specs.Counts.{AreCounts, value_of};
+ghost use Rattle.cut_table.specs.Counts.{AreCounts, worth_of_counts};
 ghost use Rattle.cut_table.specs.Bound.{worth_left};
 ghost use Rattle.cut_plan.specs.Faults.{fault_of, SomeFits};
 ghost use Rattle.cut_plan.specs.Bounds.{IsUnitBest, IsBound};
 ghost use Rattle.cut_plan.specs.declared.faults.PlanFault.TheVariants.{NoMemory};
 
 use crate::faults::{PlanFault, first_fault};
-use cut_measure::{Kind, Size};
+use cut_measure::{Kind, MOST_KERF, Size};
 use cut_table::bar::{best_counts, counted_worth};
 use cut_table::bound::{ceiling, units};
 use cut_table::wants::Want;
@@ -29,7 +29,7 @@ fn unit_best(
     step: u32,
     wants: &[Want],
 ) -> Result<u64, AllocError>
-    requires kerf { kerf ≤ 200 }
+    requires kerf { kerf ≤ MOST_KERF }
     requires flat { kind ≡ Bar → size.h ≡ 1 }
     requires faultless { fault_of kind size kerf step wants.now ≡ None }
     ensures best { IfOk result (IsUnitBest kind size kerf step wants.now) }
@@ -54,7 +54,7 @@ fn faultless_bound(
     step: u32,
     wants: &[Want],
 ) -> Result<Bound, AllocError>
-    requires kerf { kerf ≤ 200 }
+    requires kerf { kerf ≤ MOST_KERF }
     requires flat { kind ≡ Bar → size.h ≡ 1 }
     requires faultless { fault_of kind size kerf step wants.now ≡ None }
     requires fits { SomeFits size wants.now }
@@ -76,7 +76,7 @@ pub fn least_units(
     step: u32,
     wants: &[Want],
 ) -> Result<Bound, PlanFault>
-    requires kerf { kerf ≤ 200 }
+    requires kerf { kerf ≤ MOST_KERF }
     requires flat { kind ≡ Bar → size.h ≡ 1 }
     ensures ok { IfOk result (IsBound kind size kerf step wants.now) }
     ensures faulty { IfSome (fault_of kind size kerf step wants.now) (λ fault. result ≡ Err fault) }

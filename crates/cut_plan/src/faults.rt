@@ -3,8 +3,15 @@ ghost use Rattle.std.specs.List.{list_any};
 ghost use Rattle.cut_measure.specs.declared.sizes.Kind.TheVariants.{Sheet};
 ghost use Rattle.cut_plan.specs.Faults as faults;
 
-use cut_measure::{Kind, Size};
+use cut_measure::{Kind, MOST_COUNT, MOST_KERF, MOST_WORTH, Size};
+use cut_table::bar::LONGEST_BAR;
+use cut_table::sheet::MOST_STEPS;
 use cut_table::wants::Want;
+use std::error::Error;
+use std::fmt;
+
+/// The most wants of which a plan is made.
+pub const MOST_WANTS: usize = 40;
 
 /// Why there is no plan.
 #[derive(Clone, Copy, Debug, PartialEq, Eq)]
@@ -21,10 +28,33 @@ pub enum PlanFault {
     NoMemory,
 }
 
+impl fmt::Display for PlanFault {
+    ghost use Rattle.std.specs.Prelude.{Some};
+    ghost use Rattle.cut_plan.specs.Messages.{plan_fault_text};
+
+    ghost output = { λ fault. Some (plan_fault_text fault) };
+
+    fn fmt<W: fmt::Write>(&self, f: &mut fmt::Formatter<W>) -> fmt::Result {
+        match self {
+            PlanFault::BadWant => f.write_str(
+                "a want is out of range or stands twice, or there are none or too many",
+            ),
+            PlanFault::BadStep => f.write_str("the step is 0, or longer than a piece and a kerf"),
+            PlanFault::TableTooLarge => f.write_str(
+                "the unit is too large to be planned, or its plan takes too many cuts",
+            ),
+            PlanFault::NothingFits => f.write_str("no piece fits the unit"),
+            PlanFault::NoMemory => f.write_str("memory ran out"),
+        }
+    }
+}
+
+impl Error for PlanFault {}
+
 fn is_bad_number(want: &Want) -> bool
     ensures { result ≡ faults.is_bad_number want.now }
 {
-    want.worth == 0 || want.worth > 1_000_000_000 || want.left == 0 || want.left > 1_000_000
+    want.worth == 0 || want.worth > MOST_WORTH || want.left == 0 || want.left > MOST_COUNT
 }
 
 fn is_bad_want(kind: Kind, want: &Want) -> bool
@@ -62,25 +92,25 @@ fn has_bad_want(kind: Kind, wants: &[Want]) -> bool
 fn are_bad_wants(kind: Kind, wants: &[Want]) -> bool
     ensures { result ≡ faults.are_bad_wants kind wants.now }
 {
-    wants.is_empty() || wants.len() > 40 || has_twice(wants) || has_bad_want(kind, wants)
+    wants.is_empty() || wants.len() > MOST_WANTS || has_twice(wants) || has_bad_want(kind, wants)
 }
 
 fn is_short(want: &Want, kerf: u32, step: u32) -> bool
-    requires { kerf ≤ 200 }
+    requires { kerf ≤ MOST_KERF }
     ensures { result ≡ faults.is_short kerf step want.now }
 {
     want.size.w() + kerf < step || want.size.h() + kerf < step
 }
 
 fn has_short_want(wants: &[Want], kerf: u32, step: u32) -> bool
-    requires { kerf ≤ 200 }
+    requires { kerf ≤ MOST_KERF }
     ensures { result ≡ list_any (faults.is_short kerf step) wants.now }
 {
     wants.iter().any(|want| is_short(want, kerf, step))
 }
 
 fn is_bad_step(kind: Kind, wants: &[Want], kerf: u32, step: u32) -> bool
-    requires { kerf ≤ 200 }
+    requires { kerf ≤ MOST_KERF }
     ensures { result ≡ faults.is_bad_step kind kerf step wants.now }
 {
     match kind {
@@ -90,13 +120,14 @@ fn is_bad_step(kind: Kind, wants: &[Want], kerf: u32, step: u32) -> bool
 }
 
 fn is_large(kind: Kind, size: Size, kerf: u32, step: u32) -> bool
-    requires kerf { kerf ≤ 200 }
+    requires kerf { kerf ≤ MOST_KERF }
     requires step { kind ≡ Sheet → 1 ≤ step }
     ensures { result ≡ faults.is_large kind size kerf step }
 {
     match kind {
-        Kind::Bar => size.w() > 150_000,
-        Kind::Sheet => (size.w() + kerf) / step > 500 || (size.h() + kerf) / step > 500,
+        Kind::Bar => size.w() > LONGEST_BAR,
+        Kind::Sheet => (size.w() + kerf) / step > MOST_STEPS
+            || (size.h() + kerf) / step > MOST_STEPS,
     }
 }
 
@@ -128,7 +159,7 @@ pub fn first_fault(
     step: u32,
     wants: &[Want],
 ) -> Option<PlanFault>
-    requires { kerf ≤ 200 }
+    requires { kerf ≤ MOST_KERF }
     ensures value { result ≡ faults.fault_of kind size kerf step wants.now }
     ensures which { IfNone result (faults.SomeFits size wants.now) }
 {

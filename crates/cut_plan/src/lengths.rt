@@ -9,7 +9,7 @@ ghost use Rattle.cut_plan.specs.Lengths.{IsMapOf};
 ghost use Rattle.cut_plan.specs.Proposals.{AreDemands};
 
 use crate::faults::{PlanFault, first_fault};
-use cut_measure::{Kind, Size};
+use cut_measure::{Kind, MOST_KERF, Size};
 use cut_table::bar::{Entry, reach};
 use cut_table::wants::Want;
 use std::alloc::{AllocError, Global};
@@ -34,7 +34,7 @@ fn faultless_map(
     kerf: u32,
     wants: &[Want],
 ) -> Result<BTreeMap<u32, u64>, AllocError>
-    requires kerf { kerf ≤ 200 }
+    requires kerf { kerf ≤ MOST_KERF }
     requires faultless { fault_of Bar size kerf 0 wants.now ≡ None }
     ensures { IfOk result (λ map. IsReached kerf wants.now (size.w + kerf) (get nat_cmp map)) }
 {
@@ -53,7 +53,7 @@ pub fn reached(
     kerf: u32,
     wants: &[Want],
 ) -> Result<BTreeMap<u32, u64>, PlanFault>
-    requires kerf { kerf ≤ 200 }
+    requires kerf { kerf ≤ MOST_KERF }
     requires flat { size.h ≡ 1 }
     requires demands { AreDemands wants.now }
     ensures ok { IfOk result (λ map. (fault_of Bar size kerf 0 wants.now ≡ None) × IsReached kerf wants.now (size.w + kerf) (get nat_cmp map)) }

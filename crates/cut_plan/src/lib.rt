@@ -4,14 +4,18 @@
 mod bars;
 mod bounds;
 mod faults;
+mod laws;
 mod lengths;
 mod sheets;
 #[cfg(test)]
 mod tests;
 
-pub use bars::{Proposal, plan_bar};
+pub use bars::{Proposal, have_demands, plan_bar};
 pub use bounds::{Bound, least_units};
+pub use cut_table::bar::LONGEST_BAR;
+pub use cut_table::sheet::MOST_STEPS;
 pub use cut_table::wants::Want;
-pub use faults::PlanFault;
+pub use faults::{MOST_WANTS, PlanFault};
+pub use laws::legal_pieces_are_listed;
 pub use lengths::reached;
 pub use sheets::{SheetProposal, plan_sheet};

@@ -3,21 +3,21 @@ ghost use Rattle.cut_measure.specs.declared.sizes.Kind.TheVariants.{Sheet};
 ghost use Rattle.cut_tree.specs.Tree.{cut_count};
 ghost use Rattle.cut_tree.specs.Nodes.{tree_of};
 ghost use Rattle.cut_table.specs.Legal.{HaveOwnDemands};
-ghost use Rattle.cut_table.specs.Table.{AreSmall};
+ghost use Rattle.cut_table.specs.Table.{HaveSidesAndBoundedWorths};
 ghost use Rattle.cut_plan.specs.declared.faults.PlanFault.TheVariants.{NoMemory, TableTooLarge};
 ghost use Rattle.cut_plan.specs.Faults.{fault_of};
 ghost use Rattle.cut_plan.specs.Proposals.{AreDemands};
 ghost use Rattle.cut_plan.specs.Sheets as spec;
 
 use crate::faults::{PlanFault, first_fault};
-use cut_measure::{Kind, Size};
+use cut_measure::{Kind, MOST_KERF, Size};
 use cut_table::bar::counted_worth;
 use cut_table::bound::{all_up, ceiling};
 use cut_table::keep::keep;
 use cut_table::place::place;
-use cut_table::sheet::best_table;
+use cut_table::sheet::{MOST_STEPS, best_table};
 use cut_table::wants::{Scaled, Want};
-use cut_tree::{Node, Plan, count_cuts};
+use cut_tree::{MOST_CUTS, Node, Plan, count_cuts};
 use std::alloc::{AllocError, Global};
 
 /// A plan, what its pieces are worth, how many pieces of a best tree became rests, and a worth that no plan exceeds.
@@ -52,9 +52,9 @@ fn kept_leaves(
     down: usize,
 ) -> Result<Cutting, AllocError>
     requires own { HaveOwnDemands wants.now }
-    requires small { AreSmall wants.now }
-    requires across { across ≤ 500 }
-    requires down { down ≤ 500 }
+    requires small { HaveSidesAndBoundedWorths wants.now }
+    requires across { across ≤ MOST_STEPS }
+    requires down { down ≤ MOST_STEPS }
     ensures { IfOk result (λ c. spec.IsCutting wants.now across down c.counts.items (tree_of c.kept)) }
 {
     let table = best_table(alloc, wants, across, down)?;
@@ -96,9 +96,9 @@ fn lay_out(
     step: u32,
     wants: &[Want],
 ) -> Result<Laid, AllocError>
-    requires kerf { kerf ≤ 200 }
+    requires kerf { kerf ≤ MOST_KERF }
     requires faultless { fault_of Sheet size kerf step wants.now ≡ None }
-    ensures laid { IfOk result (λ l. spec.IsLaid size kerf step wants.now (tree_of l.root) l.worth l.dropped) }
+    ensures laid { IfOk result (λ l. spec.IsSheetPlan size kerf step wants.now (tree_of l.root) l.worth l.dropped) }
     ensures few { IfOk result (λ l. cut_count (tree_of l.root) < 2 ^ 32) }
 {
     let scaled = all_up(alloc, wants, kerf, step)?;
@@ -125,15 +125,15 @@ fn proposal_of(
     laid: Laid,
     ceiling: u64,
 ) -> Result<SheetProposal, PlanFault>
-    requires kerf { kerf ≤ 200 }
+    requires kerf { kerf ≤ MOST_KERF }
     requires demands { AreDemands wants.now }
-    requires laid { spec.IsLaid size kerf step wants.now (tree_of laid.root) laid.worth laid.dropped }
+    requires laid { spec.IsSheetPlan size kerf step wants.now (tree_of laid.root) laid.worth laid.dropped }
     requires few { cut_count (tree_of laid.root) < 2 ^ 32 }
     requires ceiling { spec.IsCeiling size kerf step wants.now ceiling }
     ensures ok { IfOk result (spec.IsSheetProposal size kerf step wants.now) }
     ensures err { IfErr result (λ fault. (fault ≡ TableTooLarge) × spec.HasManyKept size kerf step wants.now) }
 {
-    if count_cuts(&laid.root) > 255 {
+    if count_cuts(&laid.root) > MOST_CUTS {
         return Err(PlanFault::TableTooLarge);
     }
     let _sides = (size.w(), size.h());
@@ -153,7 +153,7 @@ fn faultless_sheet(
     step: u32,
     wants: &[Want],
 ) -> Result<SheetProposal, PlanFault>
-    requires kerf { kerf ≤ 200 }
+    requires kerf { kerf ≤ MOST_KERF }
     requires demands { AreDemands wants.now }
     requires faultless { fault_of Sheet size kerf step wants.now ≡ None }
     ensures ok { IfOk result (spec.IsSheetProposal size kerf step wants.now) }
@@ -179,7 +179,7 @@ pub fn plan_sheet(
     step: u32,
     wants: &[Want],
 ) -> Result<SheetProposal, PlanFault>
-    requires kerf { kerf ≤ 200 }
+    requires kerf { kerf ≤ MOST_KERF }
     requires demands { AreDemands wants.now }
     ensures ok { IfOk result (λ p. (fault_of Sheet size kerf step wants.now ≡ None) × spec.IsSheetProposal size kerf step wants.now p) }
     ensures faulty { IfSome (fault_of Sheet size kerf step wants.now) (λ fault. result ≡ Err fault) }

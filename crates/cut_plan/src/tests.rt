@@ -1,25 +1,13 @@
-ghost use Rattle.std.specs.Prelude.{◌≡◌, ◌≤◌, IsTrue, None};
+ghost use Rattle.std.specs.Prelude.{◌≡◌, ◌≤◌, None};
 ghost use Rattle.cut_measure.specs.declared.sizes.Kind.TheVariants.{Bar};
 ghost use Rattle.cut_plan.specs.Faults.{fault_of};
-ghost use Rattle.cut_plan.specs.Proposals.{AreDemands};
 
 use crate::faults::first_fault;
-use crate::{Bound, PlanFault, Want, least_units, plan_bar, plan_sheet, reached};
+use crate::{Bound, PlanFault, Want, have_demands, least_units, plan_bar, plan_sheet, reached};
 use cut_measure::{Kind, Size};
 use cut_table::bar::{counted_worth, table_counts};
 use std::alloc::{AllocError, Global};
 use std::test::Fail;
-
-fn have_demands(wants: &[Want]) -> bool
-    ensures { IsTrue result → AreDemands wants.now }
-{
-    for want in wants {
-        if want.demand < 1 || want.demand > 2147483647 {
-            return false;
-        }
-    }
-    true
-}
 
 fn want(demand: u32, w: u32, h: u32, left: u32, worth: u32) -> Result<Want, Fail> {
     let size = Size::new(Kind::Sheet, w, h).ok_or("no size")?;
@@ -99,10 +87,18 @@ fn names_a_bars_fault(rt: HostRuntime) -> Result<(), Fail> {
         (150001, &[good][..], PlanFault::TableTooLarge),
         (499, &[good][..], PlanFault::NothingFits),
         (150000, &[good][..], PlanFault::TableTooLarge),
+        (257, &[want(1, 1, 1, 256, 1)?][..], PlanFault::TableTooLarge),
     ];
     for (w, wants, fault) in faults {
         assert_eq!(rt; bar(&rt, w, 0, wants)?.err(), Some(fault), "{w}");
     }
+    Ok(())
+}
+
+#[test]
+fn prints_faults(rt: HostRuntime) -> Result<(), Fail> {
+    let text = format!(in rt.alloc(); "{}", PlanFault::NothingFits)?;
+    assert_eq!(rt; text.as_str(), "no piece fits the unit");
     Ok(())
 }
 
@@ -273,6 +269,24 @@ fn plans_sheets(rt: HostRuntime) -> Result<(), Fail> {
             "step {step}"
         );
     }
+    Ok(())
+}
+
+// A sheet of pieces of 1 by 1, of which 256 are left: how many cuts its plan has, or why there is none.
+fn cuts_of_a_strip(rt: &HostRuntime, w: u32) -> Result<Result<u32, PlanFault>, Fail> {
+    let size = Size::new(Kind::Sheet, w, 1).ok_or("no size")?;
+    let wants = [want(1, 1, 1, 256, 1)?];
+    if !have_demands(&wants) {
+        return Err("no demands")?;
+    }
+    let planned = plan_sheet(rt.alloc(), size, 0, 1, &wants);
+    Ok(planned.map(|proposal| proposal.plan.cuts()))
+}
+
+#[test]
+fn plans_sheets_of_many_cuts(rt: HostRuntime) -> Result<(), Fail> {
+    assert_eq!(rt; cuts_of_a_strip(&rt, 256)?, Ok(255));
+    assert_eq!(rt; cuts_of_a_strip(&rt, 257)?, Err(PlanFault::TableTooLarge));
     Ok(())
 }
 

@@ -15,37 +15,37 @@ total_of f (x ∷ xs) [] = 0
 total_of f (x ∷ xs) (a ∷ ns) = f x * a + total_of f xs ns
 
 -- what the pieces take, each with a kerf
-abbrev pub room_of : ℕ → List Want → List ℕ → ℕ
-room_of k wants counts = total_of (λ x. x.size.w + k) wants counts
+abbrev pub room_taken : ℕ → List Want → List ℕ → ℕ
+room_taken k wants counts = total_of (λ x. x.size.w + k) wants counts
 
-abbrev pub value_of : List Want → List ℕ → ℕ
-value_of wants counts = total_of (λ x. x.worth) wants counts
+abbrev pub worth_of_counts : List Want → List ℕ → ℕ
+worth_of_counts wants counts = total_of (λ x. x.worth) wants counts
 
 -- no counts that fit are worth more
 pub record AreBestCounts (k : ℕ) (wants : List Want) (room : ℕ) (counts : List ℕ) : Type 0 where
   pub within : AreCounts wants counts
-  pub fit : room_of k wants counts ≤ room
-  pub most : (others : List ℕ) → AreCounts wants others → room_of k wants others ≤ room → value_of wants others ≤ value_of wants counts
+  pub fit : room_taken k wants counts ≤ room
+  pub most : (others : List ℕ) → AreCounts wants others → room_taken k wants others ≤ room → worth_of_counts wants others ≤ worth_of_counts wants counts
 
 -- a worth and a number in the bounds of a bar's table
-pub record IsModest (x : Want) : Type 0 where
+pub record HasBoundedWorthAndLeft (x : Want) : Type 0 where
   pub worth : x.worth ≤ 2 ^ 30
   pub left : x.left ≤ 2 ^ 20
 
-abbrev pub AreModest : List Want → Type 0
-AreModest wants = (x : Want) → Contains wants x → IsModest x
+abbrev pub HaveBoundedWorthsAndLefts : List Want → Type 0
+HaveBoundedWorthsAndLefts wants = (x : Want) → Contains wants x → HasBoundedWorthAndLeft x
 
 -- each has some length
 abbrev pub HaveLength : List Want → Type 0
 HaveLength wants = (x : Want) → Contains wants x → 1 ≤ x.size.w
 
 -- a piece of a bar: flat, and not to be turned
-pub record IsFlat (x : Want) : Type 0 where
+pub record IsUprightOfHeightOne (x : Want) : Type 0 where
   pub flat : x.size.h ≡ 1
   pub upright : x.may_turn ≡ false
 
-abbrev pub AreFlat : List Want → Type 0
-AreFlat wants = (x : Want) → Contains wants x → IsFlat x
+abbrev pub AreUprightOfHeightOne : List Want → Type 0
+AreUprightOfHeightOne wants = (x : Want) → Contains wants x → IsUprightOfHeightOne x
 
 pub record IsBarWant (x : Want) : Type 0 where
   pub some : 1 ≤ x.size.w

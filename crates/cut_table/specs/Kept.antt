@@ -4,17 +4,17 @@ use Rattle.cut_measure.specs.declared.sizes.Axis.{Axis}
 use Rattle.cut_measure.specs.declared.sizes.Axis.TheVariants.{X, Y}
 use Rattle.cut_tree.specs.Tree.{Tree, Rest, Piece, Trim, Cut, CutsInto, leaf_sum, count_of, cut_count}
 use Rattle.cut_table.specs.declared.wants.Want.{Want}
-use Rattle.cut_table.specs.Legal.{Legal, leaves_of}
+use Rattle.cut_table.specs.Legal.{Legal, leaf_count}
 use Rattle.cut_table.specs.Table.{CountsLeaves}
 
 -- the want has room in these sides, turned where it may be
-abbrev pub HasRoom : Want → Bool → ℕ → ℕ → Type 0
-HasRoom x false w h = (x.size.w ≤ w) × (x.size.h ≤ h)
-HasRoom x true w h = IsTrue x.may_turn × (x.size.h ≤ w) × (x.size.w ≤ h)
+abbrev pub FitsInto : Want → Bool → ℕ → ℕ → Type 0
+FitsInto x false w h = (x.size.w ≤ w) × (x.size.h ≤ h)
+FitsInto x true w h = IsTrue x.may_turn × (x.size.h ≤ w) × (x.size.w ≤ h)
 
 -- one of the wants has the demand's number and room in these sides
 abbrev pub IsInside : List Want → ℕ → Bool → ℕ → ℕ → Type 0
-IsInside wants demand turned w h = (x : Want) × Contains wants x × (x.demand ≡ demand) × HasRoom x turned w h
+IsInside wants demand turned w h = (x : Want) × Contains wants x × (x.demand ≡ demand) × FitsInto x turned w h
 
 -- a tree of pieces alone, whose cuts have a second part each
 abbrev pub IsFull : Tree → Type 0
@@ -40,7 +40,7 @@ joined axis a t u = Cut axis a t u
 
 -- Of some best tree's leaves, those were kept that were among the first `left` of their want: the counts of the leaves
 -- so far grew, and the kept ones are joined to a tree for the same sides.
-pub record Keeps (wants : List Want) (w h : ℕ) (old new : List ℕ) (kept : Tree) : Type 0 where
+pub record KeepsLeaves (wants : List Want) (w h : ℕ) (old new : List ℕ) (kept : Tree) : Type 0 where
   pub leaves : CountsLeaves wants w h old new
   pub few : (i : ℕ) (x : Want) → slice_get wants i ≡ Some x →
       count_of kept x.demand + min (slice_index old i) x.left ≡ min (slice_index new i) x.left
@@ -65,4 +65,4 @@ cut_off axis l side k t = if l == side then t else (if nat_lt (l + k) side then 
 pub record Places (wants : List Want) (kerf : ℕ) (kept : Tree) (w h : ℕ) (tree : Tree) : Type 0 where
   pub legal : Legal wants kerf tree w h
   pub sums : (f : ℕ → ℕ) → leaf_sum f tree ≡ leaf_sum f kept
-  pub few_cuts : cut_count tree ≤ 3 * leaves_of kept - 1
+  pub few_cuts : cut_count tree ≤ 3 * leaf_count kept - 1

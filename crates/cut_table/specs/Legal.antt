@@ -9,12 +9,12 @@ HasSides x false w h = (x.size.w ≡ w) × (x.size.h ≡ h)
 HasSides x true w h = IsTrue x.may_turn × (x.size.h ≡ w) × (x.size.w ≡ h)
 
 -- one of the wants has the demand's number and these sides
-abbrev pub IsPiece : List Want → ℕ → Bool → ℕ → ℕ → Type 0
-IsPiece wants demand turned w h = (x : Want) × Contains wants x × (x.demand ≡ demand) × HasSides x turned w h
+abbrev pub IsWantedPiece : List Want → ℕ → Bool → ℕ → ℕ → Type 0
+IsWantedPiece wants demand turned w h = (x : Want) × Contains wants x × (x.demand ≡ demand) × HasSides x turned w h
 
 -- the tree cuts a rectangle of w by h with a saw of width k, and each piece leaf has the sides of a want with its demand
 abbrev pub Legal : List Want → (kerf : ℕ) → Tree → (w h : ℕ) → Type 0
-Legal wants k tree w h = CutsInto (IsPiece wants) tree w h k
+Legal wants k tree w h = CutsInto (IsWantedPiece wants) tree w h k
 
 -- a number of the want with this demand, 0 where there is none
 abbrev pub of_demand : (Want → ℕ) → List Want → ℕ → ℕ
@@ -35,5 +35,5 @@ HaveOwnDemands [] = Unit {0}
 HaveOwnDemands (x ∷ xs) = ((y : Want) → Contains xs y → y.demand ≢ x.demand) × HaveOwnDemands xs
 
 -- how many piece leaves a tree has
-abbrev pub leaves_of : Tree → ℕ
-leaves_of tree = leaf_sum (λ _. 1) tree
+abbrev pub leaf_count : Tree → ℕ
+leaf_count tree = leaf_sum (λ _. 1) tree

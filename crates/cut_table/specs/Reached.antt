@@ -2,25 +2,25 @@
 use Rattle.std.specs.Prelude.{◌≡◌, ◌↔◌, ℕ, ◌+◌, ◌*◌, ◌^◌, ◌<◌, ◌≤◌, List, length, slice_index_or, Option, Some, IsSome}
 use Rattle.cut_table.specs.declared.wants.Want.{Want}
 use Rattle.cut_table.specs.declared.reach.Entry.{Entry}
-use Rattle.cut_table.specs.Counts.{AreCounts, room_of, value_of}
+use Rattle.cut_table.specs.Counts.{AreCounts, room_taken, worth_of_counts}
 
 -- counts within what is left take this room and have this worth, and none that take it are worth more
 pub record IsGreatestAt (k : ℕ) (wants : List Want) (room worth : ℕ) : Type 0 where
   pub counts : List ℕ
   pub within : AreCounts wants counts
-  pub takes : room_of k wants counts ≡ room
-  pub value : value_of wants counts ≡ worth
-  pub most : (others : List ℕ) → AreCounts wants others → room_of k wants others ≡ room → value_of wants others ≤ worth
+  pub takes : room_taken k wants counts ≡ room
+  pub value : worth_of_counts wants counts ≡ worth
+  pub most : (others : List ℕ) → AreCounts wants others → room_taken k wants others ≡ room → worth_of_counts wants others ≤ worth
 
 -- a map of each room within the whole that counts take to the greatest worth of such counts
 pub record IsReached (k : ℕ) (wants : List Want) (whole : ℕ) (found : ℕ → Option ℕ) : Type 0 where
   pub exactly : (n v : ℕ) → (found n ≡ Some v) ↔ ((n ≤ whole) × IsGreatestAt k wants n v)
-  pub each : (counts : List ℕ) → AreCounts wants counts → room_of k wants counts ≤ whole → IsSome (found (room_of k wants counts))
+  pub each : (counts : List ℕ) → AreCounts wants counts → room_taken k wants counts ≤ whole → IsSome (found (room_taken k wants counts))
 
 -- the entries of a set: one for each room within the whole that counts take, with the greatest worth of such counts
 pub record AreReached (k : ℕ) (wants : List Want) (whole : ℕ) (has : Entry → Type 0) : Type 0 where
   pub only : (e : Entry) → has e → (e.room ≤ whole) × IsGreatestAt k wants e.room e.worth
-  pub each : (counts : List ℕ) → AreCounts wants counts → room_of k wants counts ≤ whole → (e : Entry) × has e × (e.room ≡ room_of k wants counts)
+  pub each : (counts : List ℕ) → AreCounts wants counts → room_taken k wants counts ≤ whole → (e : Entry) × has e × (e.room ≡ room_taken k wants counts)
 
 -- each room is less than those behind it
 abbrev pub AreRising : List Entry → Type 0
@@ -48,8 +48,8 @@ pub record AreOffered (step gain n whole : ℕ) (base offered : Entry → Type 0
       → (e : Entry) × offered e × (e.room ≡ b.room + times * step) × (b.worth + times * gain ≤ e.worth)
 
 -- each room is within the whole, with a worth of at most 2^30 for each unit of it
-abbrev pub AreLow : ℕ → (Entry → Type 0) → Type 0
-AreLow whole has = (e : Entry) → has e → (e.room ≤ whole) × (e.worth ≤ e.room * 2 ^ 30)
+abbrev pub HaveWorthsBoundedByRoom : ℕ → (Entry → Type 0) → Type 0
+HaveWorthsBoundedByRoom whole has = (e : Entry) → has e → (e.room ≤ whole) × (e.worth ≤ e.room * 2 ^ 30)
 
 -- no entry is worth more
 pub record IsBestEntry (has : Entry → Type 0) (best : Entry) : Type 0 where
@@ -59,5 +59,5 @@ pub record IsBestEntry (has : Entry → Type 0) (best : Entry) : Type 0 where
 -- counts within what is left that have exactly this room and worth
 pub record AreCountsOf (k : ℕ) (wants : List Want) (e : Entry) (counts : List ℕ) : Type 0 where
   pub within : AreCounts wants counts
-  pub room : room_of k wants counts ≡ e.room
-  pub worth : value_of wants counts ≡ e.worth
+  pub room : room_taken k wants counts ≡ e.room
+  pub worth : worth_of_counts wants counts ≡ e.worth

@@ -103,14 +103,14 @@ ArePriced price wants =
     (x : Want) → Contains wants x → (1 ≤ x.size.w) × (1 ≤ x.size.h) × (x.worth ≤ price * (x.size.w * x.size.h))
 
 -- a price at which every rectangle of the height stays below the limit
-pub record Fits (limit : ℕ) (wants : List Want) (places h : ℕ) : Type 0 where
+pub record IsPricedBelow (limit : ℕ) (wants : List Want) (places h : ℕ) : Type 0 where
   pub price : ℕ
   pub priced : ArePriced price wants
   pub below : (w : ℕ) → w < places → price * (w * h) < limit
 
 -- each side is at least 1, and each worth at most 2^30
-abbrev pub AreSmall : List Want → Type 0
-AreSmall wants = (x : Want) → Contains wants x → (1 ≤ x.size.w) × (1 ≤ x.size.h) × (x.worth ≤ 2 ^ 30)
+abbrev pub HaveSidesAndBoundedWorths : List Want → Type 0
+HaveSidesAndBoundedWorths wants = (x : Want) → Contains wants x → (1 ≤ x.size.w) × (1 ≤ x.size.h) × (x.worth ≤ 2 ^ 30)
 
 -- a cut across the width at `at` gives the best worth
 pub record IsCutX (wants : List Want) (w h best at : ℕ) : Type 0 where
@@ -153,8 +153,8 @@ pub record CountsLeaves (wants : List Want) (w h : ℕ) (old new : List ℕ) : T
   pub counts : (i : ℕ) (x : Want) → slice_get wants i ≡ Some x → slice_index new i ≡ slice_index old i + count_of tree x.demand
 
 -- a worth in the range of a sheet's table
-abbrev pub AreWorthy : List Want → Type 0
-AreWorthy wants = (x : Want) → Contains wants x → x.worth ≤ 2 ^ 30
+abbrev pub HaveBoundedWorths : List Want → Type 0
+HaveBoundedWorths wants = (x : Want) → Contains wants x → x.worth ≤ 2 ^ 30
 
 -- each side is at least 1
 abbrev pub HaveSides : List Want → Type 0

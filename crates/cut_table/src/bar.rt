@@ -1,7 +1,7 @@
 // The best counts of pieces for a bar, and all that counts reach.
 ghost use Rattle.std.specs.Prelude.{◌≡◌, ℕ, ◌+◌, ◌-◌, ◌*◌, ◌^◌, ◌<◌, ◌≤◌, length, IfOk, Contains, [], drop};
 ghost use Rattle.cut_table.specs.declared.reach.Entry.{Entry};
-ghost use Rattle.cut_table.specs.Counts.{AreBestCounts, AreModest, AreFlat, HaveLength, value_of};
+ghost use Rattle.cut_table.specs.Counts.{AreBestCounts, HaveBoundedWorthsAndLefts, AreUprightOfHeightOne, HaveLength, worth_of_counts};
 ghost use Rattle.cut_table.specs.Best.{IsBestWithin};
 ghost use Rattle.cut_table.specs.Legal.{HaveOwnDemands};
 ghost use Rattle.cut_table.specs.Reached.{AreRising, AreReached, AreOffered, IsMoved, IsLedTo, AreCountsOf};
@@ -11,7 +11,11 @@ use crate::cells::table_of;
 use crate::level::{Level, offer_want};
 pub use crate::reach::Entry;
 use crate::wants::Want;
+use cut_measure::MOST_KERF;
 use std::alloc::{AllocError, Global};
+
+/// The longest bar that is planned, in tenths of a millimetre.
+pub const LONGEST_BAR: u32 = 150_000;
 
 /// What no counts at all reach, as a list.
 fn none_listed(alloc: Global) -> Result<Level, AllocError>
@@ -40,8 +44,8 @@ fn levels(
 ) -> Result<Vec<Level>, AllocError>
     requires none { IsLevel whole none × AreReached kerf [] whole (Has none) }
     requires whole { whole ≤ 2 ^ 20 - 1 }
-    requires kerf { kerf ≤ 200 }
-    requires modest { AreModest wants.now }
+    requires kerf { kerf ≤ MOST_KERF }
+    requires modest { HaveBoundedWorthsAndLefts wants.now }
     ensures some { IfOk result (λ _. HaveLength wants.now) }
     ensures levels { IfOk result (λ levels. AreLevels kerf whole wants.now levels.items) }
 {
@@ -82,7 +86,7 @@ fn read_levels(
     kerf: u32,
     entry: Entry,
 ) -> Result<Vec<u32>, AllocError>
-    requires kerf { kerf ≤ 200 }
+    requires kerf { kerf ≤ MOST_KERF }
     requires levels { (whole : ℕ) × AreLevels kerf whole wants.now levels.now }
     requires there { IsOfFirst levels.now entry }
     ensures { IfOk result (λ counts. AreCountsOf kerf wants.now entry counts.items) }
@@ -112,13 +116,13 @@ fn counts_from(
 ) -> Result<Vec<u32>, AllocError>
     requires none { IsLevel (size + kerf) none × AreReached kerf [] (size + kerf) (Has none) }
     requires own { HaveOwnDemands wants.now }
-    requires bar { AreFlat wants.now }
-    requires modest { AreModest wants.now }
-    requires size { size ≤ 150000 }
-    requires kerf { kerf ≤ 200 }
+    requires bar { AreUprightOfHeightOne wants.now }
+    requires modest { HaveBoundedWorthsAndLefts wants.now }
+    requires size { size ≤ LONGEST_BAR }
+    requires kerf { kerf ≤ MOST_KERF }
     ensures some { IfOk result (λ _. HaveLength wants.now) }
     ensures counts { IfOk result (λ counts. AreBestCounts kerf wants.now (size + kerf) counts.items) }
-    ensures best { IfOk result (λ counts. IsBestWithin wants.now kerf size 1 (value_of wants.now counts.items)) }
+    ensures best { IfOk result (λ counts. IsBestWithin wants.now kerf size 1 (worth_of_counts wants.now counts.items)) }
 {
     let levels = levels(alloc, none, wants, kerf, size + kerf)?;
     let best = levels[0].best();
@@ -134,13 +138,13 @@ pub fn best_counts(
     kerf: u32,
 ) -> Result<Vec<u32>, AllocError>
     requires own { HaveOwnDemands wants.now }
-    requires bar { AreFlat wants.now }
-    requires modest { AreModest wants.now }
-    requires size { size ≤ 150000 }
-    requires kerf { kerf ≤ 200 }
+    requires bar { AreUprightOfHeightOne wants.now }
+    requires modest { HaveBoundedWorthsAndLefts wants.now }
+    requires size { size ≤ LONGEST_BAR }
+    requires kerf { kerf ≤ MOST_KERF }
     ensures some { IfOk result (λ _. HaveLength wants.now) }
     ensures counts { IfOk result (λ counts. AreBestCounts kerf wants.now (size + kerf) counts.items) }
-    ensures best { IfOk result (λ counts. IsBestWithin wants.now kerf size 1 (value_of wants.now counts.items)) }
+    ensures best { IfOk result (λ counts. IsBestWithin wants.now kerf size 1 (worth_of_counts wants.now counts.items)) }
 {
     let none = none_listed(alloc)?;
     counts_from(alloc, none, wants, size, kerf)
@@ -154,13 +158,13 @@ pub fn table_counts(
     kerf: u32,
 ) -> Result<Vec<u32>, AllocError>
     requires own { HaveOwnDemands wants.now }
-    requires bar { AreFlat wants.now }
-    requires modest { AreModest wants.now }
-    requires size { size ≤ 150000 }
-    requires kerf { kerf ≤ 200 }
+    requires bar { AreUprightOfHeightOne wants.now }
+    requires modest { HaveBoundedWorthsAndLefts wants.now }
+    requires size { size ≤ LONGEST_BAR }
+    requires kerf { kerf ≤ MOST_KERF }
     ensures some { IfOk result (λ _. HaveLength wants.now) }
     ensures counts { IfOk result (λ counts. AreBestCounts kerf wants.now (size + kerf) counts.items) }
-    ensures best { IfOk result (λ counts. IsBestWithin wants.now kerf size 1 (value_of wants.now counts.items)) }
+    ensures best { IfOk result (λ counts. IsBestWithin wants.now kerf size 1 (worth_of_counts wants.now counts.items)) }
 {
     let none = none_tabled(alloc, size + kerf)?;
     counts_from(alloc, none, wants, size, kerf)
@@ -168,9 +172,9 @@ pub fn table_counts(
 
 /// An entry for each room within a bar and a kerf that counts take, with the greatest worth of such counts.
 pub fn reach(alloc: Global, wants: &[Want], size: u32, kerf: u32) -> Result<Vec<Entry>, AllocError>
-    requires modest { AreModest wants.now }
-    requires size { size ≤ 150000 }
-    requires kerf { kerf ≤ 200 }
+    requires modest { HaveBoundedWorthsAndLefts wants.now }
+    requires size { size ≤ LONGEST_BAR }
+    requires kerf { kerf ≤ MOST_KERF }
     ensures rising { IfOk result (λ entries. AreRising entries.items) }
     ensures reached { IfOk result (λ entries. AreReached kerf wants.now (size + kerf) (Contains entries.items)) }
 {
@@ -185,8 +189,8 @@ pub fn reach(alloc: Global, wants: &[Want], size: u32, kerf: u32) -> Result<Vec<
 /// What the pieces of these counts are worth.
 pub fn counted_worth(wants: &[Want], counts: &[u32]) -> u64
     requires len { length counts.now ≡ length wants.now }
-    requires small { value_of wants.now counts.now < 2 ^ 64 }
-    ensures { result ≡ value_of wants.now counts.now }
+    requires small { worth_of_counts wants.now counts.now < 2 ^ 64 }
+    ensures { result ≡ worth_of_counts wants.now counts.now }
 {
     let mut worth = 0u64;
     for i in 0..wants.len() {

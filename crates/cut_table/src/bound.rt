@@ -6,16 +6,16 @@ ghost use Rattle.cut_table.specs.Legal.{HaveOwnDemands, Legal, IsWithinCounts, w
 ghost use Rattle.cut_table.specs.Best.{IsBestOf};
 ghost use Rattle.cut_table.specs.Rounded.{want_down, wants_down, want_up, wants_up, steps_down, IsStep};
 ghost use Rattle.cut_table.specs.Bound.{Meets, worth_left, div_up};
-ghost use Rattle.cut_table.specs.Table.{AreWorthy, HaveSides};
+ghost use Rattle.cut_table.specs.Table.{HaveBoundedWorths, HaveSides};
 
 use crate::read::worth_at;
-use crate::sheet::best_table;
+use crate::sheet::{MOST_STEPS, best_table};
 use crate::wants::{Scaled, Want};
-use cut_measure::Size;
+use cut_measure::{MOST_KERF, Size};
 use std::alloc::{AllocError, Global};
 
 fn down(want: &Want, kerf: u32, step: u32) -> Scaled
-    requires kerf { kerf ≤ 200 }
+    requires kerf { kerf ≤ MOST_KERF }
     requires step { 1 ≤ step }
     ensures { result ≡ want_down kerf step want.now }
 {
@@ -30,7 +30,7 @@ fn down(want: &Want, kerf: u32, step: u32) -> Scaled
 }
 
 fn all_down(alloc: Global, wants: &[Want], kerf: u32, step: u32) -> Result<Vec<Scaled>, AllocError>
-    requires kerf { kerf ≤ 200 }
+    requires kerf { kerf ≤ MOST_KERF }
     requires step { 1 ≤ step }
     ensures { IfOk result (λ down. down.items ≡ wants_down kerf step wants.now) }
 {
@@ -43,7 +43,7 @@ fn all_down(alloc: Global, wants: &[Want], kerf: u32, step: u32) -> Result<Vec<S
 }
 
 fn up(want: &Want, kerf: u32, step: u32) -> Scaled
-    requires kerf { kerf ≤ 200 }
+    requires kerf { kerf ≤ MOST_KERF }
     requires step { 1 ≤ step }
     requires within { step ≤ want.now.size.w + kerf }
     ensures value { result ≡ want_up kerf step want.now }
@@ -66,7 +66,7 @@ pub fn all_up(
     kerf: u32,
     step: u32,
 ) -> Result<Vec<Scaled>, AllocError>
-    requires kerf { kerf ≤ 200 }
+    requires kerf { kerf ≤ MOST_KERF }
     requires step { IsStep kerf step wants.now }
     ensures value { IfOk result (λ up. up.items ≡ wants_up kerf step wants.now) }
     ensures sides { IfOk result (λ _. HaveSides wants.now) }
@@ -88,11 +88,11 @@ pub fn ceiling(
     step: u32,
 ) -> Result<u64, AllocError>
     requires own { HaveOwnDemands wants.now }
-    requires worthy { AreWorthy wants.now }
-    requires kerf { kerf ≤ 200 }
+    requires worthy { HaveBoundedWorths wants.now }
+    requires kerf { kerf ≤ MOST_KERF }
     requires step { IsStep kerf step wants.now }
-    requires wide { steps_down kerf step size.w ≤ 500 }
-    requires tall { steps_down kerf step size.h ≤ 500 }
+    requires wide { steps_down kerf step size.w ≤ MOST_STEPS }
+    requires tall { steps_down kerf step size.h ≤ MOST_STEPS }
     ensures best { IfOk result (IsBestOf (wants_down kerf step wants.now) 0 (steps_down kerf step size.w) (steps_down kerf step size.h)) }
     ensures most { IfOk result (λ best. (t : Tree) → Legal wants.now kerf t size.w size.h → worth_of wants.now t ≤ best) }
     ensures small { IfOk result (λ best. best < 2 ^ 62) }

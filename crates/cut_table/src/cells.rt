@@ -1,7 +1,7 @@
 // Rooms of a bar as a table: a cell for each room, 0 where no counts take it, and else one more than the greatest worth.
 ghost use Rattle.std.specs.Prelude.{◌≡◌, ℕ, ◌+◌, ◌-◌, ◌*◌, ◌^◌, ◌<◌, ◌≤◌, ◌↔◌, IfOk, IsTrue, Contains, length, slice_index, vec_len};
 ghost use Rattle.cut_table.specs.declared.reach.Entry.{Entry};
-ghost use Rattle.cut_table.specs.Reached.{AreRising, AreLow, IsBestEntry};
+ghost use Rattle.cut_table.specs.Reached.{AreRising, HaveWorthsBoundedByRoom, IsBestEntry};
 ghost use Rattle.cut_table.specs.Levels.{HasCell, IsRaised, gained};
 
 use crate::reach::Entry;
@@ -46,7 +46,7 @@ pub fn raise_freely(cells: &mut [u64], step: usize, gain: u64)
 /// The entries as cells.
 pub fn table_of(alloc: Global, entries: &[Entry], whole: u32) -> Result<Vec<u64>, AllocError>
     requires rising { AreRising entries.now }
-    requires low { AreLow whole (Contains entries.now) }
+    requires low { HaveWorthsBoundedByRoom whole (Contains entries.now) }
     requires whole { whole ≤ 2 ^ 20 }
     ensures len { IfOk result (λ cells. vec_len cells ≡ whole + 1) }
     ensures same { IfOk result (λ cells. (e : Entry) → HasCell cells.items e ↔ Contains entries.now e) }

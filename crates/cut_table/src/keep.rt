@@ -4,11 +4,11 @@ ghost use Rattle.cut_tree.specs.Tree.{Piece, Rest};
 ghost use Rattle.cut_tree.specs.Nodes.{tree_of};
 ghost use Rattle.cut_table.specs.declared.wants.Want.{Want};
 ghost use Rattle.cut_table.specs.Legal.{HaveOwnDemands};
-ghost use Rattle.cut_table.specs.Table.{IsTable, heights, AreSmall};
-ghost use Rattle.cut_table.specs.Kept.{joined, Keeps};
+ghost use Rattle.cut_table.specs.Table.{IsTable, heights, HaveSidesAndBoundedWorths};
+ghost use Rattle.cut_table.specs.Kept.{joined, KeepsLeaves};
 
 use crate::read::{Choice, choose, worth_at};
-use crate::sheet::Table;
+use crate::sheet::{MOST_STEPS, Table};
 use crate::wants::Scaled;
 use cut_measure::Axis;
 use cut_tree::Node;
@@ -77,15 +77,15 @@ pub fn keep(
     counts: &mut [u32],
 ) -> Result<Node, AllocError>
     requires own { HaveOwnDemands wants.now }
-    requires small { AreSmall wants.now }
-    requires places { places ≤ 501 }
-    requires heights { heights table.now ≤ 501 }
+    requires small { HaveSidesAndBoundedWorths wants.now }
+    requires places { places ≤ MOST_STEPS + 1 }
+    requires heights { heights table.now ≤ MOST_STEPS + 1 }
     requires table { IsTable wants.now places table.now }
     requires w { w < places }
     requires h { h < heights table.now }
     requires len { length counts.old ≡ length wants.now }
     requires fits { (i : ℕ) → i < length counts.old → slice_index counts.old i + w * h < 2 ^ 32 }
-    ensures kept { IfOk result (λ node. Keeps wants.now w h counts.old counts.new (tree_of node)) }
+    ensures kept { IfOk result (λ node. KeepsLeaves wants.now w h counts.old counts.new (tree_of node)) }
     ensures grown { OnOk result ((i : ℕ) → i < length counts.old → slice_index counts.new i ≤ slice_index counts.old i + w * h) }
 {
     let best = worth_at(wants, table, places, w, h);

@@ -1,13 +1,14 @@
 // What counts of some wants reach, want by want: entries while they are few, and then cells.
 ghost use Rattle.std.specs.Prelude.{◌≡◌, ℕ, ◌+◌, ◌-◌, ◌*◌, ◌/◌, ◌^◌, ◌≤◌, ◌↔◌, IfOk, IsTrue, Contains, length};
 ghost use Rattle.cut_table.specs.declared.reach.Entry.{Entry};
-ghost use Rattle.cut_table.specs.Counts.{IsModest};
-ghost use Rattle.cut_table.specs.Reached.{AreRising, AreOffered, AreLow, IsBestEntry};
+ghost use Rattle.cut_table.specs.Counts.{HasBoundedWorthAndLeft};
+ghost use Rattle.cut_table.specs.Reached.{AreRising, AreOffered, HaveWorthsBoundedByRoom, IsBestEntry};
 ghost use Rattle.cut_table.specs.Levels.{Has, HasCell, IsLevel, IsCopyOf};
 
 use crate::cells::{best_cell, has_cell, list_of, raise, raise_freely, table_of};
 use crate::reach::{Entry, best_entry, has_entry, offer_entries};
 use crate::wants::Want;
+use cut_measure::MOST_KERF;
 use std::alloc::{AllocError, Global};
 
 /// What counts reach: an entry for each room that they take, or a cell for each room.
@@ -65,7 +66,7 @@ impl Level {
     /// The level with all that a batch of pieces leads to within the whole.
     fn offer(self, alloc: Global, batch: Entry, whole: u32) -> Result<Level, AllocError>
         requires level { IsLevel whole self }
-        requires low { AreLow whole (Has self) }
+        requires low { HaveWorthsBoundedByRoom whole (Has self) }
         requires whole { whole ≤ 2 ^ 20 - 1 }
         requires some { 1 ≤ batch.room }
         requires short { batch.room ≤ 2 ^ 20 }
@@ -89,7 +90,7 @@ impl Level {
 /// A list while it has an entry for at most one in eight rooms, and else a table.
 pub fn level_of(alloc: Global, entries: Vec<Entry>, whole: u32) -> Result<Level, AllocError>
     requires rising { AreRising entries.items }
-    requires low { AreLow whole (Contains entries.items) }
+    requires low { HaveWorthsBoundedByRoom whole (Contains entries.items) }
     requires whole { whole ≤ 2 ^ 20 }
     ensures level { IfOk result (IsLevel whole) }
     ensures same { IfOk result (λ level. (e : Entry) → Has level e ↔ Contains entries.items e) }
@@ -110,7 +111,7 @@ fn offer_batches(
     whole: u32,
 ) -> Result<Level, AllocError>
     requires level { IsLevel whole base.now }
-    requires low { AreLow whole (Has base.now) }
+    requires low { HaveWorthsBoundedByRoom whole (Has base.now) }
     requires whole { whole ≤ 2 ^ 20 - 1 }
     requires some { 1 ≤ piece.room }
     requires fit { most * piece.room ≤ whole }
@@ -140,7 +141,7 @@ fn offer_freely(
     whole: u32,
 ) -> Result<Vec<u64>, AllocError>
     requires len { length cells.now ≡ whole + 1 }
-    requires low { AreLow whole (HasCell cells.now) }
+    requires low { HaveWorthsBoundedByRoom whole (HasCell cells.now) }
     requires whole { whole ≤ 2 ^ 20 - 1 }
     requires some { 1 ≤ piece.room }
     requires gain { piece.worth ≤ piece.room * 2 ^ 30 }
@@ -161,10 +162,10 @@ pub fn offer_want(
     whole: u32,
 ) -> Result<Level, AllocError>
     requires level { IsLevel whole base.now }
-    requires low { AreLow whole (Has base.now) }
+    requires low { HaveWorthsBoundedByRoom whole (Has base.now) }
     requires whole { whole ≤ 2 ^ 20 - 1 }
-    requires kerf { kerf ≤ 200 }
-    requires modest { IsModest want.now }
+    requires kerf { kerf ≤ MOST_KERF }
+    requires modest { HasBoundedWorthAndLeft want.now }
     ensures some { 1 ≤ want.now.size.w }
     ensures level { IfOk result (IsLevel whole) }
     ensures offered { IfOk result (λ offered. AreOffered (want.now.size.w + kerf) want.now.worth want.now.left whole (Has base.now) (Has offered)) }

@@ -9,7 +9,7 @@ ghost use Rattle.cut_table.specs.Kept.{IsInside, IsPruned, HasPlaces, Places};
 ghost use Rattle.cut_table.specs.Kept as kept;
 
 use crate::wants::Want;
-use cut_measure::{Axis, Size};
+use cut_measure::{Axis, MOST_KERF, Size};
 use cut_tree::Node;
 use std::alloc::{AllocError, Global};
 
@@ -86,7 +86,7 @@ fn place_piece(
     kerf: u32,
 ) -> Result<Node, AllocError>
     requires own { HaveOwnDemands wants.now }
-    requires kerf { kerf ≤ 200 }
+    requires kerf { kerf ≤ MOST_KERF }
     requires inside { IsInside wants.now demand turned w h }
     ensures { IfOk result (λ node. Places wants.now kerf (Piece demand turned) w h (tree_of node)) }
 {
@@ -116,7 +116,7 @@ pub fn place(
     step: u32,
 ) -> Result<Node, AllocError>
     requires own { HaveOwnDemands wants.now }
-    requires kerf { kerf ≤ 200 }
+    requires kerf { kerf ≤ MOST_KERF }
     requires pruned { IsPruned (tree_of node.now) }
     requires places { HasPlaces wants.now kerf step (tree_of node.now) w h }
     ensures { IfOk result (λ placed. Places wants.now kerf (tree_of node.now) w h (tree_of placed)) }

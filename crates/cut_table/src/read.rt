@@ -3,10 +3,10 @@ ghost use Rattle.std.specs.Prelude.{◌≡◌, ℕ, ◌+◌, ◌-◌, ◌*◌, �
 ghost use Rattle.cut_table.specs.declared.wants.Want.{Want};
 ghost use Rattle.cut_table.specs.Best.{IsBestOf};
 ghost use Rattle.cut_table.specs.Legal.{HaveOwnDemands, HasSides};
-ghost use Rattle.cut_table.specs.Table.{IsTable, AreRows, heights, AreSmall, IsCutX, IsCutY, IsPieceAt, Explains};
+ghost use Rattle.cut_table.specs.Table.{IsTable, AreRows, heights, HaveSidesAndBoundedWorths, IsCutX, IsCutY, IsPieceAt, Explains};
 
 use crate::number::Number;
-use crate::sheet::Table;
+use crate::sheet::{MOST_STEPS, Table};
 use crate::wants::Scaled;
 
 /// What stands first in a best tree of a rectangle.
@@ -49,9 +49,9 @@ fn find_cut_x(
     best: u64,
 ) -> Option<usize>
     requires own { HaveOwnDemands wants.now }
-    requires small { AreSmall wants.now }
-    requires places { places ≤ 501 }
-    requires heights { heights table.now ≤ 501 }
+    requires small { HaveSidesAndBoundedWorths wants.now }
+    requires places { places ≤ MOST_STEPS + 1 }
+    requires heights { heights table.now ≤ MOST_STEPS + 1 }
     requires table { IsTable wants.now places table.now }
     requires w { w < places }
     requires h { h < heights table.now }
@@ -77,9 +77,9 @@ fn find_cut_y(
     best: u64,
 ) -> Option<usize>
     requires own { HaveOwnDemands wants.now }
-    requires small { AreSmall wants.now }
-    requires places { places ≤ 501 }
-    requires heights { heights table.now ≤ 501 }
+    requires small { HaveSidesAndBoundedWorths wants.now }
+    requires places { places ≤ MOST_STEPS + 1 }
+    requires heights { heights table.now ≤ MOST_STEPS + 1 }
     requires table { IsTable wants.now places table.now }
     requires w { w < places }
     requires h { h < heights table.now }
@@ -133,9 +133,9 @@ pub fn choose(
     best: u64,
 ) -> Choice
     requires own { HaveOwnDemands wants.now }
-    requires small { AreSmall wants.now }
-    requires places { places ≤ 501 }
-    requires heights { heights table.now ≤ 501 }
+    requires small { HaveSidesAndBoundedWorths wants.now }
+    requires places { places ≤ MOST_STEPS + 1 }
+    requires heights { heights table.now ≤ MOST_STEPS + 1 }
     requires table { IsTable wants.now places table.now }
     requires w { w < places }
     requires h { h < heights table.now }

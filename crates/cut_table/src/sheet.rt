@@ -2,12 +2,15 @@
 ghost use Rattle.std.specs.Prelude.{◌≡◌, ℕ, ◌+◌, ◌-◌, ◌*◌, ◌/◌, ◌^◌, ◌<◌, ◌≤◌, length, map, IfOk, IsTrue, All, true, false};
 ghost use Rattle.cut_table.specs.Legal.{HaveOwnDemands, HasSides};
 ghost use Rattle.cut_table.specs.Best.{IsBestOf};
-ghost use Rattle.cut_table.specs.Table.{IsOffered, IsPlainRow, IsLiftedRow, IsUncutRow, IsBestRow, AreRows, AreUseful, ArePriced, Fits, IsTable, AreSmall, heights};
+ghost use Rattle.cut_table.specs.Table.{IsOffered, IsPlainRow, IsLiftedRow, IsUncutRow, IsBestRow, AreRows, AreUseful, ArePriced, IsPricedBelow, IsTable, HaveSidesAndBoundedWorths, heights};
 
 use crate::number::Number;
 use crate::row::{is_same, join_row, offer, stack_rows};
 use crate::wants::Scaled;
 use std::alloc::{AllocError, Global};
+
+/// The most steps that a side of a sheet is counted in.
+pub const MOST_STEPS: u32 = 500;
 
 /// The best worths of rectangles by height and then width, in narrow numbers where they do.
 #[derive(Drop)]
@@ -38,7 +41,7 @@ fn offer_turned<T: Number>(row: &mut [T], want: &Scaled, height: usize)
 
 /// For each width, the best single piece of the height.
 fn fill_plain<T: Number>(row: &mut [T], wants: &[Scaled], height: usize)
-    requires fits { Fits T.limit wants.now (length row.old) height }
+    requires fits { IsPricedBelow T.limit wants.now (length row.old) height }
     requires zeros { All (λ v. v ≡ 0) (map T.value row.old) }
     ensures { IsPlainRow wants.now height (map T.value row.new) }
 {
@@ -51,7 +54,7 @@ fn fill_plain<T: Number>(row: &mut [T], wants: &[Scaled], height: usize)
 /// Raises each place to the best worth of the height below.
 fn lift<T: Number>(row: &mut [T], wants: &[Scaled], rows: &[Vec<T>])
     requires own { HaveOwnDemands wants.now }
-    requires fits { Fits T.limit wants.now (length row.old) (length rows.now) }
+    requires fits { IsPricedBelow T.limit wants.now (length row.old) (length rows.now) }
     requires table { AreRows T.value wants.now (length row.old) rows.now }
     requires plain { IsPlainRow wants.now (length rows.now) (map T.value row.old) }
     ensures { IsLiftedRow wants.now (length rows.now) (map T.value row.new) }
@@ -65,7 +68,7 @@ fn lift<T: Number>(row: &mut [T], wants: &[Scaled], rows: &[Vec<T>])
 /// below it gives no more with any other.
 fn stack_all<T: Number>(row: &mut [T], wants: &[Scaled], rows: &[Vec<T>], useful: &[bool])
     requires own { HaveOwnDemands wants.now }
-    requires fits { Fits T.limit wants.now (length row.old) (length rows.now) }
+    requires fits { IsPricedBelow T.limit wants.now (length row.old) (length rows.now) }
     requires table { AreRows T.value wants.now (length row.old) rows.now }
     requires len { length useful.now ≡ length rows.now }
     requires useful { AreUseful wants.now (length row.old) useful.now }
@@ -83,7 +86,7 @@ fn stack_all<T: Number>(row: &mut [T], wants: &[Scaled], rows: &[Vec<T>], useful
 /// Each place of the row of zeros becomes the best worth of its width and the next height.
 fn fill_best<T: Number>(row: &mut [T], wants: &[Scaled], rows: &[Vec<T>], useful: &[bool])
     requires own { HaveOwnDemands wants.now }
-    requires fits { Fits T.limit wants.now (length row.old) (length rows.now) }
+    requires fits { IsPricedBelow T.limit wants.now (length row.old) (length rows.now) }
     requires table { AreRows T.value wants.now (length row.old) rows.now }
     requires len { length useful.now ≡ length rows.now }
     requires useful { AreUseful wants.now (length row.old) useful.now }
@@ -104,8 +107,8 @@ fn best_row<T: Number>(
     width: usize,
 ) -> Result<Vec<T>, AllocError>
     requires own { HaveOwnDemands wants.now }
-    requires width { width ≤ 500 }
-    requires fits { Fits T.limit wants.now (width + 1) (length rows.now) }
+    requires width { width ≤ MOST_STEPS }
+    requires fits { IsPricedBelow T.limit wants.now (width + 1) (length rows.now) }
     requires table { AreRows T.value wants.now (width + 1) rows.now }
     requires len { length useful.now ≡ length rows.now }
     requires useful { AreUseful wants.now (width + 1) useful.now }
@@ -135,9 +138,9 @@ fn best_rows<T: Number>(
     height: usize,
 ) -> Result<Vec<Vec<T>>, AllocError>
     requires own { HaveOwnDemands wants.now }
-    requires width { width ≤ 500 }
-    requires height { height ≤ 500 }
-    requires fits { Fits T.limit wants.now (width + 1) height }
+    requires width { width ≤ MOST_STEPS }
+    requires height { height ≤ MOST_STEPS }
+    requires fits { IsPricedBelow T.limit wants.now (width + 1) height }
     ensures len { IfOk result (λ rows. length rows.items ≡ height + 1) }
     ensures table { IfOk result (λ rows. AreRows T.value wants.now (width + 1) rows.items) }
 {
@@ -164,7 +167,7 @@ fn price(want: &Scaled) -> u64
 
 /// The highest price of a want.
 fn highest_price(wants: &[Scaled]) -> u64
-    requires small { AreSmall wants.now }
+    requires small { HaveSidesAndBoundedWorths wants.now }
     ensures priced { ArePriced result wants.now }
     ensures small { result ≤ 2 ^ 30 }
 {
@@ -183,9 +186,9 @@ pub fn best_table(
     height: usize,
 ) -> Result<Table, AllocError>
     requires own { HaveOwnDemands wants.now }
-    requires small { AreSmall wants.now }
-    requires width { width ≤ 500 }
-    requires height { height ≤ 500 }
+    requires small { HaveSidesAndBoundedWorths wants.now }
+    requires width { width ≤ MOST_STEPS }
+    requires height { height ≤ MOST_STEPS }
     ensures len { IfOk result (λ table. heights table ≡ height + 1) }
     ensures table { IfOk result (IsTable wants.now (width + 1)) }
 {

@@ -5,7 +5,7 @@ use Rattle.cut_tree.specs.declared.token.Token.{Token}
 use Rattle.cut_tree.specs.declared.token.Cause.{Cause}
 use Rattle.cut_tree.specs.declared.token.Cause.TheVariants.{NoMemory}
 use Rattle.cut_tree.specs.Tree.{Tree}
-use Rattle.cut_tree.specs.Spelling.{words, tokens, SpelledAt, Stops, FollowsOn, HasRead, IsWrong, IsWrongBehind, IsFirstFault}
+use Rattle.cut_tree.specs.Spelling.{words, tokens, SpelledAt, IsFaultWithin, IsFaultBehind, HasReadTree, IsWrong, IsWrongBehind, IsFirstFault}
 
 get-take : {A : Type 0} (n : ℕ) (ws : List A) (i : ℕ) → i < n → slice_get (take n ws) i ≡ slice_get ws i
 get-take zero ws i h = absurd (omega arith)
@@ -17,7 +17,7 @@ pub SpelledAt-take : (n : ℕ) (ws : List (List ℕ)) (at : ℕ) (ts : List Toke
 SpelledAt-take n ws at [] p h = tt
 SpelledAt-take n ws at (t ∷ ts) p h = (sym (get-take n ws at (omega arith)) ∙ p.0, p.1, SpelledAt-take n ws (at + 1) ts p.2 (omega arith))
 
-pub Stops-take : (m : ℕ) (ws : List (List ℕ)) (w h k n : ℕ) (cause : Cause) → n < m → Stops (take m ws) 0 0 w h k n cause → Stops ws 0 0 w h k n cause
+pub Stops-take : (m : ℕ) (ws : List (List ℕ)) (w h k n : ℕ) (cause : Cause) → n < m → IsFaultWithin (take m ws) 0 0 w h k n cause → IsFaultWithin ws 0 0 w h k n cause
 Stops-take m ws w h k n cause early s = record {
   front = s.front;
   place = s.place;
@@ -27,7 +27,7 @@ Stops-take m ws w h k n cause early s = record {
   wrong = subst (λ (word : Option (List ℕ)). IsWrong cause s.front word 0 w h k) (get-take m ws n early) s.wrong;
 }
 
-pub FollowsOn-take : (m : ℕ) (ws : List (List ℕ)) (w h k n : ℕ) (cause : Cause) → n < m → FollowsOn (take m ws) w h k n cause → FollowsOn ws w h k n cause
+pub FollowsOn-take : (m : ℕ) (ws : List (List ℕ)) (w h k n : ℕ) (cause : Cause) → n < m → IsFaultBehind (take m ws) w h k n cause → IsFaultBehind ws w h k n cause
 FollowsOn-take m ws w h k n cause early s = record {
   front = s.front;
   place = s.place;
@@ -45,16 +45,16 @@ all_taken (suc n) (w ∷ ws) h = ap (λ l. w ∷ l) (all_taken n ws (omega arith
 
 -- the fault that a reader of the first words met
 pub read_fault : (ws : List (List ℕ)) (text : List ℕ) (w h k n : ℕ) (cause : Cause) → ws ≡ take 512 (words text) → n ≤ 510 →
-    ((n ≡ 0) × (cause ≡ NoMemory)) ⊎ Stops ws 0 0 w h k n cause → IsFirstFault text w h k n cause
+    ((n ≡ 0) × (cause ≡ NoMemory)) ⊎ IsFaultWithin ws 0 0 w h k n cause → IsFirstFault text w h k n cause
 read_fault ws text w h k n cause is early (inl p) = inl p
 read_fault ws text w h k n cause is early (inr s) =
-    inr (inl (Stops-take 512 (words text) w h k n cause (omega arith) (subst (λ (v : List (List ℕ)). Stops v 0 0 w h k n cause) is s)))
+    inr (inl (Stops-take 512 (words text) w h k n cause (omega arith) (subst (λ (v : List (List ℕ)). IsFaultWithin v 0 0 w h k n cause) is s)))
 
 -- the fault behind a tree that it read
 pub behind_fault : (ws : List (List ℕ)) (text : List ℕ) (w h k n cuts : ℕ) (cause : Cause) (tree : Tree) → ws ≡ take 512 (words text) → n ≤ 511 →
-    HasRead ws 0 0 w h k tree n cuts → IsWrongBehind cause (slice_get ws n) → IsFirstFault text w h k n cause
+    HasReadTree ws 0 0 w h k tree n cuts → IsWrongBehind cause (slice_get ws n) → IsFirstFault text w h k n cause
 behind_fault ws text w h k n cuts cause tree is early r wrong =
-    let s : FollowsOn ws w h k n cause = record {
+    let s : IsFaultBehind ws w h k n cause = record {
       front = tokens tree;
       place = omega (arith, r.upto);
       spelled = r.spelled;
@@ -62,4 +62,4 @@ behind_fault ws text w h k n cuts cause tree is early r wrong =
       few_cuts = omega (arith, r.counted, r.few_cuts);
       wrong = wrong;
     } in
-    inr (inr (FollowsOn-take 512 (words text) w h k n cause (omega arith) (subst (λ (v : List (List ℕ)). FollowsOn v w h k n cause) is s)))
+    inr (inr (FollowsOn-take 512 (words text) w h k n cause (omega arith) (subst (λ (v : List (List ℕ)). IsFaultBehind v w h k n cause) is s)))

@@ -1,20 +1,27 @@
-pub mod Covers
-pub mod Counts
-pub mod Fronts
-pub mod Reading
-pub mod Whole
-pub mod Pieces
-pub mod Marks
-pub mod Counting
-pub mod Rows
-pub mod Texts
-pub mod Exactly
-pub mod Only
-pub mod StepPlaces
+-- trees
+pub mod NodeCounts
+pub mod LeafCounts
+pub mod ListedLeaves
 pub mod BarTrees
+pub mod StepPlaces
+-- reading and writing texts
+pub mod CutTexts
+pub mod PieceWords
 pub mod FirstWords
+pub mod TreeFronts
+pub mod NodeReading
+pub mod WholeTexts
+pub mod SpelledTexts
+pub mod SpelledPlans
 pub mod OneFault
 pub mod ReadBack
-pub mod LeafCounts
+-- laying
+pub mod CellSums
+pub mod CoveredCells
+pub mod CellCounts
 pub mod PieceRows
-pub mod OneList
+pub mod OneLaidList
+pub mod LaidExamples
+-- halts
+pub mod Closed
+pub mod TwoForms

@@ -7,13 +7,13 @@ use Rattle.cut_tree.specs.declared.lay.Row.{Row}
 use Rattle.cut_tree.specs.Tree.{Tree, Piece, Rest, Trim, Cut, node_count, cut_count, count_of}
 use Rattle.cut_tree.specs.Cells.{Outcome, Made, LeftWhole, Spoiled, all_made}
 use Rattle.cut_tree.specs.Nodes.{rows_of, strip_row, rows_by_outcome}
-use Rattle.cut_tree.specs.Counting.{is_piece_of}
+use Rattle.cut_tree.specs.Counting.{is_demand_piece}
 
 abbrev pub pieces : ℕ → List Row → ℕ
-pieces d rows = count_by (λ r. is_piece_of d r.owner) rows
+pieces d rows = count_by (λ r. is_demand_piece d r.owner) rows
 
 two_lists : (d : ℕ) (xs ys : List Row) → pieces d (xs ++ ys) ≡ pieces d xs + pieces d ys
-two_lists d xs ys = sum_by-append (λ r. if is_piece_of d r.owner then 1 else 0) xs ys
+two_lists d xs ys = sum_by-append (λ r. if is_demand_piece d r.owner then 1 else 0) xs ys
 
 no_strip : (d k n x y w h : ℕ) → pieces d (strip_row k n x y w h) ≡ 0
 no_strip d zero n x y w h = refl

@@ -5,7 +5,7 @@ use Rattle.std.proofs.lemmas.Bool.{ltb-true, ltb-false}
 use Rattle.std.proofs.lemmas.Bool.{cond_both}
 use Rattle.cut_measure.specs.declared.sizes.Axis.TheVariants.{X, Y}
 use Rattle.cut_tree.specs.Tree.{Tree, Piece, Rest, Trim, Cut, node_count}
-use Rattle.cut_tree.specs.Stepping.{head_of, step_at, AreSteps}
+use Rattle.cut_tree.specs.Stepping.{first_token, step_at, AreSteps}
 use Rattle.cut_tree.specs.StepRows.{steps_of}
 
 get-left : {A : Type 0} (xs ys : List A) (i : ℕ) → i < length xs → slice_get (xs ++ ys) i ≡ slice_get xs i
@@ -39,12 +39,12 @@ length-steps_of (Cut Y a f s) x y w h k n =
     )
 
 first_step : (t : Tree) (x y w h k n m : ℕ) → n ≡ m → slice_get (steps_of t x y w h k n) 0 ≡ Some (step_at t x y w h k 0 m)
-first_step (Piece d b) x y w h k n m e = ap (λ z. Some (record { node = z; x = x; y = y; w = w; h = h; what = head_of (Piece d b) })) e
-first_step Rest x y w h k n m e = ap (λ z. Some (record { node = z; x = x; y = y; w = w; h = h; what = head_of Rest })) e
-first_step (Trim X a f) x y w h k n m e = ap (λ z. Some (record { node = z; x = x; y = y; w = w; h = h; what = head_of (Trim X a f) })) e
-first_step (Trim Y a f) x y w h k n m e = ap (λ z. Some (record { node = z; x = x; y = y; w = w; h = h; what = head_of (Trim Y a f) })) e
-first_step (Cut X a f s) x y w h k n m e = ap (λ z. Some (record { node = z; x = x; y = y; w = w; h = h; what = head_of (Cut X a f s) })) e
-first_step (Cut Y a f s) x y w h k n m e = ap (λ z. Some (record { node = z; x = x; y = y; w = w; h = h; what = head_of (Cut Y a f s) })) e
+first_step (Piece d b) x y w h k n m e = ap (λ z. Some (record { node = z; x = x; y = y; w = w; h = h; what = first_token (Piece d b) })) e
+first_step Rest x y w h k n m e = ap (λ z. Some (record { node = z; x = x; y = y; w = w; h = h; what = first_token Rest })) e
+first_step (Trim X a f) x y w h k n m e = ap (λ z. Some (record { node = z; x = x; y = y; w = w; h = h; what = first_token (Trim X a f) })) e
+first_step (Trim Y a f) x y w h k n m e = ap (λ z. Some (record { node = z; x = x; y = y; w = w; h = h; what = first_token (Trim Y a f) })) e
+first_step (Cut X a f s) x y w h k n m e = ap (λ z. Some (record { node = z; x = x; y = y; w = w; h = h; what = first_token (Cut X a f s) })) e
+first_step (Cut Y a f s) x y w h k n m e = ap (λ z. Some (record { node = z; x = x; y = y; w = w; h = h; what = first_token (Cut Y a f s) })) e
 
 -- the step of the node that has place i in the tree, and number m among all
 pub get-steps_of : (t : Tree) (x y w h k n i m : ℕ) → i < node_count t → n + i ≡ m → slice_get (steps_of t x y w h k n) i ≡ Some (step_at t x y w h k i m)

@@ -1,5 +1,5 @@
 -- The owner of one cell of a unit: what it belongs to once the cuts are made.
-use Rattle.std.specs.Prelude.{ℕ, Bool, false, ◌+◌, ◌-◌, nat_lt, if◌then◌else◌}
+use Rattle.std.specs.Prelude.{ℕ, ◌+◌, ◌-◌, nat_lt, if◌then◌else◌}
 use Rattle.cut_measure.specs.declared.sizes.Axis.TheVariants.{X, Y}
 use Rattle.cut_tree.specs.declared.lay.Owner.{Owner}
 use Rattle.cut_tree.specs.declared.lay.Owner.TheVariants as owner
@@ -62,8 +62,3 @@ spot_of (Cut Y a first second) w h k outcome n c x y =
 -- every cut is made
 abbrev pub all_made : ℕ → Outcome
 all_made c = Made
-
--- The cuts below `cuts` are made. The cut of that number went wrong if `lost`; all else is left whole.
-abbrev pub made_below : ℕ → Bool → ℕ → Outcome
-made_below cuts lost c =
-    if nat_lt c cuts then Made else if (if nat_lt cuts c then false else lost) then Spoiled else LeftWhole

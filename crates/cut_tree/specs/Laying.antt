@@ -6,7 +6,7 @@ use Rattle.cut_tree.specs.Tree.{Tree}
 use Rattle.cut_tree.specs.Cells.{Outcome, Spot, spot_of}
 
 -- the row's rectangle holds the cell
-pub record Holds (r : Row) (x y : ℕ) : Type 0 where
+pub record CoversCell (r : Row) (x y : ℕ) : Type 0 where
   pub left : r.x ≤ x
   pub right : x < r.x + r.w
   pub top : r.y ≤ y
@@ -33,6 +33,6 @@ pub record IsSpot (r : Row) (s : Spot) (at_x at_y : ℕ) : Type 0 where
 pub record IsLaid (tree : Tree) (w h kerf : ℕ) (outcome : ℕ → Outcome) (rows : List Row) : Type 0 where
   pub rising : AllPairs (λ r s. r.node < s.node) rows
   pub some_cell : All (λ r. (0 < r.w) × (0 < r.h)) rows
-  pub own_cells : All (λ r. (x y : ℕ) → Holds r x y ↔ Owns tree w h kerf outcome r.node r.owner x y) rows
-  pub own_place : All (λ r. (x y : ℕ) → Holds r x y → IsSpot r (spot_of tree w h kerf outcome 0 0 x y) x y) rows
-  pub each_cell : (x y : ℕ) → x < w → y < h → Any (λ r. Holds r x y) rows
+  pub own_cells : All (λ r. (x y : ℕ) → CoversCell r x y ↔ Owns tree w h kerf outcome r.node r.owner x y) rows
+  pub own_place : All (λ r. (x y : ℕ) → CoversCell r x y → IsSpot r (spot_of tree w h kerf outcome 0 0 x y) x y) rows
+  pub each_cell : (x y : ℕ) → x < w → y < h → Any (λ r. CoversCell r x y) rows

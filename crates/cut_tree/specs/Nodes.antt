@@ -34,8 +34,8 @@ rest_rect r X n = record r { x = r.x + n; w = r.w - n }
 rest_rect r Y n = record r { y = r.y + n; h = r.h - n }
 
 -- its far sides are numbers of 32 bits
-abbrev pub IsInRange : Rect → Type 0
-IsInRange r = (r.x + r.w < 2 ^ 32) × (r.y + r.h < 2 ^ 32)
+abbrev pub FarSidesFit : Rect → Type 0
+FarSidesFit r = (r.x + r.w < 2 ^ 32) × (r.y + r.h < 2 ^ 32)
 
 -- the rows of a rectangle that is one node's, which are none where it has no cell
 abbrev pub one_row : ℕ → (x y w h : ℕ) → Owner → List Row

@@ -10,6 +10,6 @@ side_along s X = s.w
 side_along s Y = s.h
 
 -- the sides of a part of that length
-abbrev pub part_of : Sides → Axis → ℕ → Sides
-part_of s X n = record s { w = n }
-part_of s Y n = record s { h = n }
+abbrev pub part_sides : Sides → Axis → ℕ → Sides
+part_sides s X n = record s { w = n }
+part_sides s Y n = record s { h = n }

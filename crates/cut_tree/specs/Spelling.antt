@@ -3,6 +3,8 @@ use Rattle.std.specs.Prelude.{ℕ, Bool, true, false, ◌≡◌, ◌+◌, ◌≤
 use Rattle.std.specs.List.{slice_split, join_with_byte}
 use Rattle.std.specs.Prelude.{◌==◌}
 use Rattle.std.specs.Fmt.{decimal}
+use Rattle.cut_measure.specs.declared.ranges.TheConstants.{MOST_NUMBERS}
+use Rattle.cut_tree.specs.declared.token.TheConstants.{MOST_CUTS}
 use Rattle.cut_measure.specs.declared.sizes.Axis.{Axis}
 use Rattle.cut_measure.specs.declared.sizes.Axis.TheVariants.{X, Y}
 use Rattle.cut_tree.specs.declared.token.Token.{Token}
@@ -22,15 +24,15 @@ turn_mark true = 116 ∷ []
 turn_mark false = []
 
 -- x30 or y30 is a cut at 30, p7 a piece of demand 7, p7t a turned one, r a rest
-abbrev pub word_of : Token → List ℕ
-word_of (token.Cut axis place) = axis_letter axis ∷ decimal place
-word_of (token.Piece demand turned) = 112 ∷ (decimal demand ++ turn_mark turned)
-word_of token.Rest = 114 ∷ []
+abbrev pub token_text : Token → List ℕ
+token_text (token.Cut axis place) = axis_letter axis ∷ decimal place
+token_text (token.Piece demand turned) = 112 ∷ (decimal demand ++ turn_mark turned)
+token_text token.Rest = 114 ∷ []
 
 -- the numbers that a token may have
 abbrev pub IsToken : Token → Type 0
 IsToken (token.Cut axis place) = (1 ≤ place) × (place ≤ 4294967295)
-IsToken (token.Piece demand turned) = (1 ≤ demand) × (demand ≤ 2147483647)
+IsToken (token.Piece demand turned) = (1 ≤ demand) × (demand ≤ MOST_NUMBERS)
 IsToken token.Rest = Unit {0}
 
 -- a node is followed by its first part, and that by its second
@@ -42,7 +44,7 @@ tokens (Cut axis place first second) = token.Cut axis place ∷ (tokens first ++
 
 -- the text of a tree
 abbrev pub text_of : Tree → List ℕ
-text_of t = join_with_byte 32 (map word_of (tokens t))
+text_of t = join_with_byte 32 (map token_text (tokens t))
 
 -- the words of a text, between its spaces; an empty text has none
 abbrev pub words : List ℕ → List (List ℕ)
@@ -56,8 +58,8 @@ cuts_in (token.Piece demand turned ∷ ts) = cuts_in ts
 cuts_in (token.Rest ∷ ts) = cuts_in ts
 
 -- the tokens are those of a tree that follows the rule of cuts
-abbrev pub IsWhole : List Token → (w h kerf : ℕ) → Type 0
-IsWhole ts w h k = (t : Tree) × IsShaped t w h k × (tokens t ≡ ts)
+abbrev pub AreTreeTokens : List Token → (w h kerf : ℕ) → Type 0
+AreTreeTokens ts w h k = (t : Tree) × IsShaped t w h k × (tokens t ≡ ts)
 
 -- such a tree's tokens begin so
 abbrev pub IsFront : List Token → (w h kerf : ℕ) → Type 0
@@ -70,73 +72,73 @@ GoesOn ts w h k = (t : Tree) × (next : Token) × (more : List Token) × IsShape
 -- the words from `at` on begin with those of the tokens
 abbrev pub SpelledAt : List (List ℕ) → ℕ → List Token → Type 0
 SpelledAt ws at [] = Unit {0}
-SpelledAt ws at (t ∷ ts) = (slice_get ws at ≡ Some (word_of t)) × IsToken t × SpelledAt ws (at + 1) ts
+SpelledAt ws at (t ∷ ts) = (slice_get ws at ≡ Some (token_text t)) × IsToken t × SpelledAt ws (at + 1) ts
 
 -- there is a word, and it is no token's
 abbrev pub IsNoToken : Option (List ℕ) → Type 0
 IsNoToken None = ⊥
-IsNoToken (Some word) = (t : Token) → IsToken t → word_of t ≡ word → ⊥
+IsNoToken (Some word) = (t : Token) → IsToken t → token_text t ≡ word → ⊥
 
 -- the word is that of this cut
 abbrev pub IsCut : Option (List ℕ) → Axis → ℕ → Type 0
-IsCut word axis place = (word ≡ Some (word_of (token.Cut axis place))) × IsToken (token.Cut axis place)
+IsCut word axis place = (word ≡ Some (token_text (token.Cut axis place))) × IsToken (token.Cut axis place)
 
 -- What is wrong with the word behind a front of a tree, or with its absence. So many cuts stand before the tree.
 abbrev pub IsWrong : Cause → (front : List Token) → Option (List ℕ) → (cuts w h kerf : ℕ) → Type 0
 IsWrong BadToken front word cuts w h k = IsNoToken word
-IsWrong TooManyCuts front word cuts w h k = (axis : Axis) × (place : ℕ) × IsCut word axis place × (cuts + cuts_in front ≡ 255)
+IsWrong TooManyCuts front word cuts w h k = (axis : Axis) × (place : ℕ) × IsCut word axis place × (cuts + cuts_in front ≡ MOST_CUTS)
 -- no tree goes on with the cut
 IsWrong OffUnit front word cuts w h k =
-    (axis : Axis) × (place : ℕ) × IsCut word axis place × (IsFront (front ++ token.Cut axis place ∷ []) w h k → ⊥) × (cuts + cuts_in front < 255)
+    (axis : Axis) × (place : ℕ) × IsCut word axis place × (IsFront (front ++ token.Cut axis place ∷ []) w h k → ⊥) × (cuts + cuts_in front < MOST_CUTS)
 IsWrong Missing front word cuts w h k = word ≡ None
 IsWrong Extra front word cuts w h k = ⊥
 IsWrong NoMemory front word cuts w h k = ⊥
 
 -- The words from `at` on begin as a tree does, at most 255 cuts among them and before them. The next word, number n,
 -- or its absence is wrong.
-pub record Stops (ws : List (List ℕ)) (at cuts w h kerf n : ℕ) (cause : Cause) : Type 0 where
+pub record IsFaultWithin (ws : List (List ℕ)) (at cuts w h kerf n : ℕ) (cause : Cause) : Type 0 where
   pub front : List Token
   pub place : at + length front ≡ n
   pub spelled : SpelledAt ws at front
   pub goes_on : GoesOn front w h kerf
-  pub few_cuts : cuts + cuts_in front ≤ 255
+  pub few_cuts : cuts + cuts_in front ≤ MOST_CUTS
   pub wrong : IsWrong cause front (slice_get ws n) cuts w h kerf
 
 -- what is wrong with a word behind a whole tree
 abbrev pub IsWrongBehind : Cause → Option (List ℕ) → Type 0
 IsWrongBehind BadToken word = IsNoToken word
-IsWrongBehind Extra word = (t : Token) × IsToken t × (word ≡ Some (word_of t))
+IsWrongBehind Extra word = (t : Token) × IsToken t × (word ≡ Some (token_text t))
 IsWrongBehind TooManyCuts word = ⊥
 IsWrongBehind OffUnit word = ⊥
 IsWrongBehind Missing word = ⊥
 IsWrongBehind NoMemory word = ⊥
 
 -- The words begin with a whole tree of at most 255 cuts, and one more follows, number n.
-pub record FollowsOn (ws : List (List ℕ)) (w h kerf n : ℕ) (cause : Cause) : Type 0 where
+pub record IsFaultBehind (ws : List (List ℕ)) (w h kerf n : ℕ) (cause : Cause) : Type 0 where
   pub front : List Token
   pub place : length front ≡ n
   pub spelled : SpelledAt ws 0 front
-  pub whole : IsWhole front w h kerf
-  pub few_cuts : cuts_in front ≤ 255
+  pub whole : AreTreeTokens front w h kerf
+  pub few_cuts : cuts_in front ≤ MOST_CUTS
   pub wrong : IsWrongBehind cause (slice_get ws n)
 
 -- the first fault of a text, if it is no tree's or memory ran out
 abbrev pub IsFirstFault : List ℕ → (w h kerf n : ℕ) → Cause → Type 0
 IsFirstFault text w h k n cause =
-    ((n ≡ 0) × (cause ≡ NoMemory)) ⊎ Stops (words text) 0 0 w h k n cause ⊎ FollowsOn (words text) w h k n cause
+    ((n ≡ 0) × (cause ≡ NoMemory)) ⊎ IsFaultWithin (words text) 0 0 w h k n cause ⊎ IsFaultBehind (words text) w h k n cause
 
 -- what a reader of nodes has read: a tree, which the words from `at` on spell, up to number `next`
-pub record HasRead (ws : List (List ℕ)) (at cuts w h kerf : ℕ) (tree : Tree) (next cuts_after : ℕ) : Type 0 where
+pub record HasReadTree (ws : List (List ℕ)) (at cuts w h kerf : ℕ) (tree : Tree) (next cuts_after : ℕ) : Type 0 where
   pub shaped : IsShaped tree w h kerf
   pub spelled : SpelledAt ws at (tokens tree)
   pub upto : next ≡ at + length (tokens tree)
   pub counted : cuts_after ≡ cuts + cuts_in (tokens tree)
-  pub few_cuts : cuts_after ≤ 255
+  pub few_cuts : cuts_after ≤ MOST_CUTS
 
 -- the number of a byte word's token, or none is spelled so
 abbrev pub IsTokenOf : Option Token → List ℕ → Type 0
-IsTokenOf None word = (t : Token) → IsToken t → word_of t ≡ word → ⊥
-IsTokenOf (Some t) word = IsToken t × (word_of t ≡ word)
+IsTokenOf None word = (t : Token) → IsToken t → token_text t ≡ word → ⊥
+IsTokenOf (Some t) word = IsToken t × (token_text t ≡ word)
 
 -- what is wrong where a token is to stand
 abbrev pub IsNoTokenFor : Cause → Option (List ℕ) → Type 0

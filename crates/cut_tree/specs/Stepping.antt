@@ -7,16 +7,16 @@ use Rattle.cut_tree.specs.declared.steps.Step.{Step}
 use Rattle.cut_tree.specs.Tree.{Tree, Piece, Rest, Trim, Cut, node_count}
 
 -- what a tree is at its first node
-abbrev pub head_of : Tree → Token
-head_of (Piece demand turned) = token.Piece demand turned
-head_of Rest = token.Rest
-head_of (Trim axis place first) = token.Cut axis place
-head_of (Cut axis place first second) = token.Cut axis place
+abbrev pub first_token : Tree → Token
+first_token (Piece demand turned) = token.Piece demand turned
+first_token Rest = token.Rest
+first_token (Trim axis place first) = token.Cut axis place
+first_token (Cut axis place first second) = token.Cut axis place
 
 -- Follows a node's number n down a tree on the rectangle at (x, y) of w by h: 0 is the tree's first node, whose rectangle
 -- is this one; then come the nodes of the first part, and then those of the second. m is the number that the node has.
 abbrev pub step_at : Tree → (x y w h kerf : ℕ) → (n m : ℕ) → Step
-step_at t x y w h k zero m = record { node = m; x = x; y = y; w = w; h = h; what = head_of t }
+step_at t x y w h k zero m = record { node = m; x = x; y = y; w = w; h = h; what = first_token t }
 step_at (Piece demand turned) x y w h k (suc n) m = record { node = m; x = x; y = y; w = w; h = h; what = token.Piece demand turned }
 step_at Rest x y w h k (suc n) m = record { node = m; x = x; y = y; w = w; h = h; what = token.Rest }
 step_at (Trim X a first) x y w h k (suc n) m = step_at first x y a h k n m

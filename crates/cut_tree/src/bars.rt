@@ -5,8 +5,11 @@ ghost use Rattle.cut_tree.specs.Nodes.{tree_of};
 ghost use Rattle.cut_tree.specs.Bars.{IsBarPiece, bar_length, bar_tree, IsBarFault};
 
 use crate::node::Node;
-use cut_measure::Axis;
+use crate::token::MOST_CUTS;
+use cut_measure::{Axis, MOST_KERF, MOST_WIDTH};
 use std::alloc::{AllocError, Global};
+use std::error::Error;
+use std::fmt;
 
 /// Why there is no plan of a bar's pieces, in this order.
 #[derive(Clone, Copy, PartialEq, Eq, Debug)]
@@ -18,6 +21,23 @@ pub enum BarFault {
     /// Want of memory.
     NoMemory,
 }
+
+impl fmt::Display for BarFault {
+    ghost use Rattle.std.specs.Prelude.{Some};
+    ghost use Rattle.cut_tree.specs.Messages.{bar_fault_text};
+
+    ghost output = { λ fault. Some (bar_fault_text fault) };
+
+    fn fmt<W: fmt::Write>(&self, f: &mut fmt::Formatter<W>) -> fmt::Result {
+        match self {
+            BarFault::TooLong => f.write_str("the pieces are longer than the bar"),
+            BarFault::TooManyCuts => f.write_str("the pieces take too many cuts"),
+            BarFault::NoMemory => f.write_str("memory ran out"),
+        }
+    }
+}
+
+impl Error for BarFault {}
 
 // What is left of a room once each piece has taken its length and a kerf, if the room is enough.
 fn room_behind(pieces: &[(u32, u32)], room: u32, kerf: u32) -> Option<u32>
@@ -37,7 +57,7 @@ fn bar_node(
     length: u32,
     kerf: u32,
 ) -> Result<Node, AllocError>
-    requires narrow { kerf ≤ 200 }
+    requires narrow { kerf ≤ MOST_KERF }
     requires fits { sum_by (λ p. p.1 + kerf) pieces.now ≤ length + kerf }
     ensures { IfOk result (λ node. tree_of node ≡ bar_tree pieces.now length kerf) }
 {
@@ -64,20 +84,24 @@ pub fn bar_root(
     kerf: u32,
     pieces: &[(u32, u32)],
 ) -> Result<Node, BarFault>
-    requires narrow { kerf ≤ 200 }
+    requires narrow { kerf ≤ MOST_KERF }
     requires some { 1 ≤ length }
-    requires short { length ≤ 200000 }
+    requires short { length ≤ MOST_WIDTH }
     requires pieces { All IsBarPiece pieces.now }
     ensures tree { IfOk result (λ node. tree_of node ≡ bar_tree pieces.now length kerf) }
     ensures fits { OnOk result (bar_length pieces.now kerf ≤ length) }
-    ensures few_cuts { OnOk result (cut_count (bar_tree pieces.now length kerf) ≤ 255) }
+    ensures few_cuts { OnOk result (cut_count (bar_tree pieces.now length kerf) ≤ MOST_CUTS) }
     ensures fault { IfErr result (λ f. IsBarFault f pieces.now length kerf) }
 {
     let Some(room) = room_behind(pieces, length + kerf, kerf) else {
         return Err(BarFault::TooLong);
     };
     // A last piece that fills its part needs no cut.
-    let most = if room == 0 { 256 } else { 255 };
+    let most = if room == 0 {
+        MOST_CUTS as usize + 1
+    } else {
+        MOST_CUTS as usize
+    };
     if pieces.len() > most {
         return Err(BarFault::TooManyCuts);
     }

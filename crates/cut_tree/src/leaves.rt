@@ -1,10 +1,11 @@
 ghost use Rattle.std.specs.Prelude.{◌≡◌, ◌≤◌, ◌++◌, OnOk};
 ghost use Rattle.cut_tree.specs.Tree.{IsShaped};
-ghost use Rattle.cut_tree.specs.Nodes.{tree_of, IsInRange};
+ghost use Rattle.cut_tree.specs.Nodes.{tree_of, FarSidesFit};
 ghost use Rattle.cut_tree.specs.Leaves.{leaves_of};
 
 use crate::lay::{Rect, first_of, rest_of};
 use crate::node::Node;
+use cut_measure::MOST_KERF;
 use std::alloc::AllocError;
 
 /// A piece leaf of a plan: its demand, whether it is turned, and its sides in tenths of a millimetre.
@@ -24,8 +25,8 @@ pub fn add_leaves(
     leaves: &mut Vec<Leaf>,
 ) -> Result<(), AllocError>
     requires shaped { IsShaped (tree_of node.now) rect.w rect.h kerf }
-    requires in_range { IsInRange rect }
-    requires kerf { kerf ≤ 200 }
+    requires in_range { FarSidesFit rect }
+    requires kerf { kerf ≤ MOST_KERF }
     ensures { OnOk result (leaves.new.items ≡ leaves.old.items ++ leaves_of (tree_of node.now) rect.w rect.h kerf) }
 {
     match node {

@@ -8,17 +8,18 @@ ghost use Rattle.cut_tree.specs.Patterns.{IsPlan};
 ghost use Rattle.cut_tree.specs.Stepping.{AreSteps};
 ghost use Rattle.cut_tree.specs.Leaves.{leaves_of};
 ghost use Rattle.cut_tree.specs.Bars.{IsBarPiece, bar_length, bar_tree, IsBarFault};
-ghost use Rattle.cut_tree.specs.Stops.{outcome_of, IsStopOf};
+ghost use Rattle.cut_tree.specs.Stops.{outcome_of, IsStopOf, AreDone, Allows};
 
 use crate::bars::{BarFault, bar_root};
-use crate::lay::{Rect, Row, Saw, Stop, lay_node};
+use crate::halts::{Halt, Stop, are_closed, is_among, rise};
+use crate::lay::{Rect, Row, lay_node};
 use crate::leaves::{Leaf, add_leaves};
 use crate::node::{Node, copy_node, count_cuts, count_pieces, is_same};
 use crate::read::{SpellFault, behind, read_node, words_of};
 use crate::steps::{Step, step_node};
-use crate::token::{Cause, Sides};
+use crate::token::{Cause, MOST_CUTS, Sides};
 use crate::write::write_node;
-use cut_measure::Size;
+use cut_measure::{MOST_KERF, Size};
 use std::alloc::{AllocError, Global};
 use std::marker::Model;
 
@@ -38,27 +39,27 @@ impl Model for Plan {
 
     ghost coded = { pattern_code };
 
-    ghost use Rattle.cut_tree.specs.Views.{pattern_of, IsSound};
+    ghost use Rattle.cut_tree.specs.Views.{pattern_of, StandsForPlan};
 
     ghost view = { pattern_of };
 
-    ghost invariant = { IsSound };
+    ghost invariant = { StandsForPlan };
 }
 
 impl Plan {
     /// The plan that a text spells on a unit of this size, under a kerf of at most 200; else the text's first fault.
     pub fn read(alloc: Global, text: &str, size: Size, kerf: u32) -> Result<Plan, SpellFault>
-        requires { kerf ≤ 200 }
+        requires { kerf ≤ MOST_KERF }
         ensures spelled { IfOk result (λ plan. IsSpelling text.now plan.tree size.w size.h kerf) }
         ensures unit { IfOk result (λ plan. (plan.w ≡ size.w) × (plan.h ≡ size.h) × (plan.kerf ≡ kerf)) }
-        ensures only { (t : Tree) → IsSpelling text.now t size.w size.h kerf → cut_count t ≤ 255 → MatchResult result (λ plan. plan.tree ≡ t) (λ f. f.cause ≡ NoMemory) }
+        ensures only { (t : Tree) → IsSpelling text.now t size.w size.h kerf → cut_count t ≤ MOST_CUTS → MatchResult result (λ plan. plan.tree ≡ t) (λ f. f.cause ≡ NoMemory) }
         ensures fault { IfErr result (λ f. IsFirstFault text.now size.w size.h kerf f.token f.cause) }
     {
         Plan::parse(alloc, text, size, kerf)
     }
 
     fn parse(alloc: Global, text: &str, size: Size, kerf: u32) -> Result<Plan, SpellFault>
-        requires { kerf ≤ 200 }
+        requires { kerf ≤ MOST_KERF }
         ensures spelled { IfOk result (λ plan. IsSpelling text.now plan.tree size.w size.h kerf) }
         ensures unit { IfOk result (λ plan. (plan.w ≡ size.w) × (plan.h ≡ size.h) × (plan.kerf ≡ kerf)) }
         ensures fault { IfErr result (λ f. IsFirstFault text.now size.w size.h kerf f.token f.cause) }
@@ -111,7 +112,7 @@ impl Plan {
     /// How many cuts the plan has.
     pub fn cuts(&self) -> u32
         ensures count { result ≡ cut_count self.now.tree }
-        ensures few { result ≤ 255 }
+        ensures few { result ≤ MOST_CUTS }
         ensures kept { IsPlan self.now }
     {
         count_cuts(&self.root)
@@ -173,11 +174,43 @@ impl Plan {
         Ok(leaves)
     }
 
-    /// The rectangles into which the unit falls once the work ended so, and what each belongs to, by rising nodes. A stop
-    /// names a cut of the plan.
+    // Whether the work can have halted behind these cuts, the lost one going wrong.
+    fn allows_listed(&self, cuts: &[u32], lost: Option<u32>) -> bool
+        ensures { IsTrue result ↔ AreDone self.now.tree cuts.now lost }
+    {
+        let count = self.cuts();
+        rise(cuts)
+            && cuts.iter().all(|cut| *cut < count)
+            && cuts.len() < count as usize
+            && lost.is_none_or(|cut| cut < count && !is_among(cuts, cut))
+            && are_closed(&self.root, 0, cuts, lost)
+    }
+
+    /// Whether the work on the plan can have halted so. The first cuts have to be fewer than all. Listed cuts have to be
+    /// strictly rising numbers of cuts of the plan, not all of them, each with every cut above it; and a lost cut one of
+    /// the plan's that isn't listed, with every cut above it listed.
+    pub fn allows(&self, halt: &Halt) -> bool
+        ensures { IsTrue result ↔ Allows self.now.tree halt.now }
+    {
+        match halt {
+            Halt::First { cuts, .. } => *cuts < self.cuts(),
+            Halt::Listed { cuts, lost } => self.allows_listed(cuts.as_slice(), *lost),
+        }
+    }
+
+    /// The rectangles into which the unit falls once the work ended so, and what each belongs to, by rising nodes. Where
+    /// it halted, the plan allows the halt.
     pub fn lay(&self, alloc: Global, stop: Stop) -> Result<Vec<Row>, AllocError>
-        requires { IsStopOf stop (cut_count self.now.tree) }
+        requires { IsStopOf self.now.tree stop }
         ensures { IfOk result (λ rows. IsLaid self.now.tree self.now.w self.now.h self.now.kerf (outcome_of stop) rows.items) }
+    {
+        self.lay_as(alloc, &stop)
+    }
+
+    /// The same for a stop that is used again.
+    pub fn lay_as(&self, alloc: Global, stop: &Stop) -> Result<Vec<Row>, AllocError>
+        requires { IsStopOf self.now.tree stop.now }
+        ensures { IfOk result (λ rows. IsLaid self.now.tree self.now.w self.now.h self.now.kerf (outcome_of stop.now) rows.items) }
     {
         let mut rows = Vec::new(alloc);
         let rect = Rect {
@@ -186,11 +219,7 @@ impl Plan {
             w: self.size.w(),
             h: self.size.h(),
         };
-        let saw = Saw {
-            kerf: self.kerf,
-            stop,
-        };
-        lay_node(&self.root, rect, saw, 0, 0, &mut rows)?;
+        lay_node(&self.root, rect, self.kerf, stop, 0, 0, &mut rows)?;
         Ok(rows)
     }
 }
@@ -248,7 +277,7 @@ pub fn bar_plan(
     pieces: &[(u32, u32)],
 ) -> Result<Plan, BarFault>
     requires bar { size.h ≡ 1 }
-    requires narrow { kerf ≤ 200 }
+    requires narrow { kerf ≤ MOST_KERF }
     requires pieces { All IsBarPiece pieces.now }
     ensures tree { IfOk result (λ plan. plan.tree ≡ bar_tree pieces.now size.w kerf) }
     ensures unit { IfOk result (λ plan. (plan.w ≡ size.w) × (plan.h ≡ size.h) × (plan.kerf ≡ kerf)) }

@@ -1,11 +1,12 @@
 ghost use Rattle.std.specs.Prelude.{◌≡◌, ◌+◌, ◌^◌, ◌<◌, ◌≤◌, ◌++◌, OnOk};
 ghost use Rattle.cut_tree.specs.Tree.{IsShaped, node_count};
-ghost use Rattle.cut_tree.specs.Nodes.{tree_of, IsInRange};
+ghost use Rattle.cut_tree.specs.Nodes.{tree_of, FarSidesFit};
 ghost use Rattle.cut_tree.specs.StepRows.{one_step, steps_of};
 
 use crate::lay::{Rect, first_of, rest_of};
 use crate::node::{Node, count_nodes};
 use crate::token::Token;
+use cut_measure::MOST_KERF;
 use std::alloc::AllocError;
 
 /// A node of a plan, numbered from 0 in preorder, with its whole rectangle in tenths of a millimetre and what is done
@@ -43,8 +44,8 @@ pub fn step_node(
     steps: &mut Vec<Step>,
 ) -> Result<(), AllocError>
     requires shaped { IsShaped (tree_of node.now) rect.w rect.h kerf }
-    requires in_range { IsInRange rect }
-    requires kerf { kerf ≤ 200 }
+    requires in_range { FarSidesFit rect }
+    requires kerf { kerf ≤ MOST_KERF }
     requires nodes { number + node_count (tree_of node.now) < 2 ^ 32 }
     ensures { OnOk result (steps.new.items ≡ steps.old.items
         ++ steps_of (tree_of node.now) rect.x rect.y rect.w rect.h kerf number) }

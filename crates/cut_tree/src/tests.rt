@@ -1,8 +1,11 @@
 ghost use Rattle.std.specs.Prelude.{◌≤◌, ◌↔◌, All, IsTrue};
 ghost use Rattle.cut_tree.specs.Bars.{IsBarPiece};
 
-use crate::{BarFault, Cause, Leaf, Owner, Plan, Row, SpellFault, Step, Stop, Token, bar_plan};
+use crate::{
+    BarFault, Cause, CutList, Halt, Leaf, Owner, Plan, Row, SpellFault, Step, Stop, Token, bar_plan,
+};
 use cut_measure::{Axis, Kind, Size};
+use std::alloc::{AllocError, Global};
 use std::test::Fail;
 
 fn plan(
@@ -109,8 +112,9 @@ fn clones_are_equal(rt: HostRuntime) -> Result<(), Fail> {
 fn lays_what_is_lost(rt: HostRuntime) -> Result<(), Fail> {
     let plan = plan(&rt, "x4 y3 p1 p2 r", 10, 8, 1)??;
     for (lost, owner) in [(true, Owner::Lost), (false, Owner::Uncut)] {
-        if 1 < plan.cuts() {
-            let rows = plan.lay(rt.alloc(), Stop::After { cuts: 1, lost })?;
+        let halt = Halt::First { cuts: 1, lost };
+        if plan.allows(&halt) {
+            let rows = plan.lay(rt.alloc(), Stop::After(halt))?;
             let wanted = [
                 row(0, 4, 0, 1, 8, Owner::Kerf),
                 row(1, 0, 0, 4, 8, owner),
@@ -119,6 +123,72 @@ fn lays_what_is_lost(rt: HostRuntime) -> Result<(), Fail> {
             assert_eq!(rt; rows.as_slice(), wanted.as_slice());
         }
     }
+    Ok(())
+}
+
+fn listed(alloc: Global, cuts: &[u32], lost: Option<u32>) -> Result<Halt, AllocError> {
+    let mut list = CutList::new(alloc);
+    for cut in cuts {
+        list.push(*cut)?;
+    }
+    Ok(Halt::Listed { cuts: list, lost })
+}
+
+#[test]
+fn cuts_of_other_parts_are_laid(rt: HostRuntime) -> Result<(), Fail> {
+    let plan = plan(&rt, "x4 y3 p1 p2 y3 p3 r", 10, 8, 1)??;
+    for (lost, owner) in [(None, Owner::Uncut), (Some(1), Owner::Lost)] {
+        let halt = listed(rt.alloc(), &[0, 2], lost)?;
+        assert!(rt; plan.allows(&halt));
+        if plan.allows(&halt) {
+            let rows = plan.lay(rt.alloc(), Stop::After(halt))?;
+            let wanted = [
+                row(0, 4, 0, 1, 8, Owner::Kerf),
+                row(1, 0, 0, 4, 8, owner),
+                row(4, 5, 3, 5, 1, Owner::Kerf),
+                row(5, 5, 0, 5, 3, Owner::Piece(3)),
+                row(6, 5, 4, 5, 4, Owner::Rest),
+            ];
+            assert_eq!(rt; rows.as_slice(), wanted.as_slice());
+        }
+    }
+    Ok(())
+}
+
+#[test]
+fn halts_are_judged(rt: HostRuntime) -> Result<(), Fail> {
+    let alloc = rt.alloc();
+    let sheet = plan(&rt, "x4 y3 p1 p2 y3 p3 r", 10, 8, 1)??;
+    let whole = plan(&rt, "p1", 4, 3, 1)??;
+    for (cuts, lost, allowed) in [
+        ([].as_slice(), None, true),
+        ([].as_slice(), Some(0), true),
+        ([0, 2].as_slice(), None, true),
+        ([0].as_slice(), Some(2), true),
+        ([].as_slice(), Some(1), false),
+        ([1].as_slice(), None, false),
+        ([2, 0].as_slice(), None, false),
+        ([0, 0].as_slice(), None, false),
+        ([0, 1, 2].as_slice(), None, false),
+        ([3].as_slice(), None, false),
+        ([0].as_slice(), Some(0), false),
+        ([0].as_slice(), Some(3), false),
+    ] {
+        let halt = listed(alloc, cuts, lost)?;
+        assert_eq!(rt; sheet.allows(&halt), allowed);
+    }
+    for (cuts, allowed) in [(0, true), (2, true), (3, false)] {
+        let halt = Halt::First { cuts, lost: false };
+        assert_eq!(rt; sheet.allows(&halt), allowed);
+    }
+    let none = listed(alloc, &[], None)?;
+    assert!(rt; !whole.allows(&none));
+    assert!(rt;
+        !whole.allows(&Halt::First {
+            cuts: 0,
+            lost: true
+        })
+    );
     Ok(())
 }
 
@@ -163,6 +233,19 @@ fn names_the_first_fault(rt: HostRuntime) -> Result<(), Fail> {
         let found = plan(&rt, text, w, h, kerf)?;
         assert_eq!(rt; found.err(), Some(SpellFault { token, cause }), "{text}");
     }
+    Ok(())
+}
+
+#[test]
+fn prints_faults(rt: HostRuntime) -> Result<(), Fail> {
+    let fault = SpellFault {
+        token: 6,
+        cause: Cause::Extra,
+    };
+    let text = format!(in rt.alloc(); "{fault}")?;
+    assert_eq!(rt; text.as_str(), "token 6: the text goes on behind the tree");
+    let text = format!(in rt.alloc(); "{}", BarFault::TooLong)?;
+    assert_eq!(rt; text.as_str(), "the pieces are longer than the bar");
     Ok(())
 }
 

@@ -2,6 +2,8 @@ ghost use Rattle.std.specs.Prelude.{◌≡◌, ◌≤◌, ◌<◌, ◌^◌, ℕ,
 ghost use Rattle.std.specs.Fmt.{decimal};
 
 use cut_measure::{Axis, read_number};
+use std::error::Error;
+use std::fmt;
 
 /// The most cuts that a plan has.
 pub const MOST_CUTS: u32 = 255;
@@ -34,6 +36,26 @@ pub enum Cause {
     NoMemory,
 }
 
+impl fmt::Display for Cause {
+    ghost use Rattle.std.specs.Prelude.{Some};
+    ghost use Rattle.cut_tree.specs.Messages.{cause_text};
+
+    ghost output = { λ fault. Some (cause_text fault) };
+
+    fn fmt<W: fmt::Write>(&self, f: &mut fmt::Formatter<W>) -> fmt::Result {
+        match self {
+            Cause::BadToken => f.write_str("this is no token"),
+            Cause::TooManyCuts => f.write_str("this is one cut too many"),
+            Cause::OffUnit => f.write_str("this cut is not inside its rectangle"),
+            Cause::Missing => f.write_str("the text ends before the tree"),
+            Cause::Extra => f.write_str("the text goes on behind the tree"),
+            Cause::NoMemory => f.write_str("memory ran out"),
+        }
+    }
+}
+
+impl Error for Cause {}
+
 /// The number of at least 1 that the digits are, without leading zeros.
 pub fn number(digits: &[u8]) -> Option<u32>
     ensures { MatchOption result
@@ -55,7 +77,7 @@ pub struct Sides {
 }
 
 impl Sides {
-    ghost use Rattle.cut_tree.specs.Sides.{side_along, part_of};
+    ghost use Rattle.cut_tree.specs.Sides.{side_along, part_sides};
 
     /// The side that a cut along an axis divides.
     pub fn along(self, axis: Axis) -> u32
@@ -69,7 +91,7 @@ impl Sides {
 
     /// The sides of a part of this length.
     pub fn part(self, axis: Axis, length: u32) -> Sides
-        ensures { result ≡ part_of self axis length }
+        ensures { result ≡ part_sides self axis length }
     {
         match axis {
             Axis::X => Sides { w: length, ..self },

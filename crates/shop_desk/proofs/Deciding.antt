@@ -5,7 +5,7 @@ use Rattle.cut_measure.specs.Names.{Name}
 use Rattle.cut_tree.specs.Patterns.{Pattern}
 use Rattle.shop_machine.specs.declared.records.Material.{Material}
 use Rattle.shop_machine.specs.declared.records.Part.{Part}
-use Rattle.shop_machine.specs.declared.plans.FoundLeaf.{FoundLeaf}
+use Rattle.shop_machine.specs.declared.recounts.FoundLeaf.{FoundLeaf}
 use Rattle.shop_machine.specs.declared.records.Job.{Job}
 use Rattle.shop_machine.specs.declared.messages.OrderLine.{OrderLine}
 use Rattle.shop_machine.specs.declared.messages.Command.{Command}
@@ -13,26 +13,28 @@ use Rattle.shop_machine.specs.declared.messages.Command.TheVariants.{AddOrder, R
 use Rattle.shop_machine.specs.declared.changes.Change.{Change}
 use Rattle.shop_machine.specs.declared.refusals.Refusal.{Refusal}
 use Rattle.shop_machine.specs.declared.refusals.Refusal.TheVariants.{NoMemory, StoreFault}
-use Rattle.shop_machine.specs.Content.{Content, material_at, part_at, job_at, has_order, demand_at}
-use Rattle.shop_machine.specs.Machine.{Decides, Reads, refusal_of, Makes, IsWork, IsReservation, material_of, part_of, order_refusal, order_change, reserve_refusal, job_refusal, end_refusal}
-use Rattle.shop_desk.specs.Decided.{IsDecided, BlamesStore, AreJobRows}
+use Rattle.shop_machine.specs.Readings.{Reading, unread, plan_in, reading_of}
+use Rattle.shop_machine.specs.Content.{Content, material_at, part_at, job_at, has_order, demand_at, material_of, part_of_job}
+use Rattle.shop_machine.specs.Decisions.{Decides}
+use Rattle.shop_machine.specs.Machine.{Reads, refusal_of, Makes}
+use Rattle.shop_machine.specs.Ending.{IsWork, job_refusal, end_refusal}
+use Rattle.shop_machine.specs.Reserving.{IsReservation, reserve_refusal}
+use Rattle.shop_machine.specs.Ordering.{order_refusal, order_change}
+use Rattle.shop_desk.specs.Decided.{IsJudged, AreJobRows}
 
 -- a decision over the content's own refusal, what the text stands for being read
-module _ (m : Content) (command : Command) (read : Option Pattern) (reads : Reads m command read) (before after : ℕ) (first : Option Refusal) (same : refusal_of m command read ≡ first)
+module _ (m : Content) (command : Command) (read : Reading) (reads : Reads m command read) (before after : ℕ) (first : Option Refusal) (same : refusal_of m command read ≡ first)
     (E : Change → Type 0) (makes : (change : Change) → E change → Makes m command read change) where
-  pub decided_by : (result : Result Change Refusal) → Decides first E result → IsDecided m command result
-  decided_by (Ok change) d = (read, reads, same ∙ d.0, makes change d.1)
-  decided_by (Err refusal) d = λ n s. (read, reads, same ∙ d n)
-
-  pub blames_by : (result : Result Change Refusal) → Decides first E result → BlamesStore m command before result after
-  blames_by (Ok change) d = tt
-  blames_by (Err refusal) d = λ e. inr (read, reads, same ∙ d (λ f. memory refusal e f) ∙ ap Some e)
+  pub decided_by : (result : Result Change Refusal) → Decides first E result → IsJudged m command before result after
+  decided_by (Ok change) d = record { decision = (read, reads, same ∙ d.0, makes change d.1); blame = tt }
+  decided_by (Err refusal) d =
+      record { decision = λ n s. (read, reads, same ∙ d n); blame = λ e. inr (read, reads, same ∙ d (λ f. memory refusal e f) ∙ ap Some e) }
     where
       memory : (refusal : Refusal) → refusal ≡ StoreFault → refusal ≡ NoMemory → ⊥
       memory refusal e f = cc
 
 -- the rows of a job
-module _ (m : Content) (number : ℕ) (found : Option Job) (on : Option Part) (of : Option Material) (is_j : found ≡ job_at m number) (is_p : on ≡ part_of m found) (is_m : of ≡ material_of m on) where
+module _ (m : Content) (number : ℕ) (found : Option Job) (on : Option Part) (of : Option Material) (is_j : found ≡ job_at m number) (is_p : on ≡ part_of_job m found) (is_m : of ≡ material_of m on) where
   same_end : end_refusal m (job_at m number) ≡ job_refusal found on of (demand_at m)
   same_end =
       ap (end_refusal m) (sym is_j) ∙ ap (λ p. job_refusal found p (material_of m p) (demand_at m)) (sym is_p) ∙ ap (λ t. job_refusal found on t (demand_at m)) (sym is_m)
@@ -41,7 +43,7 @@ module _ (m : Content) (number : ℕ) (found : Option Job) (on : Option Part) (o
       → (j : Job) × (part : Part) × (material : Material) × IsWork m number j part material × E j part material
   work_by E it = by found on of is_j is_p is_m it
     where
-      by : (found : Option Job) (on : Option Part) (of : Option Material) → found ≡ job_at m number → on ≡ part_of m found → of ≡ material_of m on
+      by : (found : Option Job) (on : Option Part) (of : Option Material) → found ≡ job_at m number → on ≡ part_of_job m found → of ≡ material_of m on
           → MatchOption found ⊥ (λ j. MatchOption on ⊥ (λ p. MatchOption of ⊥ (λ t. E j p t))) → (j : Job) × (part : Part) × (material : Material) × IsWork m number j part material × E j part material
       by None on of a b d it = absurd it
       by (Some j) None of a b d it = absurd it
@@ -50,45 +52,47 @@ module _ (m : Content) (number : ℕ) (found : Option Job) (on : Option Part) (o
 
 -- the end of a job, by its rows
 module _ (m : Content) (number : ℕ) (found : Option Job) (on : Option Part) (of : Option Material) (leaves : List FoundLeaf) (rows : AreJobRows m number found on of leaves)
-    (command : Command) (reads : Reads m command None) (same : refusal_of m command None ≡ end_refusal m (job_at m number)) (E : Change → Job → Part → Material → Type 0)
-    (makes : (change : Change) → (j : Job) × (part : Part) × (material : Material) × IsWork m number j part material × E change j part material → Makes m command None change) where
+    (command : Command) (reads : Reads m command unread) (same : refusal_of m command unread ≡ end_refusal m (job_at m number)) (E : Change → Job → Part → Material → Type 0)
+    (makes : (change : Change) → (j : Job) × (part : Part) × (material : Material) × IsWork m number j part material × E change j part material → Makes m command unread change) where
   abbrev Ended : Change → Type 0
   Ended change = MatchOption found ⊥ (λ j. MatchOption on ⊥ (λ p. MatchOption of ⊥ (λ t. E change j p t)))
 
-  refused : refusal_of m command None ≡ job_refusal found on of (demand_at m)
+  refused : refusal_of m command unread ≡ job_refusal found on of (demand_at m)
   refused = same ∙ same_end m number found on of rows.of_job rows.of_part rows.of_material
 
-  ended : (change : Change) → Ended change → Makes m command None change
+  ended : (change : Change) → Ended change → Makes m command unread change
   ended change it = makes change (work_by m number found on of rows.of_job rows.of_part rows.of_material (E change) it)
 
-  pub end_decided : (result : Result Change Refusal) → Decides (job_refusal found on of (demand_at m)) Ended result → IsDecided m command result
-  end_decided = decided_by m command None reads 0 0 _ refused Ended ended
-
-  pub end_blames : (before after : ℕ) (result : Result Change Refusal) → Decides (job_refusal found on of (demand_at m)) Ended result → BlamesStore m command before result after
-  end_blames before after = blames_by m command None reads before after _ refused Ended ended
+  pub end_decided : (before after : ℕ) (result : Result Change Refusal) → Decides (job_refusal found on of (demand_at m)) Ended result → IsJudged m command before result after
+  end_decided before after = decided_by m command unread reads before after _ refused Ended ended
 
 -- the rows of a reservation
 module _ (m : Content) (part : Name) (text : List ℕ) (row : Option Part) (material : Option Material) (read : Option Pattern) (act : ℕ)
     (is_row : row ≡ part_at m part) (is_m : material ≡ material_of m row) (is_act : act ≡ m.last_act + 1) where
-  pub same_reserve : refusal_of m (Reserve part text) read ≡ reserve_refusal row material read (demand_at m) act
+  plan_read : (o : Option Pattern) → plan_in (reading_of o) ≡ o
+  plan_read None = refl
+  plan_read (Some plan) = refl
+
+  pub same_reserve : refusal_of m (Reserve part text) (reading_of read) ≡ reserve_refusal row material read (demand_at m) act
   same_reserve =
-      ap (λ r. reserve_refusal r (material_of m r) read (demand_at m) (m.last_act + 1)) (sym is_row)
+      ap (λ o. reserve_refusal (part_at m part) (material_of m (part_at m part)) o (demand_at m) (m.last_act + 1)) (plan_read read)
+      ∙ ap (λ r. reserve_refusal r (material_of m r) read (demand_at m) (m.last_act + 1)) (sym is_row)
       ∙ ap (λ t. reserve_refusal row t read (demand_at m) (m.last_act + 1)) (sym is_m) ∙ ap (λ n. reserve_refusal row material read (demand_at m) n) (sym is_act)
 
-  pub reserve_by : (change : Change) → MatchOption row ⊥ (λ r. MatchOption read ⊥ (λ p. IsReservation r p (demand_at m) act change)) → Makes m (Reserve part text) read change
+  pub reserve_by : (change : Change) → MatchOption row ⊥ (λ r. MatchOption read ⊥ (λ p. IsReservation r p (demand_at m) act change)) → Makes m (Reserve part text) (reading_of read) change
   reserve_by change it = by row read is_row refl it
     where
-      by : (row : Option Part) (o : Option Pattern) → row ≡ part_at m part → read ≡ o → MatchOption row ⊥ (λ r. MatchOption o ⊥ (λ p. IsReservation r p (demand_at m) act change)) → Makes m (Reserve part text) read change
+      by : (row : Option Part) (o : Option Pattern) → row ≡ part_at m part → reading_of read ≡ reading_of o → MatchOption row ⊥ (λ r. MatchOption o ⊥ (λ p. IsReservation r p (demand_at m) act change)) → Makes m (Reserve part text) (reading_of read) change
       by None o a b it = absurd it
       by (Some r) None a b it = absurd it
       by (Some r) (Some p) a b it = (r, p, sym a, b, subst (λ n. IsReservation r p (demand_at m) n change) is_act it)
 
 -- the lines of an order
 module _ (m : Content) (order : List ℕ) (lines found : List OrderLine) (used : Bool) (first : ℕ) (is_used : used ≡ has_order m order) (is_lines : found ≡ lines) (is_first : first ≡ m.last_demand + 1) where
-  pub same_order : refusal_of m (AddOrder order lines) None ≡ order_refusal used (material_at m) found first
+  pub same_order : refusal_of m (AddOrder order lines) unread ≡ order_refusal used (material_at m) found first
   same_order =
       ap (λ u. order_refusal u (material_at m) lines (m.last_demand + 1)) (sym is_used) ∙ ap (λ ls. order_refusal used (material_at m) ls (m.last_demand + 1)) (sym is_lines)
       ∙ ap (λ n. order_refusal used (material_at m) found n) (sym is_first)
 
-  pub order_by : (change : Change) → change ≡ order_change order found first → Makes m (AddOrder order lines) None change
+  pub order_by : (change : Change) → change ≡ order_change order found first → Makes m (AddOrder order lines) unread change
   order_by change is = is ∙ ap (λ ls. order_change order ls first) is_lines ∙ ap (λ n. order_change order lines n) is_first

@@ -1,3 +1,5 @@
 pub mod Counted
 pub mod Steps
 pub mod Deciding
+pub mod Blame
+pub mod Accounts

@@ -10,21 +10,21 @@ use Rattle.shop_machine.specs.declared.messages.Message.{Message}
 use Rattle.shop_machine.specs.declared.refusals.Refusal.{Refusal}
 use Rattle.shop_machine.specs.declared.refusals.Refusal.TheVariants.{NoMemory, StoreFault, NumberReused}
 use Rattle.shop_machine.specs.declared.messages.Reply.{Reply}
-use Rattle.cut_tree.specs.Patterns.{Pattern}
-use Rattle.shop_machine.specs.declared.messages.Reply.TheVariants.{AddMaterial, Receive, AddOrder, Reserve, Done, Release, Totals, Trace, Demand, Refused}
+use Rattle.shop_machine.specs.declared.messages.Reply.TheVariants.{AddMaterial, Receive, AddOrder, Reserve, Done, Release, Scrap, GiveBack, Totals, Trace, Demand, Refused}
 use Rattle.shop_machine.specs.Messages.{Texts, IsMessage, IsMade, refusal_in, is_accepted, pair_of}
+use Rattle.shop_machine.specs.Readings.{Reading}
 use Rattle.shop_machine.specs.Content.{Content, kept_at, changed}
-use Rattle.shop_machine.specs.Machine.{Accepts, Keeps, Reads, Makes, Refuses, StepNew, StepAgain, Step, Run, refusal_of, keeping}
+use Rattle.shop_machine.specs.Machine.{Accepts, KeepsReply, Reads, Makes, Refuses, StepNew, StepAgain, Step, Run, refusal_of, keeping}
 use Rattle.shop_machine.specs.Soundness.{IsSound, Fits}
 use Rattle.shop_machine.proofs.Sound.{told_accepted, sound_after, fits_accepted, agrees}
 use Rattle.shop_desk.specs.Faults.{CountsRefusal, CountsReply, StoreFailed}
 use Rattle.shop_desk.specs.Decided.{BlamesStore, Contradicts, CountsOrDisagrees}
 use Rattle.shop_desk.specs.Handled.{LeftByNew, LeftBy, IsHandled, Leads}
 
-pub counts_made : (before after : ℕ) (answer : Reply) → is_accepted answer ≡ true → after ≡ before → CountsReply before answer after
+pub counts_made : (before after : ℕ) (answer : Reply) → is_accepted answer ≡ true → after ≡ before → CountsReply answer before after
 counts_made before after answer made same = by (refusal_in answer) made
   where
-    by : (o : Option Refusal) → not (is_some o) ≡ true → MatchOption o (after ≡ before) (λ refusal. CountsRefusal before refusal after)
+    by : (o : Option Refusal) → not (is_some o) ≡ true → MatchOption o (after ≡ before) (λ refusal. CountsRefusal refusal before after)
     by None e = same
     by (Some refusal) e = cc
 
@@ -33,12 +33,12 @@ rose before after true e = inl (omega arith)
 rose before after false e = inr e
 
 -- a refusal that tells of a failed store is counted
-pub store_failed : (before after : ℕ) (answer : Reply) → CountsReply before answer after → answer ≡ Refused StoreFault → StoreFailed before after
+pub store_failed : (before after : ℕ) (answer : Reply) → CountsReply answer before after → answer ≡ Refused StoreFault → StoreFailed before after
 store_failed before after answer counts e =
-    rose before after (nat_lt before most_failures) (subst (λ (r : Reply). CountsReply before r after) e counts)
+    rose before after (nat_lt before most_failures) (subst (λ (r : Reply). CountsReply r before after) e counts)
 
 -- a decision to accept is counted as no failure
-pub counted_made : (before after : ℕ) (change : Change) → CountsOrDisagrees before (Ok change) after → after ≡ before
+pub counted_made : (before after : ℕ) (change : Change) → CountsOrDisagrees (Ok change) before after → after ≡ before
 counted_made before after change (inl same) = same
 counted_made before after change (inr rows) = rows.1
 
@@ -63,7 +63,9 @@ module _ (texts : Texts) where
   none_made (Reserve cuts job) made = refl
   none_made (Done job kerf pieces rack scrap) made = refl
   none_made (Release job) made = refl
-  none_made (Totals material received stock rack pieces kerf scrap) made = absurd made
+  none_made (Scrap part) made = refl
+  none_made (GiveBack part) made = refl
+  none_made (Totals material received stock rack pieces kerf scrap returned) made = absurd made
   none_made (Trace batch h of part root state w x y) made = absurd made
   none_made (Demand demand line made' material order reserved wanted) made = absurd made
   none_made (Refused refusal) made = absurd made
@@ -72,14 +74,14 @@ module _ (texts : Texts) where
   pub again_kept : (row : Kept) (message : Message) (answer : Reply) → IsMade answer → row.command ≡ texts.of_message message → row.reply ≡ texts.of_reply answer
       → StepAgain texts row message answer × (answer ≢ Refused StoreFault)
   again_kept row message answer made command told = (
-    subst (λ (o : Option Refusal). MatchOption o (Keeps texts row message answer) (λ refusal. refusal ≢ NoMemory → refusal ≢ StoreFault → (refusal ≡ NumberReused) × (row.command ≢ texts.of_message message)))
+    subst (λ (o : Option Refusal). MatchOption o (KeepsReply texts row message answer) (λ refusal. refusal ≢ NoMemory → refusal ≢ StoreFault → (refusal ≡ NumberReused) × (row.command ≢ texts.of_message message)))
         (sym (none_made answer made)) (record { made = made; command = command; reply = told }),
     λ e. subst IsMade e made,
   )
 
-  step_made : (old : Content) (message : Message) (read : Option Pattern) (answer : Reply) (new : Content) → IsMade answer → Accepts texts old message read answer new → StepNew texts old message answer new
+  step_made : (old : Content) (message : Message) (read : Reading) (answer : Reply) (new : Content) → IsMade answer → Accepts texts old message read answer new → StepNew texts old message answer new
   step_made old message read answer new made accepts =
-      subst (λ (o : Option Refusal). MatchOption o ((r : Option Pattern) × Accepts texts old message r answer new) (λ refusal. Refuses old message.command refusal × (new ≡ old))) (sym (none_made answer made)) (read, accepts)
+      subst (λ (o : Option Refusal). MatchOption o ((r : Reading) × Accepts texts old message r answer new) (λ refusal. Refuses old message.command refusal × (new ≡ old))) (sym (none_made answer made)) (read, accepts)
 
   -- a step of a message that isn't kept
   pub step_new : (old : Content) (message : Message) (answer : Reply) (new : Content) → kept_at old (pair_of message) ≡ None → StepNew texts old message answer new → Step texts old message answer new
@@ -102,7 +104,7 @@ module _ (texts : Texts) where
   is_fault refusal fault.Store e n s = s e
 
   -- the change that is committed fits, whatever reply and texts it holds
-  pub fits_committed : (m : Content) (message : Message) (read : Option Pattern) (made : Change) (text told : List ℕ) (answer : Reply)
+  pub fits_committed : (m : Content) (message : Message) (read : Reading) (made : Change) (text told : List ℕ) (answer : Reply)
       → kept_at m (pair_of message) ≡ None → IsSound texts m → Reads m message.command read → refusal_of m message.command read ≡ None → Makes m message.command read made
       → Fits m (record made { kept = Some (record { pair = pair_of message; kept = record { command = text; reply = told } }); reply = answer })
   fits_committed m message read made text told answer none sound reads allowed makes =
@@ -117,6 +119,7 @@ module _ (texts : Texts) where
         demands = fits.demands;
         wanted = fits.wanted;
         once = fits.once;
+        lines = fits.lines;
         act = fits.act;
         demand = fits.demand;
         kept = fits.kept;
@@ -198,7 +201,7 @@ module _ (texts : Texts) where
           crash = λ left it. subst (λ o. MatchOption o (LeftByNew texts stands before m message answer m left) (λ (row : Kept). before left)) (sym some) (crash left it);
         }
 
-    module _ (before mid after : Left → Type 0) (holds : Content → Type 0) (m : Content) (message : Message) (read : Option Pattern) (change made : Change) (is_message : IsMessage message)
+    module _ (before mid after : Left → Type 0) (holds : Content → Type 0) (m : Content) (message : Message) (read : Reading) (change made : Change) (is_message : IsMessage message)
         (none : kept_at m (pair_of message) ≡ None) (sound : IsSound texts m) (reads : Reads m message.command read) (allowed : refusal_of m message.command read ≡ None) (makes : Makes m message.command read made)
         (row : changed m change ≡ changed m (keeping texts message made)) where
       abbrev next : Content

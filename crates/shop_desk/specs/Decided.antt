@@ -1,42 +1,47 @@
 -- What is decided on a command, over the content that a book holds.
 use Rattle.std.specs.Prelude.{◌≡◌, ◌⊎◌, ℕ, List, Option, Some, None, Result, Ok, Err, IfErr}
-use Rattle.cut_tree.specs.Patterns.{Pattern}
 use Rattle.shop_machine.specs.declared.records.Material.{Material}
 use Rattle.shop_machine.specs.declared.records.Part.{Part}
 use Rattle.shop_machine.specs.declared.records.Job.{Job}
-use Rattle.shop_machine.specs.declared.plans.FoundLeaf.{FoundLeaf}
+use Rattle.shop_machine.specs.declared.recounts.FoundLeaf.{FoundLeaf}
 use Rattle.shop_machine.specs.declared.changes.Change.{Change}
 use Rattle.shop_machine.specs.declared.messages.Command.{Command}
 use Rattle.shop_machine.specs.declared.refusals.Refusal.{Refusal}
 use Rattle.shop_machine.specs.declared.refusals.Refusal.TheVariants.{StoreFault}
-use Rattle.shop_machine.specs.Content.{Content, job_at, demand_at}
-use Rattle.shop_machine.specs.Found.{AreDemandsFound}
-use Rattle.shop_machine.specs.Machine.{Reads, refusal_of, Makes, Refuses, part_of, material_of}
+use Rattle.shop_machine.specs.Readings.{Reading}
+use Rattle.shop_machine.specs.Content.{Content, job_at, demand_at, part_of_job, material_of}
+use Rattle.shop_machine.specs.Recounts.{AreDemandsFound}
+use Rattle.shop_machine.specs.Machine.{Reads, refusal_of, Makes, Refuses}
 use Rattle.shop_desk.specs.Faults.{StoreFailed, CountsDecision}
 
 -- The command is allowed and the change is its own, what its text stands for being read; or it is refused.
 abbrev pub IsDecided : Content → Command → Result Change Refusal → Type 0
 IsDecided m command (Ok change) =
-    (read : Option Pattern) × Reads m command read × (refusal_of m command read ≡ None) × Makes m command read change
+    (read : Reading) × Reads m command read × (refusal_of m command read ≡ None) × Makes m command read change
 IsDecided m command (Err refusal) = Refuses m command refusal
 
 -- rows of the content contradict each other
 abbrev pub Contradicts : Content → Command → Type 0
-Contradicts m command = (read : Option Pattern) × Reads m command read × (refusal_of m command read ≡ Some StoreFault)
+Contradicts m command = (read : Reading) × Reads m command read × (refusal_of m command read ≡ Some StoreFault)
 
 -- a decision tells of a failed store only where the store failed, or where rows contradict each other
 abbrev pub BlamesStore : Content → Command → ℕ → Result Change Refusal → ℕ → Type 0
 BlamesStore m command before result after =
     IfErr result (λ refusal. refusal ≡ StoreFault → StoreFailed before after ⊎ Contradicts m command)
 
+-- what is decided on a command over a content
+pub record IsJudged (m : Content) (command : Command) (before : ℕ) (result : Result Change Refusal) (after : ℕ) : Type 0 where
+  pub decision : IsDecided m command result
+  pub blame : BlamesStore m command before result after
+
 -- the failures that a decision goes with: where rows contradict each other the store didn't fail, and none is counted
-abbrev pub CountsOrDisagrees : ℕ → Result Change Refusal → ℕ → Type 0
-CountsOrDisagrees before result after =
-    CountsDecision before result after ⊎ ((result ≡ Err StoreFault) × (after ≡ before))
+abbrev pub CountsOrDisagrees : Result Change Refusal → ℕ → ℕ → Type 0
+CountsOrDisagrees result before after =
+    CountsDecision result before after ⊎ ((result ≡ Err StoreFault) × (after ≡ before))
 
 -- a job, its part and its material in a content, as far as they are there, and leaves with the rows of their demands
 pub record AreJobRows (m : Content) (number : ℕ) (job : Option Job) (part : Option Part) (material : Option Material) (leaves : List FoundLeaf) : Type 0 where
   pub of_job : job ≡ job_at m number
-  pub of_part : part ≡ part_of m job
+  pub of_part : part ≡ part_of_job m job
   pub of_material : material ≡ material_of m part
   pub demands : AreDemandsFound (demand_at m) leaves

@@ -7,6 +7,8 @@ use Rattle.shop_machine.specs.Content.{Content, kept_at}
 use Rattle.shop_machine.specs.Machine.{StepNew, Step, Run}
 use Rattle.shop_machine.specs.History.{Entry, messages_of, Gives, IsAccountOf, history_after}
 use Rattle.shop_machine.specs.Soundness.{IsSound}
+use Rattle.shop_store.specs.declared.books.Book.{Ghosts}
+use Rattle.shop_desk.specs.Faults.{TellOfFailures}
 
 module _ (texts : Texts) {Left : Type 0} (stands : Left → Content → Type 0) where
   -- What may be left after a message that wasn't kept: once it is accepted what stands for the next content, and once it
@@ -38,13 +40,19 @@ module _ (texts : Texts) {Left : Type 0} (stands : Left → Content → Type 0) 
   Leads before old [] (answer ∷ answers) new after = ⊥
   Leads before old (message ∷ messages) [] new after = ⊥
 
-  -- The book held old and holds next, a run of the machine later. Where a history gives old, one whose messages are those of
-  -- that history with each new message once gives next, and this is its account.
-  pub record HasRun (before after : Left → Type 0) (holds : Content → Type 0) (old : Content) (messages : List Message) (answers : List Reply) : Type 0 where
-    pub next : Content
-    pub run : Run texts old messages answers next
-    pub held : holds next
-    pub sound : IsSound texts next
-    pub crash : Leads before old messages answers next after
-    pub account : (history : List Entry) → Gives texts history old
-        → (later : List Entry) × (messages_of later ≡ history_after (messages_of history) messages answers) × IsAccountOf texts later next
+-- Where a history gives old, one whose messages are those of that history with each new message once gives next, and this is
+-- its account.
+abbrev pub HasAccount : Texts → Content → List Message → List Reply → Content → Type 0
+HasAccount texts old messages answers next = (history : List Entry) → Gives texts history old
+    → (later : List Entry) × (messages_of later ≡ history_after (messages_of history) messages answers) × IsAccountOf texts later next
+
+-- The book held old and holds next, a run of the machine later, with its account, and tells of a failed store only where it
+-- failed.
+pub record HasRun {B : Type 0} (texts : Texts) (book : Ghosts B) (before after : B) (old : Content) (messages : List Message) (answers : List Reply) : Type 0 where
+  pub next : Content
+  pub run : Run texts old messages answers next
+  pub held : book.holds after next
+  pub sound : IsSound texts next
+  pub crash : Leads texts book.stands (book.may_leave before) old messages answers next (book.may_leave after)
+  pub blame : TellOfFailures answers (book.failed before) (book.failed after)
+  pub account : HasAccount texts old messages answers next

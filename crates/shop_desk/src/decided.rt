@@ -2,21 +2,21 @@ ghost use Rattle.std.specs.Prelude.{◌≡◌, ◌⊎◌, IfOk, IfSome, IsTrue, 
 ghost use Rattle.shop_machine.specs.Messages.{is_accepted};
 ghost use Rattle.cut_measure.specs.Names.{Name};
 ghost use Rattle.shop_machine.specs.Content.{Content, demand_at};
-ghost use Rattle.shop_machine.specs.Machine.{plan_leaves};
-ghost use Rattle.shop_machine.specs.Found.{AreDemandsFound, IsNumbered, leaves_in};
+ghost use Rattle.shop_machine.specs.Recounts.{plan_leaves, AreDemandsFound, IsNumbered, leaves_in};
 ghost use Rattle.shop_store.specs.Failures.{CountsFailure};
-ghost use Rattle.shop_machine.specs.declared.messages.Command.TheVariants.{AddMaterial, Receive, AddOrder, Reserve, Done, Release};
+ghost use Rattle.shop_store.specs.Kept.{KeepsBook, Says};
+ghost use Rattle.shop_machine.specs.declared.messages.Command.TheVariants.{AddMaterial, Receive, AddOrder, Reserve, Done, Release, Scrap, GiveBack};
 ghost use Rattle.shop_machine.specs.declared.messages.Reply.TheVariants.{Refused};
 ghost use Rattle.shop_machine.specs.declared.refusals.Refusal.TheVariants.{BadMessage};
-ghost use Rattle.shop_desk.specs.Decided.{IsDecided, BlamesStore, CountsOrDisagrees, AreJobRows};
+ghost use Rattle.shop_desk.specs.Decided.{IsJudged, CountsOrDisagrees, AreJobRows};
 
 use crate::found::{found_leaves, found_lines, material_for, part_for, plan_for};
 use cut_measure::{Kind, PartName};
 use cut_tree::Plan;
 use shop_rules::{
     Change, Code, Command, FoundLeaf, Job, KeptMessage, LineList, Material, Part, Refusal, Reply,
-    Text, decide_done, decide_material, decide_order, decide_receive, decide_release,
-    decide_reserve,
+    Text, decide_done, decide_give_back, decide_material, decide_order, decide_receive,
+    decide_release, decide_reserve, decide_scrap,
 };
 use shop_store::{Book, BookFault};
 use std::alloc::Global;
@@ -31,13 +31,9 @@ fn add_material<B: Book>(
     min_long: u32,
     min_short: u32,
 ) -> Result<Change, Refusal>
-    ensures decision { B.is_honest book.new → (m : Content) → B.holds book.old m → IsDecided m (AddMaterial material kind kerf min_long min_short) result }
-    ensures blame { B.is_honest book.new → (m : Content) → B.holds book.old m → BlamesStore m (AddMaterial material kind kerf min_long min_short) (B.failed book.old) result (B.failed book.new) }
-    ensures stays { B.is_honest book.new → (m : Content) → B.holds book.old m → B.holds book.new m }
-    ensures crash { B.is_honest book.new → (m : Content) → B.holds book.old m → (left : B.Left) → B.may_leave book.new left → B.may_leave book.old left }
-    ensures honest { B.is_honest book.new → B.is_honest book.old }
+    ensures decision { Says B.Book book.old book.new (λ m. IsJudged m (AddMaterial material kind kerf min_long min_short) (B.failed book.old) result (B.failed book.new)) }
+    ensures keeps { KeepsBook B.Book (CountsOrDisagrees result) book.old book.new }
     ensures told { IfOk result (λ change. IsTrue (is_accepted change.reply)) }
-    ensures failures { CountsOrDisagrees (B.failed book.old) result (B.failed book.new) }
 {
     let known = book.material(material)?;
     decide_material(alloc, known, material, kind, kerf, min_long, min_short)
@@ -53,13 +49,9 @@ fn receive<B: Book>(
     h: u32,
     count: u32,
 ) -> Result<Change, Refusal>
-    ensures decision { B.is_honest book.new → (m : Content) → B.holds book.old m → IsDecided m (Receive material batch w h count) result }
-    ensures blame { B.is_honest book.new → (m : Content) → B.holds book.old m → BlamesStore m (Receive material batch w h count) (B.failed book.old) result (B.failed book.new) }
-    ensures stays { B.is_honest book.new → (m : Content) → B.holds book.old m → B.holds book.new m }
-    ensures crash { B.is_honest book.new → (m : Content) → B.holds book.old m → (left : B.Left) → B.may_leave book.new left → B.may_leave book.old left }
-    ensures honest { B.is_honest book.new → B.is_honest book.old }
+    ensures decision { Says B.Book book.old book.new (λ m. IsJudged m (Receive material batch w h count) (B.failed book.old) result (B.failed book.new)) }
+    ensures keeps { KeepsBook B.Book (CountsOrDisagrees result) book.old book.new }
     ensures told { IfOk result (λ change. IsTrue (is_accepted change.reply)) }
-    ensures failures { CountsOrDisagrees (B.failed book.old) result (B.failed book.new) }
 {
     let known = book.material(material)?;
     let received = book.totals(material)?.received;
@@ -74,13 +66,9 @@ fn add_order<B: Book>(
     order: Code,
     lines: &LineList,
 ) -> Result<Change, Refusal>
-    ensures decision { B.is_honest book.new → (m : Content) → B.holds book.old m → IsDecided m (AddOrder order lines.now) result }
-    ensures blame { B.is_honest book.new → (m : Content) → B.holds book.old m → BlamesStore m (AddOrder order lines.now) (B.failed book.old) result (B.failed book.new) }
-    ensures stays { B.is_honest book.new → (m : Content) → B.holds book.old m → B.holds book.new m }
-    ensures crash { B.is_honest book.new → (m : Content) → B.holds book.old m → (left : B.Left) → B.may_leave book.new left → B.may_leave book.old left }
-    ensures honest { B.is_honest book.new → B.is_honest book.old }
+    ensures decision { Says B.Book book.old book.new (λ m. IsJudged m (AddOrder order lines.now) (B.failed book.old) result (B.failed book.new)) }
+    ensures keeps { KeepsBook B.Book (CountsOrDisagrees result) book.old book.new }
     ensures told { IfOk result (λ change. IsTrue (is_accepted change.reply)) }
-    ensures failures { CountsOrDisagrees (B.failed book.old) result (B.failed book.new) }
 {
     let used = book.order(order)?;
     let found = found_lines(alloc, book, lines.as_slice())?;
@@ -94,13 +82,10 @@ fn leaves_for<B: Book>(
     book: &mut B,
     plan: &Option<Plan>,
 ) -> Result<Vec<FoundLeaf>, BookFault>
-    ensures found { B.is_honest book.new → (m : Content) → B.holds book.old m → IfOk result (λ found. AreDemandsFound (demand_at m) found.items) }
+    ensures found { Says B.Book book.old book.new (λ m. IfOk result (λ found. AreDemandsFound (demand_at m) found.items)) }
     ensures leaves { IfOk result (λ found. IfSome plan.now (λ p. leaves_in found.items ≡ plan_leaves p)) }
     ensures numbered { IfOk result (λ found. All IsNumbered found.items) }
-    ensures stays { B.is_honest book.new → (m : Content) → B.holds book.old m → B.holds book.new m }
-    ensures crash { B.is_honest book.new → (m : Content) → B.holds book.old m → (left : B.Left) → B.may_leave book.new left → B.may_leave book.old left }
-    ensures honest { B.is_honest book.new → B.is_honest book.old }
-    ensures failures { CountsFailure (B.failed book.old) result (B.failed book.new) }
+    ensures keeps { KeepsBook B.Book (CountsFailure result) book.old book.new }
 {
     match plan {
         Some(plan) => found_leaves(alloc, book, plan),
@@ -114,13 +99,10 @@ fn job_leaves<B: Book>(
     book: &mut B,
     job: &Option<Job>,
 ) -> Result<Vec<FoundLeaf>, BookFault>
-    ensures found { B.is_honest book.new → (m : Content) → B.holds book.old m → IfOk result (λ found. AreDemandsFound (demand_at m) found.items) }
+    ensures found { Says B.Book book.old book.new (λ m. IfOk result (λ found. AreDemandsFound (demand_at m) found.items)) }
     ensures leaves { IfOk result (λ found. IfSome job.now (λ j. leaves_in found.items ≡ plan_leaves j.plan)) }
     ensures numbered { IfOk result (λ found. All IsNumbered found.items) }
-    ensures stays { B.is_honest book.new → (m : Content) → B.holds book.old m → B.holds book.new m }
-    ensures crash { B.is_honest book.new → (m : Content) → B.holds book.old m → (left : B.Left) → B.may_leave book.new left → B.may_leave book.old left }
-    ensures honest { B.is_honest book.new → B.is_honest book.old }
-    ensures failures { CountsFailure (B.failed book.old) result (B.failed book.new) }
+    ensures keeps { KeepsBook B.Book (CountsFailure result) book.old book.new }
 {
     match job {
         Some(job) => found_leaves(alloc, book, &job.plan),
@@ -135,13 +117,9 @@ fn reserve<B: Book>(
     part: PartName,
     tree: &Text,
 ) -> Result<Change, Refusal>
-    ensures decision { B.is_honest book.new → (m : Content) → B.holds book.old m → IsDecided m (Reserve part tree.now) result }
-    ensures blame { B.is_honest book.new → (m : Content) → B.holds book.old m → BlamesStore m (Reserve part tree.now) (B.failed book.old) result (B.failed book.new) }
-    ensures stays { B.is_honest book.new → (m : Content) → B.holds book.old m → B.holds book.new m }
-    ensures crash { B.is_honest book.new → (m : Content) → B.holds book.old m → (left : B.Left) → B.may_leave book.new left → B.may_leave book.old left }
-    ensures honest { B.is_honest book.new → B.is_honest book.old }
+    ensures decision { Says B.Book book.old book.new (λ m. IsJudged m (Reserve part tree.now) (B.failed book.old) result (B.failed book.new)) }
+    ensures keeps { KeepsBook B.Book (CountsOrDisagrees result) book.old book.new }
     ensures told { IfOk result (λ change. IsTrue (is_accepted change.reply)) }
-    ensures failures { CountsOrDisagrees (B.failed book.old) result (B.failed book.new) }
 {
     let row = book.part(part)?;
     let material = material_for(book, &row)?;
@@ -160,13 +138,10 @@ struct JobRows {
 }
 
 fn job_rows<B: Book>(alloc: Global, book: &mut B, number: u32) -> Result<JobRows, BookFault>
-    ensures rows { B.is_honest book.new → (m : Content) → B.holds book.old m → IfOk result (λ rows. AreJobRows m number rows.job rows.part rows.material rows.leaves.items) }
+    ensures rows { Says B.Book book.old book.new (λ m. IfOk result (λ rows. AreJobRows m number rows.job rows.part rows.material rows.leaves.items)) }
     ensures leaves { IfOk result (λ rows. IfSome rows.job (λ j. leaves_in rows.leaves.items ≡ plan_leaves j.plan)) }
     ensures numbered { IfOk result (λ rows. All IsNumbered rows.leaves.items) }
-    ensures stays { B.is_honest book.new → (m : Content) → B.holds book.old m → B.holds book.new m }
-    ensures crash { B.is_honest book.new → (m : Content) → B.holds book.old m → (left : B.Left) → B.may_leave book.new left → B.may_leave book.old left }
-    ensures honest { B.is_honest book.new → B.is_honest book.old }
-    ensures failures { CountsFailure (B.failed book.old) result (B.failed book.new) }
+    ensures keeps { KeepsBook B.Book (CountsFailure result) book.old book.new }
 {
     let job = book.job(alloc, number)?;
     let part = part_for(book, &job)?;
@@ -182,13 +157,9 @@ fn job_rows<B: Book>(alloc: Global, book: &mut B, number: u32) -> Result<JobRows
 
 // Finishes a job.
 fn done<B: Book>(alloc: Global, book: &mut B, number: u32) -> Result<Change, Refusal>
-    ensures decision { B.is_honest book.new → (m : Content) → B.holds book.old m → IsDecided m (Done number) result }
-    ensures blame { B.is_honest book.new → (m : Content) → B.holds book.old m → BlamesStore m (Done number) (B.failed book.old) result (B.failed book.new) }
-    ensures stays { B.is_honest book.new → (m : Content) → B.holds book.old m → B.holds book.new m }
-    ensures crash { B.is_honest book.new → (m : Content) → B.holds book.old m → (left : B.Left) → B.may_leave book.new left → B.may_leave book.old left }
-    ensures honest { B.is_honest book.new → B.is_honest book.old }
+    ensures decision { Says B.Book book.old book.new (λ m. IsJudged m (Done number) (B.failed book.old) result (B.failed book.new)) }
+    ensures keeps { KeepsBook B.Book (CountsOrDisagrees result) book.old book.new }
     ensures told { IfOk result (λ change. IsTrue (is_accepted change.reply)) }
-    ensures failures { CountsOrDisagrees (B.failed book.old) result (B.failed book.new) }
 {
     let JobRows {
         job,
@@ -201,13 +172,9 @@ fn done<B: Book>(alloc: Global, book: &mut B, number: u32) -> Result<Change, Ref
 
 // Releases a job.
 fn release<B: Book>(alloc: Global, book: &mut B, number: u32) -> Result<Change, Refusal>
-    ensures decision { B.is_honest book.new → (m : Content) → B.holds book.old m → IsDecided m (Release number) result }
-    ensures blame { B.is_honest book.new → (m : Content) → B.holds book.old m → BlamesStore m (Release number) (B.failed book.old) result (B.failed book.new) }
-    ensures stays { B.is_honest book.new → (m : Content) → B.holds book.old m → B.holds book.new m }
-    ensures crash { B.is_honest book.new → (m : Content) → B.holds book.old m → (left : B.Left) → B.may_leave book.new left → B.may_leave book.old left }
-    ensures honest { B.is_honest book.new → B.is_honest book.old }
+    ensures decision { Says B.Book book.old book.new (λ m. IsJudged m (Release number) (B.failed book.old) result (B.failed book.new)) }
+    ensures keeps { KeepsBook B.Book (CountsOrDisagrees result) book.old book.new }
     ensures told { IfOk result (λ change. IsTrue (is_accepted change.reply)) }
-    ensures failures { CountsOrDisagrees (B.failed book.old) result (B.failed book.new) }
 {
     let JobRows {
         job,
@@ -218,15 +185,31 @@ fn release<B: Book>(alloc: Global, book: &mut B, number: u32) -> Result<Change, 
     decide_release(alloc, job, part, material, &leaves)
 }
 
+// Makes a part scrap.
+fn scrap<B: Book>(alloc: Global, book: &mut B, part: PartName) -> Result<Change, Refusal>
+    ensures decision { Says B.Book book.old book.new (λ m. IsJudged m (Scrap part) (B.failed book.old) result (B.failed book.new)) }
+    ensures keeps { KeepsBook B.Book (CountsOrDisagrees result) book.old book.new }
+    ensures told { IfOk result (λ change. IsTrue (is_accepted change.reply)) }
+{
+    let row = book.part(part)?;
+    decide_scrap(alloc, row)
+}
+
+// Returns a unit to its supplier.
+fn give_back<B: Book>(alloc: Global, book: &mut B, part: PartName) -> Result<Change, Refusal>
+    ensures decision { Says B.Book book.old book.new (λ m. IsJudged m (GiveBack part) (B.failed book.old) result (B.failed book.new)) }
+    ensures keeps { KeepsBook B.Book (CountsOrDisagrees result) book.old book.new }
+    ensures told { IfOk result (λ change. IsTrue (is_accepted change.reply)) }
+{
+    let row = book.part(part)?;
+    decide_give_back(alloc, row)
+}
+
 /// What is decided on a command, from the rows that it needs.
 pub fn decide<B: Book>(alloc: Global, book: &mut B, command: &Command) -> Result<Change, Refusal>
-    ensures decision { B.is_honest book.new → (m : Content) → B.holds book.old m → IsDecided m command.now result }
-    ensures blame { B.is_honest book.new → (m : Content) → B.holds book.old m → BlamesStore m command.now (B.failed book.old) result (B.failed book.new) }
-    ensures stays { B.is_honest book.new → (m : Content) → B.holds book.old m → B.holds book.new m }
-    ensures crash { B.is_honest book.new → (m : Content) → B.holds book.old m → (left : B.Left) → B.may_leave book.new left → B.may_leave book.old left }
-    ensures honest { B.is_honest book.new → B.is_honest book.old }
+    ensures decision { Says B.Book book.old book.new (λ m. IsJudged m command.now (B.failed book.old) result (B.failed book.new)) }
+    ensures keeps { KeepsBook B.Book (CountsOrDisagrees result) book.old book.new }
     ensures told { IfOk result (λ change. IsTrue (is_accepted change.reply)) }
-    ensures failures { CountsOrDisagrees (B.failed book.old) result (B.failed book.new) }
 {
     match command {
         Command::AddMaterial {
@@ -247,6 +230,8 @@ pub fn decide<B: Book>(alloc: Global, book: &mut B, command: &Command) -> Result
         Command::Reserve { part, tree } => reserve(alloc, book, *part, tree),
         Command::Done { job } => done(alloc, book, *job),
         Command::Release { job } => release(alloc, book, *job),
+        Command::Scrap { part } => scrap(alloc, book, *part),
+        Command::GiveBack { part } => give_back(alloc, book, *part),
     }
 }
 

@@ -9,7 +9,8 @@ ghost use Rattle.shop_machine.specs.declared.messages.Query.TheVariants.{Totals,
 ghost use Rattle.shop_machine.specs.declared.messages.Reply.TheVariants.{Refused};
 ghost use Rattle.shop_machine.specs.declared.refusals.Refusal.TheVariants.{StoreFault};
 ghost use Rattle.shop_rules.specs.Forms.{json_texts};
-ghost use Rattle.shop_desk.specs.Faults.{CountsReply, CountsOrContradicts, StoreFailed};
+ghost use Rattle.shop_store.specs.Kept.{KeepsBook, Says};
+ghost use Rattle.shop_desk.specs.Faults.{CountsReply, CountsOrContradicts, CountsUp, StoreFailed};
 ghost use Rattle.shop_desk.specs.Handled.{IsHandled, HasRun};
 
 use crate::decided::{decide, keeping_message};
@@ -50,7 +51,7 @@ fn handle_new<B: Book>(alloc: Global, book: &mut B, message: &Message, text: Tex
         → IsSound json_texts m → kept_at m (pair_of message.now) ≡ None
         → IsHandled json_texts B.stands (B.may_leave book.old) (B.may_leave book.new) (B.holds book.new) m message.now result }
     ensures honest { B.is_honest book.new → B.is_honest book.old }
-    ensures failures { CountsOrContradicts (B.failed book.old) result (B.failed book.new) }
+    ensures failures { CountsOrContradicts result (B.failed book.old) (B.failed book.new) }
     ensures store_fault { IsMessage message.now → B.is_honest book.new → (m : Content) → B.holds book.old m → IsSound json_texts m
         → result ≡ Refused StoreFault → StoreFailed (B.failed book.old) (B.failed book.new) }
 {
@@ -83,7 +84,7 @@ pub fn handle<B: Book>(alloc: Global, book: &mut B, message: &Message) -> Reply
         → IsHandled json_texts B.stands (B.may_leave book.old) (B.may_leave book.new) (B.holds book.new) m message.now result }
     ensures message { IsMessage message.now }
     ensures honest { B.is_honest book.new → B.is_honest book.old }
-    ensures failures { CountsOrContradicts (B.failed book.old) result (B.failed book.new) }
+    ensures failures { CountsOrContradicts result (B.failed book.old) (B.failed book.new) }
     ensures store_fault { B.is_honest book.new → (m : Content) → B.holds book.old m → IsSound json_texts m
         → result ≡ Refused StoreFault → StoreFailed (B.failed book.old) (B.failed book.new) }
 {
@@ -99,11 +100,8 @@ pub fn handle<B: Book>(alloc: Global, book: &mut B, message: &Message) -> Reply
 
 // The cells of a material.
 fn totals<B: Book>(book: &mut B, material: Code) -> Reply
-    ensures answer { B.is_honest book.new → (m : Content) → B.holds book.old m → Answers m (Totals material) result }
-    ensures stays { B.is_honest book.new → (m : Content) → B.holds book.old m → B.holds book.new m }
-    ensures crash { B.is_honest book.new → (m : Content) → B.holds book.old m → (left : B.Left) → B.may_leave book.new left → B.may_leave book.old left }
-    ensures honest { B.is_honest book.new → B.is_honest book.old }
-    ensures failures { CountsReply (B.failed book.old) result (B.failed book.new) }
+    ensures answer { Says B.Book book.old book.new (λ m. Answers m (Totals material) result) }
+    ensures keeps { KeepsBook B.Book (CountsReply result) book.old book.new }
 {
     match book.material(material) {
         Err(fault) => Reply::Refused(Refusal::from(fault)),
@@ -118,6 +116,7 @@ fn totals<B: Book>(book: &mut B, material: Code) -> Reply
                 pieces: totals.pieces,
                 kerf: totals.kerf,
                 scrap: totals.scrap,
+                returned: totals.returned,
             },
         },
     }
@@ -125,11 +124,8 @@ fn totals<B: Book>(book: &mut B, material: Code) -> Reply
 
 // What became of a part.
 fn trace<B: Book>(book: &mut B, part: PartName) -> Reply
-    ensures answer { B.is_honest book.new → (m : Content) → B.holds book.old m → Answers m (Trace part) result }
-    ensures stays { B.is_honest book.new → (m : Content) → B.holds book.old m → B.holds book.new m }
-    ensures crash { B.is_honest book.new → (m : Content) → B.holds book.old m → (left : B.Left) → B.may_leave book.new left → B.may_leave book.old left }
-    ensures honest { B.is_honest book.new → B.is_honest book.old }
-    ensures failures { CountsReply (B.failed book.old) result (B.failed book.new) }
+    ensures answer { Says B.Book book.old book.new (λ m. Answers m (Trace part) result) }
+    ensures keeps { KeepsBook B.Book (CountsReply result) book.old book.new }
 {
     match book.part(part) {
         Err(fault) => Reply::Refused(Refusal::from(fault)),
@@ -150,11 +146,8 @@ fn trace<B: Book>(book: &mut B, part: PartName) -> Reply
 
 // How a demand stands.
 fn demand<B: Book>(book: &mut B, number: u32) -> Reply
-    ensures answer { B.is_honest book.new → (m : Content) → B.holds book.old m → Answers m (Demand number) result }
-    ensures stays { B.is_honest book.new → (m : Content) → B.holds book.old m → B.holds book.new m }
-    ensures crash { B.is_honest book.new → (m : Content) → B.holds book.old m → (left : B.Left) → B.may_leave book.new left → B.may_leave book.old left }
-    ensures honest { B.is_honest book.new → B.is_honest book.old }
-    ensures failures { CountsReply (B.failed book.old) result (B.failed book.new) }
+    ensures answer { Says B.Book book.old book.new (λ m. Answers m (Demand number) result) }
+    ensures keeps { KeepsBook B.Book (CountsReply result) book.old book.new }
 {
     match book.demand(number) {
         Err(fault) => Reply::Refused(Refusal::from(fault)),
@@ -173,11 +166,8 @@ fn demand<B: Book>(book: &mut B, number: u32) -> Reply
 
 /// Answers a query, and changes nothing.
 pub fn ask<B: Book>(_alloc: Global, book: &mut B, query: &Query) -> Reply
-    ensures answer { B.is_honest book.new → (m : Content) → B.holds book.old m → Answers m query.now result }
-    ensures stays { B.is_honest book.new → (m : Content) → B.holds book.old m → B.holds book.new m }
-    ensures crash { B.is_honest book.new → (m : Content) → B.holds book.old m → (left : B.Left) → B.may_leave book.new left → B.may_leave book.old left }
-    ensures honest { B.is_honest book.new → B.is_honest book.old }
-    ensures failures { CountsReply (B.failed book.old) result (B.failed book.new) }
+    ensures answer { Says B.Book book.old book.new (λ m. Answers m query.now result) }
+    ensures keeps { KeepsBook B.Book (CountsReply result) book.old book.new }
     ensures store_fault { result ≡ Refused StoreFault → StoreFailed (B.failed book.old) (B.failed book.new) }
 {
     match query {
@@ -187,16 +177,17 @@ pub fn ask<B: Book>(_alloc: Global, book: &mut B, query: &Query) -> Reply
     }
 }
 
-/// Handles messages in order. It makes room for all replies first, so an `Err` means that none was handled.
+/// Handles messages in order. It makes room for all replies first, so an `Err` means that none was handled. A reply tells
+/// of a failed store only where it failed meanwhile.
 pub fn run<B: Book>(
     alloc: Global,
     book: &mut B,
     messages: &[Message],
 ) -> Result<Vec<Reply>, AllocError>
-    ensures run { B.is_honest book.new → (m : Content) → B.holds book.old m → IsSound json_texts m → IfOk result (λ replies.
-        HasRun json_texts B.stands (B.may_leave book.old) (B.may_leave book.new) (B.holds book.new) m messages.now replies.items) }
+    ensures run { Says B.Book book.old book.new (λ m. IsSound json_texts m → IfOk result (λ replies. HasRun json_texts B.Book book.old book.new m messages.now replies.items)) }
     ensures err { OnErr result (book.new ≡ book.old) }
     ensures honest { B.is_honest book.new → B.is_honest book.old }
+    ensures failures { CountsUp (B.failed book.old) (B.failed book.new) }
 {
     let mut replies = Vec::with_capacity(alloc, messages.len())?;
     for message in messages {

@@ -1,13 +1,15 @@
 ghost use Rattle.std.specs.Prelude.{◌≡◌, ◌≤◌, ℕ, IfOk, IfSome, IsTrue, List, MatchOption, All, None, Some, OnOk, ◌++◌, ◌∷◌, []};
 ghost use Rattle.cut_tree.specs.Tree.{Tree, cut_count};
-ghost use Rattle.cut_tree.specs.Patterns.{Pattern};
 ghost use Rattle.cut_tree.specs.Spelling.{IsSpelling};
 ghost use Rattle.cut_measure.specs.Names.{Name};
 ghost use Rattle.shop_machine.specs.declared.messages.Command.TheVariants.{Reserve};
-ghost use Rattle.shop_machine.specs.Content.{Content, material_at, part_at, demand_at};
-ghost use Rattle.shop_machine.specs.Machine.{Reads, material_of, part_of, plan_leaves};
-ghost use Rattle.shop_machine.specs.Found.{AreMaterialsFound, AreDemandsFound, IsNumbered, leaves_in, lines_in};
+ghost use Rattle.shop_machine.specs.Readings.{reading_of};
+ghost use Rattle.shop_machine.specs.Content.{Content, material_at, part_at, demand_at, material_of, part_of_job};
+ghost use Rattle.shop_machine.specs.Machine.{Reads};
+ghost use Rattle.shop_machine.specs.Recounts.{plan_leaves, AreDemandsFound, IsNumbered, leaves_in};
+ghost use Rattle.shop_machine.specs.Ordering.{AreMaterialsFound, lines_in};
 ghost use Rattle.shop_store.specs.Failures.{CountsFailure};
+ghost use Rattle.shop_store.specs.Kept.{KeepsBook, Says};
 
 use cut_tree::{Cause, Leaf, Plan};
 use shop_rules::{Demand, FoundLeaf, FoundLine, Job, Material, OrderLine, Part};
@@ -19,11 +21,8 @@ pub fn material_for<B: Book>(
     book: &mut B,
     part: &Option<Part>,
 ) -> Result<Option<Material>, BookFault>
-    ensures row { B.is_honest book.new → (m : Content) → B.holds book.old m → IfOk result (λ row. row ≡ material_of m part.now) }
-    ensures stays { B.is_honest book.new → (m : Content) → B.holds book.old m → B.holds book.new m }
-    ensures crash { B.is_honest book.new → (m : Content) → B.holds book.old m → (left : B.Left) → B.may_leave book.new left → B.may_leave book.old left }
-    ensures honest { B.is_honest book.new → B.is_honest book.old }
-    ensures failures { CountsFailure (B.failed book.old) result (B.failed book.new) }
+    ensures row { Says B.Book book.old book.new (λ m. IfOk result (λ row. row ≡ material_of m part.now)) }
+    ensures keeps { KeepsBook B.Book (CountsFailure result) book.old book.new }
 {
     match part {
         Some(part) => book.material(part.material),
@@ -33,11 +32,8 @@ pub fn material_for<B: Book>(
 
 /// The part of a job that was found.
 pub fn part_for<B: Book>(book: &mut B, job: &Option<Job>) -> Result<Option<Part>, BookFault>
-    ensures row { B.is_honest book.new → (m : Content) → B.holds book.old m → IfOk result (λ row. row ≡ part_of m job.now) }
-    ensures stays { B.is_honest book.new → (m : Content) → B.holds book.old m → B.holds book.new m }
-    ensures crash { B.is_honest book.new → (m : Content) → B.holds book.old m → (left : B.Left) → B.may_leave book.new left → B.may_leave book.old left }
-    ensures honest { B.is_honest book.new → B.is_honest book.old }
-    ensures failures { CountsFailure (B.failed book.old) result (B.failed book.new) }
+    ensures row { Says B.Book book.old book.new (λ m. IfOk result (λ row. row ≡ part_of_job m job.now)) }
+    ensures keeps { KeepsBook B.Book (CountsFailure result) book.old book.new }
 {
     match job {
         Some(job) => book.part(job.part),
@@ -75,7 +71,7 @@ pub fn plan_for(
     material: &Option<Material>,
     tree: &str,
 ) -> Result<Option<Plan>, AllocError>
-    ensures { IfOk result (λ read. (m : Content) → (name : Name) → part.now ≡ part_at m name → material.now ≡ material_of m part.now → Reads m (Reserve name tree.now) read) }
+    ensures { IfOk result (λ read. (m : Content) → (name : Name) → part.now ≡ part_at m name → material.now ≡ material_of m part.now → Reads m (Reserve name tree.now) (reading_of read)) }
 {
     let (Some(part), Some(material)) = (part, material) else {
         return Ok(None);
@@ -114,13 +110,10 @@ pub fn found_leaves<B: Book>(
     book: &mut B,
     plan: &Plan,
 ) -> Result<Vec<FoundLeaf>, BookFault>
-    ensures found { B.is_honest book.new → (m : Content) → B.holds book.old m → IfOk result (λ found. AreDemandsFound (demand_at m) found.items) }
+    ensures found { Says B.Book book.old book.new (λ m. IfOk result (λ found. AreDemandsFound (demand_at m) found.items)) }
     ensures leaves { IfOk result (λ found. leaves_in found.items ≡ plan_leaves plan.now) }
     ensures numbered { IfOk result (λ found. All IsNumbered found.items) }
-    ensures stays { B.is_honest book.new → (m : Content) → B.holds book.old m → B.holds book.new m }
-    ensures crash { B.is_honest book.new → (m : Content) → B.holds book.old m → (left : B.Left) → B.may_leave book.new left → B.may_leave book.old left }
-    ensures honest { B.is_honest book.new → B.is_honest book.old }
-    ensures failures { CountsFailure (B.failed book.old) result (B.failed book.new) }
+    ensures keeps { KeepsBook B.Book (CountsFailure result) book.old book.new }
 {
     let leaves = plan.leaves(alloc)?;
     let mut found = Vec::new(alloc);
@@ -137,12 +130,9 @@ pub fn found_lines<B: Book>(
     book: &mut B,
     lines: &[OrderLine],
 ) -> Result<Vec<FoundLine>, BookFault>
-    ensures found { B.is_honest book.new → (m : Content) → B.holds book.old m → IfOk result (λ found. AreMaterialsFound (material_at m) found.items) }
+    ensures found { Says B.Book book.old book.new (λ m. IfOk result (λ found. AreMaterialsFound (material_at m) found.items)) }
     ensures lines { IfOk result (λ found. lines_in found.items ≡ lines.now) }
-    ensures stays { B.is_honest book.new → (m : Content) → B.holds book.old m → B.holds book.new m }
-    ensures crash { B.is_honest book.new → (m : Content) → B.holds book.old m → (left : B.Left) → B.may_leave book.new left → B.may_leave book.old left }
-    ensures honest { B.is_honest book.new → B.is_honest book.old }
-    ensures failures { CountsFailure (B.failed book.old) result (B.failed book.new) }
+    ensures keeps { KeepsBook B.Book (CountsFailure result) book.old book.new }
 {
     let mut found = Vec::new(alloc);
     for line in lines {

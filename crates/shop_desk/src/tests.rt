@@ -56,6 +56,7 @@ fn stock(alloc: Global, book: &mut MemBook, text: &str) -> Result<(u64, u64), Fa
             pieces: 0,
             kerf: 0,
             scrap: 0,
+            returned: 0,
             ..
         } => Ok((received, stock)),
         _ => Err("no totals")?,

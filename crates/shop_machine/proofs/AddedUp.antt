@@ -8,8 +8,8 @@ use Rattle.shop_machine.specs.declared.records.Part.{Part}
 use Rattle.shop_machine.specs.declared.records.State.{State}
 use Rattle.shop_machine.specs.declared.records.State.TheVariants as state
 use Rattle.shop_machine.specs.declared.records.Column.{Column}
-use Rattle.shop_machine.specs.declared.records.Column.TheVariants.{Received, Stock, Rack, Pieces, Kerf, Scrap}
-use Rattle.shop_machine.specs.Columns.{is_whole, is_there, is_piece, is_kerf, is_scrap}
+use Rattle.shop_machine.specs.declared.records.Column.TheVariants.{Received, Stock, Rack, Pieces, Kerf, Scrap, Returned}
+use Rattle.shop_machine.specs.Columns.{is_whole, is_there, is_piece, is_kerf, is_scrap, is_returned}
 use Rattle.shop_machine.specs.Content.{counts_for, cells_in, totals_in, AddsUp}
 
 abbrev pub cells_as : Column → List ℕ → Part → ℕ
@@ -23,15 +23,16 @@ is_uncut (state.Cut job) = false
 is_uncut (state.Piece demand) = true
 is_uncut state.Kerf = true
 is_uncut state.Scrap = true
+is_uncut state.Returned = true
 
 -- the cells of a part of the material that isn't cut into parts
 abbrev pub cells_left : List ℕ → Part → ℕ
 cells_left code part = if is_eq (code_cmp part.material code) && is_uncut part.state then part.size.w * part.size.h else 0
 
--- a part in one of the five columns
+-- a part in one of the six columns
 one_of : (of whole : Bool) (s : State) (n : ℕ)
     → (if of && (is_there s && whole) then n else 0) + (if of && (is_there s && not whole) then n else 0) + (if of && is_piece s then n else 0)
-    + (if of && is_kerf s then n else 0) + (if of && is_scrap s then n else 0) ≡ (if of && is_uncut s then n else 0)
+    + (if of && is_kerf s then n else 0) + (if of && is_scrap s then n else 0) + (if of && is_returned s then n else 0) ≡ (if of && is_uncut s then n else 0)
 one_of false whole s n = refl
 one_of true true state.Standing n = omega arith
 one_of true false state.Standing n = omega arith
@@ -41,28 +42,30 @@ one_of true whole (state.Cut job) n = omega arith
 one_of true whole (state.Piece demand) n = omega arith
 one_of true whole state.Kerf n = omega arith
 one_of true whole state.Scrap n = omega arith
+one_of true whole state.Returned n = omega arith
 
 in_one : (code : List ℕ) (part : Part)
-    → cells_as Stock code part + cells_as Rack code part + cells_as Pieces code part + cells_as Kerf code part + cells_as Scrap code part ≡ cells_left code part
+    → cells_as Stock code part + cells_as Rack code part + cells_as Pieces code part + cells_as Kerf code part + cells_as Scrap code part + cells_as Returned code part ≡ cells_left code part
 in_one code part = one_of (is_eq (code_cmp part.material code)) (is_whole part) part.state (part.size.w * part.size.h)
 
-five_sums : (code : List ℕ) (parts : List Part)
-    → cells_in Stock code parts + cells_in Rack code parts + cells_in Pieces code parts + cells_in Kerf code parts + cells_in Scrap code parts
+six_sums : (code : List ℕ) (parts : List Part)
+    → cells_in Stock code parts + cells_in Rack code parts + cells_in Pieces code parts + cells_in Kerf code parts + cells_in Scrap code parts + cells_in Returned code parts
     ≡ sum_by (cells_left code) parts
-five_sums code [] = refl
-five_sums code (p ∷ ps) =
+six_sums code [] = refl
+six_sums code (p ∷ ps) =
     let s = sum_by-cons (cells_as Stock code) p ps in
     let r = sum_by-cons (cells_as Rack code) p ps in
     let q = sum_by-cons (cells_as Pieces code) p ps in
     let k = sum_by-cons (cells_as Kerf code) p ps in
     let x = sum_by-cons (cells_as Scrap code) p ps in
+    let y = sum_by-cons (cells_as Returned code) p ps in
     let l = sum_by-cons (cells_left code) p ps in
     let one = in_one code p in
-    let rest = five_sums code ps in
-    omega (arith, s, r, q, k, x, l, one, rest)
+    let rest = six_sums code ps in
+    omega (arith, s, r, q, k, x, y, l, one, rest)
 
 pub adds_up : (code : List ℕ) (parts : List Part) → sum_by (cells_as Received code) parts ≡ sum_by (cells_left code) parts → AddsUp (totals_in code parts)
-adds_up code parts e = e ∙ sym (five_sums code parts)
+adds_up code parts e = e ∙ sym (six_sums code parts)
 
 pub adds_up_so : (code : List ℕ) (parts : List Part) → AddsUp (totals_in code parts) → sum_by (cells_as Received code) parts ≡ sum_by (cells_left code) parts
-adds_up_so code parts e = e ∙ five_sums code parts
+adds_up_so code parts e = e ∙ six_sums code parts

@@ -1,18 +1,18 @@
 -- Names, codes, maps into which rows are put, and lists.
 use Rattle.std.proofs.Common.{◌≡◌, ℕ, zero, suc, ◌<◌, List, [], ◌∷◌, ◌++◌, length, map, get_or, true, false, nat_eq, refl, sym, ap, subst, ◌∙◌, arith, inl, inr, ◌⊎◌, cond, true≢false}
-use Rattle.std.specs.Prelude.{Option, Some, None, All, Any, AllPairs, ◌&&◌}
+use Rattle.std.specs.Prelude.{Option, Some, None, All, Any, AllPairs, ◌&&◌, ◌⊎◌}
 use Rattle.std.specs.declared.cmp.Ordering.{Ordering}
 use Rattle.std.specs.declared.cmp.Ordering.TheVariants.{Less, Equal, Greater}
 use Rattle.std.specs.Ordering.{nat_cmp, is_eq, ordering_then}
 use Rattle.std.specs.FinMap.{FinMap, IsAntisymmetric, get, insert, get-insert, nat_cmp-IsAntisymmetric, slice_cmp-IsAntisymmetric}
-use Rattle.std.specs.Cmp.{IsTotalOrder, on_total, then_total, nat_cmp_total, tied_itself}
+use Rattle.std.specs.Cmp.{IsTotalOrder, on_total, then_total, nat_cmp_total, tied_itself, nat_cmp_is}
 use Rattle.std.specs.Cmp.Lexicographic.{nat_list_cmp_total}
 use Rattle.std.proofs.lemmas.Bool.{cases_eq, eq-eqb, ne_eqb}
 use Rattle.cut_measure.specs.Names.{Name, name_cmp}
 use Rattle.cut_measure.specs.Codes.{code_cmp}
 use Rattle.shop_machine.specs.declared.records.Part.{Part}
 use Rattle.shop_machine.specs.declared.records.Demand.{Demand}
-use Rattle.shop_machine.specs.Columns.{same_name}
+use Rattle.shop_machine.specs.Same.{same_name}
 use Rattle.shop_machine.specs.Content.{with_parts, with_demands}
 use Rattle.shop_machine.specs.History.{IsIn}
 
@@ -200,3 +200,12 @@ demand_cases ds m n =
       | inl f ↦ inl (f.0, f.1, f.2, ap (λ (v : FinMap nat_cmp Demand). get v n) (demands_as_rows ds m) ∙ f.3)
       | inr f ↦ inr (f.0, ap (λ (v : FinMap nat_cmp Demand). get v n) (demands_as_rows ds m) ∙ f.1)
     ]
+
+-- ---- names in their order
+
+pub earlier_act : (a b : Name) → a.act < b.act → name_cmp a b ≡ Less
+earlier_act a b h = ap (λ (o : Ordering). ordering_then o (nat_cmp a.node b.node)) (sym (nat_cmp_is a.act b.act Less h))
+
+pub earlier_node : (a b : Name) → a.act ≡ b.act → a.node < b.node → name_cmp a b ≡ Less
+earlier_node a b e h =
+    ap (λ (o : Ordering). ordering_then o (nat_cmp a.node b.node)) (sym (nat_cmp_is a.act b.act Equal e)) ∙ sym (nat_cmp_is a.node b.node Less h)

@@ -9,21 +9,20 @@ use Rattle.std.proofs.lemmas.Bool.{and_parts}
 use Rattle.cut_measure.specs.Codes.{code_cmp}
 use Rattle.cut_measure.specs.Names.{Name}
 use Rattle.cut_measure.specs.Measures.{Extent, below}
+use Rattle.cut_tree.proofs.CellSums.{sum_cells, bit, sum_cells-same, sum_cells-add, sum_cells-zero, sum_mark, mark_in, mark_out}
 use Rattle.shop_machine.specs.declared.records.Part.{Part}
 use Rattle.shop_machine.specs.declared.records.State.{State}
-use Rattle.shop_machine.specs.declared.records.State.TheVariants.{Standing, Reserved, Cut, Piece, Kerf, Scrap}
+use Rattle.shop_machine.specs.declared.records.State.TheVariants.{Standing, Reserved, Cut, Piece, Kerf, Scrap, Returned}
 use Rattle.shop_machine.specs.declared.records.Column.{Column}
 use Rattle.shop_machine.specs.declared.records.Column.TheVariants as column
-use Rattle.shop_machine.specs.declared.messages.Command.{Command}
-use Rattle.shop_machine.specs.declared.messages.Command.TheVariants.{AddMaterial, Receive, AddOrder, Reserve, Done, Release}
-use Rattle.shop_machine.specs.Columns.{same_name, is_whole, is_there, is_piece, is_kerf, is_scrap, is_counted}
+use Rattle.shop_machine.specs.Same.{same_name}
+use Rattle.shop_machine.specs.Columns.{is_whole, is_there, is_piece, is_kerf, is_scrap, is_returned, is_counted}
 use Rattle.shop_machine.specs.Messages.{Texts}
 use Rattle.shop_machine.specs.Content.{Content, cells_in}
 use Rattle.shop_machine.specs.Soundness.{IsSound}
-use Rattle.shop_machine.specs.History.{Entry, acts_of, ReceivedUnit, units_in, units_of, Owner, owner_of, is_cut, standing_as, IsOwner, OneOwner, IsIn, counts, count_of, TotalsAreCounts}
+use Rattle.shop_machine.specs.History.{Deed, Receives, acts_of, ReceivedUnit, units_in, units_of, Owner, owner_of, is_cut, standing_as, IsOwner, OneOwner, IsIn, counts_cell, cells_of_column, TotalsAreCounts}
 use Rattle.shop_machine.proofs.Basics.{name_cases, in_append, in_map}
 use Rattle.shop_machine.proofs.Accounts.{IsRow, IsWhole, Follows, unit_of, unit_acts}
-use Rattle.cut_tree.proofs.Marks.{sum_cells, bit, sum_cells-same, sum_cells-add, sum_cells-zero, sum_mark, mark_in, mark_out}
 use Rattle.shop_machine.proofs.Puts.{sum_as, sum_none}
 use Rattle.shop_machine.proofs.Marks.{mark, sum_by-add, sum_by-one, Apart, apart_append, sum_values-one, each_value, sum_by-units}
 
@@ -55,24 +54,19 @@ new_apart material batch size act (suc n) =
       | inr z ↦ z
     ]))
 
-apart_by : (earlier : List Entry) (command : Command) → Apart unit_name (units_of earlier) → Apart unit_name (units_in (acts_of earlier + 1) command ++ units_of earlier)
-apart_by earlier (AddMaterial material kind kerf min_long min_short) before = before
-apart_by earlier (Receive material batch w h count) before =
-    let size : Extent = record { w = w; h = h } in
+apart_by : (earlier : List Deed) (done : Deed) → Apart unit_name (units_of earlier) → Apart unit_name (units_in (acts_of earlier + 1) done ++ units_of earlier)
+apart_by earlier (Receives material batch size count) before =
     apart_append unit_name (map (unit_of material batch size (acts_of earlier + 1)) (below count)) (units_of earlier) (new_apart material batch size (acts_of earlier + 1) count) before
     (λ x y i j e.
     let f = in_map (unit_of material batch size (acts_of earlier + 1)) (below count) x i in
     let a : y.name.act ≤ acts_of earlier = unit_acts earlier y j in
     let b : y.name.act ≡ acts_of earlier + 1 = ap (λ (k : Name). k.act) e ∙ ap (λ (u : ReceivedUnit). u.name.act) f.2 in
     absurd (omega arith))
-apart_by earlier (AddOrder order lines) before = before
-apart_by earlier (Reserve part text) before = before
-apart_by earlier (Done number) before = before
-apart_by earlier (Release number) before = before
+apart_by earlier _ before = before
 
-units_apart : (history : List Entry) → Apart unit_name (units_of history)
+units_apart : (deeds : List Deed) → Apart unit_name (units_of deeds)
 units_apart [] = tt
-units_apart (entry ∷ earlier) = apart_by earlier entry.message.command (units_apart earlier)
+units_apart (done ∷ earlier) = apart_by earlier done (units_apart earlier)
 
 -- ---- sums over units
 
@@ -173,6 +167,7 @@ there_whole (Cut job) e = absurd (true≢false (sym e))
 there_whole (Piece demand) e = refl
 there_whole Kerf e = refl
 there_whole Scrap e = refl
+there_whole Returned e = refl
 
 piece_whole : (s : State) → is_piece s ≡ true → is_cut s ≡ false
 piece_whole Standing e = refl
@@ -181,6 +176,7 @@ piece_whole (Cut job) e = absurd (true≢false (sym e))
 piece_whole (Piece demand) e = refl
 piece_whole Kerf e = refl
 piece_whole Scrap e = refl
+piece_whole Returned e = refl
 
 kerf_whole : (s : State) → is_kerf s ≡ true → is_cut s ≡ false
 kerf_whole Standing e = refl
@@ -189,6 +185,7 @@ kerf_whole (Cut job) e = absurd (true≢false (sym e))
 kerf_whole (Piece demand) e = refl
 kerf_whole Kerf e = refl
 kerf_whole Scrap e = refl
+kerf_whole Returned e = refl
 
 scrap_whole : (s : State) → is_scrap s ≡ true → is_cut s ≡ false
 scrap_whole Standing e = refl
@@ -197,6 +194,16 @@ scrap_whole (Cut job) e = absurd (true≢false (sym e))
 scrap_whole (Piece demand) e = refl
 scrap_whole Kerf e = refl
 scrap_whole Scrap e = refl
+scrap_whole Returned e = refl
+
+returned_whole : (s : State) → is_returned s ≡ true → is_cut s ≡ false
+returned_whole Standing e = refl
+returned_whole (Reserved job) e = refl
+returned_whole (Cut job) e = absurd (true≢false (sym e))
+returned_whole (Piece demand) e = refl
+returned_whole Kerf e = refl
+returned_whole Scrap e = refl
+returned_whole Returned e = refl
 
 there_as : (s : State) → is_there s ≡ is_there (standing_as s)
 there_as Standing = refl
@@ -205,6 +212,7 @@ there_as (Cut job) = refl
 there_as (Piece demand) = refl
 there_as Kerf = refl
 there_as Scrap = refl
+there_as Returned = refl
 
 piece_as : (s : State) → is_piece s ≡ is_piece (standing_as s)
 piece_as Standing = refl
@@ -213,6 +221,7 @@ piece_as (Cut job) = refl
 piece_as (Piece demand) = refl
 piece_as Kerf = refl
 piece_as Scrap = refl
+piece_as Returned = refl
 
 kerf_as : (s : State) → is_kerf s ≡ is_kerf (standing_as s)
 kerf_as Standing = refl
@@ -221,6 +230,7 @@ kerf_as (Cut job) = refl
 kerf_as (Piece demand) = refl
 kerf_as Kerf = refl
 kerf_as Scrap = refl
+kerf_as Returned = refl
 
 scrap_as : (s : State) → is_scrap s ≡ is_scrap (standing_as s)
 scrap_as Standing = refl
@@ -229,11 +239,21 @@ scrap_as (Cut job) = refl
 scrap_as (Piece demand) = refl
 scrap_as Kerf = refl
 scrap_as Scrap = refl
+scrap_as Returned = refl
+
+returned_as : (s : State) → is_returned s ≡ is_returned (standing_as s)
+returned_as Standing = refl
+returned_as (Reserved job) = refl
+returned_as (Cut job) = refl
+returned_as (Piece demand) = refl
+returned_as Kerf = refl
+returned_as Scrap = refl
+returned_as Returned = refl
 
 -- a column of rows that aren't cut, which counts a row as its owner
 record IsByOwner (c : Column) : Type 0 where
   uncut : (r : Part) → is_counted c r ≡ true → is_cut r.state ≡ false
-  as_owner : (u : Name) (i j : ℕ) (w : Owner) (r : Part) → r.root ≡ u → IsOwner w i j r → is_counted c r ≡ counts c u (Some w)
+  as_owner : (u : Name) (i j : ℕ) (w : Owner) (r : Part) → r.root ≡ u → IsOwner w i j r → is_counted c r ≡ counts_cell c u (Some w)
 
 same_whole : (u : Name) (i j : ℕ) (w : Owner) (r : Part) → r.root ≡ u → IsOwner w i j r → same_name r.name r.root ≡ same_name w.name u
 same_whole u i j w r e o = ap (λ n. same_name r.name n) e ∙ ap (λ n. same_name n u) o.name
@@ -261,20 +281,23 @@ kerf_by = record { uncut = λ r e. kerf_whole r.state e; as_owner = λ u i j w r
 scrap_by : IsByOwner column.Scrap
 scrap_by = record { uncut = λ r e. scrap_whole r.state e; as_owner = λ u i j w r e o. scrap_as r.state ∙ ap is_scrap o.state }
 
+returned_by : IsByOwner column.Returned
+returned_by = record { uncut = λ r e. returned_whole r.state e; as_owner = λ u i j w r e o. returned_as r.state ∙ ap is_returned o.state }
+
 -- ---- each total
 
 and_yes : (a b : Bool) → b ≡ true → a && b ≡ a
 and_yes true b e = e
 and_yes false b e = refl
 
-module _ (texts : Texts) (history : List Entry) (content : Content) (sound : IsSound texts content) (s : Follows history content) where
-  has_unit : (v : Part) → IsIn v (values content.parts) → HasUnit (units_of history) v
-  has_unit = each_value content.parts (HasUnit (units_of history)) (λ k v g.
-      let r : IsRow history v = s.rows k v g in
+module _ (texts : Texts) (deeds : List Deed) (content : Content) (sound : IsSound texts content) (s : Follows deeds content) where
+  has_unit : (v : Part) → IsIn v (values content.parts) → HasUnit (units_of deeds) v
+  has_unit = each_value content.parts (HasUnit (units_of deeds)) (λ k v g.
+      let r : IsRow deeds v = s.rows k v g in
       record { unit = r.unit; received = r.received; root = r.root; material = r.material; across = r.across; down = r.down })
 
-  cell_counted : (c : Column) → IsByOwner c → (u : ReceivedUnit) (x y : ℕ) → OneOwner history content u.name x y
-      → sum_by (λ v. marked (is_counted c) [] (units_of history) (units_apart history) v u.name x y) (values content.parts) ≡ bit (counts c u.name (owner_of history u.name x y))
+  cell_counted : (c : Column) → IsByOwner c → (u : ReceivedUnit) (x y : ℕ) → OneOwner deeds content u.name x y
+      → sum_by (λ v. marked (is_counted c) [] (units_of deeds) (units_apart deeds) v u.name x y) (values content.parts) ≡ bit (counts_cell c u.name (owner_of deeds u.name x y))
   cell_counted c by u x y o =
       let p : Part = o.part in
       sum_values-one content.parts (λ v. mark (is_counted c v && same_name v.root u.name) v x y) p.name p o.kept
@@ -283,11 +306,11 @@ module _ (texts : Texts) (history : List Entry) (content : Content) (sound : IsS
       let same : r ≡ p = o.alone k r g (record { root = root; whole = by.uncut r (and_parts (is_counted c r) (same_name r.root u.name) t).0; right = left; left = right; below = top; above = bottom }) in
       other (sym (sound.parts k r g).named ∙ ap (λ (v : Part). v.name) same)))
       ∙ mark_in (is_counted c p && same_name p.root u.name) p.x p.y p.size.w p.size.h x y o.holds.right o.holds.left o.holds.below o.holds.above
-      ∙ ap bit (and_yes (is_counted c p) (same_name p.root u.name) (same_yes p.root u.name o.holds.root) ∙ by.as_owner u.name x y o.owner p o.holds.root o.same ∙ ap (counts c u.name) (sym o.owned))
+      ∙ ap bit (and_yes (is_counted c p) (same_name p.root u.name) (same_yes p.root u.name o.holds.root) ∙ by.as_owner u.name x y o.owner p o.holds.root o.same ∙ ap (counts_cell c u.name) (sym o.owned))
 
-  cell_received : (u : ReceivedUnit) → IsIn u (units_of history) → (x y : ℕ) → x < u.size.w → y < u.size.h → OneOwner history content u.name x y
-      → sum_by (λ v. marked (is_counted column.Received) [] (units_of history) (units_apart history) v u.name x y) (values content.parts) ≡ bit (counts column.Received u.name (owner_of history u.name x y))
-  cell_received u i x y xw yh o =
+  cell_received : (u : ReceivedUnit) → IsIn u (units_of deeds) → (x y : ℕ) → x < u.size.w → y < u.size.h
+      → sum_by (λ v. marked (is_counted column.Received) [] (units_of deeds) (units_apart deeds) v u.name x y) (values content.parts) ≡ bit (counts_cell column.Received u.name (owner_of deeds u.name x y))
+  cell_received u i x y xw yh =
       let whole : IsWhole content.parts u = s.wholes u i in
       let p : Part = whole.row in
       let px : p.x ≡ 0 = whole.x in let py : p.y ≡ 0 = whole.y in let pw : p.size.w ≡ u.size.w = ap (λ (e : Extent). e.w) whole.size in let ph : p.size.h ≡ u.size.h = ap (λ (e : Extent). e.h) whole.size in
@@ -298,32 +321,33 @@ module _ (texts : Texts) (history : List Entry) (content : Content) (sound : IsS
       let own : r.name ≡ r.root = same_is r.name r.root (and_parts (is_whole r) (same_name r.root u.name) t).0 in
       other (sym (sound.parts k r g).named ∙ own ∙ root)))
       ∙ mark_in (is_whole p && same_name p.root u.name) p.x p.y p.size.w p.size.h x y (omega arith) (omega arith) (omega arith) (omega arith)
-      ∙ ap bit (and_yes (is_whole p) (same_name p.root u.name) (same_yes p.root u.name whole.root) ∙ same_yes p.name p.root (name ∙ sym whole.root) ∙ ap (counts column.Received u.name) (sym o.owned))
+      ∙ ap bit (and_yes (is_whole p) (same_name p.root u.name) (same_yes p.root u.name whole.root) ∙ same_yes p.name p.root (name ∙ sym whole.root))
 
-  one_by_one : (c : Column) (code : List ℕ) → count_of c history code ≡ sum_units (λ n x y. bit (counts c n (owner_of history n x y))) code (units_of history)
-  one_by_one c code = sum_by-units (λ (e : Name × (ℕ × ℕ)). bit (counts c e.0 (owner_of history e.0 e.1.0 e.1.1))) (is_of code) (units_of history)
+  one_by_one : (c : Column) (code : List ℕ) → cells_of_column c deeds code ≡ sum_units (λ n x y. bit (counts_cell c n (owner_of deeds n x y))) code (units_of deeds)
+  one_by_one c code = sum_by-units (λ (e : Name × (ℕ × ℕ)). bit (counts_cell c e.0 (owner_of deeds e.0 e.1.0 e.1.1))) (is_of code) (units_of deeds)
 
-  all_counted : (c : Column) → ((u : ReceivedUnit) → IsIn u (units_of history) → (x y : ℕ) → x < u.size.w → y < u.size.h
-      → sum_by (λ v. marked (is_counted c) [] (units_of history) (units_apart history) v u.name x y) (values content.parts) ≡ bit (counts c u.name (owner_of history u.name x y)))
-      → (code : List ℕ) → cells_in c code (values content.parts) ≡ count_of c history code
+  all_counted : (c : Column) → ((u : ReceivedUnit) → IsIn u (units_of deeds) → (x y : ℕ) → x < u.size.w → y < u.size.h
+      → sum_by (λ v. marked (is_counted c) [] (units_of deeds) (units_apart deeds) v u.name x y) (values content.parts) ≡ bit (counts_cell c u.name (owner_of deeds u.name x y)))
+      → (code : List ℕ) → cells_in c code (values content.parts) ≡ cells_of_column c deeds code
   all_counted c cell code =
-      swapped (is_counted c) code (units_of history) (units_apart history) (values content.parts) has_unit
-      ∙ sum_units-same (λ n x y. sum_by (λ v. mark (is_counted c v && same_name v.root n) v x y) (values content.parts)) (λ n x y. bit (counts c n (owner_of history n x y))) code (units_of history) cell
+      swapped (is_counted c) code (units_of deeds) (units_apart deeds) (values content.parts) has_unit
+      ∙ sum_units-same (λ n x y. sum_by (λ v. mark (is_counted c v && same_name v.root n) v x y) (values content.parts)) (λ n x y. bit (counts_cell c n (owner_of deeds n x y))) code (units_of deeds) cell
       ∙ sym (one_by_one c code)
 
-  by_owner : (c : Column) → IsByOwner c → (code : List ℕ) → cells_in c code (values content.parts) ≡ count_of c history code
+  by_owner : (c : Column) → IsByOwner c → (code : List ℕ) → cells_in c code (values content.parts) ≡ cells_of_column c deeds code
   by_owner c by code = all_counted c (λ u i x y xw yh. cell_counted c by u x y (s.cells u i x y xw yh)) code
 
-  pub counted : (code : List ℕ) (c : Column) → cells_in c code (values content.parts) ≡ count_of c history code
-  counted code column.Received = all_counted column.Received (λ u i x y xw yh. cell_received u i x y xw yh (s.cells u i x y xw yh)) code
+  pub counted : (code : List ℕ) (c : Column) → cells_in c code (values content.parts) ≡ cells_of_column c deeds code
+  counted code column.Received = all_counted column.Received cell_received code
   counted code column.Stock = by_owner column.Stock stock_by code
   counted code column.Rack = by_owner column.Rack rack_by code
   counted code column.Pieces = by_owner column.Pieces pieces_by code
   counted code column.Kerf = by_owner column.Kerf kerf_by code
   counted code column.Scrap = by_owner column.Scrap scrap_by code
+  counted code column.Returned = by_owner column.Returned returned_by code
 
   -- the totals of the content are the counts of cells
-  pub totals_counted : TotalsAreCounts history content
+  pub totals_counted : TotalsAreCounts deeds content
   totals_counted code = λ i. record {
     received = counted code column.Received i;
     stock = counted code column.Stock i;
@@ -331,4 +355,5 @@ module _ (texts : Texts) (history : List Entry) (content : Content) (sound : IsS
     pieces = counted code column.Pieces i;
     kerf = counted code column.Kerf i;
     scrap = counted code column.Scrap i;
+    returned = counted code column.Returned i;
   }

@@ -14,8 +14,9 @@ use Rattle.cut_tree.specs.Laying.{Owns, IsSpot, IsLaid}
 use Rattle.shop_machine.specs.declared.records.Part.{Part}
 use Rattle.shop_machine.specs.declared.records.State.{State}
 use Rattle.shop_machine.specs.declared.records.State.TheVariants.{Standing, Cut, Scrap}
-use Rattle.shop_machine.specs.Content.{with_parts}
-use Rattle.shop_machine.specs.Machine.{in_state, row_part, fate, unit_part, unit_parts}
+use Rattle.shop_machine.specs.Content.{with_parts, in_state}
+use Rattle.shop_machine.specs.Ending.{row_part, fate}
+use Rattle.shop_machine.specs.Receiving.{unit_part, unit_parts}
 use Rattle.shop_machine.specs.History.{Owner, owner_at, is_cut, standing_as, Holds, IsOwner, HasOwner, IsIn}
 use Rattle.shop_machine.proofs.Basics.{names_total, names_same, names_equal, name_cases, same_some, none_some, get_same, get_other, all_in, any_in, pair_in, in_map, map_in, put_cases}
 
@@ -65,6 +66,53 @@ module _ (m : FinMap name_cmp Part) (named : Named m) (p : Name) (row : Part) (k
           kept = other o.part.name e.0 ∙ o.kept;
           holds = o.holds;
           owned = o.owned;
+          same = o.same;
+          alone = λ n q k g. elim (name_cases n p) [
+            | inl f ↦ (
+                let is : q ≡ in_state s row = same_some q (in_state s row) (sym k ∙ ap (get new) f.0 ∙ here) in
+                let h : Holds u x y (in_state s row) = subst (Holds u x y) is g in
+                let before : row ≡ o.part = o.alone p row kept (record { root = h.root; whole = whole; right = h.right; left = h.left; below = h.below; above = h.above }) in
+                absurd (e.0 (ap (λ (r : Part). r.name) (sym before) ∙ named p row kept)))
+            | inr f ↦ o.alone n q (sym (other n f.0) ∙ k) g
+          ];
+        }
+      ]
+
+  -- a standing part as a whole gets a state that stays
+  pub turned : (s : State) → is_cut s ≡ false → standing_as s ≡ s → (found after : Option Owner) (u : Name) (x y : ℕ)
+      → ((w : Owner) → found ≡ Some w → w.name ≡ p → standing_as row.state ≡ w.state → after ≡ Some (record w { state = s }))
+      → ((w : Owner) → found ≡ Some w → (w.name ≡ p → ⊥) → after ≡ Some w)
+      → HasOwner m found u x y → HasOwner (insert m p (in_state s row)) after u x y
+  turned s open' stays found after u x y mine others o =
+      let new = insert m p (in_state s row) in
+      let here : get new p ≡ Some (in_state s row) = get_same names_total names_same m p (in_state s row) in
+      let other : (q : Name) → (q ≡ p → ⊥) → get new q ≡ get m q = λ q n. get_other names_total names_same m p (in_state s row) q n in
+      elim (name_cases o.part.name p) [
+        | inl e ↦ (
+            let is : o.part ≡ row = in_part found u x y o e.0 in
+            let h : Holds u x y row = subst (Holds u x y) is o.holds in
+            let w : IsOwner o.owner x y row = subst (IsOwner o.owner x y) is o.same in
+            record {
+              part = in_state s row;
+              owner = record (o.owner) { state = s };
+              kept = ap (get new) (named p row kept) ∙ here;
+              holds = record { root = h.root; whole = open'; right = h.right; left = h.left; below = h.below; above = h.above };
+              owned = mine o.owner o.owned (sym w.name ∙ named p row kept) w.state;
+              same = record { name = w.name; state = stays; size = w.size; across = w.across; down = w.down };
+              alone = λ n q k g. elim (name_cases n p) [
+                | inl f ↦ same_some q (in_state s row) (sym k ∙ ap (get new) f.0 ∙ here)
+                | inr f ↦ (
+                    let old : get m n ≡ Some q = sym (other n f.0) ∙ k in
+                    let same : q ≡ o.part = o.alone n q old g in
+                    absurd (f.0 (sym (named n q old) ∙ ap (λ (r : Part). r.name) same ∙ e.0)))
+              ];
+            })
+        | inr e ↦ record {
+          part = o.part;
+          owner = o.owner;
+          kept = other o.part.name e.0 ∙ o.kept;
+          holds = o.holds;
+          owned = others o.owner o.owned (λ is. e.0 (o.same.name ∙ is));
           same = o.same;
           alone = λ n q k g. elim (name_cases n p) [
             | inl f ↦ (
@@ -162,13 +210,13 @@ module _ (m : FinMap name_cmp Part) (named : Named m) (p : Name) (row : Part) (k
       ]
 
   -- a cell of a new part was one of the part that was cut
-  pub was_in : (u : Name) (x y : ℕ) (r : Row) → IsIn r rows → Holds u x y (row_part row rule job r) → lay.Holds r (x - row.x) (y - row.y) × Holds u x y row
+  pub was_in : (u : Name) (x y : ℕ) (r : Row) → IsIn r rows → Holds u x y (row_part row rule job r) → lay.CoversCell r (x - row.x) (y - row.y) × Holds u x y row
   was_in u x y r i h =
       let a : row.x + r.x ≤ x = h.right in let b : x < (row.x + r.x) + r.w = h.left in
       let c : row.y + r.y ≤ y = h.below in let d : y < (row.y + r.y) + r.h = h.above in
-      let held : lay.Holds r (x - row.x) (y - row.y) = record { left = omega arith; right = omega arith; top = omega arith; bottom = omega arith } in
+      let held : lay.CoversCell r (x - row.x) (y - row.y) = record { left = omega arith; right = omega arith; top = omega arith; bottom = omega arith } in
       let owns : Owns tree row.size.w row.size.h rule.kerf outcome r.node r.owner (x - row.x) (y - row.y) =
-      (all_in (λ (s : Row). (k l : ℕ) → lay.Holds s k l ↔ Owns tree row.size.w row.size.h rule.kerf outcome s.node s.owner k l) rows laid.own_cells r i (x - row.x) (y - row.y)).0 held in
+      (all_in (λ (s : Row). (k l : ℕ) → lay.CoversCell s k l ↔ Owns tree row.size.w row.size.h rule.kerf outcome s.node s.owner k l) rows laid.own_cells r i (x - row.x) (y - row.y)).0 held in
       let wide : x - row.x < row.size.w = owns.inside_width in let high : y - row.y < row.size.h = owns.inside_height in
       (held, record { root = h.root; whole = whole; right = omega arith; left = omega arith; below = omega arith; above = omega arith })
 
@@ -178,8 +226,8 @@ module _ (m : FinMap name_cmp Part) (named : Named m) (p : Name) (row : Part) (k
   abbrev spot_at : ℕ → ℕ → Spot
   spot_at i j = spot_of tree row.size.w row.size.h rule.kerf outcome 0 0 i j
 
-  placed : (r : Row) → IsIn r rows → (i j : ℕ) → lay.Holds r i j → IsSpot r (spot_at i j) i j
-  placed r i = all_in (λ (r : Row). (i j : ℕ) → lay.Holds r i j → IsSpot r (spot_at i j) i j) rows laid.own_place r i
+  placed : (r : Row) → IsIn r rows → (i j : ℕ) → lay.CoversCell r i j → IsSpot r (spot_at i j) i j
+  placed r i = all_in (λ (r : Row). (i j : ℕ) → lay.CoversCell r i j → IsSpot r (spot_at i j) i j) rows laid.own_place r i
 
   -- the part of a row is the owner's at the spot
   row_owner : (r : Row) (s : Spot) (i j x y : ℕ) → IsSpot r s i j → row.x + i ≡ x → row.y + j ≡ y → IsOwner (owner_at rule job s) x y (row_part row rule job r)
@@ -197,22 +245,22 @@ module _ (m : FinMap name_cmp Part) (named : Named m) (p : Name) (row : Part) (k
       }
 
   -- two rows with one cell
-  same_place : (r t : Row) → IsIn r rows → IsIn t rows → (i j : ℕ) → lay.Holds r i j → lay.Holds t i j → t ≡ r
+  same_place : (r t : Row) → IsIn r rows → IsIn t rows → (i j : ℕ) → lay.CoversCell r i j → lay.CoversCell t i j → t ≡ r
   same_place r t a b i j p q = one_row t r b a (sym (placed t b i j q).node ∙ (placed r a i j p).node)
 
-  here : (u : Name) (x y : ℕ) (r : Row) (i : ℕ) (j : ℕ) → lay.Holds r i j → row.x + i ≡ x → row.y + j ≡ y → Holds u x y row → Holds u x y (row_part row rule job r)
+  here : (u : Name) (x y : ℕ) (r : Row) (i : ℕ) (j : ℕ) → lay.CoversCell r i j → row.x + i ≡ x → row.y + j ≡ y → Holds u x y row → Holds u x y (row_part row rule job r)
   here u x y r i j held across down h =
       let a : r.x ≤ i = held.left in let b : i < r.x + r.w = held.right in
       let c : r.y ≤ j = held.top in let d : j < r.y + r.h = held.bottom in
       record { root = h.root; whole = fate_whole rule r.owner (record { w = r.w; h = r.h }); right = omega arith; left = omega arith; below = omega arith; above = omega arith }
 
-  moved : (t : Row) (i j x y : ℕ) → row.x + i ≡ x → row.y + j ≡ y → lay.Holds t (x - row.x) (y - row.y) → lay.Holds t i j
+  moved : (t : Row) (i j x y : ℕ) → row.x + i ≡ x → row.y + j ≡ y → lay.CoversCell t (x - row.x) (y - row.y) → lay.CoversCell t i j
   moved t i j x y across down held =
       let ex : x - row.x ≡ i = omega arith in let ey : y - row.y ≡ j = omega arith in
-      subst (λ b. lay.Holds t i b) ey (subst (λ a. lay.Holds t a (y - row.y)) ex held)
+      subst (λ b. lay.CoversCell t i b) ey (subst (λ a. lay.CoversCell t a (y - row.y)) ex held)
 
   -- a cell of the part that is cut belongs to the row that has it
-  in_new : (w : Owner) (after : Option Owner) (u : Name) (x y : ℕ) (r : Row) → IsIn r rows → lay.Holds r w.x w.y → row.x + w.x ≡ x → row.y + w.y ≡ y → Holds u x y row
+  in_new : (w : Owner) (after : Option Owner) (u : Name) (x y : ℕ) (r : Row) → IsIn r rows → lay.CoversCell r w.x w.y → row.x + w.x ≡ x → row.y + w.y ≡ y → Holds u x y row
       → after ≡ Some (owner_at rule job (spot_at w.x w.y)) → ((n : Name) (q : Part) → get m n ≡ Some q → Holds u x y q → n ≡ p) → HasOwner after_cuts after u x y
   in_new w after u x y r i held across down h owned only = record {
     part = row_part row rule job r;
@@ -230,10 +278,10 @@ module _ (m : FinMap name_cmp Part) (named : Named m) (p : Name) (row : Part) (k
     ];
   }
 
-  held_row : (u : Name) (x y i j : ℕ) → row.x + i ≡ x → row.y + j ≡ y → Holds u x y row → (r : Row) × IsIn r rows × lay.Holds r i j
+  held_row : (u : Name) (x y i j : ℕ) → row.x + i ≡ x → row.y + j ≡ y → Holds u x y row → (r : Row) × IsIn r rows × lay.CoversCell r i j
   held_row u x y i j across down h =
       let right : x < row.x + row.size.w = h.left in let bottom : y < row.y + row.size.h = h.above in
-      any_in (λ (r : Row). lay.Holds r i j) rows (laid.each_cell i j (omega arith) (omega arith))
+      any_in (λ (r : Row). lay.CoversCell r i j) rows (laid.each_cell i j (omega arith) (omega arith))
 
   pub cut_up : (found after : Option Owner) (u : Name) (x y : ℕ)
       → ((w : Owner) → row.root ≡ u → found ≡ Some w → w.name ≡ p → w.state ≡ Standing

@@ -1,5 +1,5 @@
 -- The definitions on small examples: STEEL comes in bars, GLASS in sheets.
-use Rattle.std.proofs.Common.{◌≡◌, ℕ, List, [], ◌∷◌, false, refl}
+use Rattle.std.proofs.Common.{◌≡◌, ℕ, List, [], ◌∷◌, false, refl, arith}
 use Rattle.std.specs.Prelude.{Option, Some, None, codes}
 use Rattle.cut_measure.specs.Measures.{cells_of}
 use Rattle.cut_measure.specs.declared.sizes.Kind.TheVariants.{Bar, Sheet}
@@ -12,9 +12,15 @@ use Rattle.shop_machine.specs.declared.records.State.TheVariants as state
 use Rattle.shop_machine.specs.declared.records.Material.{Material}
 use Rattle.shop_machine.specs.declared.refusals.Refusal.TheVariants.{NoMaterial, BadSize, BadCount, TooMuch, NumbersSpent, MaterialExists, BadMaterial}
 use Rattle.shop_machine.specs.declared.messages.Command.TheVariants.{AddMaterial, Receive, AddOrder, Reserve, Done}
+use Rattle.shop_machine.specs.declared.messages.OrderLine.{OrderLine}
 use Rattle.shop_machine.specs.declared.records.Column.TheVariants as column
-use Rattle.shop_machine.specs.Machine.{receive_refusal, material_refusal}
-use Rattle.shop_machine.specs.History.{Entry, Owner, acts_of, owner_of, count_of}
+use Rattle.shop_machine.specs.Readings.{unread, Plan}
+use Rattle.shop_machine.specs.Receiving.{receive_refusal}
+use Rattle.shop_machine.specs.Adding.{material_refusal}
+use Rattle.shop_machine.specs.History.{Entry, deeds_of, Owner, acts_of, owner_of, cells_of_column, ordered_lines, nth_line, IsAccountOf}
+use Rattle.shop_machine.specs.Messages.{Texts}
+use Rattle.shop_machine.specs.Content.{Content, demand_at}
+use Rattle.shop_machine.specs.Soundness.{reserved_in, made_in}
 
 steel : Material
 steel = record { code = codes "STEEL"; kind = Bar; limits = record { kerf = 3; min_long = 20; min_short = 1 } }
@@ -79,24 +85,77 @@ known_with_equals = refl
 -- two bars of three cells: a receipt after the material was added
 two_bars : List Entry
 two_bars =
-    record { message = record { terminal = 1; number = 2; command = Receive (codes "STEEL") (codes "B-1") 3 1 2 }; read = None }
-    ∷ record { message = record { terminal = 1; number = 1; command = AddMaterial (codes "STEEL") Bar 3 20 1 }; read = None } ∷ []
+    record { message = record { terminal = 1; number = 2; command = Receive (codes "STEEL") (codes "B-1") 3 1 2 }; read = unread }
+    ∷ record { message = record { terminal = 1; number = 1; command = AddMaterial (codes "STEEL") Bar 3 20 1 }; read = unread } ∷ []
 
-one_act : acts_of two_bars ≡ 1
+one_act : acts_of (deeds_of two_bars) ≡ 1
 unfolding two_bars
 one_act = refl
 
-six_received : count_of column.Received two_bars (codes "STEEL") ≡ 6
+six_received : cells_of_column column.Received (deeds_of two_bars) (codes "STEEL") ≡ 6
 unfolding two_bars cells_of
 six_received = refl
 
-all_in_stock : count_of column.Stock two_bars (codes "STEEL") ≡ 6
+all_in_stock : cells_of_column column.Stock (deeds_of two_bars) (codes "STEEL") ≡ 6
 unfolding two_bars cells_of
 all_in_stock = refl
 
-none_on_the_rack : count_of column.Rack two_bars (codes "STEEL") ≡ 0
+none_on_the_rack : cells_of_column column.Rack (deeds_of two_bars) (codes "STEEL") ≡ 0
 unfolding two_bars cells_of
 none_on_the_rack = refl
+
+-- an order of one line, and then one of two: their demands are 1, 2 and 3
+abbrev bar_line : ℕ → ℕ → OrderLine
+bar_line number w = record { line = number; material = codes "STEEL"; w = w; h = 1; count = 5; worth = 10; turn = false }
+
+two_orders : List Entry
+two_orders =
+    record { message = record { terminal = 1; number = 3; command = AddOrder (codes "A-2") (bar_line 1 20 ∷ bar_line 7 30 ∷ []) }; read = unread }
+    ∷ record { message = record { terminal = 1; number = 2; command = AddOrder (codes "A-1") (bar_line 4 10 ∷ []) }; read = unread }
+    ∷ record { message = record { terminal = 1; number = 1; command = AddMaterial (codes "STEEL") Bar 3 20 1 }; read = unread } ∷ []
+
+no_act : acts_of (deeds_of two_orders) ≡ 0
+unfolding two_orders
+no_act = refl
+
+first_line : nth_line 1 (ordered_lines (deeds_of two_orders)) ≡ Some (record { order = codes "A-1"; line = bar_line 4 10 })
+unfolding two_orders
+first_line = refl
+
+second_line : nth_line 2 (ordered_lines (deeds_of two_orders)) ≡ Some (record { order = codes "A-2"; line = bar_line 1 20 })
+unfolding two_orders
+second_line = refl
+
+module _ (texts : Texts) (content : Content) (account : IsAccountOf texts two_orders content) where
+  third_demand : demand_at content 3 ≡ Some (record {
+    number = 3;
+    order = codes "A-2";
+    line = 7;
+    material = codes "STEEL";
+    size = record { w = 30; h = 1 };
+    may_turn = false;
+    worth = 10;
+    wanted = 5;
+    reserved = reserved_in 3 content;
+    made = made_in 3 content;
+  })
+  unfolding two_orders
+  third_demand = account.lines 3
+
+  no_fourth_demand : demand_at content 4 ≡ None
+  unfolding two_orders
+  no_fourth_demand = account.lines 4
+
+  no_demand_of_zero : demand_at content 0 ≡ None
+  no_demand_of_zero = account.lines 0
+
+  last_is_third : content.last_demand ≡ 3
+  unfolding two_orders
+  last_is_third = account.last_demand
+
+  -- a machine that skips a number after each order has no account
+  none_is_skipped : content.last_demand ≡ 5 → ⊥
+  none_is_skipped e = let last = last_is_third in omega (arith, last, e)
 
 -- Two pieces of a sheet of 10 by 8, and then one of what was left of it: whose its cells are.
 sheet_tree : Tree
@@ -107,16 +166,16 @@ rest_tree = Cut Y 3 (Piece 3 false) Rest
 
 two_pieces : List Entry
 two_pieces =
-    record { message = record { terminal = 1; number = 5; command = Done 2 }; read = None }
-    ∷ record { message = record { terminal = 1; number = 4; command = Reserve (record { act = 1; node = 0 }) (codes "x4 y3 p1 p2 r") }; read = Some (record { tree = sheet_tree; w = 10; h = 8; kerf = 1 }) }
-    ∷ record { message = record { terminal = 1; number = 3; command = AddOrder (codes "A-1") [] }; read = None }
-    ∷ record { message = record { terminal = 1; number = 2; command = Receive (codes "GLASS") (codes "B-1") 10 8 1 }; read = None }
-    ∷ record { message = record { terminal = 1; number = 1; command = AddMaterial (codes "GLASS") Sheet 1 5 4 }; read = None } ∷ []
+    record { message = record { terminal = 1; number = 5; command = Done 2 }; read = unread }
+    ∷ record { message = record { terminal = 1; number = 4; command = Reserve (record { act = 1; node = 0 }) (codes "x4 y3 p1 p2 r") }; read = Plan (record { tree = sheet_tree; w = 10; h = 8; kerf = 1 }) }
+    ∷ record { message = record { terminal = 1; number = 3; command = AddOrder (codes "A-1") [] }; read = unread }
+    ∷ record { message = record { terminal = 1; number = 2; command = Receive (codes "GLASS") (codes "B-1") 10 8 1 }; read = unread }
+    ∷ record { message = record { terminal = 1; number = 1; command = AddMaterial (codes "GLASS") Sheet 1 5 4 }; read = unread } ∷ []
 
 remnant_cut : List Entry
 remnant_cut =
-    record { message = record { terminal = 1; number = 8; command = Done 3 }; read = None }
-    ∷ record { message = record { terminal = 1; number = 7; command = Reserve (record { act = 2; node = 4 }) (codes "y3 p3 r") }; read = Some (record { tree = rest_tree; w = 5; h = 8; kerf = 1 }) }
+    record { message = record { terminal = 1; number = 8; command = Done 3 }; read = unread }
+    ∷ record { message = record { terminal = 1; number = 7; command = Reserve (record { act = 2; node = 4 }) (codes "y3 p3 r") }; read = Plan (record { tree = rest_tree; w = 5; h = 8; kerf = 1 }) }
     ∷ two_pieces
 
 abbrev sheet : Name
@@ -125,29 +184,29 @@ sheet = record { act = 1; node = 0 }
 abbrev is_there : State → ℕ → ℕ → ℕ → ℕ → ℕ → ℕ → Option Owner
 is_there state act node w h x y = Some (record { state = state; name = record { act = act; node = node }; size = record { w = w; h = h }; x = x; y = y })
 
-first_piece : owner_of two_pieces sheet 3 2 ≡ is_there (state.Piece 1) 2 2 4 3 3 2
+first_piece : owner_of (deeds_of two_pieces) sheet 3 2 ≡ is_there (state.Piece 1) 2 2 4 3 3 2
 unfolding two_pieces sheet_tree spot_of
 first_piece = refl
 
-upright_kerf : owner_of two_pieces sheet 4 7 ≡ is_there state.Kerf 2 0 1 8 0 7
+upright_kerf : owner_of (deeds_of two_pieces) sheet 4 7 ≡ is_there state.Kerf 2 0 1 8 0 7
 unfolding two_pieces sheet_tree spot_of
 upright_kerf = refl
 
 -- its short side is over the limit, and its long side too
-kept_rest : owner_of two_pieces sheet 6 1 ≡ is_there state.Standing 2 4 5 8 1 1
+kept_rest : owner_of (deeds_of two_pieces) sheet 6 1 ≡ is_there state.Standing 2 4 5 8 1 1
 unfolding two_pieces sheet_tree spot_of
 kept_rest = refl
 
-piece_of_the_remnant : owner_of remnant_cut sheet 6 1 ≡ is_there (state.Piece 3) 3 1 5 3 1 1
+piece_of_the_remnant : owner_of (deeds_of remnant_cut) sheet 6 1 ≡ is_there (state.Piece 3) 3 1 5 3 1 1
 unfolding remnant_cut two_pieces sheet_tree rest_tree spot_of
 piece_of_the_remnant = refl
 
 -- sides that equal the limits are kept
-rest_of_the_remnant : owner_of remnant_cut sheet 5 4 ≡ is_there state.Standing 3 2 5 4 0 0
+rest_of_the_remnant : owner_of (deeds_of remnant_cut) sheet 5 4 ≡ is_there state.Standing 3 2 5 4 0 0
 unfolding remnant_cut two_pieces sheet_tree rest_tree spot_of
 rest_of_the_remnant = refl
 
 -- what the first job made stays
-still_a_piece : owner_of remnant_cut sheet 3 2 ≡ is_there (state.Piece 1) 2 2 4 3 3 2
+still_a_piece : owner_of (deeds_of remnant_cut) sheet 3 2 ≡ is_there (state.Piece 1) 2 2 4 3 3 2
 unfolding remnant_cut two_pieces sheet_tree rest_tree spot_of
 still_a_piece = refl

@@ -1,14 +1,15 @@
 -- What stays true of parts, jobs and demands when a content grows.
-use Rattle.std.proofs.Common.{◌≡◌, ℕ, ◌≤◌, ◌<◌, List, ◌∙◌, arith}
-use Rattle.std.specs.Prelude.{Some, None, IsSome}
+use Rattle.std.proofs.Common.{◌≡◌, ℕ, ◌≤◌, ◌<◌, List, sym, ap, ◌∙◌, arith, []}
+use Rattle.std.specs.Prelude.{Some, None, IsSome, AllPairs}
 use Rattle.cut_measure.specs.Names.{Name}
 use Rattle.shop_machine.specs.declared.records.Material.{Material}
 use Rattle.shop_machine.specs.declared.records.Part.{Part}
 use Rattle.shop_machine.specs.declared.records.Job.{Job}
 use Rattle.shop_machine.specs.declared.records.Demand.{Demand}
 use Rattle.shop_machine.specs.Content.{Content, material_at, part_at, job_at, demand_at}
-use Rattle.shop_machine.specs.Soundness.{IsInRange, IsKnown, IsPlaced, IsWaiting, IsJob, IsDemand}
-use Rattle.shop_machine.proofs.Basics.{none_at}
+use Rattle.shop_machine.specs.Soundness.{IsInRange, IsKnown, IsPlaced, IsWaiting, IsJob, IsDemand, IsCounted, IsSound}
+use Rattle.shop_machine.specs.Messages.{Texts}
+use Rattle.shop_machine.proofs.Basics.{same_some, none_at}
 use Rattle.shop_machine.proofs.Puts.{some_known, is_known}
 
 -- materials and demands that were there are there
@@ -38,6 +39,9 @@ module _ (old new : Content) (grows : Grows old new) where
     some_height = p.some_height;
     right = p.right;
     bottom = p.bottom;
+    flat = λ material is bar.
+        let m = some_known (material_at old part.material) p.known in
+        p.flat m.0 m.1 (ap (λ (x : Material). x.kind) (same_some m.0 material (sym (grows.materials part.material m.0 m.1) ∙ is)) ∙ bar);
     asked = λ number is. grows.demands number (p.asked number is);
   }
 
@@ -48,15 +52,17 @@ module _ (old new : Content) (grows : Grows old new) where
 
   waiting_more : (job : Job) → Untouched job → IsWaiting old job → IsWaiting new job
   waiting_more job u w = record {
-    row = w.row;
-    found = u.same ∙ w.found;
+    on = record {
+      row = w.on.row;
+      found = u.same ∙ w.on.found;
+      material = w.on.material;
+      known = grows.materials w.on.row.material w.on.material w.on.known;
+      width = w.on.width;
+      height = w.on.height;
+      kerf = w.on.kerf;
+    };
     reserved = w.reserved;
     older = w.older;
-    material = w.material;
-    known = grows.materials w.row.material w.material w.known;
-    width = w.width;
-    height = w.height;
-    kerf = w.kerf;
     demands = λ number h. grows.demands number (w.demands number h);
     none_yet = u.none_yet;
   }
@@ -77,3 +83,15 @@ module _ (old new : Content) (grows : Grows old new) where
 -- no part is named after an act to come
 pub none_later : (content : Content) → IsInRange content → (name : Name) → content.last_act < name.act → part_at content name ≡ None
 none_later content range name later = none_at (part_at content name) (λ part is. let le = range.acts name part is in omega (arith, le, later))
+
+-- a demand whose counts are as they were
+pub demand_more : (old new : Content) → Grows old new → old.last_demand ≤ new.last_demand → (number : ℕ) (demand : Demand) → IsDemand old number demand → IsCounted new number demand → IsDemand new number demand
+demand_more old new grows more number demand d counted =
+    let so_far = d.so_far in
+    record { numbered = d.numbered; least = d.least; so_far = omega (arith, so_far, more); known = known_more old new grows demand.material d.known; counted = counted }
+
+pub no_pairs : {X : Type 0} (R : X → X → Type 0) → AllPairs R []
+no_pairs R i j d before within = absurd (omega arith)
+
+pub stock_of : (texts : Texts) (m : Content) → IsSound texts m → IsStock m
+stock_of texts m sound = record { in_range = sound.in_range; materials = sound.materials; parts = sound.parts; jobs = sound.jobs; demands = sound.demands }

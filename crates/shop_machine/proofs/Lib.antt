@@ -1,30 +1,51 @@
-pub mod Units
-pub mod Sums
-pub mod Recounts
-pub mod NewDemands
-pub mod Refused
-pub mod Inside
+-- numbers, lists and finite maps
 pub mod Basics
-pub mod Cells
-pub mod Accounts
-pub mod Steps
-pub mod Given
-pub mod Marks
-pub mod CellCounts
-pub mod Owners
+pub mod Sums
 pub mod Puts
+pub mod Marks
+-- what is known of a command that isn't refused
 pub mod Allowed
-pub mod Grown
+pub mod Agreeing
+-- rows that change
 pub mod AddedUp
 pub mod Moved
-pub mod MaterialStep
-pub mod ReceiveStep
-pub mod OrderStep
+pub mod Grown
 pub mod PartStep
-pub mod ReserveStep
-pub mod JobEnds
-pub mod Told
-pub mod Agreeing
+pub mod RecountedRows
+-- laid rectangles and cells
+pub mod Inside
+pub mod Cells
+-- what a history says of the content
+pub mod OrderedLines
+pub mod Accounts
+pub mod Steps
+-- adding a material
+pub mod AddingStep
+pub mod AddingDeed
+-- receiving units
+pub mod ReceivingDecision
+pub mod ReceivingStep
+pub mod ReceivingDeed
+-- adding an order
+pub mod OrderingDecision
+pub mod OrderingStep
+pub mod OrderingDeed
+-- reserving a part
+pub mod ReservingDecision
+pub mod ReservingStep
+pub mod ReservingDeed
+-- the end of a job
+pub mod EndingDecision
+pub mod EndingStep
+pub mod EndingDeed
+-- a standing part as a whole gets another state
+pub mod TurningStep
+pub mod TurningDeed
+-- every command, every history and every run
 pub mod Sound
+pub mod Given
+pub mod CellCounts
+pub mod Owners
 pub mod Runs
+-- the definitions on small examples
 pub mod Examples

@@ -11,8 +11,8 @@ use Rattle.std.specs.FinMap.Entries.{below_all}
 use Rattle.cut_measure.specs.Names.{Name, name_cmp}
 use Rattle.cut_measure.specs.Measures.{Extent, below, cells_of}
 use Rattle.cut_tree.specs.Counting.{sum_below}
-use Rattle.cut_tree.proofs.Marks as rectangle
-use Rattle.cut_tree.proofs.Marks.{sum_cells, sum_below-same}
+use Rattle.cut_tree.proofs.CellSums as rectangle
+use Rattle.cut_tree.proofs.CellSums.{sum_cells, sum_below-same}
 use Rattle.shop_machine.specs.declared.records.Part.{Part}
 use Rattle.shop_machine.specs.History.{ReceivedUnit, IsIn}
 use Rattle.shop_machine.proofs.Sums.{first, second, less}

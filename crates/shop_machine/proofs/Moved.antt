@@ -9,9 +9,9 @@ use Rattle.shop_machine.specs.declared.records.Part.{Part}
 use Rattle.shop_machine.specs.declared.records.State.{State}
 use Rattle.shop_machine.specs.declared.records.Demand.{Demand}
 use Rattle.shop_machine.specs.declared.records.Column.TheVariants.{Received}
-use Rattle.shop_machine.specs.Columns.{is_piece_of}
-use Rattle.shop_machine.specs.Content.{with_parts, with_demands, cells_in, totals_in, AddsUp}
-use Rattle.shop_machine.specs.Machine.{AreRecounted, in_state, with_reserved, with_made, with_freed}
+use Rattle.shop_machine.specs.Columns.{is_piece_for}
+use Rattle.shop_machine.specs.Content.{with_parts, with_demands, cells_in, totals_in, AddsUp, in_state}
+use Rattle.shop_machine.specs.Recounts.{AreRecounted, with_reserved, with_made, with_freed}
 use Rattle.shop_machine.specs.History.{IsIn}
 use Rattle.shop_machine.proofs.Basics.{all_in, any_in, same_some, names_total, names_same, get_other, put_cases, demand_cases}
 use Rattle.shop_machine.proofs.Puts.{is_known, not_both, Pairwise, put_other, sum_parts, sum_over}
@@ -123,10 +123,10 @@ module _ (m : FinMap name_cmp Part) (part : Part) (s : State) (made : List Part)
       let old = adds_up_so code (values m) before in
       adds_up code (values moved) (received ∙ old ∙ omega (arith, sum, left))
 
-  pub made_moved : (number : ℕ) → is_piece_of number part.state ≡ false → is_piece_of number s ≡ false
-      → count_by (λ (p : Part). is_piece_of number p.state) (values moved) ≡ count_by (λ (p : Part). is_piece_of number p.state) (values m) + count_by (λ (p : Part). is_piece_of number p.state) made
+  pub made_moved : (number : ℕ) → is_piece_for number part.state ≡ false → is_piece_for number s ≡ false
+      → count_by (λ (p : Part). is_piece_for number p.state) (values moved) ≡ count_by (λ (p : Part). is_piece_for number p.state) (values m) + count_by (λ (p : Part). is_piece_for number p.state) made
   made_moved number a b =
-      let sum = sum_moved (λ (p : Part). if is_piece_of number p.state then 1 else 0) in
-      let none : ◌≡◌ {A = ℕ} (if is_piece_of number part.state then 1 else 0) 0 = ap {B = ℕ} (λ b. if b then 1 else 0) a in
-      let still : ◌≡◌ {A = ℕ} (if is_piece_of number s then 1 else 0) 0 = ap {B = ℕ} (λ b. if b then 1 else 0) b in
+      let sum = sum_moved (λ (p : Part). if is_piece_for number p.state then 1 else 0) in
+      let none : ◌≡◌ {A = ℕ} (if is_piece_for number part.state then 1 else 0) 0 = ap {B = ℕ} (λ b. if b then 1 else 0) a in
+      let still : ◌≡◌ {A = ℕ} (if is_piece_for number s then 1 else 0) 0 = ap {B = ℕ} (λ b. if b then 1 else 0) b in
       omega (arith, sum, none, still)

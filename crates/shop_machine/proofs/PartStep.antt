@@ -1,9 +1,10 @@
 -- A content after a part got another state, with new parts beside it, a job, and recounted demands.
-use Rattle.std.proofs.Common.{◌≡◌, ℕ, ◌+◌, ◌≤◌, ◌<◌, inl, inr, List, ◌∷◌, true, false, refl, sym, ap, subst, ◌∙◌, arith}
+use Rattle.std.proofs.Common.{◌≡◌, ℕ, ◌+◌, ◌≤◌, ◌<◌, inl, inr, List, ◌∷◌, get_or, true, false, refl, sym, ap, subst, ◌∙◌, arith}
 use Rattle.std.specs.Prelude.{Option, Some, None, IsSome, IfSome, MatchOption, ⊤, sum_by, count_by}
 use Rattle.std.specs.declared.cmp.Ordering.TheVariants.{Less, Equal}
 use Rattle.std.specs.Cmp.{nat_cmp_total, tied_itself}
 use Rattle.std.specs.FinMap.{values, nat_cmp-IsAntisymmetric}
+use Rattle.cut_measure.specs.declared.ranges.TheConstants.{MOST_NUMBERS}
 use Rattle.cut_measure.specs.Names.{Name, name_cmp}
 use Rattle.cut_tree.specs.Tree.{Tree, count_of}
 use Rattle.shop_machine.specs.declared.records.Part.{Part}
@@ -16,24 +17,26 @@ use Rattle.shop_machine.specs.declared.changes.Change.{Change}
 use Rattle.shop_machine.specs.declared.messages.Message.{Message}
 use Rattle.shop_machine.specs.declared.messages.Reply.{Reply}
 use Rattle.shop_machine.specs.Messages.{Texts, pair_of}
-use Rattle.shop_machine.specs.Columns.{is_there, is_piece_of}
-use Rattle.shop_machine.specs.Content.{Content, material_at, part_at, job_at, demand_at, kept_at, changed, with_number}
-use Rattle.shop_machine.specs.Machine.{AreRecounted, in_state, keeping, most_numbers}
+use Rattle.shop_machine.specs.Columns.{is_there, is_piece_for}
+use Rattle.shop_machine.specs.Content.{Content, material_at, part_at, job_at, demand_at, kept_at, changed, with_number, in_state}
+use Rattle.shop_machine.specs.Recounts.{AreRecounted}
+use Rattle.shop_machine.specs.Machine.{keeping}
 use Rattle.shop_machine.specs.History.{IsIn}
 use Rattle.shop_machine.specs.Soundness.{IsPlaced, IsWaiting, IsJob, IsDemand, IsCounted, PartFits, JobFits, DemandFits, Fits}
-use Rattle.shop_machine.proofs.Basics.{names_total, same_some}
+use Rattle.shop_machine.proofs.Basics.{at_in, names_total, same_some}
 use Rattle.shop_machine.proofs.Puts.{Pairwise, all_from, pairs_from, pairs_more, not_both, found_one}
 use Rattle.shop_machine.proofs.AddedUp.{cells_as, cells_left, is_uncut}
 use Rattle.shop_machine.proofs.Moved.{IsRecount, row_recount, recount_of, demand_there, found_moved, other_moved, received_moved, adds_up_moved, made_moved}
 use Rattle.shop_machine.proofs.Grown.{IsStock, Grows, Untouched, placed_more, job_more}
 
-standing_no_piece : (s : State) → is_there s ≡ true → (number : ℕ) → is_piece_of number s ≡ false
+standing_no_piece : (s : State) → is_there s ≡ true → (number : ℕ) → is_piece_for number s ≡ false
 standing_no_piece state.Standing e number = refl
 standing_no_piece (state.Reserved job) e number = refl
 standing_no_piece (state.Cut job) e number = cc
 standing_no_piece (state.Piece demand) e number = cc
 standing_no_piece state.Kerf e number = cc
 standing_no_piece state.Scrap e number = cc
+standing_no_piece state.Returned e number = cc
 
 pub standing_uncut : (s : State) → is_there s ≡ true → is_uncut s ≡ true
 standing_uncut state.Standing e = refl
@@ -42,6 +45,7 @@ standing_uncut (state.Cut job) e = cc
 standing_uncut (state.Piece demand) e = refl
 standing_uncut state.Kerf e = refl
 standing_uncut state.Scrap e = refl
+standing_uncut state.Returned e = refl
 
 less_apart : (a b : Name) → name_cmp a b ≡ Less → a ≡ b → ⊥
 less_apart a b less e =
@@ -52,17 +56,17 @@ less_apart a b less e =
 pub record IsPartStep (m : Content) (row : Part) (s : State) (made : List Part) (act : Option ℕ) : Type 0 where
   pub there : part_at m row.name ≡ Some row
   pub stands : is_there row.state ≡ true
-  pub plain : (number : ℕ) → is_piece_of number s ≡ false
+  pub plain : (number : ℕ) → is_piece_for number s ≡ false
   pub new : (x : Part) → IsIn x made → part_at m x.name ≡ None
   pub rising : Pairwise (λ (a b : Part). name_cmp a.name b.name ≡ Less) (in_state s row ∷ made)
   pub placed : (x : Part) → IsIn x made → IsPlaced m x.name x
   pub named : (x : Part) → IsIn x made → x.name.act ≤ with_number act m.last_act
   pub more : m.last_act ≤ with_number act m.last_act
-  pub numbers : IfSome act (λ a. (m.last_act < a) × (a ≤ most_numbers))
+  pub numbers : IfSome act (λ a. (m.last_act < a) × (a ≤ MOST_NUMBERS))
   pub received : (code : List ℕ) → sum_by (cells_as Received code) made ≡ 0
   pub left : (code : List ℕ) → cells_left code row ≡ cells_left code (in_state s row) + sum_by (cells_left code) made
 
-few_numbers : (act : Option ℕ) (last : ℕ) → last ≤ most_numbers → IfSome act (λ a. (last < a) × (a ≤ most_numbers)) → with_number act last ≤ most_numbers
+few_numbers : (act : Option ℕ) (last : ℕ) → last ≤ MOST_NUMBERS → IfSome act (λ a. (last < a) × (a ≤ MOST_NUMBERS)) → with_number act last ≤ MOST_NUMBERS
 few_numbers None last few h = few
 few_numbers (Some a) last few h = h.1
 
@@ -96,16 +100,16 @@ module _ (m : Content) (stock : IsStock m) (row : Part) (s : State) (made : List
   pub untouched : (j : Job) → IsWaiting m j → (row.state ≡ state.Reserved j.act → ⊥) → ((x : Part) → IsIn x made → x.name.act ≡ j.act → ⊥) → Untouched m after grows j
   untouched j w other names = record {
     same = other_moved m.parts row s made step.there step.new apart j.part
-        (λ e. other (ap (λ (p : Part). p.state) (same_some row w.row (sym step.there ∙ ap (λ n. part_at m n) (sym e) ∙ w.found)) ∙ w.reserved))
-        (λ x i e. not_both (part_at m x.name) w.row (step.new x i) (ap (λ n. part_at m n) e ∙ w.found));
+        (λ e. other (ap (λ (p : Part). p.state) (same_some row w.on.row (sym step.there ∙ ap (λ n. part_at m n) (sym e) ∙ w.on.found)) ∙ w.reserved))
+        (λ x i e. not_both (part_at m x.name) w.on.row (step.new x i) (ap (λ n. part_at m n) e ∙ w.on.found));
     none_yet = λ node.
         other_moved m.parts row s made step.there step.new apart (record { act = j.act; node = node })
         (λ e. not_both (part_at m (record { act = j.act; node = node })) row (w.none_yet node) (ap (λ n. part_at m n) e ∙ step.there))
         (λ x i e. names x i (ap (λ (n : Name). n.act) e)) ∙ w.none_yet node;
   }
 
-  pub made_after : (number : ℕ) → count_by (λ (p : Part). is_piece_of number p.state) (values after.parts)
-      ≡ count_by (λ (p : Part). is_piece_of number p.state) (values m.parts) + count_by (λ (p : Part). is_piece_of number p.state) made
+  pub made_after : (number : ℕ) → count_by (λ (p : Part). is_piece_for number p.state) (values after.parts)
+      ≡ count_by (λ (p : Part). is_piece_for number p.state) (values m.parts) + count_by (λ (p : Part). is_piece_for number p.state) made
   made_after number = made_moved m.parts row s made step.there step.new apart number (standing_no_piece row.state step.stands number) (step.plain number)
 
   row_placed : IsPlaced after row.name (in_state s row)
@@ -119,6 +123,7 @@ module _ (m : Content) (stock : IsStock m) (row : Part) (s : State) (made : List
         some_height = old.some_height;
         right = old.right;
         bottom = old.bottom;
+        flat = old.flat;
         asked = λ number piece. absurd (let no : true ≡ false = sym piece ∙ step.plain number in cc);
       }
 
@@ -132,6 +137,7 @@ module _ (m : Content) (stock : IsStock m) (row : Part) (s : State) (made : List
         let is : d ≡ record r.before { reserved = (recount c r.before).reserved; made = (recount c r.before).made } = r.now ∙ keeps c r.before in
         record {
           numbered = ap (λ (x : Demand). x.number) is ∙ old.numbered;
+          least = old.least;
           so_far = old.so_far;
           known = subst (λ (code : List ℕ). IsSome (material_at m code)) (sym (ap (λ (x : Demand). x.material) is)) old.known;
           counted = subst (IsCounted after number) (sym r.now) (counts number r.before r.was);
@@ -227,6 +233,10 @@ module _ (m : Content) (stock : IsStock m) (row : Part) (s : State) (made : List
       wanted = all_from (λ (d : Demand). IsSome (material_at m d.material) × (d.reserved + d.made ≤ d.wanted)) rows
           (λ x i. demand_wanted x (row_recount m.demands recount tree rows recounted none x x.number i refl));
       once = recounted.once;
+      lines = λ i j d before within new other same.
+          let x = get_or rows i d in
+          let r = row_recount m.demands recount tree rows recounted none x x.number (at_in rows i d (omega (arith, before, within))) refl in
+          absurd (not_both (demand_at m x.number) r.before new r.was);
       act = step.numbers;
       demand = tt;
       kept = new;

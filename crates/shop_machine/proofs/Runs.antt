@@ -10,12 +10,13 @@ use Rattle.shop_machine.specs.declared.kept_texts.Pair.{Pair}
 use Rattle.shop_machine.specs.declared.kept_texts.Kept.{Kept}
 use Rattle.shop_machine.specs.declared.messages.Message.{Message}
 use Rattle.shop_machine.specs.declared.messages.Reply.{Reply}
+use Rattle.shop_machine.specs.declared.refusals.Refusal.{Refusal}
 use Rattle.shop_machine.specs.Messages.{Texts, IsMessage, refusal_in, is_accepted, pair_of}
 use Rattle.shop_machine.specs.Content.{Content, pair_cmp, kept_at}
-use Rattle.cut_tree.specs.Patterns.{Pattern}
-use Rattle.shop_machine.specs.declared.refusals.Refusal.{Refusal}
+use Rattle.shop_machine.specs.Readings.{Reading}
 use Rattle.shop_machine.specs.Machine.{Accepts, Refuses, StepNew, StepAgain, Step, Run}
-use Rattle.shop_machine.specs.History.{Entry, messages_of, Gives, history_after, has_pair, same_pair}
+use Rattle.shop_machine.specs.Same.{same_pair}
+use Rattle.shop_machine.specs.History.{Entry, messages_of, Gives, history_after, has_pair}
 use Rattle.shop_machine.proofs.Puts.{pairs_total}
 
 module _ (texts : Texts) where
@@ -80,7 +81,7 @@ module _ (texts : Texts) (history : List Entry) (old new : Content) (message : M
   stays messages e same = record { history = history; same = sym e; given = subst (Gives texts history) (sym same) given }
 
   gives_new : (answer : Reply) (o : Option Refusal) → refusal_in answer ≡ o → kept_at old (pair_of message) ≡ None → has_pair (pair_of message) (messages_of history) ≡ false
-      → MatchOption o ((read : Option Pattern) × Accepts texts old message read answer new) (λ refusal. Refuses old message.command refusal × (new ≡ old))
+      → MatchOption o ((read : Reading) × Accepts texts old message read answer new) (λ refusal. Refuses old message.command refusal × (new ≡ old))
       → IsLater texts (accepted_after (messages_of history) message answer) new
   gives_new answer (Some refusal) is none first step =
       stays (accepted_after (messages_of history) message answer)

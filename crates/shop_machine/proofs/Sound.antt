@@ -1,36 +1,39 @@
 -- Every history gives a sound content, and what is accepted on a sound content fits it.
-use Rattle.std.proofs.Common.{◌≡◌, ◌≢◌, ◌+◌, ◌≤◌, List, [], ◌∷◌, map, refl, sym, ap, subst, ◌∙◌, arith}
-use Rattle.std.specs.Prelude.{Option, Some, None, length}
+use Rattle.std.proofs.Common.{◌≡◌, ◌≢◌, ◌+◌, ◌≤◌, List, [], ◌∷◌, map, refl, sym, ap, subst, ◌∙◌, arith, inl, inr, length}
+use Rattle.std.specs.Prelude.{Some, None, length, IsSome}
 use Rattle.std.specs.FinMap.{entries, get-empty, len-entries, len-empty, empty, values}
 use Rattle.std.specs.Ordering.{nat_cmp}
 use Rattle.cut_measure.specs.Codes.{code_cmp}
-use Rattle.cut_measure.specs.Names.{Name, name_cmp}
-use Rattle.cut_tree.specs.Patterns.{Pattern}
+use Rattle.cut_measure.specs.Names.{Name, IsName, name_cmp}
+use Rattle.shop_machine.specs.declared.receiving.TheConstants.{MOST_RECEIVED}
 use Rattle.shop_machine.specs.declared.records.Part.{Part}
+use Rattle.shop_machine.specs.declared.records.State.TheVariants as state
 use Rattle.shop_machine.specs.declared.changes.Change.{Change}
 use Rattle.shop_machine.specs.declared.messages.Command.{Command}
-use Rattle.shop_machine.specs.declared.messages.Command.TheVariants.{AddMaterial, Receive, AddOrder, Reserve, Done, Release}
+use Rattle.shop_machine.specs.declared.messages.Command.TheVariants.{AddMaterial, Receive, AddOrder, Reserve, Done, Release, Scrap, GiveBack}
 use Rattle.shop_machine.specs.declared.messages.Message.{Message}
+use Rattle.shop_machine.specs.declared.messages.Reply.TheVariants as reply
 use Rattle.shop_machine.specs.declared.refusals.Refusal.TheVariants.{StoreFault}
-use Rattle.shop_machine.specs.Messages.{Texts, IsMessage, IsMade, pair_of}
-use Rattle.shop_machine.specs.Content.{Content, fresh, pair_cmp, material_at, totals_in, AddsUp, has_order, kept_at, changed}
-use Rattle.shop_machine.specs.Machine.{Reads, refusal_of, Makes, keeping, most_received}
+use Rattle.shop_machine.specs.declared.kept_texts.Pair.{Pair}
+use Rattle.shop_machine.specs.declared.kept_texts.Kept.{Kept}
+use Rattle.shop_machine.specs.Messages.{Texts, IsMessage, IsMade, pair_of, IsCommand}
+use Rattle.shop_machine.specs.Readings.{Reading, plan_in}
+use Rattle.shop_machine.specs.Content.{Content, fresh, pair_cmp, material_at, totals_in, AddsUp, has_order, kept_at, changed, part_at, demand_at, material_of}
+use Rattle.shop_machine.specs.Machine.{Reads, refusal_of, Makes, keeping}
 use Rattle.shop_machine.specs.History.{Entry, Gives}
-use Rattle.shop_machine.specs.Soundness.{IsSound, Fits}
-use Rattle.shop_machine.proofs.Puts.{not_both}
-use Rattle.shop_machine.proofs.Allowed.{order_of, job_waits}
-use Rattle.shop_machine.proofs.Grown.{IsStock}
-use Rattle.shop_machine.proofs.MaterialStep.{material_stock, material_fits}
-use Rattle.shop_machine.proofs.ReceiveStep.{receive_stock, receive_fits}
-use Rattle.shop_machine.proofs.OrderStep.{order_stock, order_fits}
-use Rattle.shop_machine.proofs.ReserveStep.{reserve_stock, reserve_fits}
-use Rattle.shop_machine.proofs.JobEnds.{done_stock, done_fits, release_stock, release_fits}
-use Rattle.shop_machine.proofs.Told.{stock_of, receipt, reading, fitting, told_by, kept_after}
-use Rattle.shop_machine.proofs.Agreeing.{agrees_by}
+use Rattle.shop_machine.specs.Soundness.{IsSound, Fits, IsKept}
+use Rattle.shop_machine.proofs.Puts.{not_both, found_one, pairs_total, pairs_exact}
+use Rattle.shop_machine.proofs.OrderingStep.{order_of, order_stock, order_fits, order_agrees}
+use Rattle.shop_machine.proofs.EndingStep.{job_waits, done_stock, done_fits, release_stock, release_fits, so_far, done_told, end_agrees}
+use Rattle.shop_machine.proofs.ReceivingStep.{receive_stock, receive_fits, receipt, receive_agrees}
+use Rattle.shop_machine.proofs.ReservingStep.{reserve_stock, reserve_fits, reading, fitting, reserve_agrees}
+use Rattle.shop_machine.proofs.TurningStep.{scrap_stands, returned_stands, turn_stock, turn_fits, scrap_agrees, return_agrees}
+use Rattle.shop_machine.proofs.Grown.{IsStock, stock_of}
+use Rattle.shop_machine.proofs.AddingStep.{material_stock, material_fits, material_agrees, made_material}
 
 -- ---- by cases on the command
 
-fits_by : (texts : Texts) (message : Message) (m : Content) (stock : IsStock m) (command : Command) (read : Option Pattern) (change : Change) → Reads m command read
+fits_by : (texts : Texts) (message : Message) (m : Content) (stock : IsStock m) (command : Command) (read : Reading) (change : Change) → Reads m command read
     → refusal_of m command read ≡ None → Makes m command read change → kept_at m (pair_of message) ≡ None → Fits m (keeping texts message change)
 fits_by texts message m stock (AddMaterial material kind kerf min_long min_short) read change reads allowed makes new =
     subst (λ (c : Change). Fits m (keeping texts message c)) (sym makes) (material_fits texts message m material kind _ (material_at m material) refl new)
@@ -51,8 +54,14 @@ fits_by texts message m stock (Done number) read change reads allowed makes new 
 fits_by texts message m stock (Release number) read change reads allowed makes new =
     subst (λ (c : Change). Fits m (keeping texts message c)) (sym makes.4.is)
     (release_fits m stock number makes.0 makes.1 makes.2 makes.3 (job_waits m number makes.0 makes.3.found allowed) makes.4.rows makes.4.recounted texts message new)
+fits_by texts message m stock (Scrap part) read change reads allowed makes new =
+    subst (λ (c : Change). Fits m (keeping texts message c)) (sym makes.2)
+    (turn_fits m stock part makes.0 makes.1 (scrap_stands (part_at m part) makes.0 makes.1 allowed) state.Scrap refl (λ number. refl) texts message (reply.Scrap makes.0.name) new)
+fits_by texts message m stock (GiveBack part) read change reads allowed makes new =
+    subst (λ (c : Change). Fits m (keeping texts message c)) (sym makes.2)
+    (turn_fits m stock part makes.0 makes.1 (returned_stands (part_at m part) makes.0 makes.1 allowed) state.Returned refl (λ number. refl) texts message (reply.GiveBack makes.0.name) new)
 
-stock_by : (texts : Texts) (message : Message) (m : Content) (stock : IsStock m) (command : Command) (read : Option Pattern) (change : Change) → Reads m command read
+stock_by : (texts : Texts) (message : Message) (m : Content) (stock : IsStock m) (command : Command) (read : Reading) (change : Change) → Reads m command read
     → refusal_of m command read ≡ None → Makes m command read change → IsStock (changed m (keeping texts message change))
 stock_by texts message m stock (AddMaterial material kind kerf min_long min_short) read change reads allowed makes =
     subst (λ (c : Change). IsStock (changed m (keeping texts message c))) (sym makes) (material_stock texts message m material kind _ (material_at m material) refl allowed stock)
@@ -73,23 +82,90 @@ stock_by texts message m stock (Done number) read change reads allowed makes =
 stock_by texts message m stock (Release number) read change reads allowed makes =
     subst (λ (c : Change). IsStock (changed m (keeping texts message c))) (sym makes.4.is)
     (release_stock m stock number makes.0 makes.1 makes.2 makes.3 (job_waits m number makes.0 makes.3.found allowed) makes.4.rows makes.4.recounted texts message)
+stock_by texts message m stock (Scrap part) read change reads allowed makes =
+    subst (λ (c : Change). IsStock (changed m (keeping texts message c))) (sym makes.2)
+    (turn_stock m stock part makes.0 makes.1 (scrap_stands (part_at m part) makes.0 makes.1 allowed) state.Scrap refl (λ number. refl) texts message (reply.Scrap makes.0.name))
+stock_by texts message m stock (GiveBack part) read change reads allowed makes =
+    subst (λ (c : Change). IsStock (changed m (keeping texts message c))) (sym makes.2)
+    (turn_stock m stock part makes.0 makes.1 (returned_stands (part_at m part) makes.0 makes.1 allowed) state.Returned refl (λ number. refl) texts message (reply.GiveBack makes.0.name))
+
+-- the reply to what is accepted is one that an accepted message can get
+told_by : (m : Content) (stock : IsStock m) (command : Command) (read : Reading) (change : Change) → Reads m command read → refusal_of m command read ≡ None
+    → Makes m command read change → IsCommand command → IsMade change.reply
+told_by m stock (AddMaterial material kind kerf min_long min_short) read change reads allowed makes is =
+    subst (λ (c : Change). IsMade c.reply) (sym makes) (made_material (material_at m material) material kind _ is.0)
+told_by m stock (Receive material batch w h count) read change reads allowed makes is =
+    let number = (receipt m material batch w h count read allowed).number in
+    subst (λ (c : Change). IsMade c.reply) (sym makes) (omega (arith, number), is.4)
+told_by m stock (AddOrder order lines) read change reads allowed makes is =
+    let ordered = order_of (has_order m order) (material_at m) lines (m.last_demand + 1) allowed in
+    let some = ordered.some in
+    let few = ordered.few in
+    let numbers = ordered.numbers in
+    subst (λ (c : Change). IsMade c.reply) (sym makes) (omega (arith, few), omega (arith, some, numbers), is.0)
+told_by m stock (Reserve part text) read change reads allowed makes is =
+    let few = (reading m part text read makes.1 makes.3 reads).few_cuts in
+    let number = (fitting m part text read makes.0 makes.1 makes.2 makes.3 allowed).number in
+    subst (λ (c : Change). IsMade c.reply) (sym makes.4.is) (omega (arith, few), omega (arith, number))
+told_by m stock (Done number) read change reads allowed makes is =
+    subst (λ (c : Change). IsMade c.reply) (sym makes.4.is)
+    (done_told m stock number makes.0 makes.1 makes.2 makes.3 (job_waits m number makes.0 makes.3.found allowed) makes.4.laid makes.4.is_laid)
+told_by m stock (Release number) read change reads allowed makes is =
+    let waits = job_waits m number makes.0 makes.3.found allowed in
+    let le = so_far m stock number makes.0 makes.1 makes.2 makes.3 waits in
+    let last = stock.in_range.last in
+    subst (λ (c : Change). IsMade c.reply) (sym makes.4.is) (omega (arith, le, last))
+told_by m stock (Scrap part) read change reads allowed makes is =
+    subst (λ (c : Change). IsMade c.reply) (sym makes.2) (subst IsName (sym (stock.parts part makes.0 makes.1).named) is)
+told_by m stock (GiveBack part) read change reads allowed makes is =
+    subst (λ (c : Change). IsMade c.reply) (sym makes.2) (subst IsName (sym (stock.parts part makes.0 makes.1).named) is)
+
+agrees_by : (m : Content) (stock : IsStock m) (command : Command) (read : Reading) → refusal_of m command read ≢ Some StoreFault
+agrees_by m stock (AddMaterial material kind kerf min_long min_short) read = material_agrees (material_at m material) kind _
+agrees_by m stock (Receive material batch w h count) read = receive_agrees (material_at m material) _ _ w h count
+agrees_by m stock (AddOrder order lines) read = order_agrees _ (material_at m) lines _
+agrees_by m stock (Reserve part text) read =
+    reserve_agrees (part_at m part) (material_of m (part_at m part)) (plan_in read) (demand_at m) (m.last_act + 1)
+    (λ p there. subst (λ o. IsSome (material_of m o)) (sym there) (stock.parts part p there).known)
+agrees_by m stock (Done number) read = end_agrees m stock number
+agrees_by m stock (Release number) read = end_agrees m stock number
+agrees_by m stock (Scrap part) read = scrap_agrees (part_at m part)
+agrees_by m stock (GiveBack part) read = return_agrees (part_at m part)
+
+-- ---- what is kept
+
+pub kept_after : (texts : Texts) (m : Content) (message : Message) (change : Change) → IsMessage message → IsMade change.reply
+    → ((pair : Pair) (row : Kept) → kept_at m pair ≡ Some row → IsKept texts pair row)
+    → (pair : Pair) (row : Kept) → kept_at (changed m (keeping texts message change)) pair ≡ Some row → IsKept texts pair row
+kept_after texts m message change is_message told old pair row is =
+    elim (found_one pairs_total pairs_exact m.kept (pair_of message) (record { command = texts.of_message message; reply = texts.of_reply change.reply }) pair row is) [
+      | inl q ↦
+          record {
+            message = message;
+            answer = change.reply;
+            is_message = is_message;
+            of_pair = sym q.0;
+            keeps = record { made = told; command = ap (λ (row : Kept). row.command) q.1; reply = ap (λ (row : Kept). row.reply) q.1 };
+          }
+      | inr q ↦ old pair row q.1
+    ]
 
 -- ---- accepted changes
 
 -- what is accepted on a sound content fits it
-pub fits_accepted : (texts : Texts) (m : Content) (message : Message) (read : Option Pattern) (change : Change) → IsSound texts m → Reads m message.command read
+pub fits_accepted : (texts : Texts) (m : Content) (message : Message) (read : Reading) (change : Change) → IsSound texts m → Reads m message.command read
     → refusal_of m message.command read ≡ None → Makes m message.command read change → kept_at m (pair_of message) ≡ None → Fits m (keeping texts message change)
 fits_accepted texts m message read change sound reads allowed makes new =
     fits_by texts message m (stock_of texts m sound) message.command read change reads allowed makes new
 
 -- its reply is one that an accepted message can get
-pub told_accepted : (texts : Texts) (m : Content) (message : Message) (read : Option Pattern) (change : Change) → IsSound texts m → Reads m message.command read
+pub told_accepted : (texts : Texts) (m : Content) (message : Message) (read : Reading) (change : Change) → IsSound texts m → Reads m message.command read
     → refusal_of m message.command read ≡ None → Makes m message.command read change → IsMessage message → IsMade change.reply
 told_accepted texts m message read change sound reads allowed makes is =
     told_by m (stock_of texts m sound) message.command read change reads allowed makes is.command
 
 -- it leaves a sound content
-pub sound_after : (texts : Texts) (m : Content) (message : Message) (read : Option Pattern) (change : Change) → IsSound texts m → Reads m message.command read
+pub sound_after : (texts : Texts) (m : Content) (message : Message) (read : Reading) (change : Change) → IsSound texts m → Reads m message.command read
     → refusal_of m message.command read ≡ None → Makes m message.command read change → IsMessage message → IsSound texts (changed m (keeping texts message change))
 sound_after texts m message read change sound reads allowed makes is =
     let stock = stock_by texts message m (stock_of texts m sound) message.command read change reads allowed makes in
@@ -103,7 +179,7 @@ sound_after texts m message read change sound reads allowed makes is =
     }
 
 -- its rows don't contradict each other
-pub agrees : (texts : Texts) (m : Content) (message : Message) (read : Option Pattern) → IsSound texts m → Reads m message.command read
+pub agrees : (texts : Texts) (m : Content) (message : Message) (read : Reading) → IsSound texts m → Reads m message.command read
     → refusal_of m message.command read ≢ Some StoreFault
 agrees texts m message read sound reads = agrees_by m (stock_of texts m sound) message.command read
 
@@ -125,7 +201,7 @@ fresh_sound texts = record {
     acts = λ name part is. absurd (not_both _ part (get-empty name_cmp name) is);
     last = omega arith;
     last_demand = omega arith;
-    received = λ code. subst (λ (ps : List Part). (totals_in code ps).received ≤ most_received) (sym no_values) (omega arith);
+    received = λ code. subst (λ (ps : List Part). (totals_in code ps).received ≤ MOST_RECEIVED) (sym no_values) (omega arith);
     adds_up = λ code. subst (λ (ps : List Part). AddsUp (totals_in code ps)) (sym no_values) refl;
   };
   materials = λ code material is. absurd (not_both _ material (get-empty code_cmp code) is);

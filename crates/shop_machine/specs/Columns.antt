@@ -1,18 +1,15 @@
 -- Which parts a total counts.
 use Rattle.std.specs.Prelude.{ℕ, ◌&&◌, ◌==◌, Bool, true, false, not}
-use Rattle.cut_measure.specs.Names.{Name}
 use Rattle.shop_machine.specs.declared.records.Part.{Part}
 use Rattle.shop_machine.specs.declared.records.Column.{Column}
-use Rattle.shop_machine.specs.declared.records.Column.TheVariants.{Received, Stock, Rack, Pieces, Kerf, Scrap}
+use Rattle.shop_machine.specs.declared.records.Column.TheVariants.{Received, Stock, Rack, Pieces, Kerf, Scrap, Returned}
 use Rattle.shop_machine.specs.declared.records.State.{State}
 use Rattle.shop_machine.specs.declared.records.State.TheVariants as state
 use Rattle.shop_machine.specs.declared.records.StateWord.{StateWord}
 use Rattle.shop_machine.specs.declared.records.StateWord.TheVariants as word
 use Rattle.shop_machine.specs.declared.records.JobState.{JobState}
 use Rattle.shop_machine.specs.declared.records.JobState.TheVariants as job
-
-abbrev pub same_name : Name → Name → Bool
-same_name a b = (a.act == b.act) && (a.node == b.node)
+use Rattle.shop_machine.specs.Same.{same_name}
 
 -- a part that was received whole
 abbrev pub is_whole : Part → Bool
@@ -26,6 +23,7 @@ is_there (state.Cut job) = false
 is_there (state.Piece demand) = false
 is_there state.Kerf = false
 is_there state.Scrap = false
+is_there state.Returned = false
 
 abbrev pub is_piece : State → Bool
 is_piece state.Standing = false
@@ -34,6 +32,7 @@ is_piece (state.Cut job) = false
 is_piece (state.Piece demand) = true
 is_piece state.Kerf = false
 is_piece state.Scrap = false
+is_piece state.Returned = false
 
 abbrev pub is_kerf : State → Bool
 is_kerf state.Standing = false
@@ -42,6 +41,7 @@ is_kerf (state.Cut job) = false
 is_kerf (state.Piece demand) = false
 is_kerf state.Kerf = true
 is_kerf state.Scrap = false
+is_kerf state.Returned = false
 
 abbrev pub is_scrap : State → Bool
 is_scrap state.Standing = false
@@ -50,6 +50,16 @@ is_scrap (state.Cut job) = false
 is_scrap (state.Piece demand) = false
 is_scrap state.Kerf = false
 is_scrap state.Scrap = true
+is_scrap state.Returned = false
+
+abbrev pub is_returned : State → Bool
+is_returned state.Standing = false
+is_returned (state.Reserved job) = false
+is_returned (state.Cut job) = false
+is_returned (state.Piece demand) = false
+is_returned state.Kerf = false
+is_returned state.Scrap = false
+is_returned state.Returned = true
 
 abbrev pub is_counted : Column → Part → Bool
 is_counted Received part = is_whole part
@@ -58,15 +68,17 @@ is_counted Rack part = is_there part.state && not (is_whole part)
 is_counted Pieces part = is_piece part.state
 is_counted Kerf part = is_kerf part.state
 is_counted Scrap part = is_scrap part.state
+is_counted Returned part = is_returned part.state
 
 -- a piece of this demand
-abbrev pub is_piece_of : ℕ → State → Bool
-is_piece_of number state.Standing = false
-is_piece_of number (state.Reserved job) = false
-is_piece_of number (state.Cut job) = false
-is_piece_of number (state.Piece demand) = demand == number
-is_piece_of number state.Kerf = false
-is_piece_of number state.Scrap = false
+abbrev pub is_piece_for : ℕ → State → Bool
+is_piece_for number state.Standing = false
+is_piece_for number (state.Reserved job) = false
+is_piece_for number (state.Cut job) = false
+is_piece_for number (state.Piece demand) = demand == number
+is_piece_for number state.Kerf = false
+is_piece_for number state.Scrap = false
+is_piece_for number state.Returned = false
 
 -- standing and not reserved
 abbrev pub is_free : State → Bool
@@ -76,6 +88,7 @@ is_free (state.Cut job) = false
 is_free (state.Piece demand) = false
 is_free state.Kerf = false
 is_free state.Scrap = false
+is_free state.Returned = false
 
 -- reserved for this job
 abbrev pub is_reserved_for : ℕ → State → Bool
@@ -85,6 +98,7 @@ is_reserved_for number (state.Cut job) = false
 is_reserved_for number (state.Piece demand) = false
 is_reserved_for number state.Kerf = false
 is_reserved_for number state.Scrap = false
+is_reserved_for number state.Returned = false
 
 abbrev pub is_waiting : JobState → Bool
 is_waiting job.Waiting = true
@@ -100,6 +114,7 @@ state_word (state.Cut job) = word.Cut
 state_word (state.Piece demand) = word.Piece
 state_word state.Kerf = word.Kerf
 state_word state.Scrap = word.Scrap
+state_word state.Returned = word.Returned
 
 -- the job of a reserved or a cut part, the demand of a piece, else 0
 abbrev pub state_of : State → ℕ
@@ -109,3 +124,4 @@ state_of (state.Cut job) = job
 state_of (state.Piece demand) = demand
 state_of state.Kerf = 0
 state_of state.Scrap = 0
+state_of state.Returned = 0

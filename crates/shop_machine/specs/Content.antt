@@ -1,5 +1,5 @@
 -- What a book contains, as finite maps, and what a change makes of it.
-use Rattle.std.specs.Prelude.{filter, ◌≡◌, ℕ, ◌+◌, ◌*◌, ◌&&◌, List, [], ◌∷◌, Bool, if◌then◌else◌, Option, Some, None, sum_by}
+use Rattle.std.specs.Prelude.{filter, ◌≡◌, ℕ, ◌+◌, ◌*◌, ◌&&◌, List, [], ◌∷◌, Bool, if◌then◌else◌, Option, Some, None, option_and_then, sum_by}
 use Rattle.std.specs.declared.cmp.Ordering.{Ordering}
 use Rattle.std.specs.Ordering.{nat_cmp, is_eq, ordering_then}
 use Rattle.std.specs.FinMap as map
@@ -8,11 +8,12 @@ use Rattle.cut_measure.specs.Codes.{code_cmp}
 use Rattle.cut_measure.specs.Names.{Name, name_cmp}
 use Rattle.shop_machine.specs.declared.records.Material.{Material}
 use Rattle.shop_machine.specs.declared.records.Part.{Part}
+use Rattle.shop_machine.specs.declared.records.State.{State}
 use Rattle.shop_machine.specs.declared.records.Job.{Job}
 use Rattle.shop_machine.specs.declared.records.Demand.{Demand}
 use Rattle.shop_machine.specs.declared.records.Totals.{Totals}
 use Rattle.shop_machine.specs.declared.records.Column.{Column}
-use Rattle.shop_machine.specs.declared.records.Column.TheVariants.{Received, Stock, Rack, Pieces, Kerf, Scrap}
+use Rattle.shop_machine.specs.declared.records.Column.TheVariants.{Received, Stock, Rack, Pieces, Kerf, Scrap, Returned}
 use Rattle.shop_machine.specs.declared.kept_texts.Pair.{Pair}
 use Rattle.shop_machine.specs.declared.kept_texts.Kept.{Kept}
 use Rattle.shop_machine.specs.declared.kept_texts.KeptMessage.{KeptMessage}
@@ -68,6 +69,14 @@ demand_at content number = map.get content.demands number
 abbrev pub kept_at : Content → Pair → Option Kept
 kept_at content pair = map.get content.kept pair
 
+-- a found part's material
+abbrev pub material_of : Content → Option Part → Option Material
+material_of old part = option_and_then (λ (p : Part). material_at old p.material) part
+
+-- a found job's part
+abbrev pub part_of_job : Content → Option Job → Option Part
+part_of_job old found = option_and_then (λ (j : Job). part_at old j.part) found
+
 -- ---- totals
 
 -- a number of the row that was found, 0 where there was none
@@ -92,14 +101,15 @@ totals_in code parts =
       pieces = cells_in Pieces code parts;
       kerf = cells_in Kerf code parts;
       scrap = cells_in Scrap code parts;
+      returned = cells_in Returned code parts;
     }
 
 abbrev pub totals_of : Content → List ℕ → Totals
 totals_of content code = totals_in code (map.values content.parts)
 
--- every cell that was received stands in stock or on the rack, or is a piece's, the saw's or scrap
+-- every cell that was received stands in stock or on the rack, or is a piece's, the saw's, scrap or returned
 abbrev pub AddsUp : Totals → Type 0
-AddsUp t = t.received ≡ t.stock + t.rack + t.pieces + t.kerf + t.scrap
+AddsUp t = t.received ≡ t.stock + t.rack + t.pieces + t.kerf + t.scrap + t.returned
 
 -- ---- what lies in the shop
 
@@ -112,6 +122,10 @@ abbrev pub parts_of : Content → List ℕ → List Part
 parts_of content code = filter (is_listed code) (map.values content.parts)
 
 -- ---- changes
+
+-- a part in another state
+abbrev pub in_state : State → Part → Part
+in_state s part = record part { state = s }
 
 abbrev pub with_material : Option Material → map.FinMap code_cmp Material → map.FinMap code_cmp Material
 with_material None materials = materials

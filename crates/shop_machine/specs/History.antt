@@ -1,35 +1,39 @@
 -- What was done from the start, whose each cell is, and how many cells there are of a kind, by what was done alone.
-use Rattle.std.specs.Prelude.{◌≡◌, ℕ, ◌+◌, ◌<◌, ◌≤◌, ◌==◌, ◌⊎◌, ◌&&◌, List, [], ◌∷◌, ◌++◌, map, Bool, true, false, not, if◌then◌else◌, Option, Some, None, count_by}
+use Rattle.std.specs.Prelude.{◌≡◌, ℕ, zero, suc, ◌+◌, ◌<◌, ◌≤◌, ◌==◌, ◌⊎◌, ◌&&◌, List, [], ◌∷◌, ◌++◌, map, length, slice_get, Bool, true, false, not, if◌then◌else◌, Option, Some, None, count_by}
 use Rattle.std.specs.Ordering.{is_eq}
 use Rattle.std.specs.List.{flat_map, list_any}
+use Rattle.std.specs.Option.{option_map}
 use Rattle.std.specs.FinMap as maps
 use Rattle.cut_measure.specs.Codes.{code_cmp}
 use Rattle.cut_measure.specs.Names.{Name, name_cmp}
 use Rattle.cut_measure.specs.Measures.{Extent, Rule, below, cells_of}
 use Rattle.cut_tree.specs.Tree.{Tree}
-use Rattle.cut_tree.specs.Patterns.{Pattern}
 use Rattle.cut_tree.specs.Cells.{Outcome, Spot, spot_of, all_made}
 use Rattle.shop_machine.specs.declared.records.Part.{Part}
 use Rattle.shop_machine.specs.declared.records.Demand.{Demand}
 use Rattle.shop_machine.specs.declared.records.Column.{Column}
-use Rattle.shop_machine.specs.declared.records.Column.TheVariants.{Received, Stock, Rack, Pieces, Kerf, Scrap}
+use Rattle.shop_machine.specs.declared.records.Column.TheVariants.{Received, Stock, Rack, Pieces, Kerf, Scrap, Returned}
 use Rattle.shop_machine.specs.declared.records.State.{State}
 use Rattle.shop_machine.specs.declared.records.State.TheVariants as state
 use Rattle.shop_machine.specs.declared.kept_texts.Pair.{Pair}
 use Rattle.shop_machine.specs.declared.messages.Command.{Command}
-use Rattle.shop_machine.specs.declared.messages.Command.TheVariants.{AddMaterial, Receive, AddOrder, Reserve, Done, Release}
+use Rattle.shop_machine.specs.declared.messages.Command.TheVariants.{AddMaterial, Receive, AddOrder, Reserve, Done, Release, Scrap as ScrapPart, GiveBack}
 use Rattle.shop_machine.specs.declared.messages.Message.{Message}
+use Rattle.shop_machine.specs.declared.messages.OrderLine.{OrderLine}
 use Rattle.shop_machine.specs.declared.messages.Reply.{Reply}
-use Rattle.shop_machine.specs.Columns.{same_name, is_there, is_piece, is_kerf, is_scrap, is_free}
+use Rattle.shop_machine.specs.Same.{same_pair, same_name, same_code}
+use Rattle.shop_machine.specs.Columns.{is_there, is_piece, is_kerf, is_scrap, is_returned, is_free}
 use Rattle.shop_machine.specs.Messages.{Texts, IsMessage, is_accepted, pair_of}
+use Rattle.shop_machine.specs.Readings.{Reading, Plan}
 use Rattle.shop_machine.specs.Content.{Content, fresh, part_at, demand_at, kept_at, totals_of, AddsUp}
-use Rattle.shop_machine.specs.Machine.{Accepts, fate, same_code}
-use Rattle.shop_machine.specs.Soundness.{IsCounted}
+use Rattle.shop_machine.specs.Machine.{Accepts}
+use Rattle.shop_machine.specs.Ending.{fate}
+use Rattle.shop_machine.specs.Soundness.{IsCounted, reserved_in, made_in}
 
--- what was done: an accepted message, and the plan that its text spells, where it has one
+-- what was done: an accepted message, and what its text was read as
 pub record Entry : Type 0 where
   pub message : Message
-  pub read : Option Pattern
+  pub read : Reading
 
 abbrev pub messages_of : List Entry → List Message
 messages_of history = map (λ (entry : Entry). entry.message) history
@@ -40,9 +44,6 @@ Gives texts [] content = content ≡ fresh
 Gives texts (entry ∷ earlier) content =
     (before : Content) × (answer : Reply) × Gives texts earlier before × IsMessage entry.message
     × (kept_at before (pair_of entry.message) ≡ None) × Accepts texts before entry.message entry.read answer content
-
-abbrev pub same_pair : Pair → Pair → Bool
-same_pair a b = (a.terminal == b.terminal) && (a.number == b.number)
 
 -- a message with this pair was accepted before
 abbrev pub has_pair : Pair → List Message → Bool
@@ -65,81 +66,114 @@ pub record ReceivedUnit : Type 0 where
   pub batch : List ℕ
   pub size : Extent
 
-abbrev pub acts_in : Command → ℕ
-acts_in (AddMaterial material kind kerf min_long min_short) = 0
-acts_in (Receive material batch w h count) = 1
-acts_in (AddOrder order lines) = 0
-acts_in (Reserve part text) = 1
-acts_in (Done number) = 0
-acts_in (Release number) = 0
+-- what a command does to units, to rules of cutting, to orders and to cells
+pub data Deed : Type 0 where
+  -- to none of them
+  nothing : Deed
+  -- a material is cut by this rule
+  Rules : (material : List ℕ) (rule : Rule) → Deed
+  -- an act: units of one size are received
+  Receives : (material batch : List ℕ) (size : Extent) (count : ℕ) → Deed
+  -- the lines of an order are asked for
+  Orders : (order : List ℕ) (lines : List OrderLine) → Deed
+  -- an act: a part is to be cut by this tree
+  Reserves : (part : Name) (tree : Tree) → Deed
+  -- the cuts of a job are made as its outcome says
+  Ends : (job : ℕ) (outcome : ℕ → Outcome) → Deed
+  -- a standing part as a whole is in this state from now on
+  Turns : (part : Name) (into : State) → Deed
+
+-- by cases on a command, and on what its text was read as
+abbrev pub deed : Command → Reading → Deed
+deed (AddMaterial material kind kerf min_long min_short) read = Rules material (record { kerf = kerf; min_long = min_long; min_short = min_short })
+deed (Receive material batch w h count) read = Receives material batch (record { w = w; h = h }) count
+deed (AddOrder order lines) read = Orders order lines
+deed (Reserve part text) (Plan plan) = Reserves part plan.tree
+deed (Reserve part text) _ = nothing
+deed (Done job) read = Ends job all_made
+deed (Release job) read = nothing
+deed (ScrapPart part) read = Turns part state.Scrap
+deed (GiveBack part) read = Turns part state.Returned
+
+-- what was done, the newest first
+abbrev pub deeds_of : List Entry → List Deed
+deeds_of [] = []
+deeds_of (entry ∷ earlier) = deed entry.message.command entry.read ∷ deeds_of earlier
+
+abbrev pub acts_in : Deed → ℕ
+acts_in (Receives material batch size count) = 1
+acts_in (Reserves part tree) = 1
+acts_in _ = 0
 
 -- how many acts there were
-abbrev pub acts_of : List Entry → ℕ
+abbrev pub acts_of : List Deed → ℕ
 acts_of [] = 0
-acts_of (entry ∷ earlier) = acts_of earlier + acts_in entry.message.command
+acts_of (done ∷ earlier) = acts_of earlier + acts_in done
 
--- the units that a command receives as the act of this number
-abbrev pub units_in : ℕ → Command → List ReceivedUnit
-units_in act (AddMaterial material kind kerf min_long min_short) = []
-units_in act (Receive material batch w h count) =
-    map (λ i. record { name = record { act = act; node = i }; material = material; batch = batch; size = record { w = w; h = h } }) (below count)
-units_in act (AddOrder order lines) = []
-units_in act (Reserve part text) = []
-units_in act (Done number) = []
-units_in act (Release number) = []
+-- the units that are received as the act of this number
+abbrev pub units_in : ℕ → Deed → List ReceivedUnit
+units_in act (Receives material batch size count) =
+    map (λ i. record { name = record { act = act; node = i }; material = material; batch = batch; size = size }) (below count)
+units_in act _ = []
 
 -- the units that were received, the newest first
-abbrev pub units_of : List Entry → List ReceivedUnit
+abbrev pub units_of : List Deed → List ReceivedUnit
 units_of [] = []
-units_of (entry ∷ earlier) = units_in (acts_of earlier + 1) entry.message.command ++ units_of earlier
+units_of (done ∷ earlier) = units_in (acts_of earlier + 1) done ++ units_of earlier
+
+-- ---- ordered lines
+
+-- a line, and the code of its order
+pub record OrderedLine : Type 0 where
+  pub order : List ℕ
+  pub line : OrderLine
+
+abbrev pub lines_by : Deed → List OrderedLine → List OrderedLine
+lines_by (Orders order lines) before = before ++ map (λ line. record { order = order; line = line }) lines
+lines_by _ before = before
+
+-- the lines that were ordered, the oldest first
+abbrev pub ordered_lines : List Deed → List OrderedLine
+ordered_lines [] = []
+ordered_lines (done ∷ earlier) = lines_by done (ordered_lines earlier)
+
+-- the n-th line, the first one being that of 1
+abbrev pub nth_line : ℕ → List OrderedLine → Option OrderedLine
+nth_line zero lines = None
+nth_line (suc n) lines = slice_get lines n
 
 -- ---- what a job was made of
 
-abbrev pub material_by : Command → ℕ → Name → List ℕ → List ℕ
-material_by (AddMaterial material kind kerf min_long min_short) act unit before = before
-material_by (Receive material batch w h count) act unit before = if unit.act == act then material else before
-material_by (AddOrder order lines) act unit before = before
-material_by (Reserve part text) act unit before = before
-material_by (Done number) act unit before = before
-material_by (Release number) act unit before = before
+abbrev pub material_by : Deed → ℕ → Name → List ℕ → List ℕ
+material_by (Receives material batch size count) act unit before = if unit.act == act then material else before
+material_by _ act unit before = before
 
 -- the material of a received unit
-abbrev pub unit_material : List Entry → Name → List ℕ
+abbrev pub unit_material : List Deed → Name → List ℕ
 unit_material [] unit = []
-unit_material (entry ∷ earlier) unit = material_by entry.message.command (acts_of earlier + 1) unit (unit_material earlier unit)
+unit_material (done ∷ earlier) unit = material_by done (acts_of earlier + 1) unit (unit_material earlier unit)
 
-abbrev pub rule_by : Command → List ℕ → Option Rule → Option Rule
-rule_by (AddMaterial material kind kerf min_long min_short) code before =
-    if same_code code material then Some (record { kerf = kerf; min_long = min_long; min_short = min_short }) else before
-rule_by (Receive material batch w h count) code before = before
-rule_by (AddOrder order lines) code before = before
-rule_by (Reserve part text) code before = before
-rule_by (Done number) code before = before
-rule_by (Release number) code before = before
+abbrev pub rule_by : Deed → List ℕ → Option Rule → Option Rule
+rule_by (Rules material rule) code before = if same_code code material then Some rule else before
+rule_by _ code before = before
 
 -- how a material is cut
-abbrev pub material_rule : List Entry → List ℕ → Option Rule
+abbrev pub material_rule : List Deed → List ℕ → Option Rule
 material_rule [] code = None
-material_rule (entry ∷ earlier) code = rule_by entry.message.command code (material_rule earlier code)
+material_rule (done ∷ earlier) code = rule_by done code (material_rule earlier code)
 
 -- the part that was reserved, and the tree that the reservation's text spells
 pub record Reservation : Type 0 where
   pub part : Name
   pub tree : Tree
 
-abbrev pub job_by : Command → Option Pattern → (act number : ℕ) → Option Reservation → Option Reservation
-job_by (AddMaterial material kind kerf min_long min_short) read act number before = before
-job_by (Receive material batch w h count) read act number before = before
-job_by (AddOrder order lines) read act number before = before
-job_by (Reserve part text) None act number before = before
-job_by (Reserve part text) (Some plan) act number before =
-    if number == act then Some (record { part = part; tree = plan.tree }) else before
-job_by (Done done) read act number before = before
-job_by (Release released) read act number before = before
+abbrev pub job_by : Deed → (act number : ℕ) → Option Reservation → Option Reservation
+job_by (Reserves part tree) act number before = if number == act then Some (record { part = part; tree = tree }) else before
+job_by _ act number before = before
 
-abbrev pub job_of : List Entry → ℕ → Option Reservation
+abbrev pub job_of : List Deed → ℕ → Option Reservation
 job_of [] number = None
-job_of (entry ∷ earlier) number = job_by entry.message.command entry.read (acts_of earlier + 1) number (job_of earlier number)
+job_of (done ∷ earlier) number = job_by done (acts_of earlier + 1) number (job_of earlier number)
 
 -- ---- owners
 
@@ -172,23 +206,24 @@ cut_owner None rule outcome number before = before
 cut_owner (Some made) None outcome number before = before
 cut_owner (Some made) (Some rule) outcome number None = None
 
--- by cases on a command; a reserved part stands
-abbrev pub owner_by : Command → List Entry → Name → ℕ → ℕ → Option Owner → Option Owner
-owner_by (AddMaterial material kind kerf min_long min_short) earlier unit x y before = before
-owner_by (Receive material batch w h count) earlier unit x y before =
-    if unit.act == acts_of earlier + 1
-    then Some (record { state = state.Standing; name = unit; size = record { w = w; h = h }; x = x; y = y })
-    else before
-owner_by (AddOrder order lines) earlier unit x y before = before
-owner_by (Reserve part text) earlier unit x y before = before
-owner_by (Done number) earlier unit x y before =
-    cut_owner (job_of earlier number) (material_rule earlier (unit_material earlier unit)) all_made number before
-owner_by (Release number) earlier unit x y before = before
+-- the owner after a standing part as a whole got this state
+abbrev pub turned_owner : Name → State → Option Owner → Option Owner
+turned_owner part into None = None
+turned_owner part into (Some before) = if stands_as part before then Some (record before { state = into }) else Some before
+
+-- by cases on what was done; a reserved part stands
+abbrev pub owner_by : Deed → List Deed → Name → ℕ → ℕ → Option Owner → Option Owner
+owner_by (Receives material batch size count) earlier unit x y before =
+    if unit.act == acts_of earlier + 1 then Some (record { state = state.Standing; name = unit; size = size; x = x; y = y }) else before
+owner_by (Ends job outcome) earlier unit x y before =
+    cut_owner (job_of earlier job) (material_rule earlier (unit_material earlier unit)) outcome job before
+owner_by (Turns part into) earlier unit x y before = turned_owner part into before
+owner_by _ earlier unit x y before = before
 
 -- the owner of the cell (x, y) of a unit, by cases on the newest message
-abbrev pub owner_of : List Entry → Name → ℕ → ℕ → Option Owner
+abbrev pub owner_of : List Deed → Name → ℕ → ℕ → Option Owner
 owner_of [] unit x y = None
-owner_of (entry ∷ earlier) unit x y = owner_by entry.message.command earlier unit x y (owner_of earlier unit x y)
+owner_of (done ∷ earlier) unit x y = owner_by done earlier unit x y (owner_of earlier unit x y)
 
 abbrev pub is_cut : State → Bool
 is_cut state.Standing = false
@@ -197,6 +232,7 @@ is_cut (state.Cut job) = true
 is_cut (state.Piece demand) = false
 is_cut state.Kerf = false
 is_cut state.Scrap = false
+is_cut state.Returned = false
 
 -- a reserved part stands
 abbrev pub standing_as : State → State
@@ -206,6 +242,7 @@ standing_as (state.Cut job) = state.Cut job
 standing_as (state.Piece demand) = state.Piece demand
 standing_as state.Kerf = state.Kerf
 standing_as state.Scrap = state.Scrap
+standing_as state.Returned = state.Returned
 
 -- a part that isn't cut has this cell of the unit
 pub record Holds (unit : Name) (x y : ℕ) (part : Part) : Type 0 where
@@ -238,57 +275,87 @@ pub record HasOwner (parts : maps.FinMap name_cmp Part) (found : Option Owner) (
   pub same : IsOwner owner x y part
   pub alone : (name : Name) (other : Part) → maps.get parts name ≡ Some other → Holds unit x y other → other ≡ part
 
-abbrev pub OneOwner : List Entry → Content → Name → ℕ → ℕ → Type 0
-OneOwner history content unit x y = HasOwner content.parts (owner_of history unit x y) unit x y
+abbrev pub OneOwner : List Deed → Content → Name → ℕ → ℕ → Type 0
+OneOwner deeds content unit x y = HasOwner content.parts (owner_of deeds unit x y) unit x y
 
 -- each cell of each received unit has exactly one owner
-abbrev pub EachCellIsOwned : List Entry → Content → Type 0
-EachCellIsOwned history content =
-    (unit : ReceivedUnit) → IsIn unit (units_of history) → (x y : ℕ) → x < unit.size.w → y < unit.size.h → OneOwner history content unit.name x y
+abbrev pub EachCellIsOwned : List Deed → Content → Type 0
+EachCellIsOwned deeds content =
+    (unit : ReceivedUnit) → IsIn unit (units_of deeds) → (x y : ℕ) → x < unit.size.w → y < unit.size.h → OneOwner deeds content unit.name x y
 
 -- a part that isn't cut is the owner of each of its cells, in the state, at the place and with the sides that its row says
-abbrev pub EachPartOwnsItsCells : List Entry → Content → Type 0
-EachPartOwnsItsCells history content =
+abbrev pub EachPartOwnsItsCells : List Deed → Content → Type 0
+EachPartOwnsItsCells deeds content =
     (name : Name) (part : Part) → part_at content name ≡ Some part → (x y : ℕ) → Holds part.root x y part
-    → (owner : Owner) × (owner_of history part.root x y ≡ Some owner) × IsOwner owner x y part
+    → (owner : Owner) × (owner_of deeds part.root x y ≡ Some owner) × IsOwner owner x y part
 
 -- ---- counts
 
--- whether an owner's cells are counted in a column, the unit being this
-abbrev pub counts : Column → Name → Option Owner → Bool
-counts column unit None = false
-counts Received unit (Some owner) = true
-counts Stock unit (Some owner) = is_there owner.state && same_name owner.name unit
-counts Rack unit (Some owner) = is_there owner.state && (not (same_name owner.name unit))
-counts Pieces unit (Some owner) = is_piece owner.state
-counts Kerf unit (Some owner) = is_kerf owner.state
-counts Scrap unit (Some owner) = is_scrap owner.state
+-- whether a cell of a unit is counted in a column: received is every cell, and in the others its owner is counted
+abbrev pub counts_cell : Column → Name → Option Owner → Bool
+counts_cell Received unit found = true
+counts_cell _ unit None = false
+counts_cell Stock unit (Some owner) = is_there owner.state && same_name owner.name unit
+counts_cell Rack unit (Some owner) = is_there owner.state && (not (same_name owner.name unit))
+counts_cell Pieces unit (Some owner) = is_piece owner.state
+counts_cell Kerf unit (Some owner) = is_kerf owner.state
+counts_cell Scrap unit (Some owner) = is_scrap owner.state
+counts_cell Returned unit (Some owner) = is_returned owner.state
 
 -- the cells of the received units of a material, one by one
 abbrev pub cells_of_units : List ℕ → List ReceivedUnit → List (Name × (ℕ × ℕ))
 cells_of_units code units = flat_map (λ unit. if is_eq (code_cmp unit.material code) then map (λ cell. (unit.name, cell)) (cells_of unit.size) else []) units
 
 -- how many of them are counted in a column
-abbrev pub count_of : Column → List Entry → List ℕ → ℕ
-count_of column history code = count_by (λ c. counts column c.0 (owner_of history c.0 c.1.0 c.1.1)) (cells_of_units code (units_of history))
+abbrev pub cells_of_column : Column → List Deed → List ℕ → ℕ
+cells_of_column column deeds code = count_by (λ c. counts_cell column c.0 (owner_of deeds c.0 c.1.0 c.1.1)) (cells_of_units code (units_of deeds))
 
 -- the totals of the content are the counts of cells
-abbrev pub TotalsAreCounts : List Entry → Content → Type 0
-TotalsAreCounts history content = (code : List ℕ) →
+abbrev pub TotalsAreCounts : List Deed → Content → Type 0
+TotalsAreCounts deeds content = (code : List ℕ) →
     totals_of content code ≡ record {
-      received = count_of Received history code;
-      stock = count_of Stock history code;
-      rack = count_of Rack history code;
-      pieces = count_of Pieces history code;
-      kerf = count_of Kerf history code;
-      scrap = count_of Scrap history code;
+      received = cells_of_column Received deeds code;
+      stock = cells_of_column Stock deeds code;
+      rack = cells_of_column Rack deeds code;
+      pieces = cells_of_column Pieces deeds code;
+      kerf = cells_of_column Kerf deeds code;
+      scrap = cells_of_column Scrap deeds code;
+      returned = cells_of_column Returned deeds code;
     }
+
+-- ---- demands
+
+-- the demand of an ordered line under its number, when so many of its pieces are reserved and made
+abbrev pub demand_of : ℕ → OrderedLine → ℕ → ℕ → Demand
+demand_of number ordered reserved made =
+    let line : OrderLine = ordered.line in
+    record {
+      number = number;
+      order = ordered.order;
+      line = line.line;
+      material = line.material;
+      size = record { w = line.w; h = line.h };
+      may_turn = line.turn;
+      worth = line.worth;
+      wanted = line.count;
+      reserved = reserved;
+      made = made;
+    }
+
+-- The demand of number n is that of the n-th ordered line, with what is reserved of it in the plans of waiting jobs and
+-- what is made of it; where no n-th line was ordered, there is none.
+abbrev pub DemandsAreLines : List Deed → Content → Type 0
+DemandsAreLines deeds content = (number : ℕ) →
+    demand_at content number ≡ option_map (λ ordered. demand_of number ordered (reserved_in number content) (made_in number content)) (nth_line number (ordered_lines deeds))
 
 -- the whole account of a history and the content that it gives
 pub record IsAccountOf (texts : Texts) (history : List Entry) (content : Content) : Type 0 where
   pub given : Gives texts history content
-  pub owners : EachCellIsOwned history content
-  pub parts : EachPartOwnsItsCells history content
-  pub totals : TotalsAreCounts history content
+  pub owners : EachCellIsOwned (deeds_of history) content
+  pub parts : EachPartOwnsItsCells (deeds_of history) content
+  pub totals : TotalsAreCounts (deeds_of history) content
   pub adds_up : (code : List ℕ) → AddsUp (totals_of content code)
   pub demands : (number : ℕ) (demand : Demand) → demand_at content number ≡ Some demand → IsCounted content number demand
+  pub last_act : content.last_act ≡ acts_of (deeds_of history)
+  pub last_demand : content.last_demand ≡ length (ordered_lines (deeds_of history))
+  pub lines : DemandsAreLines (deeds_of history) content

@@ -5,7 +5,7 @@ use Rattle.cut_measure.specs.Codes.{is_code}
 use Rattle.cut_measure.specs.Names.{IsName}
 use Rattle.shop_machine.specs.declared.kept_texts.Pair.{Pair}
 use Rattle.shop_machine.specs.declared.messages.Command.{Command}
-use Rattle.shop_machine.specs.declared.messages.Command.TheVariants.{AddMaterial, Receive, AddOrder, Reserve, Done, Release}
+use Rattle.shop_machine.specs.declared.messages.Command.TheVariants.{AddMaterial, Receive, AddOrder, Reserve, Done, Release, Scrap, GiveBack}
 use Rattle.shop_machine.specs.declared.messages.OrderLine.{OrderLine}
 use Rattle.shop_machine.specs.declared.messages.Message.{Message}
 use Rattle.shop_machine.specs.declared.messages.Reply.{Reply}
@@ -39,6 +39,8 @@ IsCommand (AddOrder order lines) = IsTrue (is_code order) × All IsLine lines
 IsCommand (Reserve part tree) = IsName part × IsTrue (is_utf8 tree)
 IsCommand (Done job) = IsNumber job
 IsCommand (Release job) = IsNumber job
+IsCommand (Scrap part) = IsName part
+IsCommand (GiveBack part) = IsName part
 
 -- what holds of every message
 pub record IsMessage (message : Message) : Type 0 where
@@ -54,7 +56,9 @@ IsMade (reply.AddOrder count first order) = IsNumber count × IsNumber first × 
 IsMade (reply.Reserve cuts job) = IsNumber cuts × IsNumber job
 IsMade (reply.Done job kerf pieces rack scrap) = IsNumber job × IsWide kerf × IsWide pieces × IsWide rack × IsWide scrap
 IsMade (reply.Release job) = IsNumber job
-IsMade (reply.Totals material received stock rack pieces kerf scrap) = ⊥
+IsMade (reply.Scrap part) = IsName part
+IsMade (reply.GiveBack part) = IsName part
+IsMade (reply.Totals material received stock rack pieces kerf scrap returned) = ⊥
 IsMade (reply.Trace batch h of part root state w x y) = ⊥
 IsMade (reply.Demand demand line made material order reserved wanted) = ⊥
 IsMade (reply.Refused refusal) = ⊥

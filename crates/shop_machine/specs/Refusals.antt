@@ -1,64 +1,66 @@
 -- Numbers and names of refusals.
 use Rattle.std.specs.Prelude.{ℕ, List, codes}
 use Rattle.shop_machine.specs.declared.refusals.Refusal.{Refusal}
-use Rattle.shop_machine.specs.declared.refusals.Refusal.TheVariants.{BadMessage, NumberReused, NoMaterial, MaterialExists, BadMaterial, BadSize, BadCount, TooMuch, NumbersSpent, OrderExists, BadLine, NoDemand, NoPart, NotStanding, BadTree, WrongMaterial, WrongSize, TooMany, NoJob, JobOver, BadCut, BadText, NothingFits, TableTooLarge, BadStep, BadWant, NoMemory, StoreFault}
+use Rattle.shop_machine.specs.declared.refusals.Refusal.TheVariants.{BadMessage, NumberReused, NoMaterial, MaterialExists, BadMaterial, BadSize, BadCount, TooMuch, NumbersSpent, OrderExists, BadLine, NoDemand, NoPart, NotStanding, NotWhole, BadTree, WrongMaterial, WrongSize, TooMany, NoJob, JobOver, BadCut, BadText, NothingFits, TableTooLarge, BadStep, BadWant, NoMemory, StoreFault}
 
-abbrev pub number_of : Refusal → ℕ
-number_of BadMessage = 10
-number_of NumberReused = 11
-number_of NoMaterial = 20
-number_of MaterialExists = 21
-number_of BadMaterial = 22
-number_of BadSize = 30
-number_of BadCount = 31
-number_of TooMuch = 32
-number_of NumbersSpent = 33
-number_of OrderExists = 40
-number_of BadLine = 41
-number_of NoDemand = 42
-number_of NoPart = 50
-number_of NotStanding = 51
-number_of BadTree = 60
-number_of WrongMaterial = 61
-number_of WrongSize = 62
-number_of TooMany = 63
-number_of NoJob = 70
-number_of JobOver = 71
-number_of BadCut = 72
-number_of BadText = 80
-number_of NothingFits = 90
-number_of TableTooLarge = 91
-number_of BadStep = 92
-number_of BadWant = 93
-number_of NoMemory = 98
-number_of StoreFault = 99
+abbrev pub refusal_number : Refusal → ℕ
+refusal_number BadMessage = 10
+refusal_number NumberReused = 11
+refusal_number NoMaterial = 20
+refusal_number MaterialExists = 21
+refusal_number BadMaterial = 22
+refusal_number BadSize = 30
+refusal_number BadCount = 31
+refusal_number TooMuch = 32
+refusal_number NumbersSpent = 33
+refusal_number OrderExists = 40
+refusal_number BadLine = 41
+refusal_number NoDemand = 42
+refusal_number NoPart = 50
+refusal_number NotStanding = 51
+refusal_number NotWhole = 52
+refusal_number BadTree = 60
+refusal_number WrongMaterial = 61
+refusal_number WrongSize = 62
+refusal_number TooMany = 63
+refusal_number NoJob = 70
+refusal_number JobOver = 71
+refusal_number BadCut = 72
+refusal_number BadText = 80
+refusal_number NothingFits = 90
+refusal_number TableTooLarge = 91
+refusal_number BadStep = 92
+refusal_number BadWant = 93
+refusal_number NoMemory = 98
+refusal_number StoreFault = 99
 
-abbrev pub name_of : Refusal → List ℕ
-name_of BadMessage = codes "BadMessage"
-name_of NumberReused = codes "NumberReused"
-name_of NoMaterial = codes "NoMaterial"
-name_of MaterialExists = codes "MaterialExists"
-name_of BadMaterial = codes "BadMaterial"
-name_of BadSize = codes "BadSize"
-name_of BadCount = codes "BadCount"
-name_of TooMuch = codes "TooMuch"
-name_of NumbersSpent = codes "NumbersSpent"
-name_of OrderExists = codes "OrderExists"
-name_of BadLine = codes "BadLine"
-name_of NoDemand = codes "NoDemand"
-name_of NoPart = codes "NoPart"
-name_of NotStanding = codes "NotStanding"
-name_of BadTree = codes "BadTree"
-name_of WrongMaterial = codes "WrongMaterial"
-name_of WrongSize = codes "WrongSize"
-name_of TooMany = codes "TooMany"
-name_of NoJob = codes "NoJob"
-name_of JobOver = codes "JobOver"
-name_of BadCut = codes "BadCut"
-name_of BadText = codes "BadText"
-name_of NothingFits = codes "NothingFits"
-name_of TableTooLarge = codes "TableTooLarge"
-name_of BadStep = codes "BadStep"
-name_of BadWant = codes "BadWant"
-name_of NoMemory = codes "NoMemory"
-name_of StoreFault = codes "StoreFault"
+abbrev pub refusal_name : Refusal → List ℕ
+refusal_name BadMessage = codes "BadMessage"
+refusal_name NumberReused = codes "NumberReused"
+refusal_name NoMaterial = codes "NoMaterial"
+refusal_name MaterialExists = codes "MaterialExists"
+refusal_name BadMaterial = codes "BadMaterial"
+refusal_name BadSize = codes "BadSize"
+refusal_name BadCount = codes "BadCount"
+refusal_name TooMuch = codes "TooMuch"
+refusal_name NumbersSpent = codes "NumbersSpent"
+refusal_name OrderExists = codes "OrderExists"
+refusal_name BadLine = codes "BadLine"
+refusal_name NoDemand = codes "NoDemand"
+refusal_name NoPart = codes "NoPart"
+refusal_name NotStanding = codes "NotStanding"
+refusal_name NotWhole = codes "NotWhole"
+refusal_name BadTree = codes "BadTree"
+refusal_name WrongMaterial = codes "WrongMaterial"
+refusal_name WrongSize = codes "WrongSize"
+refusal_name TooMany = codes "TooMany"
+refusal_name NoJob = codes "NoJob"
+refusal_name JobOver = codes "JobOver"
+refusal_name BadCut = codes "BadCut"
+refusal_name BadText = codes "BadText"
+refusal_name NothingFits = codes "NothingFits"
+refusal_name TableTooLarge = codes "TableTooLarge"
+refusal_name BadStep = codes "BadStep"
+refusal_name BadWant = codes "BadWant"
+refusal_name NoMemory = codes "NoMemory"
+refusal_name StoreFault = codes "StoreFault"

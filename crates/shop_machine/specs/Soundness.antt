@@ -2,10 +2,13 @@
 use Rattle.std.specs.Prelude.{◌≡◌, ◌≢◌, ℕ, ◌+◌, ◌<◌, ◌≤◌, List, All, AllPairs, IsSome, IfSome, Some, None, MatchOption, true, false, ⊤, if◌then◌else◌, sum_by, count_by}
 use Rattle.std.specs.declared.cmp.Ordering.TheVariants.{Less}
 use Rattle.std.specs.FinMap as map
+use Rattle.cut_measure.specs.declared.ranges.TheConstants.{MOST_WIDTH, MOST_HEIGHT, MOST_NUMBERS}
+use Rattle.cut_measure.specs.declared.sizes.Kind.TheVariants.{Bar}
 use Rattle.cut_measure.specs.Names.{Name, name_cmp}
 use Rattle.cut_measure.specs.Measures.{is_rule}
 use Rattle.cut_tree.specs.Tree.{count_of}
 use Rattle.cut_tree.specs.Patterns.{IsPlan}
+use Rattle.shop_machine.specs.declared.receiving.TheConstants.{MOST_RECEIVED}
 use Rattle.shop_machine.specs.declared.records.Material.{Material}
 use Rattle.shop_machine.specs.declared.records.Part.{Part}
 use Rattle.shop_machine.specs.declared.records.State.TheVariants.{Reserved}
@@ -16,18 +19,18 @@ use Rattle.shop_machine.specs.declared.kept_texts.Kept.{Kept}
 use Rattle.shop_machine.specs.declared.messages.Message.{Message}
 use Rattle.shop_machine.specs.declared.messages.Reply.{Reply}
 use Rattle.shop_machine.specs.declared.changes.Change.{Change}
-use Rattle.shop_machine.specs.Columns.{is_piece_of, is_waiting}
+use Rattle.shop_machine.specs.Columns.{is_piece_for, is_waiting}
 use Rattle.shop_machine.specs.Messages.{Texts, IsMessage, pair_of}
-use Rattle.shop_machine.specs.Content.{Content, material_at, part_at, job_at, has_order, demand_at, kept_at, totals_of, AddsUp}
-use Rattle.shop_machine.specs.Machine.{Keeps, in_state, most_received, most_numbers}
+use Rattle.shop_machine.specs.Content.{Content, material_at, part_at, job_at, has_order, demand_at, kept_at, totals_of, AddsUp, in_state}
+use Rattle.shop_machine.specs.Machine.{KeepsReply}
 
 -- Each part is named after an act so far, the numbers aren't spent, and of each material no more was received than may be,
 -- all of which is accounted for.
 pub record IsInRange (content : Content) : Type 0 where
   pub acts : (name : Name) (part : Part) → part_at content name ≡ Some part → name.act ≤ content.last_act
-  pub last : content.last_act ≤ most_numbers
-  pub last_demand : content.last_demand ≤ most_numbers
-  pub received : (code : List ℕ) → (totals_of content code).received ≤ most_received
+  pub last : content.last_act ≤ MOST_NUMBERS
+  pub last_demand : content.last_demand ≤ MOST_NUMBERS
+  pub received : (code : List ℕ) → (totals_of content code).received ≤ MOST_RECEIVED
   pub adds_up : (code : List ℕ) → AddsUp (totals_of content code)
 
 -- a row keeps an accepted message of the pair and its reply
@@ -36,37 +39,42 @@ pub record IsKept (texts : Texts) (pair : Pair) (row : Kept) : Type 0 where
   pub answer : Reply
   pub is_message : IsMessage message
   pub of_pair : pair_of message ≡ pair
-  pub keeps : Keeps texts row message answer
+  pub keeps : KeepsReply texts row message answer
 
 -- a material stands under its own code, and is cut by a rule that there may be
 pub record IsKnown (code : List ℕ) (material : Material) : Type 0 where
   pub coded : material.code ≡ code
   pub ruled : is_rule material.kind material.limits.kerf material.limits.min_long material.limits.min_short ≡ true
 
--- A part stands under its own name, is no older than its unit, is of a known material, has a cell and lies in a unit; the
--- demand of a piece is there.
+-- A part stands under its own name, is no older than its unit, is of a known material, has a cell and lies in a unit; a bar
+-- has height 1; the demand of a piece is there.
 pub record IsPlaced (content : Content) (name : Name) (part : Part) : Type 0 where
   pub named : part.name ≡ name
   pub rooted : part.root.act ≤ part.name.act
   pub known : IsSome (material_at content part.material)
   pub some_width : 1 ≤ part.size.w
   pub some_height : 1 ≤ part.size.h
-  pub right : part.x + part.size.w ≤ 200000
-  pub bottom : part.y + part.size.h ≤ 60000
-  pub asked : (number : ℕ) → is_piece_of number part.state ≡ true → IsSome (demand_at content number)
+  pub right : part.x + part.size.w ≤ MOST_WIDTH
+  pub bottom : part.y + part.size.h ≤ MOST_HEIGHT
+  pub flat : (material : Material) → material_at content part.material ≡ Some material → material.kind ≡ Bar → part.size.h ≡ 1
+  pub asked : (number : ℕ) → is_piece_for number part.state ≡ true → IsSome (demand_at content number)
 
--- A waiting job's part is reserved for it, is older than it, and has the sides of its plan and a material of its kerf; its
--- pieces' demands are there, and no part is named after it yet.
-pub record IsWaiting (content : Content) (job : Job) : Type 0 where
+-- a job's part is there, and has the sides of its plan and a material of its kerf
+pub record IsOnPart (content : Content) (job : Job) : Type 0 where
   pub row : Part
   pub found : part_at content job.part ≡ Some row
-  pub reserved : row.state ≡ Reserved job.act
-  pub older : job.part.act < job.act
   pub material : Material
   pub known : material_at content row.material ≡ Some material
   pub width : job.plan.w ≡ row.size.w
   pub height : job.plan.h ≡ row.size.h
   pub kerf : job.plan.kerf ≡ material.limits.kerf
+
+-- A waiting job is on its part, which is reserved for it and is older than it; its pieces' demands are there, and no part
+-- is named after it yet.
+pub record IsWaiting (content : Content) (job : Job) : Type 0 where
+  pub on : IsOnPart content job
+  pub reserved : on.row.state ≡ Reserved job.act
+  pub older : job.part.act < job.act
   pub demands : (number : ℕ) → 1 ≤ count_of job.plan.tree number → IsSome (demand_at content number)
   pub none_yet : (node : ℕ) → part_at content (record { act = job.act; node = node }) ≡ None
 
@@ -85,7 +93,7 @@ reserved_in number content = sum_by (λ (job : Job). if is_waiting job.state the
 
 -- how many parts are pieces of a demand
 abbrev pub made_in : ℕ → Content → ℕ
-made_in number content = count_by (λ (part : Part). is_piece_of number part.state) (map.values content.parts)
+made_in number content = count_by (λ (part : Part). is_piece_for number part.state) (map.values content.parts)
 
 -- No more of a demand is reserved and made than wanted; what is reserved is in the plans of waiting jobs, and what is made
 -- are pieces.
@@ -94,9 +102,10 @@ pub record IsCounted (content : Content) (number : ℕ) (demand : Demand) : Type
   pub reserved : demand.reserved ≡ reserved_in number content
   pub made : demand.made ≡ made_in number content
 
--- a demand stands under its own number, one that was given, and is of a known material
+-- a demand stands under its own number, one that was given from 1 on, and is of a known material
 pub record IsDemand (content : Content) (number : ℕ) (demand : Demand) : Type 0 where
   pub numbered : demand.number ≡ number
+  pub least : 1 ≤ number
   pub so_far : number ≤ content.last_demand
   pub known : IsSome (material_at content demand.material)
   pub counted : IsCounted content number demand
@@ -114,9 +123,9 @@ pub record IsSound (texts : Texts) (content : Content) : Type 0 where
 abbrev pub PartFits : Content → Part → Type 0
 PartFits content part = MatchOption (part_at content part.name) ⊤ (λ old. part ≡ in_state part.state old)
 
--- a job is new, or is there in another state; its part is there
+-- a job is new, with its part's sides and its material's kerf, or is there in another state; its part is there
 pub record JobFits (content : Content) (job : Job) : Type 0 where
-  pub fits : MatchOption (job_at content job.act) ⊤ (λ old. job ≡ record old { state = job.state })
+  pub fits : MatchOption (job_at content job.act) (IsOnPart content job × (job.kerf ≡ job.plan.kerf)) (λ old. job ≡ record old { state = job.state })
   pub part : IsSome (part_at content job.part)
 
 -- a demand of the change's order has a new number, or is there with other counts
@@ -126,9 +135,14 @@ DemandFits content change demand =
     ((content.last_demand < demand.number) × (change.order ≡ Some demand.order))
     (λ old. demand ≡ record old { reserved = demand.reserved; made = demand.made })
 
+-- two new demands are not of one line
+abbrev pub LinesDiffer : Content → Demand → Demand → Type 0
+LinesDiffer content a b = demand_at content a.number ≡ None → demand_at content b.number ≡ None → a.line ≢ b.line
+
 -- The change's rows are new, or replace rows of which they keep all that never changes: a material of a new code; parts of
 -- known materials whose names rise; a job; an order of a new code; demands of known materials, each once, of which no more
--- is reserved and made than wanted; numbers above the last ones; and a message of a new pair.
+-- is reserved and made than wanted, the new ones of different lines; numbers above the last ones; and a message of a new
+-- pair.
 pub record Fits (content : Content) (change : Change) : Type 0 where
   pub material : IfSome change.material (λ row. material_at content row.code ≡ None)
   pub parts : All (PartFits content) change.parts
@@ -139,6 +153,7 @@ pub record Fits (content : Content) (change : Change) : Type 0 where
   pub demands : All (DemandFits content change) change.demands
   pub wanted : All (λ demand. IsSome (material_at content demand.material) × (demand.reserved + demand.made ≤ demand.wanted)) change.demands
   pub once : AllPairs (λ a b. a.number ≢ b.number) change.demands
-  pub act : IfSome change.act (λ act. (content.last_act < act) × (act ≤ most_numbers))
-  pub demand : IfSome change.demand (λ demand. (content.last_demand < demand) × (demand ≤ most_numbers))
+  pub lines : AllPairs (LinesDiffer content) change.demands
+  pub act : IfSome change.act (λ act. (content.last_act < act) × (act ≤ MOST_NUMBERS))
+  pub demand : IfSome change.demand (λ demand. (content.last_demand < demand) × (demand ≤ MOST_NUMBERS))
   pub kept : IfSome change.kept (λ row. kept_at content row.pair ≡ None)

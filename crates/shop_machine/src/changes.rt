@@ -1,8 +1,7 @@
 use crate::kept_texts::KeptMessage;
-use crate::lists::RowList;
 use crate::messages::Reply;
 use crate::records::{Demand, Job, Material, Part};
-use cut_measure::Code;
+use cut_measure::{Code, RowList};
 
 /// Rows of parts, in order.
 pub type PartList = RowList<Part>;

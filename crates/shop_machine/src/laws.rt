@@ -1,18 +1,19 @@
-ghost use Rattle.std.specs.Prelude.{◌≡◌, ◌≢◌, ℕ, List, Option, Some, None};
-ghost use Rattle.cut_tree.specs.Patterns.{Pattern};
+ghost use Rattle.std.specs.Prelude.{◌≡◌, ◌≢◌, ℕ, List, Some, None};
 ghost use Rattle.shop_machine.specs.declared.changes.Change.{Change};
 ghost use Rattle.shop_machine.specs.declared.messages.Message.{Message};
 ghost use Rattle.shop_machine.specs.declared.refusals.Refusal.TheVariants.{StoreFault};
 ghost use Rattle.shop_machine.specs.Messages.{Texts, IsMessage, IsMade, pair_of};
+ghost use Rattle.shop_machine.specs.Readings.{Reading};
 ghost use Rattle.shop_machine.specs.Content.{Content, kept_at, changed};
 ghost use Rattle.shop_machine.specs.Machine.{Reads, refusal_of, Makes, keeping};
 ghost use Rattle.shop_machine.specs.History.{Entry, Gives, IsAccountOf};
 ghost use Rattle.shop_machine.specs.Soundness.{IsSound, Fits};
 
 /// Every history gives a sound content, and has its account: each cell of each received unit has exactly one owner, a
-/// part that isn't cut is the owner of each of its cells, as its row says, the totals are the counts of cells and add up,
-/// and of each demand no more is reserved and made than wanted, what is reserved being in the plans of waiting jobs, and
-/// what is made being pieces.
+/// part that isn't cut is the owner of each of its cells, as its row says, the totals are the counts of cells and add up;
+/// of each demand no more is reserved and made than wanted, what is reserved being in the plans of waiting jobs, and what
+/// is made being pieces; the last act is the number of acts, the last demand that of the ordered lines, and the demand of
+/// each number is that of the line ordered as this one, whatever the number.
 pub fn histories_have_accounts()
     ensures sound { (texts : Texts) (history : List Entry) (content : Content) →
         Gives texts history content → IsSound texts content }
@@ -23,15 +24,15 @@ pub fn histories_have_accounts()
 /// What is accepted on a sound content fits it, gets a reply that is read back, and leaves a sound content; and rows of
 /// a sound content never contradict each other.
 pub fn accepted_changes_fit()
-    ensures fits { (texts : Texts) (m : Content) (message : Message) (read : Option Pattern) (change : Change) →
+    ensures fits { (texts : Texts) (m : Content) (message : Message) (read : Reading) (change : Change) →
         IsSound texts m → Reads m message.command read → refusal_of m message.command read ≡ None → Makes m message.command read change →
         kept_at m (pair_of message) ≡ None → Fits m (keeping texts message change) }
-    ensures told { (texts : Texts) (m : Content) (message : Message) (read : Option Pattern) (change : Change) →
+    ensures told { (texts : Texts) (m : Content) (message : Message) (read : Reading) (change : Change) →
         IsSound texts m → Reads m message.command read → refusal_of m message.command read ≡ None → Makes m message.command read change →
         IsMessage message → IsMade change.reply }
-    ensures sound { (texts : Texts) (m : Content) (message : Message) (read : Option Pattern) (change : Change) →
+    ensures sound { (texts : Texts) (m : Content) (message : Message) (read : Reading) (change : Change) →
         IsSound texts m → Reads m message.command read → refusal_of m message.command read ≡ None → Makes m message.command read change →
         IsMessage message → IsSound texts (changed m (keeping texts message change)) }
-    ensures agrees { (texts : Texts) (m : Content) (message : Message) (read : Option Pattern) →
+    ensures agrees { (texts : Texts) (m : Content) (message : Message) (read : Reading) →
         IsSound texts m → Reads m message.command read → refusal_of m message.command read ≢ Some StoreFault }
 {}

@@ -1,26 +1,32 @@
 //! The shop as a machine: its records and messages, and what it decides on each.
 #![tactic(auto)]
 
+mod adding;
 mod changes;
 mod decisions;
-mod jobs;
+mod ending;
 mod kept_texts;
 mod laws;
-mod lists;
 mod messages;
-mod orders;
-mod plans;
+mod ordering;
+mod receiving;
 mod records;
+mod recounts;
 mod refusals;
+mod reserving;
+mod turning;
 
+pub use adding::decide_material;
 pub use changes::{Change, DemandList, PartList};
-pub use decisions::{decide_material, decide_receive};
-pub use jobs::{decide_done, decide_release};
+pub use cut_measure::RowList;
+pub use ending::{decide_done, decide_release};
 pub use kept_texts::{Kept, KeptMessage, Pair, Text};
 pub use laws::{accepted_changes_fit, histories_have_accounts};
-pub use lists::RowList;
 pub use messages::{Command, LineList, Message, OrderLine, Query, Reply};
-pub use orders::{FoundLine, decide_order};
-pub use plans::{FoundLeaf, decide_reserve};
+pub use ordering::{FoundLine, decide_order};
+pub use receiving::decide_receive;
 pub use records::{Column, Demand, Job, JobState, Material, Part, State, StateWord, Totals};
+pub use recounts::FoundLeaf;
 pub use refusals::Refusal;
+pub use reserving::decide_reserve;
+pub use turning::{decide_give_back, decide_scrap};

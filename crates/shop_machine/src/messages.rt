@@ -1,8 +1,7 @@
 use crate::kept_texts::Text;
-use crate::lists::RowList;
 use crate::records::StateWord;
 use crate::refusals::Refusal;
-use cut_measure::{Code, Kind, PartName};
+use cut_measure::{Code, Kind, PartName, RowList};
 
 /// A line of an order: so many pieces of one size of a material.
 #[derive(Clone, Copy, Debug)]
@@ -54,6 +53,14 @@ pub enum Command {
     Release {
         job: u32,
     },
+    /// Makes a standing part scrap.
+    Scrap {
+        part: PartName,
+    },
+    /// Returns a standing unit to its supplier.
+    GiveBack {
+        part: PartName,
+    },
 }
 
 /// A command with the pair that it is known by. Terminal 0 is the shop file's.
@@ -103,6 +110,12 @@ pub enum Reply {
     Release {
         job: u32,
     },
+    Scrap {
+        part: PartName,
+    },
+    GiveBack {
+        part: PartName,
+    },
     /// Cells of a material.
     Totals {
         material: Code,
@@ -112,6 +125,7 @@ pub enum Reply {
         pieces: u64,
         kerf: u64,
         scrap: u64,
+        returned: u64,
     },
     /// A part by its place in the received unit; `of` is the job of a reserved or a cut part, the demand of a piece,
     /// else 0.

@@ -20,6 +20,7 @@ pub enum State {
     Piece(u32),
     Kerf,
     Scrap,
+    Returned,
 }
 
 /// A state without its number, as it is told.
@@ -31,6 +32,7 @@ pub enum StateWord {
     Piece,
     Kerf,
     Scrap,
+    Returned,
 }
 
 impl State {
@@ -65,6 +67,7 @@ impl State {
             State::Piece(_) => StateWord::Piece,
             State::Kerf => StateWord::Kerf,
             State::Scrap => StateWord::Scrap,
+            State::Returned => StateWord::Returned,
         }
     }
 
@@ -75,7 +78,7 @@ impl State {
         match self {
             State::Reserved(job) | State::Cut(job) => job,
             State::Piece(demand) => demand,
-            State::Standing | State::Kerf | State::Scrap => 0,
+            State::Standing | State::Kerf | State::Scrap | State::Returned => 0,
         }
     }
 }
@@ -185,6 +188,7 @@ pub struct Totals {
     pub pieces: u64,
     pub kerf: u64,
     pub scrap: u64,
+    pub returned: u64,
 }
 
 /// One of the totals.
@@ -196,11 +200,12 @@ pub enum Column {
     Pieces,
     Kerf,
     Scrap,
+    Returned,
 }
 
 impl Part {
     ghost use Rattle.std.specs.Prelude.{◌≡◌};
-    ghost use Rattle.shop_machine.specs.Columns.{is_counted};
+    ghost use Rattle.shop_machine.specs.Columns.{is_whole, is_counted};
     ghost use Rattle.shop_machine.specs.Content.{is_listed};
 
     /// Whether it is a part of the material that stands, reserved or not.
@@ -211,11 +216,18 @@ impl Part {
             && matches!(self.state, State::Standing | State::Reserved(_))
     }
 
+    /// Whether it is a unit as it was received.
+    pub fn is_whole(&self) -> bool
+        ensures { result ≡ is_whole self.now }
+    {
+        self.name.act() == self.root.act() && self.name.node() == self.root.node()
+    }
+
     /// Whether its cells are counted in a column.
     pub fn counts_in(&self, column: Column) -> bool
         ensures { result ≡ is_counted column self.now }
     {
-        let whole = self.name.act() == self.root.act() && self.name.node() == self.root.node();
+        let whole = self.is_whole();
         match (column, self.state) {
             (Column::Received, _) => whole,
             (Column::Stock, State::Standing | State::Reserved(_)) => whole,
@@ -223,6 +235,7 @@ impl Part {
             (Column::Pieces, State::Piece(_)) => true,
             (Column::Kerf, State::Kerf) => true,
             (Column::Scrap, State::Scrap) => true,
+            (Column::Returned, State::Returned) => true,
             _ => false,
         }
     }

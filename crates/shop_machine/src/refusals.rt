@@ -1,5 +1,5 @@
 ghost use Rattle.std.specs.Prelude.{◌≡◌};
-ghost use Rattle.shop_machine.specs.Refusals.{number_of, name_of};
+ghost use Rattle.shop_machine.specs.Refusals.{refusal_number, refusal_name};
 
 use std::alloc::AllocError;
 
@@ -34,6 +34,8 @@ pub enum Refusal {
     NoPart,
     /// 51: the part isn't standing.
     NotStanding,
+    /// 52: the part isn't a unit as it was received.
+    NotWhole,
     /// 60: no tree of the part, or one without a piece.
     BadTree,
     /// 61: the demand's material is another.
@@ -78,7 +80,7 @@ impl From<AllocError> for Refusal {
 impl Refusal {
     /// Its number.
     pub fn number(self) -> u32
-        ensures { result ≡ number_of self }
+        ensures { result ≡ refusal_number self }
     {
         match self {
             Refusal::BadMessage => 10,
@@ -95,6 +97,7 @@ impl Refusal {
             Refusal::NoDemand => 42,
             Refusal::NoPart => 50,
             Refusal::NotStanding => 51,
+            Refusal::NotWhole => 52,
             Refusal::BadTree => 60,
             Refusal::WrongMaterial => 61,
             Refusal::WrongSize => 62,
@@ -114,7 +117,7 @@ impl Refusal {
 
     /// Its name, as replies print it.
     pub fn name(self) -> &'static str
-        ensures { result.now ≡ name_of self }
+        ensures { result.now ≡ refusal_name self }
     {
         match self {
             Refusal::BadMessage => "BadMessage",
@@ -131,6 +134,7 @@ impl Refusal {
             Refusal::NoDemand => "NoDemand",
             Refusal::NoPart => "NoPart",
             Refusal::NotStanding => "NotStanding",
+            Refusal::NotWhole => "NotWhole",
             Refusal::BadTree => "BadTree",
             Refusal::WrongMaterial => "WrongMaterial",
             Refusal::WrongSize => "WrongSize",

@@ -4,7 +4,7 @@ use Rattle.std.specs.Prelude.{◌||◌, max, option_map, option_and_then, if◌t
 use Rattle.cut_measure.specs.declared.sizes.Kind.{Kind}
 use Rattle.cut_measure.specs.Names.{Name, name_text}
 use Rattle.shop_machine.specs.declared.messages.Command.{Command}
-use Rattle.shop_machine.specs.declared.messages.Command.TheVariants.{AddMaterial, Receive, AddOrder, Reserve, Done, Release}
+use Rattle.shop_machine.specs.declared.messages.Command.TheVariants.{AddMaterial, Receive, AddOrder, Reserve, Done, Release, Scrap, GiveBack}
 use Rattle.shop_machine.specs.declared.messages.Message.{Message}
 use Rattle.shop_machine.specs.declared.messages.OrderLine.{OrderLine}
 use Rattle.shop_machine.specs.declared.messages.Query.{Query}
@@ -25,14 +25,15 @@ use Rattle.serde_json.specs.Written.{compact_text, outline, has_float}
 use Rattle.serde_json.proofs.Numbers.{number_of-decimal}
 use Rattle.json.specs.Token.{Token}
 use Rattle.serde_json.proofs.Texts.{print-outline}
-use Rattle.shop_rules.specs.Forms.{message_of, head_of, sent_of, from_one, command_of, material_command, receive_command, order_command, reserve_command, query_of, asked_of, reply_of, made_of, order_reply, reserve_reply, done_reply, lines_data, message_data, reply_data, json_texts, kept_reply_of, word_of}
+use Rattle.shop_rules.specs.Forms.{message_of, sent_head, sent_of, from_one, command_of, material_command, receive_command, order_command, reserve_command, query_of, asked_of, reply_of, made_of, order_made, reserve_made, done_made, lines_data, message_data, reply_data, json_texts, kept_reply_of}
+use Rattle.shop_rules.specs.Fields.{kind_text}
 use Rattle.shop_rules.proofs.FieldFacts.{number_there, wide_there, code_there, kind_there, name_there, text_there}
 use Rattle.shop_rules.proofs.Lists.{lines_there, lines_numbers, lines_shallow, lines_json, lines_no_float}
 
 -- ---- values
 
 read_material : (d : Data) (material : List ℕ) (kind : Kind) (kerf min_long min_short : ℕ)
-    → get (codes "material") d ≡ Some (string material) → get (codes "kind") d ≡ Some (string (word_of kind)) → get (codes "kerf") d ≡ Some (number (unsigned kerf))
+    → get (codes "material") d ≡ Some (string material) → get (codes "kind") d ≡ Some (string (kind_text kind)) → get (codes "kerf") d ≡ Some (number (unsigned kerf))
     → get (codes "min_long") d ≡ Some (number (unsigned min_long)) → get (codes "min_short") d ≡ Some (number (unsigned min_short))
     → IsCommand (AddMaterial material kind kerf min_long min_short) → material_command d ≡ Some (AddMaterial material kind kerf min_long min_short)
 read_material d material kind kerf min_long min_short p q r s t h =
@@ -83,6 +84,12 @@ sent_back_by terminal n (Done job) p q h =
 sent_back_by terminal n (Release job) p q h =
     let d = message_data (record { terminal = terminal; number = n; command = Release job }) in
     read_sent d (codes "release") terminal n (Release job) refl refl refl refl p q (ap (option_map Release) (number_there (codes "job") d job refl h))
+sent_back_by terminal n (Scrap part) p q h =
+    let d = message_data (record { terminal = terminal; number = n; command = Scrap part }) in
+    read_sent d (codes "scrap") terminal n (Scrap part) refl refl refl refl p q (ap (option_map Scrap) (name_there (codes "part") d part refl h))
+sent_back_by terminal n (GiveBack part) p q h =
+    let d = message_data (record { terminal = terminal; number = n; command = GiveBack part }) in
+    read_sent d (codes "return") terminal n (GiveBack part) refl refl refl refl p q (ap (option_map GiveBack) (name_there (codes "part") d part refl h))
 
 pub sent_back : (message : Message) → IsMessage message → sent_of (message_data message) ≡ Some message
 sent_back message h = sent_back_by message.terminal message.number message.command h.terminal h.number h.command
@@ -97,19 +104,19 @@ read_receipt d act count p q r is = rw (text_there (codes "ok") d (codes "receiv
 
 read_order_reply : (d : Data) (count first : ℕ) (order : List ℕ)
     → get (codes "count") d ≡ Some (number (unsigned count)) → get (codes "first") d ≡ Some (number (unsigned first)) → get (codes "order") d ≡ Some (string order)
-    → IsMade (reply.AddOrder count first order) → order_reply d ≡ Some (reply.AddOrder count first order)
+    → IsMade (reply.AddOrder count first order) → order_made d ≡ Some (reply.AddOrder count first order)
 read_order_reply d count first order p q r h =
     rw (number_there (codes "count") d count p h.0, number_there (codes "first") d first q h.1, code_there (codes "order") d order r h.2) refl
 
 read_reserve_reply : (d : Data) (cuts job : ℕ)
     → get (codes "cuts") d ≡ Some (number (unsigned cuts)) → get (codes "job") d ≡ Some (number (unsigned job))
-    → IsMade (reply.Reserve cuts job) → reserve_reply d ≡ Some (reply.Reserve cuts job)
+    → IsMade (reply.Reserve cuts job) → reserve_made d ≡ Some (reply.Reserve cuts job)
 read_reserve_reply d cuts job p q h = rw (number_there (codes "cuts") d cuts p h.0, number_there (codes "job") d job q h.1) refl
 
 read_done_reply : (d : Data) (job kerf pieces rack scrap : ℕ)
     → get (codes "job") d ≡ Some (number (unsigned job)) → get (codes "kerf") d ≡ Some (number (unsigned kerf)) → get (codes "pieces") d ≡ Some (number (unsigned pieces))
     → get (codes "rack") d ≡ Some (number (unsigned rack)) → get (codes "scrap") d ≡ Some (number (unsigned scrap))
-    → IsMade (reply.Done job kerf pieces rack scrap) → done_reply d ≡ Some (reply.Done job kerf pieces rack scrap)
+    → IsMade (reply.Done job kerf pieces rack scrap) → done_made d ≡ Some (reply.Done job kerf pieces rack scrap)
 read_done_reply d job kerf pieces rack scrap p q r s t h =
     rw (number_there (codes "job") d job p h.0, wide_there (codes "kerf") d kerf q, wide_there (codes "pieces") d pieces r, wide_there (codes "rack") d rack s, wide_there (codes "scrap") d scrap t) refl
 
@@ -125,7 +132,9 @@ reply_back (reply.Reserve cuts job) h = read_reserve_reply (reply_data (reply.Re
 reply_back (reply.Done job kerf pieces rack scrap) h =
     read_done_reply (reply_data (reply.Done job kerf pieces rack scrap)) job kerf pieces rack scrap refl refl refl refl refl h
 reply_back (reply.Release job) h = ap (option_map reply.Release) (number_there (codes "job") (reply_data (reply.Release job)) job refl h)
-reply_back (reply.Totals material received stock rack pieces kerf scrap) h = absurd h
+reply_back (reply.Scrap part) h = ap (option_map reply.Scrap) (name_there (codes "part") (reply_data (reply.Scrap part)) part refl h)
+reply_back (reply.GiveBack part) h = ap (option_map reply.GiveBack) (name_there (codes "part") (reply_data (reply.GiveBack part)) part refl h)
+reply_back (reply.Totals material received stock rack pieces kerf scrap returned) h = absurd h
 reply_back (reply.Trace batch h of part root state w x y) made = absurd made
 reply_back (reply.Demand demand line made material order reserved wanted) h = absurd h
 reply_back (reply.Refused refusal) h = absurd h
@@ -139,6 +148,8 @@ no_float_by terminal n (AddOrder order lines) = ap (λ (b : Bool). b || false) (
 no_float_by terminal n (Reserve part tree) = refl
 no_float_by terminal n (Done job) = refl
 no_float_by terminal n (Release job) = refl
+no_float_by terminal n (Scrap part) = refl
+no_float_by terminal n (GiveBack part) = refl
 
 pub message_no_float : (message : Message) → has_float (message_data message) ≡ false
 message_no_float message = no_float_by message.terminal message.number message.command
@@ -202,6 +213,14 @@ text_read_by terminal n (Release job) p q h =
     let d = message_data (record { terminal = terminal; number = n; command = Release job }) in
     read-compact d (tt, (IsNumber-decimal job (wide job h), (IsNumber-decimal n (wide n q), (IsNumber-decimal terminal (wide terminal p), tt)))) (omega arith)
     (rw (number_of-decimal job (wide job h), number_of-decimal n (wide n q), number_of-decimal terminal (wide terminal p)) refl)
+text_read_by terminal n (Scrap part) p q h =
+    let d = message_data (record { terminal = terminal; number = n; command = Scrap part }) in
+    read-compact d (tt, (IsNumber-decimal n (wide n q), (tt, (IsNumber-decimal terminal (wide terminal p), tt)))) (omega arith)
+    (rw (number_of-decimal n (wide n q), number_of-decimal terminal (wide terminal p)) refl)
+text_read_by terminal n (GiveBack part) p q h =
+    let d = message_data (record { terminal = terminal; number = n; command = GiveBack part }) in
+    read-compact d (tt, (IsNumber-decimal n (wide n q), (tt, (IsNumber-decimal terminal (wide terminal p), tt)))) (omega arith)
+    (rw (number_of-decimal n (wide n q), number_of-decimal terminal (wide terminal p)) refl)
 
 pub message_text_read : (message : Message) → IsMessage message → read (json_texts.of_message message) ≡ Some (message_data message)
 unfolding json_texts
@@ -225,7 +244,9 @@ reply_text_read (reply.Done job kerf pieces rack scrap) h =
     (rw (number_of-decimal job (wide job h.0), number_of-decimal kerf h.1, number_of-decimal pieces h.2, number_of-decimal rack h.3, number_of-decimal scrap h.4) refl)
 reply_text_read (reply.Release job) h =
     read-compact (reply_data (reply.Release job)) (IsNumber-decimal job (wide job h), (tt, tt)) (omega arith) (rw (number_of-decimal job (wide job h)) refl)
-reply_text_read (reply.Totals material received stock rack pieces kerf scrap) h = absurd h
+reply_text_read (reply.Scrap part) h = read-compact (reply_data (reply.Scrap part)) (tt, (tt, tt)) (omega arith) refl
+reply_text_read (reply.GiveBack part) h = read-compact (reply_data (reply.GiveBack part)) (tt, (tt, tt)) (omega arith) refl
+reply_text_read (reply.Totals material received stock rack pieces kerf scrap returned) h = absurd h
 reply_text_read (reply.Trace batch h of part root state w x y) made = absurd made
 reply_text_read (reply.Demand demand line made material order reserved wanted) h = absurd h
 reply_text_read (reply.Refused refusal) h = absurd h
@@ -266,7 +287,7 @@ one_word (Some a) (Some b) w v p q = cc p
 pub never_both : (d : Data) (message : Message) (query : Query) → message_of d ≡ Some message → query_of d ≡ Some query → ⊥
 never_both d message query p q =
     let sent = some_under from_one (sent_of d) message p in
-    let head = some_under _ (head_of d) sent.0 sent.1 in
+    let head = some_under _ (sent_head d) sent.0 sent.1 in
     let done = some_under _ _ head.0 head.1 in
     let asked = some_under (λ word. asked_of word d) _ query q in
     one_word (get (codes "do") d) (get (codes "ask") d) done.0 asked.0 done.1 asked.1

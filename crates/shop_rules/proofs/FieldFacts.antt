@@ -4,14 +4,14 @@ use Rattle.std.specs.Prelude.{IsTrue, unwrap_or, option_map, option_and_then, if
 use Rattle.cut_measure.specs.declared.sizes.Kind.{Kind}
 use Rattle.cut_measure.specs.declared.sizes.Kind.TheVariants.{Bar, Sheet}
 use Rattle.cut_measure.specs.Codes.{is_code, code_of}
-use Rattle.cut_measure.specs.Names.{Name, IsName, name_of, name_text}
+use Rattle.cut_measure.specs.Names.{Name, IsName, spelled_name, name_text}
 use Rattle.cut_measure.proofs.NameTexts.{name_back}
 use Rattle.serde_json.specs.Data.{Data, boolean, number, string, unsigned}
 use Rattle.serde_json.specs.Find.{get, as_bool, as_number, as_u64, as_str, as_object}
 use Rattle.serde_json.specs.Events.{members_len}
 use Rattle.serde_json.specs.View.{members_view}
 use Rattle.serde_json.proofs.Views.{Entry, members_len-members_view}
-use Rattle.shop_rules.specs.Fields.{small, wide_at, number_at, flag_at, text_at, code_at, name_at, kind_at, kind_of, word_of, has_keys}
+use Rattle.shop_rules.specs.Fields.{small, wide_at, number_at, flag_at, text_at, code_at, name_at, kind_at, kind_of, kind_text, has_keys}
 
 pub keys_counted : (es : List Entry) (d : Data) (n len : ℕ) → Some (members_view es) ≡ as_object d → len ≡ length es → nat_eq len n ≡ has_keys n d
 keys_counted es d n len is counted =
@@ -23,7 +23,7 @@ small_is n h = ap (λ (b : Bool). if b then Some n else None) (lt-ltb n (2 ^ 32)
 pub code_is : (text : List ℕ) → IsTrue (is_code text) → code_of text ≡ Some text
 code_is text h = ap (λ (b : Bool). if b then Some text else None) h
 
-pub kind_is : (kind : Kind) → kind_of (word_of kind) ≡ Some kind
+pub kind_is : (kind : Kind) → kind_of (kind_text kind) ≡ Some kind
 kind_is Bar = refl
 kind_is Sheet = refl
 
@@ -41,13 +41,13 @@ module _ (key : List ℕ) (d : Data) where
   wide_there n is = ap (λ o. option_and_then as_u64 (option_and_then as_number o)) is
 
   pub name_there : (name : Name) → get key d ≡ Some (string (name_text name)) → IsName name → name_at key d ≡ Some name
-  name_there name is h = ap (option_and_then name_of) (text_there (name_text name) is) ∙ name_back name h
+  name_there name is h = ap (option_and_then spelled_name) (text_there (name_text name) is) ∙ name_back name h
 
   pub code_there : (text : List ℕ) → get key d ≡ Some (string text) → IsTrue (is_code text) → code_at key d ≡ Some text
   code_there text is h = ap (option_and_then code_of) (text_there text is) ∙ code_is text h
 
-  pub kind_there : (kind : Kind) → get key d ≡ Some (string (word_of kind)) → kind_at key d ≡ Some kind
-  kind_there kind is = ap (option_and_then kind_of) (text_there (word_of kind) is) ∙ kind_is kind
+  pub kind_there : (kind : Kind) → get key d ≡ Some (string (kind_text kind)) → kind_at key d ≡ Some kind
+  kind_there kind is = ap (option_and_then kind_of) (text_there (kind_text kind) is) ∙ kind_is kind
 
 pub not_memory : {M : Type 0} (b : Bool) → (M → b ≡ true) → b ≡ false → ¬ M
 not_memory b told is m = cc (told m)

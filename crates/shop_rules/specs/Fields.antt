@@ -4,7 +4,7 @@ use Rattle.std.specs.List.{list_all, filter_map}
 use Rattle.cut_measure.specs.declared.sizes.Kind.{Kind}
 use Rattle.cut_measure.specs.declared.sizes.Kind.TheVariants.{Bar, Sheet}
 use Rattle.cut_measure.specs.Codes.{code_of}
-use Rattle.cut_measure.specs.Names.{Name, name_of, name_text}
+use Rattle.cut_measure.specs.Names.{Name, spelled_name, name_text}
 use Rattle.shop_machine.specs.declared.records.StateWord.{StateWord}
 use Rattle.shop_machine.specs.declared.records.StateWord.TheVariants as state
 use Rattle.serde_json.specs.Data.{Data, boolean, number, string, unsigned, Items, no_items, item, Members, member}
@@ -34,7 +34,7 @@ abbrev pub code_at : List ℕ → Data → Option (List ℕ)
 code_at key d = option_and_then code_of (text_at key d)
 
 abbrev pub name_at : List ℕ → Data → Option Name
-name_at key d = option_and_then name_of (text_at key d)
+name_at key d = option_and_then spelled_name (text_at key d)
 
 abbrev pub kind_of : List ℕ → Option Kind
 kind_of text = if bytes_eq text (codes "bar") then Some Bar else (if bytes_eq text (codes "sheet") then Some Sheet else None)
@@ -68,9 +68,9 @@ row n fields d = if has_keys n d then fields d else None
 
 -- ---- what is printed
 
-abbrev pub word_of : Kind → List ℕ
-word_of Bar = codes "bar"
-word_of Sheet = codes "sheet"
+abbrev pub kind_text : Kind → List ℕ
+kind_text Bar = codes "bar"
+kind_text Sheet = codes "sheet"
 
 abbrev pub state_text : StateWord → List ℕ
 state_text state.Standing = codes "standing"
@@ -79,6 +79,7 @@ state_text state.Cut = codes "cut"
 state_text state.Piece = codes "piece"
 state_text state.Kerf = codes "kerf"
 state_text state.Scrap = codes "scrap"
+state_text state.Returned = codes "returned"
 
 abbrev pub text_member : List ℕ → List ℕ → Members → Members
 text_member key text more = member key (string text) more

@@ -1,24 +1,27 @@
 -- Messages, queries and replies as JSON values: what a value stands for, and what is printed.
 use Rattle.std.specs.Prelude.{ℕ, List, map, nat_le, if◌then◌else◌, Option, Some, None, option_map, option_and_then, codes, bytes_eq}
-use Rattle.cut_measure.specs.Names.{name_text}
+use Rattle.cut_measure.specs.Names.{Name, name_text}
+use Rattle.cut_measure.specs.declared.sizes.Kind.{Kind}
 use Rattle.shop_machine.specs.declared.messages.Command.{Command}
-use Rattle.shop_machine.specs.declared.messages.Command.TheVariants.{AddMaterial, Receive, AddOrder, Reserve, Done, Release}
+use Rattle.shop_machine.specs.declared.messages.Command.TheVariants.{AddMaterial, Receive, AddOrder, Reserve, Done, Release, Scrap, GiveBack}
 use Rattle.shop_machine.specs.declared.messages.Message.{Message}
 use Rattle.shop_machine.specs.declared.messages.OrderLine.{OrderLine}
 use Rattle.shop_machine.specs.declared.messages.Query.{Query}
 use Rattle.shop_machine.specs.declared.messages.Query.TheVariants as query
 use Rattle.shop_machine.specs.declared.messages.Reply.{Reply}
 use Rattle.shop_machine.specs.declared.messages.Reply.TheVariants as reply
-use Rattle.shop_machine.specs.Refusals.{number_of, name_of}
+use Rattle.shop_machine.specs.Refusals.{refusal_number, refusal_name}
 use Rattle.shop_machine.specs.Messages.{Texts}
 use Rattle.serde_json.specs.Data.{Data, array, object, number, unsigned, Members, member, no_members, put}
 use Rattle.serde_json.specs.Read.{read}
 use Rattle.serde_json.specs.View.{items_of}
 use Rattle.serde_json.specs.Written.{compact_text}
-use Rattle.shop_rules.specs.Fields.{number_at, wide_at, flag_at, text_at, code_at, name_at, kind_at, word_at, elements_at, all_of, row, state_text, text_member, number_member, name_member, flag_member}
-pub use Rattle.shop_rules.specs.Fields.{word_of}
+use Rattle.shop_rules.specs.Fields.{number_at, wide_at, flag_at, text_at, code_at, name_at, kind_at, word_at, elements_at, all_of, row, kind_text, state_text, text_member, number_member, name_member, flag_member}
 
--- ---- messages
+-- A command has a row of keys that is read, the keys that are printed but `terminal` and `number`, in byte order, and the same
+-- of the reply to it.
+
+-- ---- adding a material
 
 abbrev pub material_command : Data → Option Command
 material_command d =
@@ -26,11 +29,40 @@ material_command d =
     AddMaterial material kind kerf min_long min_short)
     (number_at (codes "min_short") d)) (number_at (codes "min_long") d)) (number_at (codes "kerf") d)) (kind_at (codes "kind") d)) (code_at (codes "material") d)
 
+abbrev pub material_members : List ℕ → Kind → (kerf min_long min_short : ℕ) → Members
+material_members material kind kerf min_long min_short =
+    text_member (codes "do") (codes "material") (number_member (codes "kerf") kerf (text_member (codes "kind") (kind_text kind)
+    (text_member (codes "material") material (number_member (codes "min_long") min_long (number_member (codes "min_short") min_short no_members)))))
+
+abbrev pub material_made : Data → Option Reply
+material_made d = option_map reply.AddMaterial (code_at (codes "material") d)
+
+abbrev pub material_told : List ℕ → Data
+material_told material =
+    object (text_member (codes "material") material (text_member (codes "ok") (codes "material") no_members))
+
+-- ---- receiving units
+
 abbrev pub receive_command : Data → Option Command
 receive_command d =
     option_and_then (λ material. option_and_then (λ batch. option_and_then (λ w. option_and_then (λ h. option_map (λ count.
     Receive material batch w h count)
     (number_at (codes "count") d)) (number_at (codes "h") d)) (number_at (codes "w") d)) (code_at (codes "batch") d)) (code_at (codes "material") d)
+
+abbrev pub receive_members : (material batch : List ℕ) → (w h count : ℕ) → Members
+receive_members material batch w h count =
+    text_member (codes "batch") batch (number_member (codes "count") count (text_member (codes "do") (codes "receive")
+    (number_member (codes "h") h (text_member (codes "material") material (number_member (codes "w") w no_members)))))
+
+abbrev pub receive_made : Data → Option Reply
+receive_made d =
+    option_and_then (λ act. option_map (λ count. reply.Receive act count) (number_at (codes "count") d)) (number_at (codes "act") d)
+
+abbrev pub receive_told : (act count : ℕ) → Data
+receive_told act count =
+    object (number_member (codes "act") act (number_member (codes "count") count (text_member (codes "ok") (codes "receive") no_members)))
+
+-- ---- adding an order
 
 abbrev pub line_fields : Data → Option OrderLine
 line_fields d =
@@ -48,53 +80,137 @@ lines_at key d = option_and_then (all_of line_of) (elements_at key d)
 abbrev pub order_command : Data → Option Command
 order_command d = option_and_then (λ order. option_map (λ lines. AddOrder order lines) (lines_at (codes "lines") d)) (code_at (codes "order") d)
 
+-- an order's line as an object, its keys in byte order
+abbrev pub line_data : OrderLine → Data
+line_data l =
+    object (number_member (codes "count") l.count (number_member (codes "h") l.h (number_member (codes "line") l.line
+    (text_member (codes "material") l.material (flag_member (codes "turn") l.turn (number_member (codes "w") l.w
+    (number_member (codes "worth") l.worth no_members)))))))
+
+abbrev pub lines_data : List OrderLine → Data
+lines_data lines = array (items_of (map line_data lines))
+
+abbrev pub order_members : List ℕ → List OrderLine → Members
+order_members order lines =
+    text_member (codes "do") (codes "order") (member (codes "lines") (lines_data lines) (text_member (codes "order") order no_members))
+
+abbrev pub order_made : Data → Option Reply
+order_made d =
+    option_and_then (λ count. option_and_then (λ first. option_map (λ order. reply.AddOrder count first order)
+    (code_at (codes "order") d)) (number_at (codes "first") d)) (number_at (codes "count") d)
+
+abbrev pub order_told : (count first : ℕ) → List ℕ → Data
+order_told count first order =
+    object (number_member (codes "count") count (number_member (codes "first") first (text_member (codes "ok") (codes "order")
+    (text_member (codes "order") order no_members))))
+
+-- ---- reserving a part
+
 abbrev pub reserve_command : Data → Option Command
 reserve_command d = option_and_then (λ part. option_map (λ tree. Reserve part tree) (text_at (codes "tree") d)) (name_at (codes "part") d)
+
+abbrev pub reserve_members : Name → List ℕ → Members
+reserve_members part tree =
+    text_member (codes "do") (codes "reserve") (name_member (codes "part") part (text_member (codes "tree") tree no_members))
+
+abbrev pub reserve_made : Data → Option Reply
+reserve_made d =
+    option_and_then (λ cuts. option_map (λ job. reply.Reserve cuts job) (number_at (codes "job") d)) (number_at (codes "cuts") d)
+
+abbrev pub reserve_told : (cuts job : ℕ) → Data
+reserve_told cuts job =
+    object (number_member (codes "cuts") cuts (number_member (codes "job") job (text_member (codes "ok") (codes "reserve") no_members)))
+
+-- ---- the end of a job
 
 abbrev pub done_command : Data → Option Command
 done_command d = option_map Done (number_at (codes "job") d)
 
+abbrev pub done_members : ℕ → Members
+done_members job =
+    text_member (codes "do") (codes "done") (number_member (codes "job") job no_members)
+
+abbrev pub done_made : Data → Option Reply
+done_made d =
+    option_and_then (λ job. option_and_then (λ kerf. option_and_then (λ pieces. option_and_then (λ rack. option_map (λ scrap.
+    reply.Done job kerf pieces rack scrap)
+    (wide_at (codes "scrap") d)) (wide_at (codes "rack") d)) (wide_at (codes "pieces") d)) (wide_at (codes "kerf") d)) (number_at (codes "job") d)
+
+abbrev pub done_told : (job kerf pieces rack scrap : ℕ) → Data
+done_told job kerf pieces rack scrap =
+    object (number_member (codes "job") job (number_member (codes "kerf") kerf (text_member (codes "ok") (codes "done")
+    (number_member (codes "pieces") pieces (number_member (codes "rack") rack (number_member (codes "scrap") scrap no_members))))))
+
 abbrev pub release_command : Data → Option Command
 release_command d = option_map Release (number_at (codes "job") d)
 
--- the rows by the word of `do`, each with `do`, `terminal` and `number`
-abbrev pub command_of : List ℕ → Data → Option Command
-command_of word d =
-    if bytes_eq word (codes "material") then row 8 material_command d
-    else (if bytes_eq word (codes "receive") then row 8 receive_command d
-    else (if bytes_eq word (codes "order") then row 5 order_command d
-    else (if bytes_eq word (codes "reserve") then row 5 reserve_command d
-    else (if bytes_eq word (codes "done") then row 4 done_command d
-    else (if bytes_eq word (codes "release") then row 4 release_command d else None)))))
+abbrev pub release_members : ℕ → Members
+release_members job =
+    text_member (codes "do") (codes "release") (number_member (codes "job") job no_members)
 
--- the word of `do`, the terminal and the number
-abbrev pub head_of : Data → Option (List ℕ × ℕ × ℕ)
-head_of d =
-    option_and_then (λ word. option_and_then (λ terminal. option_map (λ number. (word, terminal, number))
-    (number_at (codes "number") d)) (number_at (codes "terminal") d)) (word_at (codes "do") (codes "ask") d)
+abbrev pub release_made : Data → Option Reply
+release_made d = option_map reply.Release (number_at (codes "job") d)
 
--- a message of any terminal
-abbrev pub sent_of : Data → Option Message
-sent_of d =
-    option_and_then (λ head. option_map (λ command. record { terminal = head.1; number = head.2; command = command }) (command_of head.0 d)) (head_of d)
+abbrev pub release_told : ℕ → Data
+release_told job =
+    object (number_member (codes "job") job (text_member (codes "ok") (codes "release") no_members))
 
--- terminal 0 sends nothing
-abbrev pub from_one : Message → Option Message
-from_one message = if nat_le 1 message.terminal then Some message else None
+abbrev pub scrap_command : Data → Option Command
+scrap_command d = option_map Scrap (name_at (codes "part") d)
 
-abbrev pub message_of : Data → Option Message
-message_of d = option_and_then from_one (sent_of d)
+abbrev pub scrap_members : Name → Members
+scrap_members part =
+    text_member (codes "do") (codes "scrap") (name_member (codes "part") part no_members)
 
--- ---- queries
+abbrev pub scrap_made : Data → Option Reply
+scrap_made d = option_map reply.Scrap (name_at (codes "part") d)
+
+abbrev pub scrap_told : Name → Data
+scrap_told part =
+    object (text_member (codes "ok") (codes "scrap") (name_member (codes "part") part no_members))
+
+abbrev pub return_command : Data → Option Command
+return_command d = option_map GiveBack (name_at (codes "part") d)
+
+abbrev pub return_members : Name → Members
+return_members part =
+    text_member (codes "do") (codes "return") (name_member (codes "part") part no_members)
+
+abbrev pub return_made : Data → Option Reply
+return_made d = option_map reply.GiveBack (name_at (codes "part") d)
+
+abbrev pub return_told : Name → Data
+return_told part =
+    object (text_member (codes "ok") (codes "return") (name_member (codes "part") part no_members))
+
+-- ---- queries, and the replies to them
 
 abbrev pub totals_query : Data → Option Query
 totals_query d = option_map query.Totals (code_at (codes "material") d)
 
+abbrev pub totals_told : List ℕ → (received stock rack pieces kerf scrap returned : ℕ) → Data
+totals_told material received stock rack pieces kerf scrap returned =
+    object (number_member (codes "kerf") kerf (text_member (codes "material") material (text_member (codes "ok") (codes "totals")
+    (number_member (codes "pieces") pieces (number_member (codes "rack") rack (number_member (codes "received") received
+    (number_member (codes "returned") returned (number_member (codes "scrap") scrap (number_member (codes "stock") stock no_members)))))))))
+
 abbrev pub trace_query : Data → Option Query
 trace_query d = option_map query.Trace (name_at (codes "part") d)
 
+abbrev pub trace_data : (batch part root state : List ℕ) (h of w x y : ℕ) → Data
+trace_data batch part root state h of w x y =
+    object (text_member (codes "batch") batch (number_member (codes "h") h (number_member (codes "of") of (text_member (codes "ok") (codes "trace")
+    (text_member (codes "part") part (text_member (codes "root") root (text_member (codes "state") state
+    (number_member (codes "w") w (number_member (codes "x") x (number_member (codes "y") y no_members))))))))))
+
 abbrev pub demand_query : Data → Option Query
 demand_query d = option_map query.Demand (number_at (codes "demand") d)
+
+abbrev pub demand_told : (demand line made : ℕ) → (material order : List ℕ) → (reserved wanted : ℕ) → Data
+demand_told demand line made material order reserved wanted =
+    object (number_member (codes "demand") demand (number_member (codes "line") line (number_member (codes "made") made
+    (text_member (codes "material") material (text_member (codes "ok") (codes "demand") (text_member (codes "order") order
+    (number_member (codes "reserved") reserved (number_member (codes "wanted") wanted no_members))))))))
 
 -- the rows by the word of `ask`, each with `ask`
 abbrev pub asked_of : List ℕ → Data → Option Query
@@ -106,113 +222,86 @@ asked_of word d =
 abbrev pub query_of : Data → Option Query
 query_of d = option_and_then (λ word. asked_of word d) (word_at (codes "ask") (codes "do") d)
 
--- ---- replies that an accepted message can get
+-- ---- messages
 
-abbrev pub material_reply : Data → Option Reply
-material_reply d = option_map reply.AddMaterial (code_at (codes "material") d)
+-- the rows by the word of `do`, each with `do`, `terminal` and `number`
+abbrev pub command_of : List ℕ → Data → Option Command
+command_of word d =
+    if bytes_eq word (codes "material") then row 8 material_command d
+    else (if bytes_eq word (codes "receive") then row 8 receive_command d
+    else (if bytes_eq word (codes "order") then row 5 order_command d
+    else (if bytes_eq word (codes "reserve") then row 5 reserve_command d
+    else (if bytes_eq word (codes "done") then row 4 done_command d
+    else (if bytes_eq word (codes "release") then row 4 release_command d
+    else (if bytes_eq word (codes "scrap") then row 4 scrap_command d
+    else (if bytes_eq word (codes "return") then row 4 return_command d else None)))))))
 
-abbrev pub receive_reply : Data → Option Reply
-receive_reply d =
-    option_and_then (λ act. option_map (λ count. reply.Receive act count) (number_at (codes "count") d)) (number_at (codes "act") d)
+-- the word of `do`, the terminal and the number
+abbrev pub sent_head : Data → Option (List ℕ × ℕ × ℕ)
+sent_head d =
+    option_and_then (λ word. option_and_then (λ terminal. option_map (λ number. (word, terminal, number))
+    (number_at (codes "number") d)) (number_at (codes "terminal") d)) (word_at (codes "do") (codes "ask") d)
 
-abbrev pub order_reply : Data → Option Reply
-order_reply d =
-    option_and_then (λ count. option_and_then (λ first. option_map (λ order. reply.AddOrder count first order)
-    (code_at (codes "order") d)) (number_at (codes "first") d)) (number_at (codes "count") d)
+-- a message of any terminal
+abbrev pub sent_of : Data → Option Message
+sent_of d =
+    option_and_then (λ head. option_map (λ command. record { terminal = head.1; number = head.2; command = command }) (command_of head.0 d)) (sent_head d)
 
-abbrev pub reserve_reply : Data → Option Reply
-reserve_reply d =
-    option_and_then (λ cuts. option_map (λ job. reply.Reserve cuts job) (number_at (codes "job") d)) (number_at (codes "cuts") d)
+-- terminal 0 sends nothing
+abbrev pub from_one : Message → Option Message
+from_one message = if nat_le 1 message.terminal then Some message else None
 
-abbrev pub done_reply : Data → Option Reply
-done_reply d =
-    option_and_then (λ job. option_and_then (λ kerf. option_and_then (λ pieces. option_and_then (λ rack. option_map (λ scrap.
-    reply.Done job kerf pieces rack scrap)
-    (wide_at (codes "scrap") d)) (wide_at (codes "rack") d)) (wide_at (codes "pieces") d)) (wide_at (codes "kerf") d)) (number_at (codes "job") d)
-
-abbrev pub release_reply : Data → Option Reply
-release_reply d = option_map reply.Release (number_at (codes "job") d)
-
--- the rows by the word of `ok`, each with `ok`
-abbrev pub made_of : List ℕ → Data → Option Reply
-made_of word d =
-    if bytes_eq word (codes "material") then row 2 material_reply d
-    else (if bytes_eq word (codes "receive") then row 3 receive_reply d
-    else (if bytes_eq word (codes "order") then row 4 order_reply d
-    else (if bytes_eq word (codes "reserve") then row 3 reserve_reply d
-    else (if bytes_eq word (codes "done") then row 6 done_reply d
-    else (if bytes_eq word (codes "release") then row 2 release_reply d else None)))))
-
-abbrev pub reply_of : Data → Option Reply
-reply_of d = option_and_then (λ word. made_of word d) (text_at (codes "ok") d)
-
--- ---- what is printed
-
--- an order's line as an object, its keys in byte order
-abbrev pub line_data : OrderLine → Data
-line_data l =
-    object (number_member (codes "count") l.count (number_member (codes "h") l.h (number_member (codes "line") l.line
-    (text_member (codes "material") l.material (flag_member (codes "turn") l.turn (number_member (codes "w") l.w
-    (number_member (codes "worth") l.worth no_members)))))))
-
-abbrev pub lines_data : List OrderLine → Data
-lines_data lines = array (items_of (map line_data lines))
+abbrev pub message_of : Data → Option Message
+message_of d = option_and_then from_one (sent_of d)
 
 -- the keys of a command's row but `terminal` and `number`, in byte order
 abbrev pub command_members : Command → Members
-command_members (AddMaterial material kind kerf min_long min_short) =
-    text_member (codes "do") (codes "material") (number_member (codes "kerf") kerf (text_member (codes "kind") (word_of kind)
-    (text_member (codes "material") material (number_member (codes "min_long") min_long (number_member (codes "min_short") min_short no_members)))))
-command_members (Receive material batch w h count) =
-    text_member (codes "batch") batch (number_member (codes "count") count (text_member (codes "do") (codes "receive")
-    (number_member (codes "h") h (text_member (codes "material") material (number_member (codes "w") w no_members)))))
-command_members (AddOrder order lines) =
-    text_member (codes "do") (codes "order") (member (codes "lines") (lines_data lines) (text_member (codes "order") order no_members))
-command_members (Reserve part tree) =
-    text_member (codes "do") (codes "reserve") (name_member (codes "part") part (text_member (codes "tree") tree no_members))
-command_members (Done job) =
-    text_member (codes "do") (codes "done") (number_member (codes "job") job no_members)
-command_members (Release job) =
-    text_member (codes "do") (codes "release") (number_member (codes "job") job no_members)
+command_members (AddMaterial material kind kerf min_long min_short) = material_members material kind kerf min_long min_short
+command_members (Receive material batch w h count) = receive_members material batch w h count
+command_members (AddOrder order lines) = order_members order lines
+command_members (Reserve part tree) = reserve_members part tree
+command_members (Done job) = done_members job
+command_members (Release job) = release_members job
+command_members (Scrap part) = scrap_members part
+command_members (GiveBack part) = return_members part
 
 -- a message as an object, its keys in byte order
 abbrev pub message_data : Message → Data
 message_data message =
     object (put (codes "terminal") (number (unsigned message.terminal)) (put (codes "number") (number (unsigned message.number)) (command_members message.command)))
 
-abbrev pub trace_data : (batch part root state : List ℕ) (h of w x y : ℕ) → Data
-trace_data batch part root state h of w x y =
-    object (text_member (codes "batch") batch (number_member (codes "h") h (number_member (codes "of") of (text_member (codes "ok") (codes "trace")
-    (text_member (codes "part") part (text_member (codes "root") root (text_member (codes "state") state
-    (number_member (codes "w") w (number_member (codes "x") x (number_member (codes "y") y no_members))))))))))
+-- ---- replies
+
+-- of the replies that an accepted message can get, the rows by the word of `ok`, each with `ok`
+abbrev pub made_of : List ℕ → Data → Option Reply
+made_of word d =
+    if bytes_eq word (codes "material") then row 2 material_made d
+    else (if bytes_eq word (codes "receive") then row 3 receive_made d
+    else (if bytes_eq word (codes "order") then row 4 order_made d
+    else (if bytes_eq word (codes "reserve") then row 3 reserve_made d
+    else (if bytes_eq word (codes "done") then row 6 done_made d
+    else (if bytes_eq word (codes "release") then row 2 release_made d
+    else (if bytes_eq word (codes "scrap") then row 2 scrap_made d
+    else (if bytes_eq word (codes "return") then row 2 return_made d else None)))))))
+
+abbrev pub reply_of : Data → Option Reply
+reply_of d = option_and_then (λ word. made_of word d) (text_at (codes "ok") d)
 
 -- a reply as an object, its keys in byte order
 abbrev pub reply_data : Reply → Data
-reply_data (reply.AddMaterial material) =
-    object (text_member (codes "material") material (text_member (codes "ok") (codes "material") no_members))
-reply_data (reply.Receive act count) =
-    object (number_member (codes "act") act (number_member (codes "count") count (text_member (codes "ok") (codes "receive") no_members)))
-reply_data (reply.AddOrder count first order) =
-    object (number_member (codes "count") count (number_member (codes "first") first (text_member (codes "ok") (codes "order")
-    (text_member (codes "order") order no_members))))
-reply_data (reply.Reserve cuts job) =
-    object (number_member (codes "cuts") cuts (number_member (codes "job") job (text_member (codes "ok") (codes "reserve") no_members)))
-reply_data (reply.Done job kerf pieces rack scrap) =
-    object (number_member (codes "job") job (number_member (codes "kerf") kerf (text_member (codes "ok") (codes "done")
-    (number_member (codes "pieces") pieces (number_member (codes "rack") rack (number_member (codes "scrap") scrap no_members))))))
-reply_data (reply.Release job) =
-    object (number_member (codes "job") job (text_member (codes "ok") (codes "release") no_members))
-reply_data (reply.Totals material received stock rack pieces kerf scrap) =
-    object (number_member (codes "kerf") kerf (text_member (codes "material") material (text_member (codes "ok") (codes "totals")
-    (number_member (codes "pieces") pieces (number_member (codes "rack") rack (number_member (codes "received") received
-    (number_member (codes "scrap") scrap (number_member (codes "stock") stock no_members))))))))
+reply_data (reply.AddMaterial material) = material_told material
+reply_data (reply.Receive act count) = receive_told act count
+reply_data (reply.AddOrder count first order) = order_told count first order
+reply_data (reply.Reserve cuts job) = reserve_told cuts job
+reply_data (reply.Done job kerf pieces rack scrap) = done_told job kerf pieces rack scrap
+reply_data (reply.Release job) = release_told job
+reply_data (reply.Scrap part) = scrap_told part
+reply_data (reply.GiveBack part) = return_told part
+reply_data (reply.Totals material received stock rack pieces kerf scrap returned) = totals_told material received stock rack pieces kerf scrap returned
 reply_data (reply.Trace batch h of part root state w x y) = trace_data batch (name_text part) (name_text root) (state_text state) h of w x y
-reply_data (reply.Demand demand line made material order reserved wanted) =
-    object (number_member (codes "demand") demand (number_member (codes "line") line (number_member (codes "made") made
-    (text_member (codes "material") material (text_member (codes "ok") (codes "demand") (text_member (codes "order") order
-    (number_member (codes "reserved") reserved (number_member (codes "wanted") wanted no_members))))))))
+reply_data (reply.Demand demand line made material order reserved wanted) = demand_told demand line made material order reserved wanted
 reply_data (reply.Refused refusal) =
-    object (text_member (codes "name") (name_of refusal) (number_member (codes "refused") (number_of refusal) no_members))
+    object (text_member (codes "name") (refusal_name refusal) (number_member (codes "refused") (refusal_number refusal) no_members))
 
 -- ---- texts
 

@@ -1,28 +1,29 @@
 //! The forms of messages, queries and replies in JSON, over the shop as a machine, which it hands on.
 #![tactic(auto)]
 
-mod commands;
+mod adding;
+mod asking;
+mod ending;
 mod fields;
 mod laws;
-mod order_lines;
-mod printed_messages;
-mod printed_replies;
-mod printing;
-mod reading;
+mod messages;
+mod ordering;
+mod receiving;
 mod replies;
+mod reserving;
 #[cfg(test)]
 mod tests;
+mod turning;
 mod words;
 
 pub use cut_measure::{Axis, Code, Kind, Limits, PartName, Size};
 pub use laws::{one_kind_of_value, one_text, read_back};
-pub use printed_messages::message_value;
-pub use printed_replies::reply_value;
-pub use printing::{message_text, reply_text};
-pub use reading::{kept_reply, read_message, read_query, read_reply};
+pub use messages::{message_text, message_value, read_message, read_query};
+pub use replies::{kept_reply, read_reply, reply_text, reply_value};
 pub use shop_machine::{
     Change, Column, Command, Demand, DemandList, FoundLeaf, FoundLine, Job, JobState, Kept,
     KeptMessage, LineList, Material, Message, OrderLine, Pair, Part, PartList, Query, Refusal,
-    Reply, RowList, State, StateWord, Text, Totals, decide_done, decide_material, decide_order,
-    decide_receive, decide_release, decide_reserve,
+    Reply, RowList, State, StateWord, Text, Totals, accepted_changes_fit, decide_done,
+    decide_give_back, decide_material, decide_order, decide_receive, decide_release,
+    decide_reserve, decide_scrap, histories_have_accounts,
 };

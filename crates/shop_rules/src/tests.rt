@@ -27,6 +27,10 @@ const DONE: &str = r#"{"do":"done","job":3,"number":5,"terminal":1}"#;
 
 const RELEASE: &str = r#"{"do":"release","job":4294967295,"number":6,"terminal":1}"#;
 
+const SCRAP: &str = r#"{"do":"scrap","number":7,"part":"2/4","terminal":1}"#;
+
+const RETURN: &str = r#"{"do":"return","number":8,"part":"1/1","terminal":1}"#;
+
 // A line that is a message is printed as its canonical text.
 fn is_printed(rt: &impl Abort, alloc: Global, line: &str, text: &str) -> Result<(), Fail> {
     let value = Value::from_str(alloc, line)?;
@@ -43,7 +47,8 @@ fn is_printed(rt: &impl Abort, alloc: Global, line: &str, text: &str) -> Result<
 #[test]
 fn messages_are_printed_back(rt: HostRuntime) -> Result<(), Fail> {
     for line in [
-        MATERIAL, RECEIVE, ORDER, TWO_LINES, NO_LINES, RESERVE, ANY_TREE, DONE, RELEASE,
+        MATERIAL, RECEIVE, ORDER, TWO_LINES, NO_LINES, RESERVE, ANY_TREE, DONE, RELEASE, SCRAP,
+        RETURN,
     ] {
         is_printed(&rt, rt.alloc(), line, line)?;
     }
@@ -61,7 +66,7 @@ fn keys_come_in_any_order(rt: HostRuntime) -> Result<(), Fail> {
 }
 
 // Values that are neither a message nor a query.
-const BAD: [&str; 37] = [
+const BAD: [&str; 39] = [
     r#"{}"#,
     r#"[]"#,
     r#"{"ask":"totals"}"#,
@@ -99,6 +104,8 @@ const BAD: [&str; 37] = [
     r#"{"do":"reserve","number":4,"part":"1/0","terminal":1,"tree":1}"#,
     r#"{"do":"done","job":4294967296,"number":5,"terminal":1}"#,
     r#"{"do":"release","job":3,"number":5,"part":"1/0","terminal":1}"#,
+    r#"{"do":"scrap","number":7,"part":"2/04","terminal":1}"#,
+    r#"{"do":"scrap","job":2,"number":7,"part":"2/4","terminal":1}"#,
 ];
 
 #[test]
@@ -150,6 +157,8 @@ fn replies_are_read_back(rt: HostRuntime) -> Result<(), Fail> {
         r#"{"cuts":2,"job":3,"ok":"reserve"}"#,
         r#"{"job":3,"kerf":6,"ok":"done","pieces":60,"rack":34,"scrap":18446744073709551615}"#,
         r#"{"job":3,"ok":"release"}"#,
+        r#"{"ok":"scrap","part":"2/4"}"#,
+        r#"{"ok":"return","part":"1/1"}"#,
     ] {
         let value = Value::from_str(rt.alloc(), text)?;
         let Ok(reply) = read_reply(&value) else {
@@ -218,6 +227,11 @@ fn parts_are_told(rt: HostRuntime) -> Result<(), Fail> {
         told.as_str(),
         r#"{"batch":"B-1","h":3,"of":0,"ok":"trace","part":"3/1","root":"1/0","state":"scrap","w":5,"x":5,"y":0}"#
     );
+    let told = trace_text(rt.alloc(), batch, 0, StateWord::Returned)?;
+    assert_eq!(rt;
+        told.as_str(),
+        r#"{"batch":"B-1","h":3,"of":0,"ok":"trace","part":"3/1","root":"1/0","state":"returned","w":5,"x":5,"y":0}"#
+    );
     Ok(())
 }
 
@@ -252,11 +266,12 @@ fn demands_and_totals_are_told(rt: HostRuntime) -> Result<(), Fail> {
             pieces: 3,
             kerf: 2,
             scrap: 1,
+            returned: 7,
         },
     )?;
     assert_eq!(rt;
         told.as_str(),
-        r#"{"kerf":2,"material":"STEEL","ok":"totals","pieces":3,"rack":4,"received":6,"scrap":1,"stock":5}"#
+        r#"{"kerf":2,"material":"STEEL","ok":"totals","pieces":3,"rack":4,"received":6,"returned":7,"scrap":1,"stock":5}"#
     );
     Ok(())
 }

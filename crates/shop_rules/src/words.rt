@@ -1,14 +1,14 @@
 ghost use Rattle.std.specs.Prelude.{◌≡◌, IfOk, string_bytes};
 ghost use Rattle.cut_measure.specs.Names.{IsName, name_text};
 ghost use Rattle.shop_machine.specs.Messages.{IsNumber};
-ghost use Rattle.shop_rules.specs.Fields.{word_of, state_text};
+ghost use Rattle.shop_rules.specs.Fields.{kind_text, state_text};
 
 use cut_measure::{Kind, PartName};
 use shop_machine::StateWord;
 use std::alloc::{AllocError, Global};
 
 pub(crate) fn kind_word(kind: Kind) -> &'static str
-    ensures { result.now ≡ word_of kind }
+    ensures { result.now ≡ kind_text kind }
 {
     match kind {
         Kind::Bar => "bar",
@@ -26,6 +26,7 @@ pub(crate) fn state_word(state: StateWord) -> &'static str
         StateWord::Piece => "piece",
         StateWord::Kerf => "kerf",
         StateWord::Scrap => "scrap",
+        StateWord::Returned => "returned",
     }
 }
 

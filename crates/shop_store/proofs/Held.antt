@@ -7,7 +7,7 @@ use Rattle.std.specs.declared.cmp.Ordering.TheVariants.{Less, Equal, Greater}
 use Rattle.std.specs.Ordering.{is_eq, match_ordering}
 use Rattle.shop_machine.specs.declared.records.Column.{Column}
 use Rattle.shop_machine.specs.declared.records.Column.TheVariants as column
-use Rattle.shop_machine.specs.Content.{Content, pair_cmp, cells_in}
+use Rattle.shop_machine.specs.Content.{Content, pair_cmp, cells_in, with_kept, with_number}
 use Rattle.shop_machine.specs.Soundness.{IsInRange}
 use Rattle.std.specs.Cmp.{IsTotalOrder}
 use Rattle.std.specs.BTreeMap.{insert_entry}
@@ -16,7 +16,6 @@ use Rattle.std.specs.FinMap.Entries.{by_order, is_sorted-put}
 use Rattle.shop_machine.specs.declared.kept_texts.Pair.{Pair}
 use Rattle.shop_machine.specs.declared.kept_texts.Kept.{Kept}
 use Rattle.shop_machine.specs.declared.kept_texts.KeptMessage.{KeptMessage}
-use Rattle.shop_machine.specs.Content.{with_kept, with_number}
 use Rattle.shop_store.specs.Memory.{put_kept, pairs_total}
 use Rattle.shop_store.specs.Rows.{entries_of, rise, row_at}
 use Rattle.std.specs.Bool.{Decides}
@@ -87,6 +86,7 @@ column_within content range code column.Rack = let r = range.received code in le
 column_within content range code column.Pieces = let r = range.received code in let a = range.adds_up code in omega arith
 column_within content range code column.Kerf = let r = range.received code in let a = range.adds_up code in omega arith
 column_within content range code column.Scrap = let r = range.received code in let a = range.adds_up code in omega arith
+column_within content range code column.Returned = let r = range.received code in let a = range.adds_up code in omega arith
 
 -- ---- a change
 

@@ -13,10 +13,10 @@ abbrev pub one_more_failure : ℕ → ℕ
 one_more_failure n = if nat_lt n most_failures then n + 1 else most_failures
 
 -- a failed store raises the count, and nothing else does
-abbrev pub CountsFailure : {T : Type 0} → ℕ → Result T BookFault → ℕ → Type 0
-CountsFailure before (Ok x) after = after ≡ before
-CountsFailure before (Err NoMemory) after = after ≡ before
-CountsFailure before (Err Store) after = after ≡ one_more_failure before
+abbrev pub CountsFailure : {T : Type 0} → Result T BookFault → ℕ → ℕ → Type 0
+CountsFailure (Ok x) before after = after ≡ before
+CountsFailure (Err NoMemory) before after = after ≡ before
+CountsFailure (Err Store) before after = after ≡ one_more_failure before
 
 -- the refusal that tells of a fault
 abbrev pub refusal_for : BookFault → Refusal

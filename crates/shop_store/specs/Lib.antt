@@ -1,4 +1,6 @@
 pub mod Failures
+pub mod Books
+pub mod Kept
 pub mod Rows
 pub mod Sums
 pub mod Memory

@@ -4,7 +4,7 @@ use Rattle.std.specs.List.{list_all}
 use Rattle.cut_measure.specs.Codes.{code_cmp}
 use Rattle.shop_machine.specs.declared.records.Part.{Part}
 use Rattle.shop_machine.specs.declared.records.Column.{Column}
-use Rattle.shop_machine.specs.declared.records.Column.TheVariants.{Received, Stock, Rack, Pieces, Kerf, Scrap}
+use Rattle.shop_machine.specs.declared.records.Column.TheVariants.{Received, Stock, Rack, Pieces, Kerf, Scrap, Returned}
 use Rattle.shop_machine.specs.declared.records.Totals.{Totals}
 use Rattle.shop_machine.specs.Columns.{is_counted}
 use Rattle.shop_machine.specs.Content.{counts_for, cells_in}
@@ -18,6 +18,7 @@ sum_in Rack sums = sums.rack
 sum_in Pieces sums = sums.pieces
 sum_in Kerf sums = sums.kerf
 sum_in Scrap sums = sums.scrap
+sum_in Returned sums = sums.returned
 
 abbrev pub sums_key : Sums → List ℕ
 sums_key sums = sums.code
@@ -60,4 +61,5 @@ totals_from code rows =
       pieces = sum_at Pieces code rows;
       kerf = sum_at Kerf code rows;
       scrap = sum_at Scrap code rows;
+      returned = sum_at Returned code rows;
     }

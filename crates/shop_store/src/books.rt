@@ -2,6 +2,7 @@ ghost use Rattle.std.specs.Prelude.{◌≡◌, ◌+◌, ◌≤◌, ◌⊎◌, �
 ghost use Rattle.shop_machine.specs.Content.{Content, material_at, part_at, job_at, has_order, demand_at, kept_at, totals_of, parts_of as listed_parts, changed};
 ghost use Rattle.shop_machine.specs.Soundness.{Fits};
 ghost use Rattle.shop_store.specs.Failures.{CountsFailure};
+ghost use Rattle.shop_store.specs.Books.{Keeps};
 
 use cut_measure::{Code, PartName};
 use shop_machine::{Change, Demand, Job, Kept, Material, Part, PartList, Refusal, Totals};
@@ -68,97 +69,68 @@ pub trait Book {
     /// The material of a code.
     fn material(&mut self, code: Code) -> Result<Option<Material>, BookFault>
         ensures row { is_honest self.new → (m : Content) → holds self.old m → IfOk result (λ row. row ≡ material_at m code) }
-        ensures stays { is_honest self.new → (m : Content) → holds self.old m → holds self.new m }
-        ensures crash { is_honest self.new → (m : Content) → holds self.old m → (left : Left) → may_leave self.new left → may_leave self.old left }
-        ensures honest { is_honest self.new → is_honest self.old }
-        ensures failures { CountsFailure (failed self.old) result (failed self.new) };
+        ensures keeps { Keeps is_honest holds may_leave failed (CountsFailure result) self.old self.new };
 
     /// The part of a name.
     fn part(&mut self, name: PartName) -> Result<Option<Part>, BookFault>
         ensures row { is_honest self.new → (m : Content) → holds self.old m → IfOk result (λ row. row ≡ part_at m name) }
-        ensures stays { is_honest self.new → (m : Content) → holds self.old m → holds self.new m }
-        ensures crash { is_honest self.new → (m : Content) → holds self.old m → (left : Left) → may_leave self.new left → may_leave self.old left }
-        ensures honest { is_honest self.new → is_honest self.old }
-        ensures failures { CountsFailure (failed self.old) result (failed self.new) };
+        ensures keeps { Keeps is_honest holds may_leave failed (CountsFailure result) self.old self.new };
 
     /// The job under the number of the reservation's act.
     fn job(&mut self, alloc: Global, number: u32) -> Result<Option<Job>, BookFault>
         ensures row { is_honest self.new → (m : Content) → holds self.old m → IfOk result (λ row. row ≡ job_at m number) }
-        ensures stays { is_honest self.new → (m : Content) → holds self.old m → holds self.new m }
-        ensures crash { is_honest self.new → (m : Content) → holds self.old m → (left : Left) → may_leave self.new left → may_leave self.old left }
-        ensures honest { is_honest self.new → is_honest self.old }
-        ensures failures { CountsFailure (failed self.old) result (failed self.new) };
+        ensures keeps { Keeps is_honest holds may_leave failed (CountsFailure result) self.old self.new };
 
     /// Whether there is an order of this code.
     fn order(&mut self, code: Code) -> Result<bool, BookFault>
         ensures row { is_honest self.new → (m : Content) → holds self.old m → IfOk result (λ there. there ≡ has_order m code) }
-        ensures stays { is_honest self.new → (m : Content) → holds self.old m → holds self.new m }
-        ensures crash { is_honest self.new → (m : Content) → holds self.old m → (left : Left) → may_leave self.new left → may_leave self.old left }
-        ensures honest { is_honest self.new → is_honest self.old }
-        ensures failures { CountsFailure (failed self.old) result (failed self.new) };
+        ensures keeps { Keeps is_honest holds may_leave failed (CountsFailure result) self.old self.new };
 
     /// The demand of a number.
     fn demand(&mut self, number: u32) -> Result<Option<Demand>, BookFault>
         ensures row { is_honest self.new → (m : Content) → holds self.old m → IfOk result (λ row. row ≡ demand_at m number) }
         ensures key { IfOk result (λ row. IfSome row (λ demand. demand.number ≡ number)) }
-        ensures stays { is_honest self.new → (m : Content) → holds self.old m → holds self.new m }
-        ensures crash { is_honest self.new → (m : Content) → holds self.old m → (left : Left) → may_leave self.new left → may_leave self.old left }
-        ensures honest { is_honest self.new → is_honest self.old }
-        ensures failures { CountsFailure (failed self.old) result (failed self.new) };
+        ensures keeps { Keeps is_honest holds may_leave failed (CountsFailure result) self.old self.new };
 
     /// What is kept of the accepted message with this pair.
     fn kept(&mut self, alloc: Global, terminal: u32, number: u32) -> Result<Option<Kept>, BookFault>
         ensures row { is_honest self.new → (m : Content) → holds self.old m
             → IfOk result (λ row. row ≡ kept_at m (record { terminal = terminal; number = number })) }
-        ensures stays { is_honest self.new → (m : Content) → holds self.old m → holds self.new m }
-        ensures crash { is_honest self.new → (m : Content) → holds self.old m → (left : Left) → may_leave self.new left → may_leave self.old left }
-        ensures honest { is_honest self.new → is_honest self.old }
-        ensures failures { CountsFailure (failed self.old) result (failed self.new) };
+        ensures keeps { Keeps is_honest holds may_leave failed (CountsFailure result) self.old self.new };
 
     /// The number of the next act, 1 on a fresh book.
     fn next_act(&mut self) -> Result<u32, BookFault>
         ensures number { is_honest self.new → (m : Content) → holds self.old m → IfOk result (λ act. act ≡ m.last_act + 1) }
         ensures least { IfOk result (λ act. 1 ≤ act) }
-        ensures stays { is_honest self.new → (m : Content) → holds self.old m → holds self.new m }
-        ensures crash { is_honest self.new → (m : Content) → holds self.old m → (left : Left) → may_leave self.new left → may_leave self.old left }
-        ensures honest { is_honest self.new → is_honest self.old }
-        ensures failures { CountsFailure (failed self.old) result (failed self.new) };
+        ensures keeps { Keeps is_honest holds may_leave failed (CountsFailure result) self.old self.new };
 
     /// The number of the next demand, 1 on a fresh book.
     fn next_demand(&mut self) -> Result<u32, BookFault>
         ensures number { is_honest self.new → (m : Content) → holds self.old m → IfOk result (λ demand. demand ≡ m.last_demand + 1) }
         ensures least { IfOk result (λ demand. 1 ≤ demand) }
-        ensures stays { is_honest self.new → (m : Content) → holds self.old m → holds self.new m }
-        ensures crash { is_honest self.new → (m : Content) → holds self.old m → (left : Left) → may_leave self.new left → may_leave self.old left }
-        ensures honest { is_honest self.new → is_honest self.old }
-        ensures failures { CountsFailure (failed self.old) result (failed self.new) };
+        ensures keeps { Keeps is_honest holds may_leave failed (CountsFailure result) self.old self.new };
 
     /// The cells of a material, received and by what became of them.
     fn totals(&mut self, material: Code) -> Result<Totals, BookFault>
         ensures sums { is_honest self.new → (m : Content) → holds self.old m → IfOk result (λ totals. totals ≡ totals_of m material) }
-        ensures stays { is_honest self.new → (m : Content) → holds self.old m → holds self.new m }
-        ensures crash { is_honest self.new → (m : Content) → holds self.old m → (left : Left) → may_leave self.new left → may_leave self.old left }
-        ensures honest { is_honest self.new → is_honest self.old }
-        ensures failures { CountsFailure (failed self.old) result (failed self.new) };
+        ensures keeps { Keeps is_honest holds may_leave failed (CountsFailure result) self.old self.new };
 
     /// The standing and the reserved parts of a material, by rising act and then node.
     fn parts_of(&mut self, alloc: Global, material: Code) -> Result<PartList, BookFault>
         ensures rows { is_honest self.new → (m : Content) → holds self.old m → IfOk result (λ rows. rows ≡ listed_parts m material) }
-        ensures stays { is_honest self.new → (m : Content) → holds self.old m → holds self.new m }
-        ensures crash { is_honest self.new → (m : Content) → holds self.old m → (left : Left) → may_leave self.new left → may_leave self.old left }
-        ensures honest { is_honest self.new → is_honest self.old }
-        ensures failures { CountsFailure (failed self.old) result (failed self.new) };
+        ensures keeps { Keeps is_honest holds may_leave failed (CountsFailure result) self.old self.new };
 
-    /// Makes a change that fits the content as a whole, or not at all.
+    /// Makes a change that fits the content as a whole, or not at all. After an `Err` the content is what it was, whatever
+    /// the change.
     fn commit(&mut self, change: Change) -> Result<(), BookFault>
         ensures ok { is_honest self.new → (m : Content) → holds self.old m → Fits m change → OnOk result (holds self.new (changed m change)) }
-        ensures err { is_honest self.new → (m : Content) → holds self.old m → Fits m change → OnErr result (holds self.new m) }
+        ensures err { is_honest self.new → (m : Content) → holds self.old m → OnErr result (holds self.new m) }
         ensures crash { is_honest self.new → (m : Content) → holds self.old m → Fits m change
             → (left : Left) → may_leave self.new left → may_leave self.old left ⊎ stands left (changed m change) }
         ensures lasts { is_honest self.new → (m : Content) → holds self.old m → Fits m change
             → OnOk result ((left : Left) → may_leave self.new left → stands left (changed m change)) }
         ensures honest { is_honest self.new → is_honest self.old }
-        ensures failures { CountsFailure (failed self.old) result (failed self.new) };
+        ensures failures { CountsFailure result (failed self.old) (failed self.new) };
 
     /// How often the store failed, up to 18446744073709551615.
     fn failures(&self) -> u64

@@ -2,11 +2,10 @@ ghost use Rattle.std.specs.Prelude.{◌≡◌, ◌≢◌, ◌+◌, ◌<◌, ◌�
 ghost use Rattle.cut_measure.specs.Codes.{code_cmp};
 ghost use Rattle.cut_measure.specs.Names.{name_cmp};
 ghost use Rattle.std.specs.Ordering.{nat_cmp};
-ghost use Rattle.shop_machine.specs.Content.{Content, material_at, part_at, job_at, has_order, demand_at, kept_at, totals_of, parts_of as listed_parts, changed, is_listed, with_parts, with_material, with_job, with_order, with_demands};
+ghost use Rattle.shop_machine.specs.Content.{Content, material_at, part_at, job_at, has_order, demand_at, kept_at, totals_of, parts_of as listed_parts, changed, is_listed, with_parts, with_material, with_job, with_order, with_demands, pair_cmp};
 ghost use Rattle.shop_machine.specs.Soundness.{IsInRange};
 ghost use Rattle.shop_store.specs.Memory.{material_key, part_key, job_key, order_key, demand_key, put_kept, materials_of, parts_in, jobs_in, orders_in, demands_in};
 ghost use Rattle.std.specs.FinMap.{find as find_entry};
-ghost use Rattle.shop_machine.specs.Content.{pair_cmp};
 ghost use Rattle.shop_store.specs.Rows.{rise, row_at, IsPut};
 ghost use Rattle.shop_store.specs.Sums.{sums_key, AreSumsOf, all_small};
 
@@ -570,7 +569,7 @@ impl Book for MemBook {
         ensures number { IfOk result (λ act. act ≡ self.old.content.last_act + 1) }
         ensures sure { self.old.content.last_act < 2 ^ 32 - 1 → IsOk result }
         ensures content { self.new.content ≡ self.old.content }
-        ensures failures { CountsFailure self.old.failures result self.new.failures }
+        ensures failures { CountsFailure result self.old.failures self.new.failures }
     {
         match self.last_act.checked_add(1) {
             Some(act) => Ok(act),
@@ -582,7 +581,7 @@ impl Book for MemBook {
         ensures number { IfOk result (λ demand. demand ≡ self.old.content.last_demand + 1) }
         ensures sure { self.old.content.last_demand < 2 ^ 32 - 1 → IsOk result }
         ensures content { self.new.content ≡ self.old.content }
-        ensures failures { CountsFailure self.old.failures result self.new.failures }
+        ensures failures { CountsFailure result self.old.failures self.new.failures }
     {
         match self.last_demand.checked_add(1) {
             Some(demand) => Ok(demand),
@@ -594,7 +593,7 @@ impl Book for MemBook {
         ensures sums { IfOk result (λ totals. totals ≡ totals_of self.old.content material) }
         ensures sure { IsInRange self.old.content → IsOk result }
         ensures content { self.new.content ≡ self.old.content }
-        ensures failures { CountsFailure self.old.failures result self.new.failures }
+        ensures failures { CountsFailure result self.old.failures self.new.failures }
     {
         match totals_in(&self.totals, material) {
             Some(totals) => Ok(totals),

@@ -21,6 +21,7 @@ pub struct Sums {
     pub pieces: u128,
     pub kerf: u128,
     pub scrap: u128,
+    pub returned: u128,
 }
 
 impl Row for Sums {
@@ -61,6 +62,7 @@ fn no_sums(code: Code) -> Sums
         pieces: 0,
         kerf: 0,
         scrap: 0,
+        returned: 0,
     }
 }
 
@@ -102,6 +104,7 @@ fn with_part(sums: Sums, part: &Part) -> Sums
         pieces: raised(sums.pieces, part, Column::Pieces),
         kerf: raised(sums.kerf, part, Column::Kerf),
         scrap: raised(sums.scrap, part, Column::Scrap),
+        returned: raised(sums.returned, part, Column::Returned),
     }
 }
 
@@ -119,6 +122,7 @@ fn without_part(sums: Sums, part: &Part) -> Sums
         pieces: lowered(sums.pieces, part, Column::Pieces),
         kerf: lowered(sums.kerf, part, Column::Kerf),
         scrap: lowered(sums.scrap, part, Column::Scrap),
+        returned: lowered(sums.returned, part, Column::Returned),
     }
 }
 
@@ -205,5 +209,6 @@ pub fn totals_in(rows: &[Sums], material: Code) -> Option<Totals>
         pieces: narrow(sums.pieces)?,
         kerf: narrow(sums.kerf)?,
         scrap: narrow(sums.scrap)?,
+        returned: narrow(sums.returned)?,
     })
 }

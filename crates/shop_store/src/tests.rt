@@ -179,6 +179,7 @@ fn totals(received: u64, stock: u64) -> Totals {
         pieces: 0,
         kerf: 0,
         scrap: 0,
+        returned: 0,
     }
 }
 

@@ -1,20 +1,21 @@
--- How failures of a source or a sink are counted.
+-- How reads and failures of a source or a sink are counted.
 use Rattle.std.specs.Prelude.{◌≡◌, ℕ, ◌+◌, nat_lt, if◌then◌else◌, Result, Ok, Err}
 use Rattle.shop_text.specs.declared.streams.Failed.{Failed}
 
-abbrev pub most_failures : ℕ
-most_failures = 18446744073709551615
+abbrev pub most_counted : ℕ
+most_counted = 18446744073709551615
 
--- one failure more, unless the count stands at the greatest number
+-- one more, unless the count stands at the greatest number
 abbrev pub one_more : ℕ → ℕ
-one_more before = if nat_lt before most_failures then before + 1 else before
+one_more before = if nat_lt before most_counted then before + 1 else before
 
 -- an Err is counted, and an Ok is not
-abbrev pub CountsFailure : {T : Type 0} → ℕ → Result T Failed → ℕ → Type 0
-CountsFailure before (Ok x) after = after ≡ before
-CountsFailure before (Err e) after = after ≡ one_more before
+abbrev pub TalliesFailure : {T : Type 0} → ℕ → Result T Failed → ℕ → Type 0
+TalliesFailure before (Ok x) after = after ≡ before
+TalliesFailure before (Err e) after = after ≡ one_more before
 
--- a reader or a writer, and how often it failed
+-- a reader or a writer, how often it failed, and how often it was read
 pub record Tally (T : Type 0) : Type 0 where
   pub inner : T
   pub failures : ℕ
+  pub reads : ℕ

@@ -15,6 +15,8 @@ const MOST_TRIES: u32 = 1000;
 pub struct Counted<T> {
     inner: T,
     failures: u64,
+    // read by proofs alone
+    reads: u64,
 }
 
 impl<T> Model for Counted<T> {
@@ -22,22 +24,28 @@ impl<T> Model for Counted<T> {
 
     ghost Value = { Tally T };
 
-    ghost view = { λ c. record { inner = c.inner; failures = c.failures } };
+    ghost view = { λ c. record { inner = c.inner; failures = c.failures; reads = c.reads } };
 }
 
 impl<T> Counted<T> {
-    /// Nothing has failed yet.
+    /// Nothing has failed yet, and nothing was read.
     pub fn new(inner: T) -> Self
         ensures inner { result.inner ≡ inner }
         ensures none { result.failures ≡ 0 }
+        ensures unread { result.reads ≡ 0 }
     {
-        Counted { inner, failures: 0 }
+        Counted {
+            inner,
+            failures: 0,
+            reads: 0,
+        }
     }
 
     // Counts a failure.
     fn fail(&mut self) -> Failed
         ensures inner { self.new.inner ≡ self.old.inner }
         ensures failures { self.new.failures ≡ one_more self.old.failures }
+        ensures reads { self.new.reads ≡ self.old.reads }
     {
         self.failures = self.failures.saturating_add(1);
         Failed

@@ -3,6 +3,8 @@
 
 mod counted;
 mod streams;
+#[cfg(test)]
+mod tests;
 
 pub use counted::Counted;
 pub use streams::{Failed, Sink, Source};

@@ -1,13 +1,28 @@
 ghost use Rattle.std.specs.Prelude.{◌≡◌, ◌<◌, ◌≤◌, ℕ, List, Option, IfOk, length};
 ghost use Rattle.std.specs.Io.KnownBytes.{ReadConsumes, WriteAppends};
 
+use std::error::Error;
+use std::fmt;
+
 /// A read or a write failed.
 #[derive(Clone, Copy, Debug, PartialEq, Eq)]
 pub struct Failed;
 
+impl fmt::Display for Failed {
+    ghost use Rattle.std.specs.Prelude.{Some, codes};
+
+    ghost output = { λ _. Some (codes "a read or a write failed") };
+
+    fn fmt<W: fmt::Write>(&self, f: &mut fmt::Formatter<W>) -> fmt::Result {
+        f.write_str("a read or a write failed")
+    }
+}
+
+impl Error for Failed {}
+
 /// Where bytes come from.
 pub trait Source {
-    ghost use Rattle.shop_text.specs.Streams.{CountsFailure};
+    ghost use Rattle.shop_text.specs.Streams.{TalliesFailure, one_more};
 
     /// The bytes that are left, where the source tells them.
     ghost left: { Self → Option (List ℕ) };
@@ -15,13 +30,17 @@ pub trait Source {
     /// How often a read failed, up to the greatest number that is counted.
     ghost failed: { Self → ℕ };
 
+    /// How often it was read, up to the greatest number that is counted.
+    ghost reads: { Self → ℕ };
+
     /// Reads some of the bytes that are left; 0 means that there are none. An Err consumes nothing and raises the
     /// failures by one, unless they stand at 18446744073709551615; an Ok leaves them.
     fn read(&mut self, buffer: &mut [u8]) -> Result<usize, Failed>
         requires { 0 < length buffer.old }
         ensures within { IfOk result (λ count. count ≤ length buffer.old) }
         ensures bytes { ReadConsumes (left self.old) (left self.new) result buffer.new }
-        ensures failures { CountsFailure (failed self.old) result (failed self.new) };
+        ensures failures { TalliesFailure (failed self.old) result (failed self.new) }
+        ensures reads { reads self.new ≡ one_more (reads self.old) };
 
     /// How often a read failed.
     fn failures(&self) -> u64
@@ -30,7 +49,7 @@ pub trait Source {
 
 /// Where bytes go.
 pub trait Sink {
-    ghost use Rattle.shop_text.specs.Streams.{CountsFailure};
+    ghost use Rattle.shop_text.specs.Streams.{TalliesFailure};
 
     /// The bytes that were written, where the sink tells them.
     ghost held: { Self → Option (List ℕ) };
@@ -45,7 +64,7 @@ pub trait Sink {
         ensures some { IfOk result (λ count. 0 < count) }
         ensures within { IfOk result (λ count. count ≤ length bytes.now) }
         ensures bytes { WriteAppends (held self.old) (held self.new) result bytes.now }
-        ensures failures { CountsFailure (failed self.old) result (failed self.new) };
+        ensures failures { TalliesFailure (failed self.old) result (failed self.new) };
 
     /// How often a write failed.
     fn failures(&self) -> u64

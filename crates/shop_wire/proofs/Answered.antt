@@ -1,6 +1,6 @@
 -- What is answered to a value and to a line.
-use Rattle.std.proofs.Common.{◌≡◌, ℕ, ◌+◌, ◌<◌, ◌≤◌, List, length, Bool, true, false, nat_le, Option, Some, None, Ok, Err, refl, sym, ap, subst, ◌∙◌, arith}
-use Rattle.std.specs.Prelude.{MatchOption, ◌&&◌, if◌then◌else◌}
+use Rattle.std.proofs.Common.{◌≡◌, ◌≢◌, ℕ, ◌+◌, ◌<◌, ◌≤◌, List, [], ◌∷◌, map, length, Bool, true, false, nat_le, Option, Some, None, Ok, Err, refl, sym, ap, subst, ◌∙◌, arith}
+use Rattle.std.specs.Prelude.{MatchOption, ◌&&◌, if◌then◌else◌, option_map, option_and_then, filter_map}
 use Rattle.std.specs.Option.{ok_or}
 use Rattle.std.specs.Str.{IsUtf8, is_utf8}
 use Rattle.std.proofs.lemmas.Str.{IsUtf8-from_is_utf8, is_utf8-from_IsUtf8}
@@ -10,26 +10,38 @@ use Rattle.std.proofs.lemmas.List.{take_all, length-take}
 use Rattle.shop_machine.specs.declared.messages.Message.{Message}
 use Rattle.shop_machine.specs.declared.messages.Query.{Query}
 use Rattle.shop_machine.specs.declared.refusals.Refusal.{Refusal}
-use Rattle.shop_machine.specs.declared.refusals.Refusal.TheVariants.{BadMessage, NoMemory}
+use Rattle.shop_machine.specs.declared.refusals.Refusal.TheVariants.{BadMessage, NoMemory, StoreFault}
 use Rattle.shop_machine.specs.declared.messages.Reply.{Reply}
 use Rattle.shop_machine.specs.declared.messages.Reply.TheVariants.{Refused}
-use Rattle.shop_machine.specs.Messages.{pair_of}
+use Rattle.shop_machine.specs.Messages.{IsMessage, pair_of}
 use Rattle.shop_machine.specs.Content.{Content, kept_at}
 use Rattle.shop_machine.specs.Machine.{Step, Answers}
+use Rattle.shop_machine.specs.Soundness.{IsSound}
+use Rattle.shop_store.specs.declared.books.Book.{Ghosts}
 use Rattle.serde_json.specs.Data.{Data}
 use Rattle.serde_json.specs.Read.{read}
 use Rattle.shop_rules.specs.Forms.{message_of, query_of, json_texts}
+use Rattle.shop_desk.specs.Faults.{StoreFailed}
+use Rattle.shop_desk.specs.Handled.{HasAccount}
 use Rattle.shop_desk.proofs.Steps.{fault_step}
+use Rattle.shop_desk.proofs.Blame.{tell_one}
+use Rattle.shop_desk.proofs.Accounts.{account_same, account_step}
 use Rattle.shop_wire.specs.Lines.{kept_of, longest_line}
-use Rattle.shop_wire.specs.Replays.{data_of, IsNoMessage, ValueStep, LineStep}
+use Rattle.shop_wire.specs.Replays.{data_of, IsNoMessage, ValueStep, LineStep, line_message, HasAnswered}
 
 from_ok : {A : Type 0} (o : Option A) (a : A) (e : Refusal) → Ok a ≡ ok_or o e → o ≡ Some a
 from_ok None a e is = cc
 from_ok (Some b) a e is = cc
 
-from_err : {A : Type 0} (o : Option A) (e r : Refusal) → Err r ≡ ok_or o e → (o ≡ None) × (r ≡ e)
+pub from_err : {A : Type 0} (o : Option A) (e r : Refusal) → Err r ≡ ok_or o e → (o ≡ None) × (r ≡ e)
 from_err None e r is = (refl, cc)
 from_err (Some b) e r is = (cc, cc)
+
+pub not_store : (refusal : Refusal) → refusal ≡ BadMessage → refusal ≢ StoreFault
+not_store refusal is e = cc
+
+pub memory_not_store : NoMemory ≢ StoreFault
+memory_not_store e = cc
 
 module _ (old new : Content) (d : Data) (reply : Reply) where
   abbrev Otherwise : Option Query → Type 0
@@ -89,6 +101,65 @@ line_refused old line is = subst (λ (o : Option Data). MatchOption o (IsNoMessa
 
 pub not_memory : {M : Type 0} (b : Bool) → (M → b ≡ true) → b ≡ false → ¬ M
 not_memory b told is m = cc (told m)
+
+-- ---- what is asked alone
+
+-- what is asked alone, with its reply, where it is a message
+abbrev pub exchange : Option Message → Reply → List (Message × Reply)
+exchange o reply = filter_map (λ (e : Option Message × Reply). option_map (λ message. (message, e.1)) e.0) ((o, reply) ∷ [])
+
+-- its account
+abbrev pub AccountOne : Content → Reply → Content → Option Message → Type 0
+AccountOne old reply next o = HasAccount json_texts old (map (λ e. e.0) (exchange o reply)) (map (λ e. e.1) (exchange o reply)) next
+
+-- a refusal leaves content and history
+refused_account : (m : Content) (refusal : Refusal) (o : Option Message) → AccountOne m (Refused refusal) m o
+refused_account m refusal None = account_same json_texts m m refl
+refused_account m refusal (Some message) = account_same json_texts m m refl
+
+module _ {B : Type 0} (book : Ghosts B) (before after : B) (m : Content) where
+  -- by an element of any kind
+  module _ {X : Type 0} (step : Content → X → Reply → Content → Type 0) (message_in : X → Option Message) (x : X) where
+    pub one_answered : (reply : Reply) (next : Content) → step m x reply next → book.holds after next → IsSound json_texts next
+        → (reply ≡ Refused StoreFault → StoreFailed (book.failed before) (book.failed after)) → AccountOne m reply next (message_in x)
+        → HasAnswered step message_in book before after m (x ∷ []) (reply ∷ [])
+    one_answered reply next is held sound blame account =
+        record { next = next; run = (next, is, refl); held = held; sound = sound; blame = tell_one (book.failed before) (book.failed after) reply blame; account = account }
+
+    -- refused, and the store not blamed
+    pub one_refused : (refusal : Refusal) → (refusal ≢ StoreFault) → step m x (Refused refusal) m → book.holds after m → IsSound json_texts m
+        → HasAnswered step message_in book before after m (x ∷ []) (Refused refusal ∷ [])
+    one_refused refusal other is held sound =
+        one_answered (Refused refusal) m is held sound (λ e. absurd (other (same refusal e))) (refused_account m refusal (message_in x))
+      where
+        same : (refusal : Refusal) → Refused refusal ≡ Refused StoreFault → refusal ≡ StoreFault
+        same refusal e = cc
+
+  pub message_answered : (d : Data) (message : Message) (reply : Reply) (next : Content) → message_of d ≡ Some message → IsMessage message → Step json_texts m message reply next
+      → book.holds after next → IsSound json_texts next → (reply ≡ Refused StoreFault → StoreFailed (book.failed before) (book.failed after))
+      → HasAnswered ValueStep message_of book before after m (d ∷ []) (reply ∷ [])
+  message_answered d message reply next is is_message step held sound blame =
+      one_answered ValueStep message_of d reply next (of_message m next d reply message is step) held sound blame
+      (subst (AccountOne m reply next) (sym is) (account_step json_texts m next message reply is_message step))
+
+  pub query_answered : (d : Data) (query : Query) (reply : Reply) → message_of d ≡ None → Ok query ≡ ok_or (query_of d) BadMessage → Answers m query reply
+      → book.holds after m → IsSound json_texts m → (reply ≡ Refused StoreFault → StoreFailed (book.failed before) (book.failed after))
+      → HasAnswered ValueStep message_of book before after m (d ∷ []) (reply ∷ [])
+  query_answered d query reply none is answers held sound blame =
+      one_answered ValueStep message_of d reply m (of_query m m d reply query none is answers refl) held sound blame (subst (AccountOne m reply m) (sym none) (account_same json_texts m m refl))
+
+  -- a line that is a value is answered as the value
+  pub value_answered : (line : List ℕ) (d : Data) (reply : Reply) → data_of line ≡ Some d → HasAnswered ValueStep message_of book before after m (d ∷ []) (reply ∷ [])
+      → HasAnswered LineStep line_message book before after m (line ∷ []) (reply ∷ [])
+  value_answered line d reply is one =
+      record {
+        next = one.next;
+        run = (one.run.0, line_answered m one.run.0 line d reply is one.run.1, one.run.2);
+        held = one.held;
+        sound = one.sound;
+        blame = one.blame;
+        account = subst (AccountOne m reply one.next) (sym (ap (option_and_then message_of) is)) one.account;
+      }
 
 -- ---- what is kept of a line stands for what the line does
 

@@ -4,3 +4,4 @@ pub mod Failing
 pub mod LineLemmas
 pub mod Reading
 pub mod Replayed
+pub mod Fresh

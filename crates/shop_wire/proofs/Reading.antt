@@ -1,11 +1,14 @@
 -- A line while it is read.
-use Rattle.std.proofs.Common.{◌≡◌, ℕ, zero, suc, lit<, ◌+◌, ◌-◌, ◌<◌, ◌≤◌, List, [], ◌∷◌, ◌++◌, length, take, Bool, true, false, Option, Some, None, refl, sym, ap, subst, ◌∙◌, arith, append_assoc, append-nil, length-append, nat_eq, ne_eqb, Result, Ok}
+use Rattle.std.proofs.Common.{◌≡◌, ℕ, zero, suc, lit<, ◌+◌, ◌-◌, ◌<◌, ◌≤◌, List, [], ◌∷◌, ◌++◌, length, take, Bool, true, false, Option, Some, None, inl, inr, ◌⊎◌, refl, sym, ap, subst, ◌∙◌, arith, append_assoc, append-nil, length-append, nat_eq, ne_eqb, Result, Ok}
 use Rattle.std.proofs.lemmas.List.{length-take}
-use Rattle.std.specs.Prelude.{not}
+use Rattle.std.proofs.lemmas.Bool.Decides.{nat_tests}
+use Rattle.std.specs.Prelude.{not, nat_lt, if◌then◌else◌}
 use Rattle.std.specs.Io.KnownBytes.{Consumes, IsAtEnd, prepend_known}
 use Rattle.std.proofs.KnownBytes.{Consumes-trans, Consumes-nil}
 use Rattle.shop_wire.specs.Lines.{lines_of, HasNoFeed, GivesLine, kept_of, longest_line}
-use Rattle.shop_wire.specs.Streams.{CountsReads, IsLong, most_reads, work}
+use Rattle.shop_text.specs.Streams.{most_counted, one_more}
+use Rattle.shop_wire.specs.declared.limits.TheConstants.{ROOM}
+use Rattle.shop_wire.specs.Streams.{AreReads, CountTogether, TookBytes, IsLong, most_reads, work}
 use Rattle.shop_wire.proofs.LineLemmas.{first_line, last_line, HasNoFeed-append, kept_of-append}
 
 -- so much of a line was taken of what was left before
@@ -73,24 +76,51 @@ nothing_left (Some xs) (Some ys) p line got so_far none end empty = so_far.taken
 
 -- ---- reads
 
-pub reads_more : (a b c : ℕ) (x y z : Option (List ℕ)) → CountsReads a x b y → CountsReads b y c z → CountsReads a x c z
-reads_more a b c None y z p q = tt
-reads_more a b c (Some x) None z p q = absurd p
-reads_more a b c (Some x) (Some y) None p q = absurd q
-reads_more a b c (Some x) (Some y) (Some z) p q = omega arith
+pub took_more : (a b c : ℕ) (x y z : Option (List ℕ)) → TookBytes a x b y → TookBytes b y c z → TookBytes a x c z
+took_more a b c None y z p q = tt
+took_more a b c (Some x) None z p q = absurd p
+took_more a b c (Some x) (Some y) None p q = absurd q
+took_more a b c (Some x) (Some y) (Some z) p q = omega arith
 
-pub no_reads : (a : ℕ) (x : Option (List ℕ)) → CountsReads a x a x
-no_reads a None = tt
-no_reads a (Some x) = omega arith
+pub took_none : (a : ℕ) (x : Option (List ℕ)) → TookBytes a x a x
+took_none a None = tt
+took_none a (Some x) = omega arith
 
-pub long_before : (a b : ℕ) (x y : Option (List ℕ)) → CountsReads a x b y → IsLong b y → IsLong a x
+pub long_before : (a b : ℕ) (x y : Option (List ℕ)) → TookBytes a x b y → IsLong b y → IsLong a x
 long_before a b None y p q = tt
 long_before a b (Some x) None p q = absurd p
 long_before a b (Some x) (Some y) p q = omega arith
 
-pub spent : (reads : ℕ) (x : Option (List ℕ)) → reads ≡ most_reads → IsLong reads x
-spent reads None is = tt
-spent reads (Some x) is = omega (arith, is)
+pub together_more : (a b c x y z : ℕ) → CountTogether a x b y → CountTogether b y c z → CountTogether a x c z
+together_more a b c x y z p q = (omega (arith, p.0, q.0), omega (arith, p.1, q.1), by p.2 q.2)
+  where
+    by : (x + b ≤ y + a) ⊎ (most_counted ≤ y) → (y + c ≤ z + b) ⊎ (most_counted ≤ z) → (x + c ≤ z + a) ⊎ (most_counted ≤ z)
+    by (inl i) (inl j) = inl (omega (arith, i, j))
+    by (inl i) (inr j) = inr j
+    by (inr i) (inl j) = inr (omega (arith, i, j, q.0))
+    by (inr i) (inr j) = inr j
+
+pub together_none : (a x : ℕ) → CountTogether a x a x
+together_none a x = (omega arith, omega arith, inl (omega arith))
+
+-- one more read is counted by both
+pub together_one : (a x : ℕ) → CountTogether a x (a + 1) (one_more x)
+together_one a x = by (nat_lt x most_counted) refl
+  where
+    by : (t : Bool) → nat_lt x most_counted ≡ t → CountTogether a x (a + 1) (if t then x + 1 else x)
+    by true e = (omega arith, omega arith, inl (omega arith))
+    by false e = (omega arith, omega arith, inr (grind (arith, nat_tests)))
+
+-- all reads of a reader from its start on
+pub all_reads : (n x y : ℕ) → CountTogether 0 x n y → n ≤ most_reads → y ≤ x + most_reads
+all_reads n x y p few = omega (arith, p.1, few)
+
+pub the_most_reads : (n x y : ℕ) → CountTogether 0 x n y → n ≡ most_reads → AreReads x most_reads y
+the_most_reads n x y p is = (omega (arith, p.1, is), by p.2)
+  where
+    by : (x + n ≤ y + 0) ⊎ (most_counted ≤ y) → (x + most_reads ≤ y) ⊎ (most_counted ≤ y)
+    by (inl i) = inl (omega (arith, i, is))
+    by (inr i) = inr i
 
 -- ---- what is kept of a line is empty where the line is
 
@@ -119,5 +149,5 @@ same_ok a b e = cc
 pub kept_short : (line got : List ℕ) → line ≡ kept_of got → length line ≤ 131073
 kept_short line got is = omega (arith, ap length is, length-take (longest_line + 1) got)
 
-pub work_on : (r r' w : ℕ) (p p' got : List ℕ) → r' ≡ r + 1 → r' ≤ most_reads → length p' ≤ 65536 → work r p + length got ≤ w → work r' p' + length (got ++ p) ≤ w
+pub work_on : (r r' w : ℕ) (p p' got : List ℕ) → r' ≡ r + 1 → r' ≤ most_reads → length p' ≤ ROOM → work r p + length got ≤ w → work r' p' + length (got ++ p) ≤ w
 work_on r r' w p p' got is most few so_far = omega (arith, is, length-append got p)

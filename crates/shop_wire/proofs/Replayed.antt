@@ -1,102 +1,156 @@
 -- Lines that were answered, and more of them.
 use Rattle.std.proofs.Common.{◌≡◌, ℕ, ◌+◌, ◌*◌, ◌≤◌, inl, inr, Result, Ok, Err, List, [], ◌∷◌, ◌++◌, length, Option, Some, None, refl, sym, ap, subst, ◌∙◌, arith, append_assoc, append-nil, length-append}
-use Rattle.std.specs.Prelude.{IfErr, ◌⊎◌, ⊤}
+use Rattle.std.specs.Prelude.{IfErr, ◌⊎◌, ⊤, map, zip, filter_map, option_map, option_and_then}
 use Rattle.shop_wire.specs.declared.faults.ReplayFault.{ReplayFault}
 use Rattle.shop_wire.specs.declared.faults.ReplayFault.TheVariants.{Read, Write, NoMemory}
+use Rattle.shop_wire.specs.declared.limits.TheConstants.{ROOM}
 use Rattle.shop_wire.specs.Streams.{work, most_reads}
 use Rattle.std.specs.Io.KnownBytes.{Appends, IsAtEnd, prepend_known}
 use Rattle.std.proofs.KnownBytes.{Appends-trans, Appends-nil}
 use Rattle.std.proofs.lemmas.Grind.{flat_map-append}
+use Rattle.std.proofs.lemmas.List.Elements.{filter_map-append}
+use Rattle.shop_machine.specs.declared.messages.Message.{Message}
 use Rattle.shop_machine.specs.declared.messages.Reply.{Reply}
 use Rattle.shop_machine.specs.Content.{Content}
 use Rattle.shop_machine.specs.Soundness.{IsSound}
-use Rattle.shop_rules.specs.Forms.{json_texts}
+use Rattle.shop_rules.specs.Forms.{message_of, json_texts}
 use Rattle.shop_wire.specs.Lines.{lines_of, AreLines, GivesLine, kept_of}
-use Rattle.shop_wire.specs.Replays.{LineStep, LineRun, Leads, IsReplayed, reply_line, reply_lines}
-use Rattle.shop_wire.proofs.Answered.{whole_line}
+use Rattle.shop_store.specs.declared.books.Book.{Ghosts}
+use Rattle.shop_store.specs.Kept.{Says}
+use Rattle.shop_desk.specs.Faults.{CountsUp}
+use Rattle.shop_desk.specs.Handled.{HasAccount}
+use Rattle.shop_desk.proofs.Blame.{tell_more}
+use Rattle.shop_desk.proofs.Accounts.{account_same, account_more}
+use Rattle.shop_wire.specs.Replays.{InTurn, exchanges, HasAnswered, LineStep, line_message, IsReplayed, reply_line, reply_lines}
+use Rattle.shop_wire.proofs.Answered.{AccountOne, whole_line, data_of-kept_of}
 
-LineRun-append : (old mid new : Content) (lines more : List (List ℕ)) (replies answers : List Reply)
-    → LineRun old lines replies mid → LineRun mid more answers new → LineRun old (lines ++ more) (replies ++ answers) new
-LineRun-append old mid new [] more [] answers run rest = subst (λ c. LineRun c more answers new) run rest
-LineRun-append old mid new [] more (r ∷ rs) answers run rest = absurd run
-LineRun-append old mid new (l ∷ ls) more [] answers run rest = absurd run
-LineRun-append old mid new (l ∷ ls) more (r ∷ rs) answers run rest = (run.0, run.1, LineRun-append run.0 mid new ls more rs answers run.2 rest)
+-- ---- what was answered
 
--- nothing was answered yet
-pub none_replayed : (honest : Type 0) (holds : Content → Type 0) (held : Option (List ℕ)) → IsReplayed honest holds holds held held [] []
-none_replayed honest holds held =
-    record {
-      replies = [];
-      each = refl;
-      bytes = [];
-      told = refl;
-      written = Appends-nil held;
-      run = λ h m held sound. record { next = m; stepped = refl; held = held; sound = sound };
-    }
+module _ {X B : Type 0} (step : Content → X → Reply → Content → Type 0) (message_in : X → Option Message) (book : Ghosts B) where
+  InTurn-append : (old mid new : Content) (xs more : List X) (replies answers : List Reply)
+      → InTurn step message_in old xs replies mid → InTurn step message_in mid more answers new → InTurn step message_in old (xs ++ more) (replies ++ answers) new
+  InTurn-append old mid new [] more [] answers run rest = subst (λ c. InTurn step message_in c more answers new) run rest
+  InTurn-append old mid new [] more (r ∷ rs) answers run rest = absurd run
+  InTurn-append old mid new (x ∷ xs) more [] answers run rest = absurd run
+  InTurn-append old mid new (x ∷ xs) more (r ∷ rs) answers run rest = (run.0, run.1, InTurn-append run.0 mid new xs more rs answers run.2 rest)
 
--- a line that was answered, and whose reply was written but for some last bytes
-pub one_replayed : (honest : Type 0) (before after : Content → Type 0) (held_old held_new : Option (List ℕ)) (line : List ℕ) (reply : Reply) (bytes unwritten : List ℕ)
-    → bytes ++ unwritten ≡ reply_line reply → Appends held_old held_new bytes
-    → (honest → (m : Content) → before m → IsSound json_texts m → Leads (LineStep m line reply) after)
-    → IsReplayed honest before after held_old held_new (line ∷ []) unwritten
-one_replayed honest before after held_old held_new line reply bytes unwritten told written step =
-    record {
-      replies = reply ∷ [];
-      each = refl;
-      bytes = bytes;
-      told = told ∙ sym (append-nil (reply_line reply));
-      written = written;
-      run = λ h m held sound. let l = step h m held sound in record { next = l.next; stepped = (l.next, l.stepped, refl); held = l.held; sound = l.sound };
-    }
+  zip-append : (old mid : Content) (xs more : List X) (replies answers : List Reply) → InTurn step message_in old xs replies mid
+      → zip (xs ++ more) (replies ++ answers) ≡ zip xs replies ++ zip more answers
+  zip-append old mid [] more [] answers run = refl
+  zip-append old mid [] more (r ∷ rs) answers run = absurd run
+  zip-append old mid (x ∷ xs) more [] answers run = absurd run
+  zip-append old mid (x ∷ xs) more (r ∷ rs) answers run = ap (λ es. (x, r) ∷ es) (zip-append run.0 mid xs more rs answers run.2)
 
-joined : (bytes more unwritten : List ℕ) (replies answers : List Reply) → bytes ++ [] ≡ reply_lines replies → more ++ unwritten ≡ reply_lines answers
-    → (bytes ++ more) ++ unwritten ≡ reply_lines (replies ++ answers)
-joined bytes more unwritten replies answers p q =
-    append_assoc bytes more unwritten ∙ ap (λ l. bytes ++ l) q ∙ ap (λ l. l ++ reply_lines answers) (sym (append-nil bytes) ∙ p) ∙ sym (flat_map-append reply_line replies answers)
+  exchanges-append : (old mid : Content) (xs more : List X) (replies answers : List Reply) → InTurn step message_in old xs replies mid
+      → exchanges step message_in (xs ++ more) (replies ++ answers) ≡ exchanges step message_in xs replies ++ exchanges step message_in more answers
+  exchanges-append old mid xs more replies answers run =
+      ap (filter_map (λ e. option_map (λ message. (message, e.1)) (message_in e.0))) (zip-append old mid xs more replies answers run)
+      ∙ filter_map-append (λ e. option_map (λ message. (message, e.1)) (message_in e.0)) (zip xs replies) (zip more answers)
 
--- lines that were answered, and then more
-pub more_replayed : (honest later : Type 0) (before mid after : Content → Type 0) (a b c : Option (List ℕ)) (lines more : List (List ℕ)) (unwritten : List ℕ)
-    → (later → honest) → IsReplayed honest before mid a b lines [] → IsReplayed later mid after b c more unwritten → IsReplayed later before after a c (lines ++ more) unwritten
-more_replayed honest later before mid after a b c lines more unwritten back first second =
-    record {
-      replies = first.replies ++ second.replies;
-      each = length-append first.replies second.replies ∙ ap (λ n. n + length second.replies) first.each ∙ ap (λ n. length lines + n) second.each ∙ sym (length-append lines more);
-      bytes = first.bytes ++ second.bytes;
-      told = joined first.bytes second.bytes unwritten first.replies second.replies first.told second.told;
-      written = Appends-trans a b c first.bytes second.bytes first.written second.written;
-      run = λ h m held sound.
-          let one = first.run (back h) m held sound in
-          let two = second.run h one.next one.held one.sound in
-          record { next = two.next; stepped = LineRun-append m one.next two.next lines more first.replies second.replies one.stepped two.stepped; held = two.held; sound = two.sound };
-    }
+  pub none_answered : (at : B) (m : Content) → book.holds at m → IsSound json_texts m → HasAnswered step message_in book at at m [] []
+  none_answered at m held sound =
+      record { next = m; run = refl; held = held; sound = sound; blame = λ none. absurd none; account = account_same json_texts m m refl }
 
-run_whole : (m next : Content) (whole : List ℕ) (replies : List Reply) → LineRun m (kept_of whole ∷ []) replies next → LineRun m (whole ∷ []) replies next
-run_whole m next whole [] run = absurd run
-run_whole m next whole (r ∷ []) run = (run.0, whole_line m run.0 whole r run.1, run.2)
-run_whole m next whole (r ∷ s ∷ rs) run = absurd run.2
+  pub more_answered : (a b c : B) (m : Content) (xs more : List X) (replies answers : List Reply) → CountsUp (book.failed a) (book.failed b) → CountsUp (book.failed b) (book.failed c)
+      → (one : HasAnswered step message_in book a b m xs replies) → HasAnswered step message_in book b c one.next more answers → HasAnswered step message_in book a c m (xs ++ more) (replies ++ answers)
+  more_answered a b c m xs more replies answers up later one two =
+      record {
+        next = two.next;
+        run = InTurn-append m one.next two.next xs more replies answers one.run two.run;
+        held = two.held;
+        sound = two.sound;
+        blame = tell_more (book.failed a) (book.failed b) (book.failed c) replies answers up later one.blame two.blame;
+        account = subst (λ es. HasAccount json_texts m (map (λ (e : Message × Reply). e.0) es) (map (λ (e : Message × Reply). e.1) es) two.next) (sym (exchanges-append m one.next xs more replies answers one.run))
+            (account_more json_texts m one.next two.next (exchanges step message_in xs replies) (exchanges step message_in more answers) one.account two.account);
+      }
 
--- what is kept of a line was answered as the line
-pub whole_replayed : (honest : Type 0) (before after : Content → Type 0) (a b : Option (List ℕ)) (whole unwritten : List ℕ)
-    → IsReplayed honest before after a b (kept_of whole ∷ []) unwritten → IsReplayed honest before after a b (whole ∷ []) unwritten
-whole_replayed honest before after a b whole unwritten r =
-    record {
-      replies = r.replies;
-      each = r.each;
-      bytes = r.bytes;
-      told = r.told;
-      written = r.written;
-      run = λ h m held sound. let l = r.run h m held sound in record { next = l.next; stepped = run_whole m l.next whole r.replies l.stepped; held = l.held; sound = l.sound };
-    }
+-- ---- lines
 
--- none or all of one line
-pub part_replayed : (honest : Type 0) (before after : Content → Type 0) (a b : Option (List ℕ)) (whole unwritten : List ℕ) (lines more : List (List ℕ))
-    → lines ++ more ≡ kept_of whole ∷ [] → IsReplayed honest before after a b lines unwritten
-    → (those rest : List (List ℕ)) × (those ++ rest ≡ whole ∷ []) × IsReplayed honest before after a b those unwritten
-part_replayed honest before after a b whole unwritten [] more is r = ([], whole ∷ [], refl, r)
-part_replayed honest before after a b whole unwritten (l ∷ []) more is r =
-    let same : l ≡ kept_of whole = cc in
-    (whole ∷ [], [], refl, whole_replayed honest before after a b whole unwritten (subst (λ l. IsReplayed honest before after a b (l ∷ []) unwritten) same r))
-part_replayed honest before after a b whole unwritten (l ∷ k ∷ ls) more is r = absurd (omega (arith, ap length is))
+module _ {B : Type 0} (book : Ghosts B) where
+  -- nothing was answered yet
+  pub none_replayed : (at : B) (held : Option (List ℕ)) → IsReplayed book at at held held [] []
+  none_replayed at held =
+      record {
+        replies = [];
+        each = refl;
+        bytes = [];
+        told = refl;
+        written = Appends-nil held;
+        run = λ h m held sound. none_answered LineStep line_message book at m held sound;
+      }
+
+  -- a line that was answered, and whose reply was written but for some last bytes
+  pub one_replayed : (before after : B) (held_old held_new : Option (List ℕ)) (line : List ℕ) (reply : Reply) (bytes unwritten : List ℕ)
+      → bytes ++ unwritten ≡ reply_line reply → Appends held_old held_new bytes
+      → Says book before after (λ m. IsSound json_texts m → HasAnswered LineStep line_message book before after m (line ∷ []) (reply ∷ []))
+      → IsReplayed book before after held_old held_new (line ∷ []) unwritten
+  one_replayed before after held_old held_new line reply bytes unwritten told written answered =
+      record {
+        replies = reply ∷ [];
+        each = refl;
+        bytes = bytes;
+        told = told ∙ sym (append-nil (reply_line reply));
+        written = written;
+        run = answered;
+      }
+
+  joined : (bytes more unwritten : List ℕ) (replies answers : List Reply) → bytes ++ [] ≡ reply_lines replies → more ++ unwritten ≡ reply_lines answers
+      → (bytes ++ more) ++ unwritten ≡ reply_lines (replies ++ answers)
+  joined bytes more unwritten replies answers p q =
+      append_assoc bytes more unwritten ∙ ap (λ l. bytes ++ l) q ∙ ap (λ l. l ++ reply_lines answers) (sym (append-nil bytes) ∙ p) ∙ sym (flat_map-append reply_line replies answers)
+
+  -- lines that were answered, and then more
+  pub more_replayed : (before mid after : B) (a b c : Option (List ℕ)) (lines more : List (List ℕ)) (unwritten : List ℕ)
+      → (book.is_honest after → book.is_honest mid) → CountsUp (book.failed before) (book.failed mid) → CountsUp (book.failed mid) (book.failed after)
+      → IsReplayed book before mid a b lines [] → IsReplayed book mid after b c more unwritten → IsReplayed book before after a c (lines ++ more) unwritten
+  more_replayed before mid after a b c lines more unwritten back up later first second =
+      record {
+        replies = first.replies ++ second.replies;
+        each = length-append first.replies second.replies ∙ ap (λ n. n + length second.replies) first.each ∙ ap (λ n. length lines + n) second.each ∙ sym (length-append lines more);
+        bytes = first.bytes ++ second.bytes;
+        told = joined first.bytes second.bytes unwritten first.replies second.replies first.told second.told;
+        written = Appends-trans a b c first.bytes second.bytes first.written second.written;
+        run = λ h m held sound.
+            let one = first.run (back h) m held sound in
+            more_answered LineStep line_message book before mid after m lines more first.replies second.replies up later one (second.run h one.next one.held one.sound);
+      }
+
+  answered_whole : (before after : B) (m : Content) (whole : List ℕ) (replies : List Reply)
+      → HasAnswered LineStep line_message book before after m (kept_of whole ∷ []) replies → HasAnswered LineStep line_message book before after m (whole ∷ []) replies
+  answered_whole before after m whole [] one = absurd one.run
+  answered_whole before after m whole (r ∷ []) one =
+      record {
+        next = one.next;
+        run = (one.run.0, whole_line m one.run.0 whole r one.run.1, one.run.2);
+        held = one.held;
+        sound = one.sound;
+        blame = one.blame;
+        account = subst (AccountOne m r one.next) (ap (option_and_then message_of) (data_of-kept_of whole)) one.account;
+      }
+  answered_whole before after m whole (r ∷ s ∷ rs) one = absurd one.run.2
+
+  -- what is kept of a line was answered as the line
+  pub whole_replayed : (before after : B) (a b : Option (List ℕ)) (whole unwritten : List ℕ)
+      → IsReplayed book before after a b (kept_of whole ∷ []) unwritten → IsReplayed book before after a b (whole ∷ []) unwritten
+  whole_replayed before after a b whole unwritten r =
+      record {
+        replies = r.replies;
+        each = r.each;
+        bytes = r.bytes;
+        told = r.told;
+        written = r.written;
+        run = λ h m held sound. answered_whole before after m whole r.replies (r.run h m held sound);
+      }
+
+  -- none or all of one line
+  pub part_replayed : (before after : B) (a b : Option (List ℕ)) (whole unwritten : List ℕ) (lines more : List (List ℕ))
+      → lines ++ more ≡ kept_of whole ∷ [] → IsReplayed book before after a b lines unwritten
+      → (those rest : List (List ℕ)) × (those ++ rest ≡ whole ∷ []) × IsReplayed book before after a b those unwritten
+  part_replayed before after a b whole unwritten [] more is r = ([], whole ∷ [], refl, r)
+  part_replayed before after a b whole unwritten (l ∷ []) more is r =
+      let same : l ≡ kept_of whole = cc in
+      (whole ∷ [], [], refl, whole_replayed before after a b whole unwritten (subst (λ l. IsReplayed book before after a b (l ∷ []) unwritten) same r))
+  part_replayed before after a b whole unwritten (l ∷ k ∷ ls) more is r = absurd (omega (arith, ap length is))
 
 -- ---- the lines of the input
 
@@ -137,7 +191,7 @@ first_read left now lines those rest line p is =
 
 -- ---- at the start, and where it stops
 
-pub work_before : (reads : ℕ) (p : List ℕ) → reads ≡ 0 → p ≡ [] → 0 + work reads p ≤ most_reads * 65537
+pub work_before : (reads : ℕ) (p : List ℕ) → reads ≡ 0 → p ≡ [] → 0 + work reads p ≤ most_reads * (ROOM + 1)
 work_before reads p is none = omega (arith, is, ap length none)
 
 pub for_each_fault : {T E : Type 0} (r : Result T E) (P : E → Type 0) → ((e : E) → P e) → IfErr r P

@@ -1,17 +1,23 @@
 -- What lines stand for, what is answered to them, and what is written.
-use Rattle.std.specs.Prelude.{◌≡◌, ◌≢◌, ℕ, ◌&&◌, List, [], ◌∷◌, ◌++◌, length, nat_le, if◌then◌else◌, Option, None, MatchOption}
+use Rattle.std.specs.Prelude.{◌≡◌, ◌≢◌, ℕ, ◌&&◌, List, [], ◌∷◌, ◌++◌, length, map, zip, filter_map, nat_le, if◌then◌else◌, Option, None, MatchOption, option_map, option_and_then}
 use Rattle.std.specs.Str.{is_utf8}
 use Rattle.std.specs.List.{flat_map}
 use Rattle.std.specs.Io.KnownBytes.{Appends}
 use Rattle.shop_machine.specs.declared.refusals.Refusal.TheVariants.{BadMessage, NoMemory}
+use Rattle.shop_machine.specs.declared.messages.Message.{Message}
 use Rattle.shop_machine.specs.declared.messages.Reply.{Reply}
 use Rattle.shop_machine.specs.declared.messages.Reply.TheVariants.{Refused}
-use Rattle.shop_machine.specs.Content.{Content}
+use Rattle.shop_machine.specs.Content.{Content, fresh}
+use Rattle.shop_machine.specs.History.{Entry, messages_of, history_after, IsAccountOf}
 use Rattle.shop_machine.specs.Machine.{Step, Answers}
 use Rattle.shop_machine.specs.Soundness.{IsSound}
 use Rattle.serde_json.specs.Data.{Data}
 use Rattle.serde_json.specs.Read.{read}
 use Rattle.shop_rules.specs.Forms.{message_of, query_of, json_texts}
+use Rattle.shop_store.specs.declared.books.Book.{Ghosts}
+use Rattle.shop_store.specs.Kept.{Says}
+use Rattle.shop_desk.specs.Faults.{TellOfFailures}
+use Rattle.shop_desk.specs.Handled.{HasAccount}
 use Rattle.shop_wire.specs.Lines.{longest_line}
 
 -- the value that a line of at most 131072 bytes is
@@ -32,19 +38,45 @@ ValueStep old d reply new =
 abbrev pub LineStep : Content → List ℕ → Reply → Content → Type 0
 LineStep old line reply new = MatchOption (data_of line) (IsNoMessage old reply new) (λ d. ValueStep old d reply new)
 
--- one line after another
-abbrev pub LineRun : Content → List (List ℕ) → List Reply → Content → Type 0
-LineRun old [] [] new = new ≡ old
-LineRun old (line ∷ lines) (reply ∷ replies) new = (mid : Content) × LineStep old line reply mid × LineRun mid lines replies new
-LineRun old [] (reply ∷ replies) new = ⊥
-LineRun old (line ∷ lines) [] new = ⊥
+-- the message that a line is
+abbrev pub line_message : List ℕ → Option Message
+line_message line = option_and_then message_of (data_of line)
 
--- some sound content that a book holds now
-pub record Leads (step : Content → Type 0) (holds : Content → Type 0) : Type 0 where
-  pub next : Content
-  pub stepped : step next
-  pub held : holds next
-  pub sound : IsSound json_texts next
+-- ---- what is asked in turn, whether by lines or otherwise: what an element may be answered, and the message that it is
+
+module _ {X : Type 0} (step : Content → X → Reply → Content → Type 0) (message_in : X → Option Message) where
+  -- one after another
+  abbrev pub InTurn : Content → List X → List Reply → Content → Type 0
+  InTurn old [] [] new = new ≡ old
+  InTurn old (x ∷ xs) (reply ∷ replies) new = (mid : Content) × step old x reply mid × InTurn mid xs replies new
+  InTurn old [] (reply ∷ replies) new = ⊥
+  InTurn old (x ∷ xs) [] new = ⊥
+
+  -- the messages among what was asked, each with its reply
+  abbrev pub exchanges : List X → List Reply → List (Message × Reply)
+  exchanges asked replies = filter_map (λ e. option_map (λ message. (message, e.1)) (message_in e.0)) (zip asked replies)
+
+  -- The book held old and holds next: all was answered in turn. Replies tell of a failed store only where it failed. Where a
+  -- history gives old, one whose messages are those of that history with each message among these that was accepted, once,
+  -- gives next, and this is its account.
+  pub record HasAnswered {B : Type 0} (book : Ghosts B) (before after : B) (old : Content) (asked : List X) (replies : List Reply) : Type 0 where
+    pub next : Content
+    pub run : InTurn old asked replies next
+    pub held : book.holds after next
+    pub sound : IsSound json_texts next
+    pub blame : TellOfFailures replies (book.failed before) (book.failed after)
+    pub account : HasAccount json_texts old (map (λ e. e.0) (exchanges asked replies)) (map (λ e. e.1) (exchanges asked replies)) next
+
+  -- A shop in which nothing was done yet was asked this, and answered so: the account is that of the messages that were
+  -- accepted, each once.
+  pub record IsFromFresh (asked : List X) (replies : List Reply) : Type 0 where
+    pub next : Content
+    pub run : InTurn fresh asked replies next
+    pub history : List Entry
+    pub messages : messages_of history ≡ history_after [] (map (λ e. e.0) (exchanges asked replies)) (map (λ e. e.1) (exchanges asked replies))
+    pub account : IsAccountOf json_texts history next
+
+-- ---- what is written
 
 -- a reply as a line
 abbrev pub reply_line : Reply → List ℕ
@@ -53,12 +85,21 @@ reply_line reply = json_texts.of_reply reply ++ 10 ∷ []
 abbrev pub reply_lines : List Reply → List ℕ
 reply_lines replies = flat_map reply_line replies
 
--- The lines were answered in turn: each has its reply, and the replies were written but for some last bytes. Where the
--- book is honest, each sound content that it held before led to one that it holds now.
-pub record IsReplayed (honest : Type 0) (before after : Content → Type 0) (held_old held_new : Option (List ℕ)) (lines : List (List ℕ)) (unwritten : List ℕ) : Type 0 where
+-- Each line has its reply, and the replies were written but for some last bytes; this is said of the replies.
+pub record AreAnswered (says : List Reply → Type 0) (held_old held_new : Option (List ℕ)) (lines : List (List ℕ)) (unwritten : List ℕ) : Type 0 where
   pub replies : List Reply
   pub each : length replies ≡ length lines
   pub bytes : List ℕ
   pub told : bytes ++ unwritten ≡ reply_lines replies
   pub written : Appends held_old held_new bytes
-  pub run : honest → (m : Content) → before m → IsSound json_texts m → Leads (LineRun m lines replies) after
+  pub run : says replies
+
+-- The lines were answered in turn: each sound content that an honest book held before led to one that it holds now.
+abbrev pub IsReplayed : {B : Type 0} → Ghosts B → B → B → Option (List ℕ) → Option (List ℕ) → List (List ℕ) → List ℕ → Type 0
+IsReplayed book before after held_old held_new lines unwritten =
+    AreAnswered (λ replies. Says book before after (λ m. IsSound json_texts m → HasAnswered LineStep line_message book before after m lines replies))
+    held_old held_new lines unwritten
+
+-- The lines were answered in turn by a shop in which nothing was done yet.
+abbrev pub IsReplayedFresh : Option (List ℕ) → Option (List ℕ) → List (List ℕ) → List ℕ → Type 0
+IsReplayedFresh held_old held_new lines unwritten = AreAnswered (IsFromFresh LineStep line_message lines) held_old held_new lines unwritten

@@ -1,11 +1,12 @@
-ghost use Rattle.std.specs.Prelude.{◌≡◌, IfOk, OnErr, None};
+ghost use Rattle.std.specs.Prelude.{◌≡◌, ◌∷◌, [], IfOk, OnErr, None};
 ghost use Rattle.serde_json.specs.View.{view};
-ghost use Rattle.shop_machine.specs.Content.{Content};
 ghost use Rattle.shop_machine.specs.Soundness.{IsSound};
 ghost use Rattle.shop_rules.specs.Forms.{message_of, json_texts};
-ghost use Rattle.shop_wire.specs.Replays.{Leads, LineStep, ValueStep, reply_line};
+ghost use Rattle.shop_store.specs.Kept.{Says};
+ghost use Rattle.shop_desk.specs.Faults.{CountsUp};
+ghost use Rattle.shop_wire.specs.Replays.{HasAnswered, LineStep, ValueStep, line_message, reply_line};
 
-use crate::reader::LONGEST_LINE;
+use crate::limits::LONGEST_LINE;
 use serde_json::Value;
 use shop_desk::{ask, handle};
 use shop_rules::{Refusal, Reply, Text, read_message, read_query, reply_text};
@@ -14,8 +15,9 @@ use std::alloc::{AllocError, Global};
 
 // The reply to a value that is no message.
 fn query_reply<B: Book>(alloc: Global, book: &mut B, value: &Value) -> Reply
-    ensures step { message_of (view value.now) ≡ None → B.is_honest book.new → (m : Content) → B.holds book.old m → IsSound json_texts m → Leads (ValueStep m (view value.now) result) (B.holds book.new) }
+    ensures step { message_of (view value.now) ≡ None → Says B.Book book.old book.new (λ m. IsSound json_texts m → HasAnswered ValueStep message_of B.Book book.old book.new m (view value.now ∷ []) (result ∷ [])) }
     ensures honest { B.is_honest book.new → B.is_honest book.old }
+    ensures failures { CountsUp (B.failed book.old) (B.failed book.new) }
 {
     match read_query(value) {
         Ok(query) => ask(alloc, book, &query),
@@ -25,8 +27,9 @@ fn query_reply<B: Book>(alloc: Global, book: &mut B, value: &Value) -> Reply
 
 // The reply to a value.
 fn reply_to<B: Book>(alloc: Global, book: &mut B, value: &Value) -> Reply
-    ensures step { B.is_honest book.new → (m : Content) → B.holds book.old m → IsSound json_texts m → Leads (ValueStep m (view value.now) result) (B.holds book.new) }
+    ensures step { Says B.Book book.old book.new (λ m. IsSound json_texts m → HasAnswered ValueStep message_of B.Book book.old book.new m (view value.now ∷ []) (result ∷ [])) }
     ensures honest { B.is_honest book.new → B.is_honest book.old }
+    ensures failures { CountsUp (B.failed book.old) (B.failed book.new) }
 {
     match read_message(alloc, value) {
         Ok(message) => handle(alloc, book, &message),
@@ -39,9 +42,10 @@ fn reply_to<B: Book>(alloc: Global, book: &mut B, value: &Value) -> Reply
 
 /// The reply to a line.
 pub(crate) fn answer<B: Book>(alloc: Global, book: &mut B, line: &[u8]) -> Result<Reply, AllocError>
-    ensures ok { IfOk result (λ reply. B.is_honest book.new → (m : Content) → B.holds book.old m → IsSound json_texts m → Leads (LineStep m line.now reply) (B.holds book.new)) }
+    ensures ok { IfOk result (λ reply. Says B.Book book.old book.new (λ m. IsSound json_texts m → HasAnswered LineStep line_message B.Book book.old book.new m (line.now ∷ []) (reply ∷ []))) }
     ensures err { OnErr result (book.new ≡ book.old) }
     ensures honest { B.is_honest book.new → B.is_honest book.old }
+    ensures failures { CountsUp (B.failed book.old) (B.failed book.new) }
 {
     if line.len() > LONGEST_LINE {
         return Ok(Reply::Refused(Refusal::BadMessage));

@@ -25,7 +25,7 @@ const THREE_PIECES: (&str, &str) = (
 {"demand":1,"line":1,"made":0,"material":"STEEL","ok":"demand","order":"A-1","reserved":3,"wanted":3}
 {"batch":"B-1","h":1,"of":2,"ok":"trace","part":"1/0","root":"1/0","state":"reserved","w":100,"x":0,"y":0}
 {"job":2,"kerf":9,"ok":"done","pieces":90,"rack":0,"scrap":1}
-{"kerf":9,"material":"STEEL","ok":"totals","pieces":90,"rack":0,"received":100,"scrap":1,"stock":0}
+{"kerf":9,"material":"STEEL","ok":"totals","pieces":90,"rack":0,"received":100,"returned":0,"scrap":1,"stock":0}
 {"demand":1,"line":1,"made":3,"material":"STEEL","ok":"demand","order":"A-1","reserved":0,"wanted":3}
 {"batch":"B-1","h":1,"of":2,"ok":"trace","part":"1/0","root":"1/0","state":"cut","w":100,"x":0,"y":0}
 "#,
@@ -125,7 +125,7 @@ const REMNANT_CUT_AGAIN: (&str, &str) = (
 {"batch":"B-1","h":3,"of":3,"ok":"trace","part":"3/1","root":"1/0","state":"piece","w":5,"x":5,"y":0}
 {"batch":"B-1","h":1,"of":0,"ok":"trace","part":"3/0","root":"1/0","state":"kerf","w":5,"x":5,"y":3}
 {"batch":"B-1","h":4,"of":0,"ok":"trace","part":"3/2","root":"1/0","state":"standing","w":5,"x":5,"y":4}
-{"kerf":17,"material":"GLASS","ok":"totals","pieces":43,"rack":20,"received":80,"scrap":0,"stock":0}
+{"kerf":17,"material":"GLASS","ok":"totals","pieces":43,"rack":20,"received":80,"returned":0,"scrap":0,"stock":0}
 {"demand":3,"line":3,"made":1,"material":"GLASS","ok":"demand","order":"A-1","reserved":0,"wanted":1}
 {"name":"NoDemand","refused":42}
 {"name":"OrderExists","refused":40}
@@ -161,7 +161,7 @@ const RELEASED_AND_REPEATED: (&str, &str) = (
 {"cuts":3,"job":3,"ok":"reserve"}
 {"cuts":3,"job":3,"ok":"reserve"}
 {"name":"NumberReused","refused":11}
-{"kerf":0,"material":"STEEL","ok":"totals","pieces":0,"rack":0,"received":100,"scrap":0,"stock":100}
+{"kerf":0,"material":"STEEL","ok":"totals","pieces":0,"rack":0,"received":100,"returned":0,"scrap":0,"stock":100}
 "#,
 );
 

@@ -5,10 +5,13 @@ mod answers;
 mod faults;
 #[cfg(test)]
 mod job_tests;
+mod limits;
 mod reader;
 mod replays;
 #[cfg(test)]
 mod tests;
+#[cfg(test)]
+mod turning_tests;
 mod writer;
 
 pub use faults::ReplayFault;

@@ -1,30 +1,26 @@
 ghost use Rattle.std.specs.Prelude.{◌≡◌, ◌+◌, ◌-◌, ◌*◌, ◌≤◌, ◌<◌, ◌⊎◌, ◌++◌, ◌∷◌, [], ℕ, List, Option, IfOk, OnOk, IfErr, OnErr, IfSome, Ok, Err, true, false, length, take, if◌then◌else◌};
 ghost use Rattle.std.specs.Io.KnownBytes.{Consumes, Keeps, IsAtEnd, prepend_known};
 ghost use Rattle.shop_wire.specs.Lines.{HasNoFeed, GivesLine, kept_of, longest_line, pending};
-ghost use Rattle.shop_wire.specs.Streams.{CountsReads, HasFailed, IsLong, most_reads, work};
+ghost use Rattle.shop_wire.specs.Streams.{CountTogether, TookBytes, HasFailed, IsLong, most_reads, work};
+ghost use Rattle.shop_wire.specs.declared.limits.TheConstants.{ROOM};
 ghost use Rattle.shop_wire.specs.declared.faults.ReplayFault.TheVariants.{Read, NoMemory};
 
 use crate::faults::ReplayFault;
+use crate::limits::{LONGEST_LINE, MOST_READS, ROOM};
 use memchr::memchr;
 use shop_text::Source;
 use std::alloc::AllocError;
 
-const MOST_READS: u32 = 1_000_000_000;
-
-pub(crate) const LONGEST_LINE: usize = 131_072;
-
-const ROOM: usize = 65_536;
-
 /// A buffer that is filled again once all of it was taken, and how far the source was read.
 #[derive(Drop)]
 pub(crate) struct LineReader {
-    buffer: [u8; 65_536],
+    buffer: [u8; ROOM],
     start: usize,
     end: usize,
     reads: u32,
     ended: bool,
     ghost within: { start ≤ end },
-    ghost most: { end ≤ 65536 },
+    ghost most: { end ≤ ROOM },
 }
 
 // Appends what belongs to a line, up to one byte over the longest.
@@ -87,12 +83,14 @@ impl LineReader {
         requires most { self.old.reads ≤ most_reads }
         requires ended { self.old.ended ≡ true → IsAtEnd (S.left source.old) }
         ensures more { result ≡ Ok true → Consumes (S.left source.old) (S.left source.new) (pending self.new.buffer self.new.start self.new.end)
-            × (self.new.ended ≡ false) × (self.new.reads ≡ self.old.reads + 1) × (length (pending self.new.buffer self.new.start self.new.end) ≤ 65536) }
+            × (self.new.ended ≡ false) × (self.new.reads ≡ self.old.reads + 1) × (length (pending self.new.buffer self.new.start self.new.end) ≤ ROOM)
+            × (self.old.ended ≡ false) × TookBytes self.old.reads (S.left source.old) self.new.reads (S.left source.new) }
         ensures none { result ≡ Ok false → IsAtEnd (S.left source.new) × Consumes (S.left source.old) (S.left source.new) []
-            × (self.new.ended ≡ true) × (self.new.reads ≡ self.old.reads) × (pending self.new.buffer self.new.start self.new.end ≡ []) }
-        ensures counted { CountsReads self.old.reads (S.left source.old) self.new.reads (S.left source.new) }
+            × (self.new.ended ≡ true) × (pending self.new.buffer self.new.start self.new.end ≡ []) }
+        ensures together { CountTogether self.old.reads (S.reads source.old) self.new.reads (S.reads source.new) }
         ensures failures { OnOk result (S.failed source.new ≡ S.failed source.old) }
-        ensures fault { IfErr result (λ fault. (fault ≡ Read) × (HasFailed (S.failed source.old) (S.failed source.new) ⊎ IsLong self.old.reads (S.left source.old))) }
+        ensures fault { IfErr result (λ fault. (fault ≡ Read) × (HasFailed (S.failed source.old) (S.failed source.new)
+            ⊎ ((self.new.reads ≡ most_reads) × (self.old.ended ≡ false) × IsLong self.old.reads (S.left source.old)))) }
         ensures most { self.new.reads ≤ most_reads }
     {
         self.start = self.end;
@@ -102,6 +100,7 @@ impl LineReader {
         if self.reads == MOST_READS {
             return Err(ReplayFault::Read);
         }
+        self.reads += 1;
         let Ok(count) = source.read(&mut self.buffer) else {
             return Err(ReplayFault::Read);
         };
@@ -111,7 +110,6 @@ impl LineReader {
             self.ended = true;
             return Ok(false);
         }
-        self.reads += 1;
         Ok(true)
     }
 
@@ -128,11 +126,13 @@ impl LineReader {
             × GivesLine (prepend_known (pending self.old.buffer self.old.start self.old.end) (S.left source.old)) (prepend_known (pending self.new.buffer self.new.start self.new.end) (S.left source.new)) whole }
         ensures none { result ≡ Ok false → IsAtEnd (prepend_known (pending self.old.buffer self.old.start self.old.end) (S.left source.old)) }
         ensures shorter { result ≡ Ok true → work self.new.reads (pending self.new.buffer self.new.start self.new.end) < work self.old.reads (pending self.old.buffer self.old.start self.old.end) }
-        ensures most { OnOk result (self.new.reads ≤ most_reads) }
+        ensures most { self.new.reads ≤ most_reads }
         ensures ended { OnOk result (self.new.ended ≡ true → IsAtEnd (S.left source.new)) }
-        ensures counted { OnOk result (CountsReads self.old.reads (S.left source.old) self.new.reads (S.left source.new)) }
+        ensures took { OnOk result (self.new.ended ≡ false → (self.old.ended ≡ false) × TookBytes self.old.reads (S.left source.old) self.new.reads (S.left source.new)) }
+        ensures together { CountTogether self.old.reads (S.reads source.old) self.new.reads (S.reads source.new) }
         ensures failures { OnOk result (S.failed source.new ≡ S.failed source.old) }
-        ensures fault { IfErr result (λ fault. fault ≡ NoMemory ⊎ (fault ≡ Read) × (HasFailed (S.failed source.old) (S.failed source.new) ⊎ IsLong self.old.reads (S.left source.old))) }
+        ensures fault { IfErr result (λ fault. fault ≡ NoMemory ⊎ (fault ≡ Read) × (HasFailed (S.failed source.old) (S.failed source.new)
+            ⊎ ((self.new.reads ≡ most_reads) × (self.old.ended ≡ false) × IsLong self.old.reads (S.left source.old)))) }
     {
         line.clear();
         loop {

@@ -12,6 +12,7 @@ use std::test::Fail;
 struct Given<'a> {
     rest: &'a [u8],
     reads_left: u32,
+    reads: u64,
     failures: u64,
 }
 
@@ -20,7 +21,10 @@ impl Source for Given<'_> {
 
     ghost failed = { λ s. s.failures };
 
+    ghost reads = { λ s. s.reads };
+
     fn read(&mut self, buffer: &mut [u8]) -> Result<usize, Failed> {
+        self.reads = self.reads.saturating_add(1);
         if self.reads_left == 0 {
             self.failures = self.failures.saturating_add(1);
             return Err(Failed);
@@ -103,7 +107,7 @@ const ADDED: &str = r#"{"material":"STEEL","ok":"material"}"#;
 const RECEIVED: &str = r#"{"act":1,"count":2,"ok":"receive"}"#;
 
 const TOLD: &str =
-    r#"{"kerf":0,"material":"STEEL","ok":"totals","pieces":0,"rack":0,"received":200,"scrap":0,"stock":200}"#;
+    r#"{"kerf":0,"material":"STEEL","ok":"totals","pieces":0,"rack":0,"received":200,"returned":0,"scrap":0,"stock":200}"#;
 
 const BAD_MESSAGE: &str = r#"{"name":"BadMessage","refused":10}"#;
 
@@ -239,6 +243,7 @@ where
     let mut source = Given {
         rest: input.as_str().as_bytes(),
         reads_left: reads,
+        reads: 0,
         failures: 0,
     };
     let mut sink = Taken {

@@ -7,7 +7,10 @@ impl<R: Read> Source for Counted<R> {
 
     ghost failed = { λ s. s.failures };
 
+    ghost reads = { λ s. s.reads };
+
     fn read(&mut self, buffer: &mut [u8]) -> Result<usize, Failed> {
+        self.reads = self.reads.saturating_add(1);
         for _ in 0..MOST_TRIES {
             match self.inner.read(buffer) {
                 Ok(count) => return Ok(count),

@@ -5,14 +5,14 @@ use Rattle.std.specs.Str.Parse.{AllDigits, digits_value}
 use Rattle.std.proofs.lemmas.Bool.{eqb-false}
 use Rattle.std.proofs.lemmas.Int.Digits.{digits_value-lt}
 use Rattle.std.proofs.Math.Nat.{pow-le-pow_right}
-use Rattle.cut_measure.specs.Lengths.{IsWhole}
+use Rattle.cut_measure.specs.Lengths.{IsWholeMillimetres}
 use Rattle.cut_measure.proofs.lengths.read_whole.Goals as goal
 
 below : (ds : List ℕ) → length ds ≤ 6 → AllDigits 10 ds → digits_value 10 ds < 1000000
 below ds short all = let most : 10 ^ length ds ≤ 10 ^ 6 = pow-le-pow_right (lit< tt) short in omega (arith, digits_value-lt 10 ds all, most)
 
 whole : (r : Option ℕ) (ds : List ℕ) → 1 ≤ length ds → length ds ≤ 6 → SomeIff r (AllDigits 10 ds × (digits_value 10 ds < 2 ^ 32)) (digits_value 10 ds) →
-    SomeIff r (IsWhole ds) (digits_value 10 ds)
+    SomeIff r (IsWholeMillimetres ds) (digits_value 10 ds)
 whole None ds some short h = λ is. h (is.2, omega (arith, below ds short is.2))
 whole (Some n) ds some short h = ((some, short, h.0.0), h.1)
 

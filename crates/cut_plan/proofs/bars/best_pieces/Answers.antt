@@ -1,6 +1,6 @@
 use Rattle.std.proofs.Common.{arith}
 use Rattle.cut_measure.specs.declared.sizes.Kind.TheVariants.{Bar}
-use Rattle.cut_plan.proofs.Sound as sound
+use Rattle.cut_plan.proofs.Faultless as sound
 use Rattle.cut_plan.proofs.bars.best_pieces.Goals as goal
 
 pub best_counts-requires-clause-own : goal.best_counts-requires-clause-own

@@ -1,7 +1,7 @@
 use Rattle.std.proofs.Common.{inr, refl, arith}
 use Rattle.cut_measure.specs.declared.sizes.Kind.TheVariants.{Bar}
 use Rattle.cut_plan.proofs.BarPieces.{bar_pieces, is_proposal, too_many, not_long}
-use Rattle.cut_plan.proofs.Sound as sound
+use Rattle.cut_plan.proofs.Faultless as sound
 use Rattle.cut_plan.proofs.bars.proposal_of.Goals as goal
 
 pub bar_plan-requires-clause-pieces : goal.bar_plan-requires-clause-pieces

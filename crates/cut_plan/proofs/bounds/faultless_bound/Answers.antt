@@ -1,5 +1,5 @@
 use Rattle.std.proofs.Common.{arith}
-use Rattle.cut_plan.proofs.Sound as sound
+use Rattle.cut_plan.proofs.Faultless as sound
 use Rattle.cut_plan.proofs.bounds.faultless_bound.Goals as goal
 
 pub units-units-requires-clause-own : goal.units-units-requires-clause-own

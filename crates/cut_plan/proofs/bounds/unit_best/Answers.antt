@@ -1,6 +1,6 @@
 use Rattle.std.proofs.Common.{◌≡◌, false, subst, arith}
 use Rattle.cut_plan.specs.Faults.{are_bad_wants, is_bad_step}
-use Rattle.cut_plan.proofs.Sound as sound
+use Rattle.cut_plan.proofs.Faultless as sound
 use Rattle.cut_plan.proofs.bounds.unit_best.Goals as goal
 
 pub best_counts-requires-clause-own : goal.best_counts-requires-clause-own

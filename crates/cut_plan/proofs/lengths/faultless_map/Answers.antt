@@ -1,7 +1,7 @@
 use Rattle.std.proofs.Common.{◌+◌}
 use Rattle.std.specs.BTreeMap.{get}
 use Rattle.std.specs.Ordering.{nat_cmp}
-use Rattle.cut_plan.proofs.Maps.{map_reached}
+use Rattle.cut_plan.proofs.EntryMaps.{map_reached}
 use Rattle.cut_plan.proofs.lengths.faultless_map.Goals as goal
 
 pub returns : goal.returns

@@ -1,7 +1,7 @@
 use Rattle.std.proofs.Common.{arith}
 use Rattle.std.specs.BTreeMap.{get}
 use Rattle.std.specs.Ordering.{nat_cmp}
-use Rattle.cut_plan.proofs.Maps.{map_more, map_whole}
+use Rattle.cut_plan.proofs.EntryMaps.{map_more, map_whole}
 use Rattle.cut_plan.proofs.lengths.map_of.Goals as goal
 
 pub loop-entry-preserved : goal.loop-entry-preserved

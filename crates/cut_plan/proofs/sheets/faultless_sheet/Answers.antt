@@ -1,5 +1,5 @@
 use Rattle.cut_measure.specs.declared.sizes.Kind.TheVariants.{Sheet}
-use Rattle.cut_plan.proofs.Sound as sound
+use Rattle.cut_plan.proofs.Faultless as sound
 use Rattle.cut_plan.proofs.sheets.faultless_sheet.Goals as goal
 
 pub ceiling-requires-clause-own : goal.ceiling-requires-clause-own

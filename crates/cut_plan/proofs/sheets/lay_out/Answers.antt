@@ -1,8 +1,8 @@
 use Rattle.std.proofs.Common.{◌≡◌, length, arith, ◌∙◌}
 use Rattle.cut_measure.specs.declared.sizes.Kind.TheVariants.{Sheet}
-use Rattle.cut_table.proofs.Passage.{up_own, up_small, steps_inside}
-use Rattle.cut_table.proofs.Placing.{kept_places}
-use Rattle.cut_plan.proofs.Sound as sound
+use Rattle.cut_table.proofs.SheetSteps.{up_own, up_small, steps_inside}
+use Rattle.cut_table.proofs.PlacedLeaves.{kept_places}
+use Rattle.cut_plan.proofs.Faultless as sound
 use Rattle.std.proofs.lemmas.List.{length-map}
 use Rattle.cut_table.specs.Rounded.{want_up}
 use Rattle.cut_plan.specs.Sheets.{kept_counts}

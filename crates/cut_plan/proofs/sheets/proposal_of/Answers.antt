@@ -1,5 +1,8 @@
-use Rattle.std.proofs.Common.{arith}
+use Rattle.std.proofs.Common.{arith, refl, ◌<◌}
+use Rattle.cut_tree.specs.declared.token.TheConstants.{MOST_CUTS}
 use Rattle.cut_plan.proofs.SheetPlans.{demands_of, shaped_of}
+use Rattle.cut_tree.specs.Tree.{cut_count}
+use Rattle.cut_tree.specs.Nodes.{tree_of}
 use Rattle.cut_plan.proofs.sheets.proposal_of.Goals as goal
 
 pub of-plan-requires : goal.of-plan-requires
@@ -13,3 +16,17 @@ of-plan-requires c = record {
   height_in_range = omega (arith, c.h.ensures.value, c.h.ensures.most);
   narrow = c.requires.kerf;
 }
+
+pub returns-then-count_cuts-gt-MOST_CUTS-clause-err : goal.returns-then-count_cuts-gt-MOST_CUTS-clause-err
+returns-then-count_cuts-gt-MOST_CUTS-clause-err c =
+    let many : MOST_CUTS < cut_count (tree_of c.args.laid.root) = omega (arith, c.if-count_cuts-gt-MOST_CUTS.true, c.count_cuts.ensures) in (
+      refl,
+      record {
+        tree = _;
+        worth = _;
+        dropped = _;
+        laid = c.requires.laid;
+        many = omega (arith, many, c.requires.laid.few_cuts);
+        many_cuts = many;
+      },
+    )

@@ -1,7 +1,7 @@
 use Rattle.std.proofs.Common.{◌-◌, subst, arith}
 use Rattle.cut_table.specs.Reached.{IsLedTo}
 use Rattle.cut_table.specs.Levels.{Has}
-use Rattle.cut_table.proofs.Levels.{led_further, led_by_none, moved_one}
+use Rattle.cut_table.proofs.LevelCounts.{led_further, led_by_none, moved_one}
 use Rattle.cut_table.proofs.bar.count_of.Goals as goal
 
 pub overflow_sub-from : goal.overflow_sub-from

@@ -1,10 +1,10 @@
 use Rattle.std.proofs.Common.{◌≡◌, ◌∷◌, ◌≤◌, ◌-◌, ◌+◌, get_or, drop, length, sym, subst, arith}
 use Rattle.cut_table.specs.declared.wants.Want.{Want}
-use Rattle.cut_table.specs.Counts.{IsModest, HaveLength}
+use Rattle.cut_table.specs.Counts.{HasBoundedWorthAndLeft, HaveLength}
 use Rattle.cut_table.specs.Reached.{AreOffered}
 use Rattle.cut_table.specs.Levels.{Has, IsLevel}
-use Rattle.cut_table.proofs.Entries.{reached_low}
-use Rattle.cut_table.proofs.Levels.{first_level, one_level, levels_more, modest_rest, length_none, modest_at, length_more}
+use Rattle.cut_table.proofs.WantEntries.{reached_low}
+use Rattle.cut_table.proofs.LevelCounts.{first_level, one_level, levels_more, modest_rest, length_none, modest_at, length_more}
 use Rattle.cut_table.proofs.bar.levels.Goals as goal
 
 pub loop-i-init : goal.loop-i-init
@@ -26,7 +26,7 @@ offer_want-requires-clause-low c =
 
 pub offer_want-requires-clause-modest : goal.offer_want-requires-clause-modest
 offer_want-requires-clause-modest c =
-    subst (λ (x : Want). IsModest x) (sym c.index-wants-i.is) (modest_at c.args.wants.now (c.loop-i.i - 1) c.index-wants-i.result c.requires.modest (omega arith))
+    subst (λ (x : Want). HasBoundedWorthAndLeft x) (sym c.index-wants-i.is) (modest_at c.args.wants.now (c.loop-i.i - 1) c.index-wants-i.result c.requires.modest (omega arith))
 
 pub loop-i-preserved : goal.loop-i-preserved
 loop-i-preserved c =

@@ -1,7 +1,7 @@
 use Rattle.std.proofs.Common.{[], sym, subst}
 use Rattle.std.specs.Prelude.{Contains}
 use Rattle.cut_table.specs.Reached.{AreRising, AreReached}
-use Rattle.cut_table.proofs.Levels.{none_reached}
+use Rattle.cut_table.proofs.LevelCounts.{none_reached}
 use Rattle.cut_table.proofs.bar.none_listed.Goals as goal
 
 pub returns : goal.returns

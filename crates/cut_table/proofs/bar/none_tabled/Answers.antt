@@ -1,8 +1,8 @@
 use Rattle.std.proofs.Common.{[], ◌∷◌, arith}
 use Rattle.std.specs.Prelude.{Contains}
 use Rattle.cut_table.specs.Levels.{HasCell}
-use Rattle.cut_table.proofs.Merging.{none}
-use Rattle.cut_table.proofs.Levels.{none_reached, reached_same}
+use Rattle.cut_table.proofs.JoinedEntries.{none}
+use Rattle.cut_table.proofs.LevelCounts.{none_reached, reached_same}
 use Rattle.cut_table.proofs.bar.none_tabled.Goals as goal
 
 pub returns : goal.returns

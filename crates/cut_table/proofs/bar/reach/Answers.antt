@@ -2,11 +2,11 @@ use Rattle.std.proofs.Common.{◌≡◌, ◌≤◌, ◌-◌, ◌+◌, get_or, dr
 use Rattle.std.specs.Prelude.{Contains}
 use Rattle.std.proofs.lemmas.Result.{IfOk-weaker}
 use Rattle.cut_table.specs.declared.wants.Want.{Want}
-use Rattle.cut_table.specs.Counts.{IsModest}
+use Rattle.cut_table.specs.Counts.{HasBoundedWorthAndLeft}
 use Rattle.cut_table.specs.Reached.{AreReached, AreOffered}
 use Rattle.cut_table.specs.Levels.{Has}
-use Rattle.cut_table.proofs.Entries.{reached_low}
-use Rattle.cut_table.proofs.Levels.{modest_rest, length_none, modest_at, length_more, reached_all, reached_more, reached_same}
+use Rattle.cut_table.proofs.WantEntries.{reached_low}
+use Rattle.cut_table.proofs.LevelCounts.{modest_rest, length_none, modest_at, length_more, reached_all, reached_more, reached_same}
 use Rattle.cut_table.proofs.bar.reach.Goals as goal
 
 pub loop-i-init : goal.loop-i-init
@@ -23,7 +23,7 @@ offer_want-requires-clause-low c =
 
 pub offer_want-requires-clause-modest : goal.offer_want-requires-clause-modest
 offer_want-requires-clause-modest c =
-    subst (λ (x : Want). IsModest x) (sym c.index-wants-i.is) (modest_at c.args.wants.now (c.loop-i.i - 1) c.index-wants-i.result c.requires.modest (omega arith))
+    subst (λ (x : Want). HasBoundedWorthAndLeft x) (sym c.index-wants-i.is) (modest_at c.args.wants.now (c.loop-i.i - 1) c.index-wants-i.result c.requires.modest (omega arith))
 
 pub loop-i-preserved : goal.loop-i-preserved
 loop-i-preserved c =

@@ -1,6 +1,6 @@
 use Rattle.std.proofs.Common.{sym, subst, arith}
 use Rattle.cut_table.specs.Levels.{IsLevel}
-use Rattle.cut_table.proofs.Levels.{levels_at, level_there, counts_pushed, counts_done}
+use Rattle.cut_table.proofs.LevelCounts.{levels_at, level_there, counts_pushed, counts_done}
 use Rattle.cut_table.proofs.bar.read_levels.Goals as goal
 
 pub bounds-levels-i : goal.bounds-levels-i

@@ -2,8 +2,8 @@ use Rattle.std.proofs.Common.{◌≤◌, ◌+◌, arith, sym, subst, ap, ◌∙�
 use Rattle.cut_table.specs.declared.wants.Want.{Want}
 use Rattle.cut_table.specs.Rounded.{want_up}
 use Rattle.cut_table.specs.Table.{HaveSides}
-use Rattle.cut_table.proofs.Passage.{step_at, ups_more}
-use Rattle.cut_table.proofs.Trees.{first_each}
+use Rattle.cut_table.proofs.SheetSteps.{step_at, ups_more}
+use Rattle.cut_table.proofs.LeafSums.{first_each}
 use Rattle.cut_table.proofs.bound.all_up.Goals as goal
 
 pub up-want-requires-clause-within : goal.up-want-requires-clause-within

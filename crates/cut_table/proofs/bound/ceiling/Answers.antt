@@ -1,8 +1,8 @@
 use Rattle.std.proofs.Common.{◌+◌, ◌/◌, sym, subst, ◌∙◌, arith}
 use Rattle.cut_table.specs.Best.{IsBestOf}
 use Rattle.cut_table.specs.Rounded.{wants_down, steps_down}
-use Rattle.cut_table.proofs.Passage.{down_own, down_small, ceiling_holds}
-use Rattle.cut_table.proofs.Reaching.{value_small}
+use Rattle.cut_table.proofs.SheetSteps.{down_own, down_small, ceiling_holds}
+use Rattle.cut_table.proofs.BestWorths.{value_small}
 use Rattle.cut_table.proofs.bound.ceiling.Goals as goal
 
 pub best_table-requires-clause-own : goal.best_table-requires-clause-own

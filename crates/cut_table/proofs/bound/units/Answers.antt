@@ -1,4 +1,4 @@
-use Rattle.cut_table.proofs.Units.{units_hold}
+use Rattle.cut_table.proofs.UnitBounds.{units_hold}
 use Rattle.cut_table.proofs.bound.units.Goals as goal
 
 pub returns-clause-bound : goal.returns-clause-bound

@@ -1,5 +1,5 @@
 use Rattle.std.proofs.Common.{◌-◌, get_or, arith}
-use Rattle.cut_table.proofs.Raising.{listed_more, listed_skip}
+use Rattle.cut_table.proofs.RaisedCells.{listed_more, listed_skip}
 use Rattle.cut_table.proofs.cells.list_of.Goals.{then-cell-ne0+in_ok-push, else-cell-ne0}
 use Rattle.cut_table.proofs.cells.list_of.Goals as goal
 

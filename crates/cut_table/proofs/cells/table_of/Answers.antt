@@ -3,8 +3,8 @@ use Rattle.std.specs.Prelude.{Contains, ◌↔◌}
 use Rattle.cut_table.specs.declared.reach.Entry.{Entry}
 use Rattle.cut_table.specs.Levels.{HasCell}
 use Rattle.std.proofs.lemmas.Grind.{common_steps}
-use Rattle.cut_table.proofs.Merging.{low_at, none, taken_in}
-use Rattle.cut_table.proofs.Raising.{cell_put}
+use Rattle.cut_table.proofs.JoinedEntries.{low_at, none, taken_in}
+use Rattle.cut_table.proofs.RaisedCells.{cell_put}
 use Rattle.cut_table.proofs.cells.table_of.Goals as goal
 
 pub overflow_add-entry : goal.overflow_add-entry

@@ -1,6 +1,6 @@
 use Rattle.std.proofs.Common.{arith}
-use Rattle.cut_table.proofs.Reaching.{in_get, grown_from, second_fits, second_fits_y, area_pos}
-use Rattle.cut_table.proofs.Keeping.{keeps_piece, keeps_x, keeps_y}
+use Rattle.cut_table.proofs.BestWorths.{in_get, grown_from, second_fits, second_fits_y, area_pos}
+use Rattle.cut_table.proofs.KeptLeaves.{keeps_piece, keeps_x, keeps_y}
 use Rattle.cut_table.proofs.keep.+keep.Goals as goal
 
 pub keep_leaf-requires-clause-fits : goal.keep_leaf-requires-clause-fits

@@ -2,8 +2,8 @@ use Rattle.std.proofs.Common.{◌*◌, ◌^◌, arith}
 use Rattle.std.proofs.lemmas.Nat.{mul-le}
 use Rattle.std.proofs.Math.Nat.{le_refl}
 use Rattle.cut_table.specs.Levels.{Has}
-use Rattle.cut_table.proofs.Offering.{offered_none, offered_more, offered_low, offered_same}
-use Rattle.cut_table.proofs.Levels.{copied_level, copied_same, level_own}
+use Rattle.cut_table.proofs.OfferedPieces.{offered_none, offered_more, offered_low, offered_same}
+use Rattle.cut_table.proofs.LevelCounts.{copied_level, copied_same, level_own}
 use Rattle.cut_table.proofs.level.offer_batches.Goals as goal
 
 pub loop-taken-init : goal.loop-taken-init

@@ -1,7 +1,7 @@
 use Rattle.std.proofs.Common.{◌≡◌, ◌+◌, ◌/◌, length, sym, ap, ◌∙◌, subst}
 use Rattle.cut_table.specs.Levels.{HasCell}
 use Rattle.cut_table.specs.Reached.{AreOffered}
-use Rattle.cut_table.proofs.Raising.{cell_low, raised_freely, written}
+use Rattle.cut_table.proofs.RaisedCells.{cell_low, raised_freely, written}
 use Rattle.cut_table.proofs.level.offer_freely.Goals as goal
 
 pub raise_freely-requires-clause-low : goal.raise_freely-requires-clause-low

@@ -1,7 +1,7 @@
 use Rattle.std.proofs.Common.{◌≡◌, ◌+◌, ◌/◌, arith}
 use Rattle.std.proofs.lemmas.Result.{IfOk-weaker}
 use Rattle.cut_table.specs.Levels.{Has, HasCell}
-use Rattle.cut_table.proofs.Offering.{offered_capped, fit_within}
+use Rattle.cut_table.proofs.OfferedPieces.{offered_capped, fit_within}
 use Rattle.cut_table.proofs.level.offer_want.Goals as goal
 
 pub offer_freely-requires-clause-low : goal.offer_freely-requires-clause-low

@@ -4,7 +4,7 @@ use Rattle.cut_measure.specs.declared.sizes.Axis.TheVariants.{X, Y}
 use Rattle.cut_tree.specs.Tree.{Tree, Cut}
 use Rattle.cut_tree.specs.Nodes.{tree_of}
 use Rattle.cut_table.specs.Kept.{IsPruned, HasPlaces, Places}
-use Rattle.cut_table.proofs.Placing.{places_x, places_y}
+use Rattle.cut_table.proofs.PlacedLeaves.{places_x, places_y}
 use Rattle.cut_table.proofs.place.+place.Goals as goal
 
 pub returns-in_ok-cut-in-X : goal.returns-in_ok-cut-in-X

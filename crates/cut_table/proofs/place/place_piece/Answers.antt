@@ -1,5 +1,5 @@
 use Rattle.std.proofs.Common.{arith}
-use Rattle.cut_table.proofs.Placing.{corner_upright, corner_turned}
+use Rattle.cut_table.proofs.PlacedLeaves.{corner_upright, corner_turned}
 use Rattle.cut_table.proofs.place.place_piece.Goals as goal
 
 pub returns-in_ok-node-in-Some : goal.returns-in_ok-node-in-Some

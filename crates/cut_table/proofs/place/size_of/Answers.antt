@@ -1,7 +1,7 @@
 use Rattle.std.proofs.Common.{◌≡◌, arith, sym, subst, take_all}
 use Rattle.std.specs.Prelude.{Contains}
 use Rattle.cut_table.specs.declared.wants.Want.{Want}
-use Rattle.cut_table.proofs.Trees.{first_each}
+use Rattle.cut_table.proofs.LeafSums.{first_each}
 use Rattle.cut_table.proofs.place.size_of.Goals as goal
 
 pub loop-want-preserved : goal.loop-want-preserved

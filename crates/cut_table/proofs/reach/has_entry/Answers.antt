@@ -1,7 +1,7 @@
 use Rattle.std.proofs.Common.{rules}
 use Rattle.std.proofs.lemmas.List.Sorted.{answers_always}
 use Rattle.cut_table.specs.declared.reach.Entry.{Entry}
-use Rattle.cut_table.proofs.Levels.{found, absent}
+use Rattle.cut_table.proofs.LevelCounts.{found, absent}
 use Rattle.cut_table.proofs.reach.has_entry.Goals as goal
 
 pub returns-in-Ok : goal.returns-in-Ok

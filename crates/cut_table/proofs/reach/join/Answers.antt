@@ -1,5 +1,5 @@
 use Rattle.std.proofs.Common.{arith}
-use Rattle.cut_table.proofs.Merging.{low_at, join_step}
+use Rattle.cut_table.proofs.JoinedEntries.{low_at, join_step}
 use Rattle.cut_table.proofs.reach.join.Goals as goal
 
 pub overflow_add-new : goal.overflow_add-new

@@ -1,5 +1,5 @@
 use Rattle.std.proofs.Common.{inl, inr, arith}
-use Rattle.cut_table.proofs.Merging.{low_at, tail_joined, tail_short, up_to_short, all_offered}
+use Rattle.cut_table.proofs.JoinedEntries.{low_at, tail_joined, tail_short, up_to_short, all_offered}
 use Rattle.cut_table.proofs.reach.offer_entries.Goals.{then-loop-moved-test+else-entries-moved, else-loop-moved-test}
 use Rattle.cut_table.proofs.reach.offer_entries.Goals as goal
 

@@ -1,4 +1,4 @@
-use Rattle.cut_table.proofs.Reaching.{nothing_left, all_best}
+use Rattle.cut_table.proofs.BestWorths.{nothing_left, all_best}
 use Rattle.cut_table.proofs.read.choose.Goals as goal
 
 pub returns-in-None-find_cut_y : goal.returns-in-None-find_cut_y

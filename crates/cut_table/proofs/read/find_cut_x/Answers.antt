@@ -1,5 +1,5 @@
 use Rattle.std.proofs.Common.{arith, below_more}
-use Rattle.cut_table.proofs.Reaching.{value_small, no_cut_x}
+use Rattle.cut_table.proofs.BestWorths.{value_small, no_cut_x}
 use Rattle.cut_table.proofs.read.find_cut_x.Goals as goal
 
 pub overflow_add-first : goal.overflow_add-first

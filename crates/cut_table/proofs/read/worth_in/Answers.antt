@@ -1,7 +1,7 @@
 use Rattle.std.proofs.Common.{sym, ◌∙◌, subst, refl, arith}
 use Rattle.cut_table.specs.Best.{IsBestOf}
-use Rattle.cut_table.proofs.Mapped.{value_at}
-use Rattle.cut_table.proofs.Sheets.{row_best, row_len}
+use Rattle.cut_table.proofs.NumberRows.{value_at}
+use Rattle.cut_table.proofs.SheetTables.{row_best, row_len}
 use Rattle.cut_table.proofs.read.worth_in.Goals as goal
 
 pub index-requires : goal.index-requires

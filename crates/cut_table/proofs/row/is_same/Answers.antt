@@ -1,6 +1,6 @@
 use Rattle.std.proofs.Common.{get_or, refl, ap, below_more, arith}
 use Rattle.std.proofs.lemmas.Grind.{same_number_lists}
-use Rattle.cut_table.proofs.Mapped.{value_at, same_length}
+use Rattle.cut_table.proofs.NumberRows.{value_at, same_length}
 use Rattle.cut_table.proofs.row.is_same.Goals as goal
 
 pub returns-then-worth : goal.returns-then-worth

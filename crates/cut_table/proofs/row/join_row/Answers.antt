@@ -1,7 +1,7 @@
 use Rattle.std.proofs.Common.{◌≡◌, ◌≢◌, ◌-◌, map, get_or, true, false, sym, ◌∙◌, inl, inr, arith}
 use Rattle.std.proofs.lemmas.Bool.{cases_lt}
-use Rattle.cut_table.proofs.Joins.{joined_first, joined_raised, joined_skipped, joined_offered, joined_all}
-use Rattle.cut_table.proofs.Mapped.{same_length}
+use Rattle.cut_table.proofs.JoinedRows.{joined_first, joined_raised, joined_skipped, joined_offered, joined_all}
+use Rattle.cut_table.proofs.NumberRows.{same_length}
 use Rattle.cut_table.proofs.row.join_row.Goals as goal
 use Rattle.cut_table.proofs.row.join_row.Goals.{then-raise_place, else-raise_place}
 

@@ -1,5 +1,5 @@
 use Rattle.std.proofs.Common.{map}
-use Rattle.cut_table.proofs.Joins.{JoinedBelow}
+use Rattle.cut_table.proofs.JoinedRows.{JoinedBelow}
 use Rattle.cut_table.proofs.row.join_row.Given as goal
 
 -- what stands below the part is joined

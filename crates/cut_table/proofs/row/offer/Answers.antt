@@ -1,5 +1,5 @@
 use Rattle.std.proofs.Common.{refl, arith}
-use Rattle.cut_table.proofs.Mapped.{value_at, value_set, value_others}
+use Rattle.cut_table.proofs.NumberRows.{value_at, value_set, value_others}
 use Rattle.cut_table.proofs.row.offer.Goals as goal
 
 pub returns-then-at-row-clause-at : goal.returns-then-at-row-clause-at

@@ -1,6 +1,6 @@
 use Rattle.std.proofs.Common.{◌≡◌, ◌+◌, ◌-◌, map, get_or, ap, ◌∙◌, arith}
 use Rattle.std.proofs.lemmas.List.{length-take-le, map-append, get_or_append_left}
-use Rattle.cut_table.proofs.Mapped.{offered_row, part_fits, same_length, take_at, next_at}
+use Rattle.cut_table.proofs.NumberRows.{offered_row, part_fits, same_length, take_at, next_at}
 use Rattle.cut_table.proofs.row.offer_from.Goals as goal
 
 pub offer_sums-requires-clause-fits : goal.offer_sums-requires-clause-fits

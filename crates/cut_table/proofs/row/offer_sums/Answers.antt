@@ -1,5 +1,5 @@
 use Rattle.std.proofs.Common.{◌+◌, map, get_or, arith}
-use Rattle.cut_table.proofs.Mapped.{value_at, raised_more}
+use Rattle.cut_table.proofs.NumberRows.{value_at, raised_more}
 use Rattle.cut_table.proofs.row.offer_sums.Goals as goal
 
 pub raised-requires : goal.raised-requires

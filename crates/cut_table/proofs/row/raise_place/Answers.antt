@@ -1,6 +1,6 @@
 use Rattle.std.proofs.Common.{◌≡◌, ◌-◌, refl, sym, ◌∙◌, true, false, arith, inl, inr}
 use Rattle.std.proofs.lemmas.Bool.{cases_lt}
-use Rattle.cut_table.proofs.Mapped.{value_at, value_set, value_others}
+use Rattle.cut_table.proofs.NumberRows.{value_at, value_set, value_others}
 use Rattle.cut_table.proofs.row.raise_place.Goals as goal
 
 pub returns-clause-at : goal.returns-clause-at

@@ -1,6 +1,6 @@
 use Rattle.std.proofs.Common.{◌≡◌, ◌+◌, length, map, subst, arith}
 use Rattle.cut_table.specs.Table.{IsBestRow}
-use Rattle.cut_table.proofs.Sheets.{whole_write}
+use Rattle.cut_table.proofs.SheetTables.{whole_write}
 use Rattle.cut_table.proofs.sheet.best_row.Goals as goal
 
 pub fill_best-requires-clause-useful : goal.fill_best-requires-clause-useful

@@ -1,7 +1,7 @@
 use Rattle.std.proofs.Common.{◌≡◌, ◌++◌, ◌∷◌, ◌+◌, ◌-◌, [], length, length-append, subst, sym, arith}
 use Rattle.cut_table.specs.Best.{IsBestOf}
 use Rattle.cut_table.specs.Table.{AreUseful}
-use Rattle.cut_table.proofs.Sheets.{table_push, useful_push, fits_lower}
+use Rattle.cut_table.proofs.SheetTables.{table_push, useful_push, fits_lower}
 use Rattle.cut_table.proofs.sheet.best_rows.Goals as goal
 
 pub best_row-requires-clause-fits : goal.best_row-requires-clause-fits

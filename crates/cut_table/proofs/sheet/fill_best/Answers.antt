@@ -1,7 +1,7 @@
 use Rattle.std.proofs.Common.{◌≡◌, ◌+◌, ◌<◌, length, map, subst, arith}
-use Rattle.cut_table.specs.Table.{Fits}
-use Rattle.cut_table.proofs.Mapped.{same_length}
-use Rattle.cut_table.proofs.Sheets.{uncut_below, joined_best}
+use Rattle.cut_table.specs.Table.{IsPricedBelow}
+use Rattle.cut_table.proofs.NumberRows.{same_length}
+use Rattle.cut_table.proofs.SheetTables.{uncut_below, joined_best}
 use Rattle.cut_table.proofs.sheet.fill_best.Goals as goal
 
 pub stack_all-requires-clause-useful : goal.stack_all-requires-clause-useful
@@ -11,7 +11,7 @@ pub join_row-requires : goal.join_row-requires
 join_row-requires g c =
     let new = same_length g.T.Number.value c.stack_all.new.row in
     let e : length c.args.row.now ≡ length (map g.T.Number.value c.stack_all.new.row) = omega (arith, new) in
-    let fits = subst (λ n. Fits g.T.Number.limit c.args.wants.now n (length c.args.rows.now)) e c.requires.fits in
+    let fits = subst (λ n. IsPricedBelow g.T.Number.limit c.args.wants.now n (length c.args.rows.now)) e c.requires.fits in
     record { small = uncut_below g.T.Number.limit c.args.wants.now (length c.args.rows.now) (map g.T.Number.value c.stack_all.new.row) c.requires.own fits c.stack_all.ensures }
 
 pub returns : goal.returns

@@ -1,6 +1,6 @@
 use Rattle.std.proofs.Common.{map, sym, false, true, arith}
-use Rattle.cut_table.proofs.Mapped.{same_length}
-use Rattle.cut_table.proofs.Sheets.{piece_fits, plain_more}
+use Rattle.cut_table.proofs.NumberRows.{same_length}
+use Rattle.cut_table.proofs.SheetTables.{piece_fits, plain_more}
 use Rattle.cut_table.proofs.sheet.fill_plain.Goals as goal
 
 pub offer_upright-requires : goal.offer_upright-requires

@@ -1,8 +1,8 @@
 use Rattle.std.proofs.Common.{◌≤◌, ◌*◌, sym, subst, take_all, arith}
 use Rattle.cut_table.specs.declared.wants.Want.{Want}
 use Rattle.cut_table.specs.Table.{ArePriced}
-use Rattle.cut_table.proofs.Trees.{first_each}
-use Rattle.cut_table.proofs.Sheets.{dearer}
+use Rattle.cut_table.proofs.LeafSums.{first_each}
+use Rattle.cut_table.proofs.SheetTables.{dearer}
 use Rattle.cut_table.proofs.sheet.highest_price.Goals as goal
 
 pub price-requires-clause-sides : goal.price-requires-clause-sides

@@ -1,9 +1,9 @@
 use Rattle.std.proofs.Common.{◌≡◌, ◌<◌, ◌-◌, length, map, get_or, true, false, Bool, not, ap, ◌∙◌, refl, subst, arith}
 use Rattle.cut_table.specs.Best.{IsBestOf}
 use Rattle.std.proofs.lemmas.Grind.{same_number_lists}
-use Rattle.cut_table.proofs.Mapped.{same_length}
-use Rattle.cut_table.proofs.Reaching.{best_same}
-use Rattle.cut_table.proofs.Sheets.{row_best, row_len}
+use Rattle.cut_table.proofs.NumberRows.{same_length}
+use Rattle.cut_table.proofs.BestWorths.{best_same}
+use Rattle.cut_table.proofs.SheetTables.{row_best, row_len}
 use Rattle.cut_table.proofs.sheet.is_useful.Goals as goal
 
 pub returns-else-rows-eq0-clause-no : goal.returns-else-rows-eq0-clause-no

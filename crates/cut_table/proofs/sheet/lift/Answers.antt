@@ -1,7 +1,7 @@
 use Rattle.std.proofs.Common.{◌≡◌, ◌-◌, ◌<◌, length, map, get_or, subst, arith}
 use Rattle.cut_table.specs.Table.{IsPlainWorth, IsLifted}
-use Rattle.cut_table.proofs.Mapped.{same_length}
-use Rattle.cut_table.proofs.Sheets.{sum_fits, row_best, lifted_first, lifted_more}
+use Rattle.cut_table.proofs.NumberRows.{same_length}
+use Rattle.cut_table.proofs.SheetTables.{sum_fits, row_best, lifted_first, lifted_more}
 use Rattle.cut_table.proofs.sheet.lift.Goals as goal
 
 pub stack_rows-requires-clause-fits : goal.stack_rows-requires-clause-fits

@@ -1,6 +1,6 @@
 use Rattle.std.proofs.Common.{◌<◌, ◌-◌, length, map, inl, inr, arith}
-use Rattle.cut_table.proofs.Mapped.{same_length}
-use Rattle.cut_table.proofs.Sheets.{tried_first, tried_next, tried_same, tried_all, row_best, row_worth, sum_fits}
+use Rattle.cut_table.proofs.NumberRows.{same_length}
+use Rattle.cut_table.proofs.SheetTables.{tried_first, tried_next, tried_same, tried_all, row_best, row_worth, sum_fits}
 use Rattle.cut_table.proofs.sheet.stack_all.Goals as goal
 use Rattle.cut_table.proofs.sheet.stack_all.Goals.{then-useful-a+then-useful-height, else-useful-a, else-useful-a-via-then-useful-a+else-useful-height, else-useful-a-via-else-useful-a}
 

@@ -1,5 +1,5 @@
 use Rattle.std.proofs.Common.{map}
-use Rattle.cut_table.proofs.Sheets.{TriedRow}
+use Rattle.cut_table.proofs.SheetTables.{TriedRow}
 use Rattle.cut_table.proofs.sheet.stack_all.Given as goal
 
 abbrev pub invariant-loop-a : goal.invariant-loop-a

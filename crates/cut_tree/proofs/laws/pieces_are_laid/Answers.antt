@@ -1,4 +1,4 @@
-use Rattle.cut_tree.proofs.OneList.{one_laid, laid_few, laid_all}
+use Rattle.cut_tree.proofs.OneLaidList.{one_laid, laid_few, laid_all}
 use Rattle.cut_tree.proofs.laws.pieces_are_laid.Goals as goal
 
 pub returns-clause-one_list : goal.returns-clause-one_list

@@ -1,6 +1,6 @@
 use Rattle.std.proofs.Common.{arith}
 use Rattle.cut_tree.specs.Nodes.{tree_of}
-use Rattle.cut_tree.proofs.Counts.{count_of-le}
+use Rattle.cut_tree.proofs.NodeCounts.{count_of-le}
 use Rattle.cut_tree.proofs.node.+count_pieces.Goals as goal
 
 pub overflow_add-result : goal.overflow_add-result

@@ -1,9 +1,9 @@
 use Rattle.std.proofs.Common.{refl}
 use Rattle.shop_machine.specs.declared.messages.Command.TheVariants.{Done}
 use Rattle.shop_machine.specs.Content.{demand_at}
-use Rattle.shop_machine.specs.Found.{AreDemandsFound}
-use Rattle.shop_machine.specs.Machine.{IsDone}
-use Rattle.shop_desk.proofs.Deciding.{end_decided, end_blames}
+use Rattle.shop_machine.specs.Recounts.{AreDemandsFound}
+use Rattle.shop_machine.specs.Ending.{IsDone}
+use Rattle.shop_desk.proofs.Deciding.{end_decided}
 use Rattle.shop_desk.proofs.decided.done.Goals as goal
 
 pub returns-clause-decision : goal.returns-clause-decision
@@ -13,15 +13,5 @@ returns-clause-decision g c =
     let rows = c.in_ok-job.ensures.rows honest m held in
     let found : AreDemandsFound (demand_at m) c.deref.result.now = rw c.deref.ensures.value rows.demands in
     end_decided m c.args.number is.job is.part is.material is.leaves.items rows (Done c.args.number) refl refl
-    (λ change j part material. IsDone j part material.limits (demand_at m) change) (λ change it. it) c.decide_done.result
-    (c.decide_done.ensures.decision (demand_at m) found)
-
-pub returns-clause-blame : goal.returns-clause-blame
-returns-clause-blame g c =
-    λ honest m held.
-    let is = c.in_ok-job.field-0 in
-    let rows = c.in_ok-job.ensures.rows honest m held in
-    let found : AreDemandsFound (demand_at m) c.deref.result.now = rw c.deref.ensures.value rows.demands in
-    end_blames m c.args.number is.job is.part is.material is.leaves.items rows (Done c.args.number) refl refl
     (λ change j part material. IsDone j part material.limits (demand_at m) change) (λ change it. it) (g.B.Book.failed c.args.book.now) (g.B.Book.failed c.job_rows.new.book) c.decide_done.result
     (c.decide_done.ensures.decision (demand_at m) found)

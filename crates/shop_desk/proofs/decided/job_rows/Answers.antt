@@ -3,12 +3,12 @@ use Rattle.shop_desk.proofs.decided.job_rows.Goals as goal
 pub returns-clause-rows : goal.returns-clause-rows
 returns-clause-rows g c =
     λ honest m held.
-    let before_material = c.job_leaves.ensures.honest honest in
-    let before_part = c.material_for.ensures.honest before_material in
-    let before_job = c.part_for.ensures.honest before_part in
-    let at_part = c.job.ensures.stays before_job m held in
-    let at_material = c.part_for.ensures.stays before_part m at_part in
-    let at_leaves = c.material_for.ensures.stays before_material m at_material in
+    let before_material = c.job_leaves.ensures.keeps.honest honest in
+    let before_part = c.material_for.ensures.keeps.honest before_material in
+    let before_job = c.part_for.ensures.keeps.honest before_part in
+    let at_part = c.job.ensures.keeps.stays before_job m held in
+    let at_material = c.part_for.ensures.keeps.stays before_part m at_part in
+    let at_leaves = c.material_for.ensures.keeps.stays before_material m at_material in
     record {
       of_job = c.in_ok-job.ensures.row before_job m held;
       of_part = c.in_ok-part.ensures.row before_part m at_part;

@@ -17,13 +17,13 @@ returns-in-Ok-None-clause-step g c =
     λ honest m held sound.
     let before = c.handle_new.ensures.honest honest in
     let none : kept_at m (pair_of c.args.message.now) ≡ None = sym (c.in-Ok-None.ensures.row before m held) ∙ c.in-Ok-None.field-0-is in
-    let handled = c.handle_new.ensures.step c.in-Ok.ensures.text c.message_text.ensures.message honest m (c.kept.ensures.stays before m held) sound none in
+    let handled = c.handle_new.ensures.step c.in-Ok.ensures.text c.message_text.ensures.message honest m (c.kept.ensures.keeps.stays before m held) sound none in
     record {
       next = handled.next;
       step = handled.step;
       held = handled.held;
       sound = handled.sound;
-      crash = λ left it. left_more json_texts g.B.Book.stands (g.B.Book.may_leave c.args.book.now) (g.B.Book.may_leave c.kept.new.self) (c.kept.ensures.crash before m held)
+      crash = λ left it. left_more json_texts g.B.Book.stands (g.B.Book.may_leave c.args.book.now) (g.B.Book.may_leave c.kept.new.self) (c.kept.ensures.keeps.crash before m held)
           m c.args.message.now c.handle_new.result handled.next left (handled.crash left it);
     }
 
@@ -34,7 +34,7 @@ returns-in-Ok-Some-clause-step g c =
     repeated json_texts g.B.Book.stands (g.B.Book.may_leave c.args.book.now) (g.B.Book.may_leave c.kept.new.self) (g.B.Book.holds c.kept.new.self)
     m c.args.message.now c.answer_again.result c.in-Ok-Some.kept some
     (c.answer_again.ensures c.args.message.now c.in-Ok.ensures.text (pair_of c.args.message.now) (sound.kept (pair_of c.args.message.now) c.in-Ok-Some.kept some)).0
-    sound (c.kept.ensures.stays honest m held) (c.kept.ensures.crash honest m held)
+    sound (c.kept.ensures.keeps.stays honest m held) (c.kept.ensures.keeps.crash honest m held)
 
 pub returns-in-Ok-Some-clause-store_fault : goal.returns-in-Ok-Some-clause-store_fault
 returns-in-Ok-Some-clause-store_fault g c =
@@ -46,4 +46,4 @@ pub returns-in-Err-clause-step : goal.returns-in-Err-clause-step
 returns-in-Err-clause-step g c =
     λ honest m held sound.
     faulted json_texts g.B.Book.stands (g.B.Book.may_leave c.args.book.now) (g.B.Book.may_leave c.kept.new.self) (g.B.Book.holds c.kept.new.self)
-    m c.args.message.now c.from.result (is_fault json_texts c.from.result c.in-Err.fault c.from.ensures) sound (c.kept.ensures.stays honest m held) (c.kept.ensures.crash honest m held)
+    m c.args.message.now c.from.result (is_fault json_texts c.from.result c.in-Err.fault c.from.ensures) sound (c.kept.ensures.keeps.stays honest m held) (c.kept.ensures.keeps.crash honest m held)

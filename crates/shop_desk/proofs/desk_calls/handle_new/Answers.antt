@@ -16,21 +16,21 @@ pub returns-in-Err-clause-step : goal.returns-in-Err-clause-step
 returns-in-Err-clause-step g c =
     λ _ is_message honest m held sound none.
     decided json_texts g.B.Book.stands (g.B.Book.may_leave c.args.book.now) (g.B.Book.may_leave c.decide.new.book) (g.B.Book.holds c.decide.new.book)
-    m c.args.message.now c.in-Err.refusal (c.in-Err.ensures.decision honest m held) none sound (c.decide.ensures.stays honest m held) (c.decide.ensures.crash honest m held)
+    m c.args.message.now c.in-Err.refusal (c.in-Err.ensures.decision honest m held).decision none sound (c.decide.ensures.keeps.stays honest m held) (c.decide.ensures.keeps.crash honest m held)
 
 pub returns-in_default-clause-step : goal.returns-in_default-clause-step
 returns-in_default-clause-step g c =
     λ _ is_message honest m held sound none.
     faulted json_texts g.B.Book.stands (g.B.Book.may_leave c.args.book.now) (g.B.Book.may_leave c.decide.new.book) (g.B.Book.holds c.decide.new.book)
-    m c.args.message.now _ (λ n s. n refl) sound (c.decide.ensures.stays honest m held) (c.decide.ensures.crash honest m held)
+    m c.args.message.now _ (λ n s. n refl) sound (c.decide.ensures.keeps.stays honest m held) (c.decide.ensures.keeps.crash honest m held)
 
 -- the change that is committed keeps the message with both texts
 pub returns-in-Ok-commit-clause-step : goal.returns-in-Ok-commit-clause-step
 returns-in-Ok-commit-clause-step g c =
     λ text is_message honest m held sound none.
     let before = c.commit.ensures.honest honest in
-    let kept = c.decide.ensures.stays before m held in
-    let decision = c.in-Ok.ensures.decision before m held in
+    let kept = c.decide.ensures.keeps.stays before m held in
+    let decision = (c.in-Ok.ensures.decision before m held).decision in
     let change = c.keeping_message-change.result.0 in
     let made = c.in-Ok.change in
     let row : changed m change ≡ changed m (keeping json_texts c.args.message.now made) =
@@ -45,15 +45,15 @@ returns-in-Ok-commit-clause-step g c =
 
 pub returns-in-Ok-commit-clause-failures : goal.returns-in-Ok-commit-clause-failures
 returns-in-Ok-commit-clause-failures g c =
-    inl (subst (λ answer. CountsReply (g.B.Book.failed c.args.book.now) answer (g.B.Book.failed c.commit.new.self)) (sym c.keeping_message-change.ensures.reply)
-    (counts_made (g.B.Book.failed c.args.book.now) (g.B.Book.failed c.commit.new.self) c.in-Ok.change.reply c.in-Ok.ensures.told (c.in-Ok-commit.ensures.failures ∙ counted_made (g.B.Book.failed c.args.book.now) (g.B.Book.failed c.decide.new.book) c.in-Ok.change c.in-Ok.ensures.failures)))
+    inl (subst (λ answer. CountsReply answer (g.B.Book.failed c.args.book.now) (g.B.Book.failed c.commit.new.self)) (sym c.keeping_message-change.ensures.reply)
+    (counts_made (g.B.Book.failed c.args.book.now) (g.B.Book.failed c.commit.new.self) c.in-Ok.change.reply c.in-Ok.ensures.told (c.in-Ok-commit.ensures.failures ∙ counted_made (g.B.Book.failed c.args.book.now) (g.B.Book.failed c.decide.new.book) c.in-Ok.change c.in-Ok.ensures.keeps.failures)))
 
 pub returns-in-Err-commit-clause-step : goal.returns-in-Err-commit-clause-step
 returns-in-Err-commit-clause-step g c =
     λ text is_message honest m held sound none.
     let before = c.commit.ensures.honest honest in
-    let kept = c.decide.ensures.stays before m held in
-    let decision = c.in-Ok.ensures.decision before m held in
+    let kept = c.decide.ensures.keeps.stays before m held in
+    let decision = (c.in-Ok.ensures.decision before m held).decision in
     let change = c.keeping_message-change.result.0 in
     let made = c.in-Ok.change in
     let row : changed m change ≡ changed m (keeping json_texts c.args.message.now made) =
@@ -63,8 +63,8 @@ returns-in-Err-commit-clause-step g c =
     let fits : Fits m change = subst (Fits m) (sym c.keeping_message-change.ensures.change) (fits_committed json_texts m c.args.message.now decision.0 made c.args.text c.in-Ok-reply_text.told (Refused BadMessage) none sound decision.1 decision.2 decision.3) in
     failed json_texts g.B.Book.stands (g.B.Book.may_leave c.args.book.now) (g.B.Book.may_leave c.decide.new.book) (g.B.Book.may_leave c.commit.new.self) (g.B.Book.holds c.commit.new.self)
     m c.args.message.now decision.0 change made is_message none sound decision.1 decision.2 decision.3 row c.from.result (is_fault json_texts c.from.result c.in-Err-commit.fault c.from.ensures)
-    (c.in-Err-commit.ensures.err honest m kept fits) (c.decide.ensures.crash before m held) (c.commit.ensures.crash honest m kept fits)
+    (c.in-Err-commit.ensures.err honest m kept) (c.decide.ensures.keeps.crash before m held) (c.commit.ensures.crash honest m kept fits)
 
 pub returns-in-Err-clause-store_fault : goal.returns-in-Err-clause-store_fault
 returns-in-Err-clause-store_fault g c =
-    λ is_message honest m held sound is. blamed json_texts m c.args.message.now (g.B.Book.failed c.args.book.now) (g.B.Book.failed c.decide.new.book) c.in-Err.refusal sound (c.in-Err.ensures.blame honest m held) is
+    λ is_message honest m held sound is. blamed json_texts m c.args.message.now (g.B.Book.failed c.args.book.now) (g.B.Book.failed c.decide.new.book) c.in-Err.refusal sound (c.in-Err.ensures.decision honest m held).blame is

@@ -6,19 +6,29 @@ use Rattle.shop_machine.specs.declared.messages.Reply.{Reply}
 use Rattle.shop_machine.proofs.Runs.{AreMessages, AreMessages-push, gives_after}
 use Rattle.shop_machine.proofs.Owners.{account_of}
 use Rattle.shop_rules.specs.Forms.{json_texts}
+use Rattle.shop_desk.specs.Faults.{TellOfFailures}
 use Rattle.shop_desk.specs.Handled.{Leads}
+use Rattle.shop_desk.proofs.Blame.{up_same, up_answer, up_more, tell_more, tell_one}
 use Rattle.shop_desk.proofs.Steps.{leads_more, leads_runs}
 use Rattle.shop_desk.proofs.desk_calls.run.Goals as goal
 
 pub loop-message-init : goal.loop-message-init
 loop-message-init g c =
     let start = g.B.Book.may_leave c.args.book.now in
+    let failed = g.B.Book.failed c.args.book.now in
     record {
       count = omega (arith, c.in_ok-replies.ensures.len);
       room = omega (arith, c.in_ok-replies.ensures.capacity);
       honest = λ honest. honest;
+      up = up_same failed failed refl;
       are = tt;
-      so_far = λ honest m held sound. (m, subst (λ (rs : List Reply). Leads json_texts g.B.Book.stands start m [] rs m start) (sym c.in_ok-replies.ensures.items) (refl, λ left it. it), held, sound);
+      so_far = λ honest m held sound. (
+        m,
+        subst (λ (rs : List Reply). Leads json_texts g.B.Book.stands start m [] rs m start) (sym c.in_ok-replies.ensures.items) (refl, λ left it. it),
+        held,
+        sound,
+        subst (λ (rs : List Reply). TellOfFailures rs failed failed) (sym c.in_ok-replies.ensures.items) (λ none. absurd none),
+      );
     }
 
 pub loop-message-preserved : goal.loop-message-preserved
@@ -30,6 +40,10 @@ loop-message-preserved g c =
     let before = g.B.Book.may_leave c.args.book.now in
     let mid = g.B.Book.may_leave c.loop-message.book in
     let after = g.B.Book.may_leave c.handle-reply.new.book in
+    let first = g.B.Book.failed c.args.book.now in
+    let middle = g.B.Book.failed c.loop-message.book in
+    let last = g.B.Book.failed c.handle-reply.new.book in
+    let up = up_answer middle last c.handle-reply.result c.handle-reply.ensures.failures in
     let within : at < length messages = c.loop-message-test.true in
     let taken : take (at + 1) messages ≡ take at messages ++ message ∷ [] =
     take_more messages at message within ∙ ap (λ x. take at messages ++ x ∷ []) (sym c.message-item.is) in
@@ -37,6 +51,7 @@ loop-message-preserved g c =
       count = omega (arith, c.in-Ok.ensures.len);
       room = omega (arith, c.push.ensures.capacity);
       honest = λ honest. c.loop-message.invariant.honest (c.handle-reply.ensures.honest honest);
+      up = up_more first middle last c.loop-message.invariant.up up;
       are = subst AreMessages (sym taken) (AreMessages-push (take at messages) message c.loop-message.invariant.are c.handle-reply.ensures.message);
       so_far = λ honest m held sound.
           let was = c.loop-message.invariant.so_far (c.handle-reply.ensures.honest honest) m held sound in
@@ -47,6 +62,9 @@ loop-message-preserved g c =
                 (subst (λ (rs : List Reply). Leads json_texts stands before m (take at messages ++ message ∷ []) rs handled.next after) (sym c.in-Ok.ensures.items) leads),
             handled.held,
             handled.sound,
+            subst (λ (rs : List Reply). TellOfFailures rs first last) (sym c.in-Ok.ensures.items)
+                (tell_more first middle last c.loop-message.replies.items (c.handle-reply.result ∷ []) c.loop-message.invariant.up up was.4
+                (tell_one middle last c.handle-reply.result (c.handle-reply.ensures.store_fault honest was.0 was.2 was.3))),
           );
     }
 
@@ -71,6 +89,7 @@ returns-clause-run g c =
       held = so_far.2;
       sound = so_far.3;
       crash = leads;
+      blame = so_far.4;
       account = λ history given.
           let after = gives_after json_texts history m so_far.0 messages replies are given ran in
           (after.history, after.same, account_of json_texts after.history so_far.0 after.given);

@@ -1,5 +1,5 @@
 use Rattle.std.proofs.Common.{arith}
-use Rattle.shop_machine.specs.declared.records.Column.TheVariants.{Received, Stock, Rack, Pieces, Kerf, Scrap}
+use Rattle.shop_machine.specs.declared.records.Column.TheVariants.{Received, Stock, Rack, Pieces, Kerf, Scrap, Returned}
 use Rattle.shop_store.proofs.sums.totals_in.Goals as goal
 
 pub returns-in_err-narrow-clause-sure : goal.returns-in_err-narrow-clause-sure
@@ -19,3 +19,6 @@ returns-in_err-narrow-5-clause-sure c = λ few. absurd (omega (arith, few Kerf, 
 
 pub returns-in_err-narrow-6-clause-sure : goal.returns-in_err-narrow-6-clause-sure
 returns-in_err-narrow-6-clause-sure c = λ few. absurd (omega (arith, few Scrap, c.sums_of-sums.ensures.sums Scrap, c.in_err-narrow-6.ensures.wide))
+
+pub returns-in_err-narrow-7-clause-sure : goal.returns-in_err-narrow-7-clause-sure
+returns-in_err-narrow-7-clause-sure c = λ few. absurd (omega (arith, few Returned, c.sums_of-sums.ensures.sums Returned, c.in_err-narrow-7.ensures.wide))

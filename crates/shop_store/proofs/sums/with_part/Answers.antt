@@ -1,4 +1,4 @@
-use Rattle.shop_machine.specs.declared.records.Column.TheVariants.{Received, Stock, Rack, Pieces, Kerf, Scrap}
+use Rattle.shop_machine.specs.declared.records.Column.TheVariants.{Received, Stock, Rack, Pieces, Kerf, Scrap, Returned}
 use Rattle.shop_store.proofs.sums.with_part.Goals as goal
 
 pub raised-requires : goal.raised-requires
@@ -18,3 +18,6 @@ raised-requires-5 c = c.requires Kerf
 
 pub raised-requires-6 : goal.raised-requires-6
 raised-requires-6 c = c.requires Scrap
+
+pub raised-requires-7 : goal.raised-requires-7
+raised-requires-7 c = c.requires Returned

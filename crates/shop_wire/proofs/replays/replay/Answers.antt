@@ -3,8 +3,9 @@ use Rattle.std.proofs.lemmas.Result.{err_from_is_err_and}
 use Rattle.std.specs.Io.KnownBytes.{prepend_known}
 use Rattle.shop_wire.specs.Lines.{pending}
 use Rattle.shop_wire.specs.Replays.{IsReplayed}
-use Rattle.shop_wire.specs.Streams.{CountsReads}
-use Rattle.shop_wire.proofs.Reading.{no_reads, reads_more}
+use Rattle.shop_wire.specs.Streams.{CountTogether, TookBytes}
+use Rattle.shop_desk.proofs.Blame.{up_same, up_more}
+use Rattle.shop_wire.proofs.Reading.{together_none, together_more, took_none, took_more}
 use Rattle.shop_wire.proofs.Replayed.{HasRead, none_read, line_read, some_read, first_read, none_replayed, more_replayed, whole_replayed, part_replayed, work_before, for_each_fault, for_the_fault, not_read}
 use Rattle.shop_wire.proofs.replays.replay.Goals as goal
 
@@ -15,11 +16,13 @@ loop-line-init g c =
       [],
       subst (λ p. HasRead left (prepend_known p left) []) (sym none) (none_read left),
       refl,
-      none_replayed (g.B.Book.is_honest c.args.book.now) (g.B.Book.holds c.args.book.now) (g.W.Sink.held c.args.sink.now),
+      none_replayed g.B.Book c.args.book.now (g.W.Sink.held c.args.sink.now),
       (λ honest. honest),
+      up_same (g.B.Book.failed c.args.book.now) (g.B.Book.failed c.args.book.now) refl,
       omega (arith, c.new-reader.ensures.reads),
       (λ ended. absurd (cc (sym c.new-reader.ensures.goes_on ∙ ended))),
-      subst (λ r. CountsReads 0 left r left) (sym c.new-reader.ensures.reads) (no_reads 0 left),
+      (λ _. subst (λ r. TookBytes 0 left r left) (sym c.new-reader.ensures.reads) (took_none 0 left)),
+      subst (λ r. CountTogether 0 (g.S.Source.reads c.args.source.now) r (g.S.Source.reads c.args.source.now)) (sym c.new-reader.ensures.reads) (together_none 0 (g.S.Source.reads c.args.source.now)),
       refl,
       refl,
       work_before _ _ c.new-reader.ensures.reads none,
@@ -39,10 +42,10 @@ returns-in_err-replay_line-clause-err g c =
     let next = prepend_known (pending c.next_line.new.self.buffer c.next_line.new.self.start c.next_line.new.self.end) (g.S.Source.left c.next_line.new.source) in
     let line = c.in_ok-next_line.ensures.line (ap Ok c.if-branch.true) in
     let stopped = c.in_err-replay_line.ensures.err in
-    let part = part_replayed (g.B.Book.is_honest c.replay_line.new.book) (g.B.Book.holds c.loop-line.book) (g.B.Book.holds c.replay_line.new.book) (g.W.Sink.held c.loop-line.sink) (g.W.Sink.held c.replay_line.new.sink)
+    let part = part_replayed g.B.Book c.loop-line.book c.replay_line.new.book (g.W.Sink.held c.loop-line.sink) (g.W.Sink.held c.replay_line.new.sink)
     line.0 stopped.3 stopped.0 stopped.1 (stopped.2 ∙ ap (λ l. l ∷ []) (c.deref.ensures.value ∙ line.1)) stopped.4 in
-    let all = more_replayed (g.B.Book.is_honest c.loop-line.book) (g.B.Book.is_honest c.replay_line.new.book) (g.B.Book.holds c.args.book.now) (g.B.Book.holds c.loop-line.book) (g.B.Book.holds c.replay_line.new.book)
-    (g.W.Sink.held c.args.sink.now) (g.W.Sink.held c.loop-line.sink) (g.W.Sink.held c.replay_line.new.sink) so_far.0 part.0 stopped.3 c.replay_line.ensures.honest so_far.3 part.3 in
+    let all = more_replayed g.B.Book c.args.book.now c.loop-line.book c.replay_line.new.book
+    (g.W.Sink.held c.args.sink.now) (g.W.Sink.held c.loop-line.sink) (g.W.Sink.held c.replay_line.new.sink) so_far.0 part.0 stopped.3 c.replay_line.ensures.honest so_far.5 c.replay_line.ensures.failures so_far.3 part.3 in
     let first = first_read left next so_far.0 part.0 part.1 line.0 (line_read left now next so_far.0 line.0 so_far.1 line.2) part.2 in
     let exit = err_from_is_err_and c.from_residual-in_err-replay_line.result c.from_residual-in_err-replay_line.ensures.1 in
     for_the_fault c.from_residual-in_err-replay_line.result _ exit.0 exit.1
@@ -57,19 +60,23 @@ loop-line-preserved g c =
     let now = prepend_known (pending mid.buffer mid.start mid.end) (g.S.Source.left c.loop-line.source) in
     let next = prepend_known (pending new.buffer new.start new.end) (g.S.Source.left c.next_line.new.source) in
     let line = c.in_ok-next_line.ensures.line (ap Ok c.if-branch.true) in
-    let kept = subst (λ l. IsReplayed (g.B.Book.is_honest c.replay_line.new.book) (g.B.Book.holds c.loop-line.book) (g.B.Book.holds c.replay_line.new.book) (g.W.Sink.held c.loop-line.sink) (g.W.Sink.held c.replay_line.new.sink) (l ∷ []) [])
+    let kept = subst (λ l. IsReplayed g.B.Book c.loop-line.book c.replay_line.new.book (g.W.Sink.held c.loop-line.sink) (g.W.Sink.held c.replay_line.new.sink) (l ∷ []) [])
     (c.deref.ensures.value ∙ line.1) c.in_ok-replay_line.ensures.ok in
-    let one = whole_replayed (g.B.Book.is_honest c.replay_line.new.book) (g.B.Book.holds c.loop-line.book) (g.B.Book.holds c.replay_line.new.book) (g.W.Sink.held c.loop-line.sink) (g.W.Sink.held c.replay_line.new.sink) line.0 [] kept in (
+    let one = whole_replayed g.B.Book c.loop-line.book c.replay_line.new.book (g.W.Sink.held c.loop-line.sink) (g.W.Sink.held c.replay_line.new.sink) line.0 [] kept in (
       so_far.0 ++ line.0 ∷ [],
       line_read left now next so_far.0 line.0 so_far.1 line.2,
       ap (λ n. n + 1) so_far.2 ∙ sym (length-append so_far.0 (line.0 ∷ [])),
-      more_replayed (g.B.Book.is_honest c.loop-line.book) (g.B.Book.is_honest c.replay_line.new.book) (g.B.Book.holds c.args.book.now) (g.B.Book.holds c.loop-line.book) (g.B.Book.holds c.replay_line.new.book)
-          (g.W.Sink.held c.args.sink.now) (g.W.Sink.held c.loop-line.sink) (g.W.Sink.held c.replay_line.new.sink) so_far.0 (line.0 ∷ []) [] c.replay_line.ensures.honest so_far.3 one,
+      more_replayed g.B.Book c.args.book.now c.loop-line.book c.replay_line.new.book
+          (g.W.Sink.held c.args.sink.now) (g.W.Sink.held c.loop-line.sink) (g.W.Sink.held c.replay_line.new.sink) so_far.0 (line.0 ∷ []) [] c.replay_line.ensures.honest so_far.5 c.replay_line.ensures.failures so_far.3 one,
       (λ honest. so_far.4 (c.replay_line.ensures.honest honest)),
-      c.in_ok-next_line.ensures.most,
+      up_more (g.B.Book.failed c.args.book.now) (g.B.Book.failed c.loop-line.book) (g.B.Book.failed c.replay_line.new.book) so_far.5 c.replay_line.ensures.failures,
+      c.next_line.ensures.most,
       c.in_ok-next_line.ensures.ended,
-      reads_more 0 mid.reads new.reads left (g.S.Source.left c.loop-line.source) (g.S.Source.left c.next_line.new.source) so_far.7 c.in_ok-next_line.ensures.counted,
-      c.in_ok-next_line.ensures.failures ∙ so_far.8,
-      c.in_ok-replay_line.ensures.worked ∙ so_far.9,
-      omega (arith, so_far.10, c.in_ok-next_line.ensures.shorter (ap Ok c.if-branch.true)),
+      (λ goes_on.
+          let took = c.in_ok-next_line.ensures.took goes_on in
+          took_more 0 mid.reads new.reads left (g.S.Source.left c.loop-line.source) (g.S.Source.left c.next_line.new.source) (so_far.8 took.0) took.1),
+      together_more 0 mid.reads new.reads (g.S.Source.reads c.args.source.now) (g.S.Source.reads c.loop-line.source) (g.S.Source.reads c.next_line.new.source) so_far.9 c.next_line.ensures.together,
+      c.in_ok-next_line.ensures.failures ∙ so_far.10,
+      c.in_ok-replay_line.ensures.worked ∙ so_far.11,
+      omega (arith, so_far.12, c.in_ok-next_line.ensures.shorter (ap Ok c.if-branch.true)),
     )

@@ -3,8 +3,8 @@ use Rattle.std.specs.Prelude.{Contains}
 use Rattle.std.proofs.lemmas.Result.{IfOk-weaker}
 use Rattle.cut_table.specs.Levels.{Has, HasCell}
 use Rattle.cut_table.specs.Reached.{AreOffered}
-use Rattle.cut_table.proofs.Offering.{offered_low, offered_same}
-use Rattle.cut_table.proofs.Raising.{cell_low, raised_once, written}
+use Rattle.cut_table.proofs.OfferedPieces.{offered_low, offered_same}
+use Rattle.cut_table.proofs.RaisedCells.{cell_low, raised_once, written}
 use Rattle.cut_table.proofs.level.Level.offer.Goals as goal
 
 pub offer_entries-requires-clause-low : goal.offer_entries-requires-clause-low

@@ -2,10 +2,10 @@ use Rattle.std.proofs.Common.{◌≡◌, ◌<◌, take, length, map, arith, ap, 
 use Rattle.std.proofs.lemmas.List.{length-map}
 use Rattle.cut_tree.specs.Nodes.{tree_of}
 use Rattle.cut_tree.specs.Spelling.{words, tokens}
-use Rattle.cut_tree.proofs.Whole.{spelled_text, cuts_in-tokens, demands_read}
+use Rattle.cut_tree.proofs.WholeTexts.{spelled_text, cuts_in-tokens, demands_read}
 use Rattle.std.proofs.lemmas.Result.{err_from_is_err_and}
 use Rattle.cut_tree.proofs.FirstWords.{read_fault, behind_fault, all_taken}
-use Rattle.cut_tree.proofs.Exactly.{spelled_numbers}
+use Rattle.cut_tree.proofs.SpelledTexts.{spelled_numbers}
 use Rattle.cut_tree.proofs.plan.Plan.parse.Goals as goal
 
 pub invariant_of-result : goal.invariant_of-result

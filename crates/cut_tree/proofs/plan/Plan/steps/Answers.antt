@@ -1,6 +1,6 @@
 use Rattle.std.proofs.Common.{arith}
 use Rattle.cut_tree.specs.Nodes.{tree_of}
-use Rattle.cut_tree.proofs.Counts.{node_count-le}
+use Rattle.cut_tree.proofs.NodeCounts.{node_count-le}
 use Rattle.cut_tree.proofs.StepPlaces.{all_steps}
 use Rattle.cut_tree.proofs.plan.Plan.steps.Goals as goal
 

@@ -1,7 +1,7 @@
 use Rattle.std.proofs.Common.{◌<◌, ◌≤◌, ap, sym, subst, ◌∙◌, arith}
 use Rattle.cut_measure.specs.Names.{name_cmp}
 use Rattle.shop_machine.specs.declared.records.Column.{Column}
-use Rattle.shop_machine.specs.declared.records.Column.TheVariants.{Received, Stock, Rack, Pieces, Kerf, Scrap}
+use Rattle.shop_machine.specs.declared.records.Column.TheVariants.{Received, Stock, Rack, Pieces, Kerf, Scrap, Returned}
 use Rattle.shop_machine.specs.Content.{cells_in, totals_in, totals_of}
 use Rattle.std.proofs.Common.{List}
 use Rattle.std.specs.FinMap.{values}
@@ -16,7 +16,7 @@ returns-in-Some-clause-sums c =
     let sums = c.self.invariant.sums in
     let code = c.args.material in
     c.in-Some.ensures.value ∙ ap (totals_from code) c.deref.ensures.value
-    ∙ (λ i. record { received = sums Received code i; stock = sums Stock code i; rack = sums Rack code i; pieces = sums Pieces code i; kerf = sums Kerf code i; scrap = sums Scrap code i })
+    ∙ (λ i. record { received = sums Received code i; stock = sums Stock code i; rack = sums Rack code i; pieces = sums Pieces code i; kerf = sums Kerf code i; scrap = sums Scrap code i; returned = sums Returned code i })
     ∙ ap (totals_in code) (sym (values-rows part_key name_cmp c.self.inside.parts.items c.self.invariant.parts))
     ∙ ap (λ book. totals_of book.content code) c.self.view_is
 

@@ -1,8 +1,8 @@
 use Rattle.std.proofs.Common.{◌+◌, ◌++◌, Ok, nat_eq, sym, ap, subst, ◌∙◌}
 use Rattle.std.specs.Io.KnownBytes.{prepend_known}
 use Rattle.shop_wire.specs.Lines.{pending}
-use Rattle.shop_wire.specs.Streams.{CountsReads, work}
-use Rattle.shop_wire.proofs.Reading.{fed_part, open_part, refilled, at_the_end, last_part, nothing_left, reads_more, kept_none, kept_short, some_got, none_got, same_ok, work_on}
+use Rattle.shop_wire.specs.Streams.{CountTogether, TookBytes, work}
+use Rattle.shop_wire.proofs.Reading.{fed_part, open_part, refilled, at_the_end, last_part, nothing_left, together_more, took_more, kept_none, kept_short, some_got, none_got, same_ok, work_on}
 use Rattle.shop_wire.proofs.reader.LineReader.next_line.Goals as goal
 
 pub returns-then-fed-clause-line : goal.returns-then-fed-clause-line
@@ -28,8 +28,8 @@ returns-then-not-branch-clause-line g c =
     let unfed = c.in-Ok.ensures.open (ap Ok c.if-fed.false) in
     let none = c.in_ok-refill.ensures.none (ap Ok c.if-not-branch.true) in
     let whole = open_part before left p c.loop-fed.line.items c.take_part.new.line.items so_far.0 so_far.1 unfed.0 unfed.2 in
-    let all = at_the_end before left (g.S.Source.left c.refill.new.source) (pending new.buffer new.start new.end) c.take_part.new.line.items (so_far.0 ++ p) whole none.1 none.4 in
-    λ is. (so_far.0 ++ p, all.kept, last_part before (g.S.Source.left c.refill.new.source) (pending new.buffer new.start new.end) c.take_part.new.line.items (so_far.0 ++ p) all none.4 none.0 (some_got c.take_part.new.line.items (so_far.0 ++ p) c.is_empty.result all.kept (c.is_empty.ensures ∙ ap (λ n. nat_eq n 0) c.take_part.new.line.ok.0) (same_ok _ _ is)))
+    let all = at_the_end before left (g.S.Source.left c.refill.new.source) (pending new.buffer new.start new.end) c.take_part.new.line.items (so_far.0 ++ p) whole none.1 none.3 in
+    λ is. (so_far.0 ++ p, all.kept, last_part before (g.S.Source.left c.refill.new.source) (pending new.buffer new.start new.end) c.take_part.new.line.items (so_far.0 ++ p) all none.3 none.0 (some_got c.take_part.new.line.items (so_far.0 ++ p) c.is_empty.result all.kept (c.is_empty.ensures ∙ ap (λ n. nat_eq n 0) c.take_part.new.line.ok.0) (same_ok _ _ is)))
 
 pub returns-then-not-branch-clause-none : goal.returns-then-not-branch-clause-none
 returns-then-not-branch-clause-none g c =
@@ -43,8 +43,8 @@ returns-then-not-branch-clause-none g c =
     let unfed = c.in-Ok.ensures.open (ap Ok c.if-fed.false) in
     let none = c.in_ok-refill.ensures.none (ap Ok c.if-not-branch.true) in
     let whole = open_part before left p c.loop-fed.line.items c.take_part.new.line.items so_far.0 so_far.1 unfed.0 unfed.2 in
-    let all = at_the_end before left (g.S.Source.left c.refill.new.source) (pending new.buffer new.start new.end) c.take_part.new.line.items (so_far.0 ++ p) whole none.1 none.4 in
-    λ is. nothing_left before (g.S.Source.left c.refill.new.source) (pending new.buffer new.start new.end) c.take_part.new.line.items (so_far.0 ++ p) all none.4 none.0 (kept_none c.take_part.new.line.items (so_far.0 ++ p) all.kept (none_got c.take_part.new.line.items c.is_empty.result (c.is_empty.ensures ∙ ap (λ n. nat_eq n 0) c.take_part.new.line.ok.0) (same_ok _ _ is)))
+    let all = at_the_end before left (g.S.Source.left c.refill.new.source) (pending new.buffer new.start new.end) c.take_part.new.line.items (so_far.0 ++ p) whole none.1 none.3 in
+    λ is. nothing_left before (g.S.Source.left c.refill.new.source) (pending new.buffer new.start new.end) c.take_part.new.line.items (so_far.0 ++ p) all none.3 none.0 (kept_none c.take_part.new.line.items (so_far.0 ++ p) all.kept (none_got c.take_part.new.line.items c.is_empty.result (c.is_empty.ensures ∙ ap (λ n. nat_eq n 0) c.take_part.new.line.ok.0) (same_ok _ _ is)))
 
 pub loop-fed-preserved : goal.loop-fed-preserved
 loop-fed-preserved g c =
@@ -61,10 +61,14 @@ loop-fed-preserved g c =
     let whole = open_part before left p c.loop-fed.line.items c.take_part.new.line.items so_far.0 so_far.1 unfed.0 unfed.2 in (
       so_far.0 ++ p,
       refilled before left (g.S.Source.left c.refill.new.source) (pending new.buffer new.start new.end) c.take_part.new.line.items (so_far.0 ++ p) whole more.0,
-      c.in_ok-refill.ensures.most,
+      c.refill.ensures.most,
       (λ ended. absurd (cc (sym more.1 ∙ ended))),
-      reads_more old.reads mid.reads new.reads (g.S.Source.left c.args.source.now) left (g.S.Source.left c.refill.new.source) so_far.4 (subst (λ r. CountsReads r left new.reads (g.S.Source.left c.refill.new.source)) c.in-Ok.ensures.reads c.in_ok-refill.ensures.counted),
-      c.in_ok-refill.ensures.failures ∙ so_far.5,
-      work_on mid.reads new.reads (work old.reads (pending old.buffer old.start old.end)) p (pending new.buffer new.start new.end) so_far.0 (more.2 ∙ ap (λ n. n + 1) c.in-Ok.ensures.reads) c.in_ok-refill.ensures.most more.3 so_far.6,
+      (λ _.
+          let was = so_far.4 (sym c.in-Ok.ensures.ended ∙ more.4) in
+          (was.0, took_more old.reads mid.reads new.reads (g.S.Source.left c.args.source.now) left (g.S.Source.left c.refill.new.source) was.1 (subst (λ r. TookBytes r left new.reads (g.S.Source.left c.refill.new.source)) c.in-Ok.ensures.reads more.5))),
+      together_more old.reads mid.reads new.reads (g.S.Source.reads c.args.source.now) (g.S.Source.reads c.loop-fed.source) (g.S.Source.reads c.refill.new.source) so_far.5
+          (subst (λ r. CountTogether r (g.S.Source.reads c.loop-fed.source) new.reads (g.S.Source.reads c.refill.new.source)) c.in-Ok.ensures.reads c.refill.ensures.together),
+      c.in_ok-refill.ensures.failures ∙ so_far.6,
+      work_on mid.reads new.reads (work old.reads (pending old.buffer old.start old.end)) p (pending new.buffer new.start new.end) so_far.0 (more.2 ∙ ap (λ n. n + 1) c.in-Ok.ensures.reads) c.refill.ensures.most more.3 so_far.7,
       kept_short c.take_part.new.line.items (so_far.0 ++ p) whole.kept,
     )

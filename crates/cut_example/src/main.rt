@@ -1,0 +1,13 @@
+//! How the libraries of cutting trees and plans are called: a tree is read and laid, a bar and a sheet are planned.
+#![tactic(auto)]
+
+mod plans;
+mod trees;
+
+use anyhow::Result;
+
+fn main(rt: HostRuntime) -> Result<()> {
+    trees::print_rows(&rt)?;
+    plans::print_bar(&rt)?;
+    plans::print_sheet(&rt)
+}

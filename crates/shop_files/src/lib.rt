@@ -1,0 +1,16 @@
+//! The files of a cutting shop: problems, orders and materials, read from their texts.
+#![tactic(auto)]
+
+mod limits;
+mod orders;
+mod problems;
+mod shops;
+
+pub use cut_measure::RowList;
+pub use limits::{LONGEST_TEXT, MOST_ENTRIES, MOST_LINES, MOST_PIECES};
+pub use orders::{OrderLine, OrdersFault, read_orders};
+pub use problems::{Piece, Problem, TextCause, TextFault, read_cgcut};
+pub use shops::{MaterialEntry, ShopFault, read_shop};
+
+#[cfg(test)]
+mod tests;

@@ -1,0 +1,293 @@
+-- A content after an order was added.
+use Rattle.std.proofs.Common.{◌≡◌, ℕ, zero, suc, ◌+◌, ◌≤◌, ◌<◌, ◌⊎◌, inl, inr, List, [], ◌∷◌, length, Bool, true, false, refl, sym, ap, subst, ◌∙◌, arith}
+use Rattle.std.specs.Prelude.{Option, Some, None, IsSome, MatchOption, if◌then◌else◌, nat_le, nat_lt, ◌&&◌, not}
+use Rattle.std.specs.declared.cmp.Ordering.TheVariants.{Less}
+use Rattle.std.specs.Cmp.{nat_cmp_total}
+use Rattle.std.specs.FinMap.{nat_cmp-IsAntisymmetric}
+use Rattle.std.proofs.lemmas.List.Elements.{All-nil}
+use Rattle.std.proofs.lemmas.Bool.{and_parts, not-false, leb-true, ltb-true, ltb-false}
+use Rattle.cut_measure.specs.Names.{name_cmp}
+use Rattle.cut_measure.specs.declared.ranges.TheConstants.{MOST_NUMBERS}
+use Rattle.cut_tree.specs.Tree.{count_of}
+use Rattle.shop_machine.specs.declared.records.Part.{Part}
+use Rattle.shop_machine.specs.declared.records.Job.{Job}
+use Rattle.shop_machine.specs.declared.records.Demand.{Demand}
+use Rattle.shop_machine.specs.declared.messages.Message.{Message}
+use Rattle.shop_machine.specs.declared.messages.OrderLine.{OrderLine}
+use Rattle.shop_machine.specs.declared.ordering.TheConstants.{MOST_LINES}
+use Rattle.shop_machine.specs.declared.records.Material.{Material}
+use Rattle.shop_machine.specs.declared.refusals.Refusal.TheVariants.{NumbersSpent, OrderExists, BadLine}
+use Rattle.shop_machine.specs.Messages.{Texts, pair_of}
+use Rattle.shop_machine.specs.Columns.{is_piece_for, is_waiting}
+use Rattle.shop_machine.specs.Content.{Content, material_at, has_order, demand_at, kept_at, changed}
+use Rattle.shop_machine.specs.Ordering.{new_demand, new_demands, order_change, order_refusal, line_refusal, lines_refusal, is_good_line}
+use Rattle.shop_machine.specs.Machine.{keeping}
+use Rattle.shop_machine.specs.History.{IsIn}
+use Rattle.shop_machine.specs.Soundness.{IsDemand, DemandFits, LinesDiffer, Fits, reserved_in, made_in}
+use Rattle.shop_machine.specs.Decisions.{first_of}
+use Rattle.shop_machine.proofs.Basics.{names_total, names_same, same_some, none_at, demand_cases}
+use Rattle.shop_machine.proofs.Puts.{Pairwise, all_from, pairs_from, pairs_more, not_both, is_known, some_known, sum_no_rows}
+use Rattle.shop_machine.proofs.Allowed.{none_of, or_none}
+use Rattle.shop_machine.proofs.Grown.{IsStock, Grows, placed_more, job_more, demand_more, no_pairs}
+use Rattle.shop_machine.proofs.Agreeing.{NoFault, either, nothing, other}
+
+-- ---- what is known of an order that isn't refused
+
+pub record IsOrder (used : Bool) (at : List ℕ → Option Material) (lines : List OrderLine) (first : ℕ) : Type 0 where
+  pub unused : used ≡ false
+  pub some : 1 ≤ length lines
+  pub few : length lines ≤ MOST_LINES
+  pub known : (line : OrderLine) → IsIn line lines → IsSome (at line.material)
+  pub rising : Pairwise (λ (a b : OrderLine). a.line < b.line) lines
+  pub numbers : first + length lines ≤ MOST_NUMBERS + 1
+
+line_known : (last : ℕ) (line : OrderLine) (o : Option Material) → line_refusal last line o ≡ None → IsSome o
+line_known last line None e = cc
+line_known last line (Some m) e = refl
+
+lines_known : (at : List ℕ → Option Material) (last : ℕ) (lines : List OrderLine) → lines_refusal at last lines ≡ None → (line : OrderLine) → IsIn line lines → IsSome (at line.material)
+lines_known at last [] e line i = absurd i
+lines_known at last (l ∷ lines) e line (inl s) =
+    let here = or_none (line_refusal last l (at l.material)) (lines_refusal at l.line lines) e in
+    subst (λ (x : OrderLine). IsSome (at x.material)) (sym s) (line_known last l (at l.material) here.0)
+lines_known at last (l ∷ lines) e line (inr i) =
+    lines_known at l.line lines (or_none (line_refusal last l (at l.material)) (lines_refusal at l.line lines) e).1 line i
+
+line_behind : (last : ℕ) (line : OrderLine) (o : Option Material) → line_refusal last line o ≡ None → last < line.line
+line_behind last line None e = cc
+line_behind last line (Some m) e =
+    let good = not-false (is_good_line last line m.kind) (none_of (not (is_good_line last line m.kind)) BadLine None e).0 in
+    ltb-true last line.line (and_parts _ _ (and_parts _ _ (and_parts _ _ (and_parts _ _ (and_parts _ _ (and_parts _ _ good).0).0).0).0).0).0
+
+lines_behind : (at : List ℕ → Option Material) (last : ℕ) (lines : List OrderLine) → lines_refusal at last lines ≡ None → (line : OrderLine) → IsIn line lines → last < line.line
+lines_behind at last [] e line i = absurd i
+lines_behind at last (l ∷ lines) e line i =
+    let here = or_none (line_refusal last l (at l.material)) (lines_refusal at l.line lines) e in
+    let first : last < l.line = line_behind last l (at l.material) here.0 in
+    elim i [
+      | inl s ↦ let same : line.line ≡ l.line = ap (λ (x : OrderLine). x.line) s in omega (arith, first, same)
+      | inr j ↦ let later : l.line < line.line = lines_behind at l.line lines here.1 line j in omega (arith, first, later)
+    ]
+
+lines_rise : (at : List ℕ → Option Material) (last : ℕ) (lines : List OrderLine) → lines_refusal at last lines ≡ None → Pairwise (λ (a b : OrderLine). a.line < b.line) lines
+lines_rise at last [] e = tt
+lines_rise at last (l ∷ lines) e =
+    let more = (or_none (line_refusal last l (at l.material)) (lines_refusal at l.line lines) e).1 in
+    (lines_behind at l.line lines more, lines_rise at l.line lines more)
+
+pub order_of : (used : Bool) (at : List ℕ → Option Material) (lines : List OrderLine) (first : ℕ) → order_refusal used at lines first ≡ None → IsOrder used at lines first
+order_of used at lines first e =
+    let outer = or_none (first_of ((used, OrderExists) ∷ (not (nat_le 1 (length lines) && nat_le (length lines) MOST_LINES), BadLine) ∷ [])) _ e in
+    let head = none_of used OrderExists _ outer.0 in
+    let many = none_of (not (nat_le 1 (length lines) && nat_le (length lines) MOST_LINES)) BadLine _ head.1 in
+    let range = and_parts (nat_le 1 (length lines)) (nat_le (length lines) MOST_LINES) (not-false (nat_le 1 (length lines) && nat_le (length lines) MOST_LINES) many.0) in
+    let inner = or_none (lines_refusal at 0 lines) _ outer.1 in
+    let last = none_of (nat_lt (MOST_NUMBERS + 1) (first + length lines)) NumbersSpent _ inner.1 in
+    record {
+      unused = head.0;
+      some = leb-true 1 (length lines) range.0;
+      few = leb-true (length lines) MOST_LINES range.1;
+      known = lines_known at 0 lines inner.0;
+      rising = lines_rise at 0 lines inner.0;
+      numbers = ltb-false (MOST_NUMBERS + 1) (first + length lines) last.0;
+    }
+
+-- ---- the new demands
+
+-- the line and the number of a new demand
+pub record IsNew (order : List ℕ) (first : ℕ) (lines : List OrderLine) (x : Demand) : Type 0 where
+  pub line : OrderLine
+  pub number : ℕ
+  pub least : first ≤ number
+  pub most : number < first + length lines
+  pub there : IsIn line lines
+  pub is : x ≡ new_demand order number line
+
+new_in : (order : List ℕ) (first : ℕ) (lines : List OrderLine) (x : Demand) → IsIn x (new_demands order first lines) → IsNew order first lines x
+new_in order first [] x i = absurd i
+new_in order first (l ∷ lines) x (inl e) = record { line = l; number = first; least = omega arith; most = omega arith; there = inl refl; is = e }
+new_in order first (l ∷ lines) x (inr i) =
+    let r = new_in order (suc first) lines x i in
+    let least = r.least in
+    let most = r.most in
+    record { line = r.line; number = r.number; least = omega (arith, least); most = omega (arith, most); there = inr r.there; is = r.is }
+
+new_apart : (order : List ℕ) (first : ℕ) (lines : List OrderLine) → Pairwise (λ (a b : Demand). a.number ≡ b.number → ⊥) (new_demands order first lines)
+new_apart order first [] = tt
+new_apart order first (l ∷ lines) = (
+  λ y i e.
+      let r = new_in order (suc first) lines y i in
+      let least = r.least in
+      let same : y.number ≡ r.number = ap (λ (d : Demand). d.number) r.is in
+      omega (arith, least, same, e),
+  new_apart order (suc first) lines,
+)
+
+-- demands of lines that rise are of different lines
+lines_apart : (order : List ℕ) (first : ℕ) (lines : List OrderLine) → Pairwise (λ (a b : OrderLine). a.line < b.line) lines
+    → Pairwise (λ (a b : Demand). a.line ≡ b.line → ⊥) (new_demands order first lines)
+lines_apart order first [] up = tt
+lines_apart order first (l ∷ lines) up = (
+  λ y i e.
+      let r = new_in order (suc first) lines y i in
+      let less : l.line < r.line.line = up.0 r.line r.there in
+      let same : y.line ≡ r.line.line = ap (λ (d : Demand). d.line) r.is in
+      omega (arith, less, same, e),
+  lines_apart order (suc first) lines up.1,
+)
+
+-- what isn't a piece of a demand counts as none
+none_counted : (number : ℕ) (p : Part) → (is_piece_for number p.state ≡ true → ⊥) → ◌≡◌ {A = ℕ} (if is_piece_for number p.state then 1 else 0) 0
+none_counted number p h = by (is_piece_for number p.state) refl
+  where
+    by : (b : Bool) → is_piece_for number p.state ≡ b → ◌≡◌ {A = ℕ} (if b then 1 else 0) 0
+    by true e = absurd (h e)
+    by false e = refl
+
+none_reserved : (number : ℕ) (j : Job) → (is_waiting j.state ≡ true → 1 ≤ count_of j.plan.tree number → ⊥) → ◌≡◌ {A = ℕ} (if is_waiting j.state then count_of j.plan.tree number else 0) 0
+none_reserved number j h = by (is_waiting j.state) refl
+  where
+    zero_of : (n : ℕ) → (1 ≤ n → ⊥) → n ≡ 0
+    zero_of zero h = refl
+    zero_of (suc n) h = absurd (h (omega arith))
+
+    by : (b : Bool) → is_waiting j.state ≡ b → ◌≡◌ {A = ℕ} (if b then count_of j.plan.tree number else 0) 0
+    by true e = zero_of (count_of j.plan.tree number) (h e)
+    by false e = refl
+
+module _ (m : Content) (stock : IsStock m) (order : List ℕ) (lines : List OrderLine)
+    (ordered : IsOrder (has_order m order) (material_at m) lines (m.last_demand + 1)) (texts : Texts) (message : Message) where
+  abbrev first : ℕ
+  first = m.last_demand + 1
+
+  abbrev rows : List Demand
+  rows = new_demands order first lines
+
+  abbrev after : Content
+  after = changed m (keeping texts message (order_change order lines first))
+
+  -- a number to come is no demand's yet
+  none_later : (number : ℕ) → m.last_demand < number → demand_at m number ≡ None
+  none_later number later = none_at (demand_at m number) (λ d is. let le = (stock.demands number d is).so_far in omega (arith, le, later))
+
+  none_reserved_yet : (number : ℕ) → m.last_demand < number → reserved_in number m ≡ 0
+  none_reserved_yet number later =
+      sum_no_rows nat_cmp_total nat_cmp-IsAntisymmetric (λ (job : Job). if is_waiting job.state then count_of job.plan.tree number else 0) m.jobs
+      (λ k j is. none_reserved number j (λ waits some.
+      let there = some_known (demand_at m number) (((stock.jobs k j is).waits waits).demands number some) in
+      not_both (demand_at m number) there.0 (none_later number later) there.1))
+
+  none_made_yet : (number : ℕ) → m.last_demand < number → made_in number m ≡ 0
+  none_made_yet number later =
+      sum_no_rows names_total names_same (λ (p : Part). if is_piece_for number p.state then 1 else 0) m.parts
+      (λ k p is. none_counted number p (λ piece.
+      let there = some_known (demand_at m number) ((stock.parts k p is).asked number piece) in
+      not_both (demand_at m number) there.0 (none_later number later) there.1))
+
+  found_after : (number : ℕ) (d : Demand) → demand_at after number ≡ Some d → (IsNew order first lines d × (d.number ≡ number)) ⊎ (demand_at m number ≡ Some d)
+  found_after number d is =
+      elim (demand_cases rows m.demands number) [
+        | inl q ↦
+            let same : q.0 ≡ d = same_some q.0 d (sym q.3 ∙ is) in
+            inl (subst (IsNew order first lines) same (new_in order first lines q.0 q.1), ap (λ (x : Demand). x.number) (sym same) ∙ q.2)
+        | inr q ↦ inr (sym q.1 ∙ is)
+      ]
+
+  there_after : (number : ℕ) → IsSome (demand_at m number) → IsSome (demand_at after number)
+  there_after number h =
+      elim (demand_cases rows m.demands number) [
+        | inl q ↦ is_known (demand_at after number) q.0 q.3
+        | inr q ↦ subst (λ (o : Option Demand). IsSome o) (sym q.1) h
+      ]
+
+  grows : Grows m after
+  grows = record { materials = λ code x is. is; demands = there_after; acts = omega arith }
+
+  row_new : (number : ℕ) (d : Demand) → IsNew order first lines d → d.number ≡ number → IsDemand after number d
+  row_new number d r e =
+      let least = r.least in
+      let most = r.most in
+      let same : d.number ≡ r.number = ap (λ (x : Demand). x.number) r.is in
+      let none : d.reserved ≡ 0 = ap (λ (x : Demand). x.reserved) r.is in
+      let unmade : d.made ≡ 0 = ap (λ (x : Demand). x.made) r.is in
+      record {
+        numbered = e;
+        least = omega (arith, least, same, e);
+        so_far = omega (arith, most, same, e);
+        known = subst (λ (x : Demand). IsSome (material_at m x.material)) (sym r.is) (ordered.known r.line r.there);
+        counted = record {
+          few = omega (arith, none, unmade);
+          reserved = none ∙ sym (none_reserved_yet number (omega (arith, least, same, e)));
+          made = unmade ∙ sym (none_made_yet number (omega (arith, least, same, e)));
+        };
+      }
+
+  pub order_stock : IsStock after
+  order_stock =
+      let some = ordered.some in
+      let numbers = ordered.numbers in
+      record {
+        in_range = record {
+          acts = stock.in_range.acts;
+          last = stock.in_range.last;
+          last_demand = omega (arith, some, numbers);
+          received = stock.in_range.received;
+          adds_up = stock.in_range.adds_up;
+        };
+        materials = stock.materials;
+        parts = λ name part is. placed_more m after grows name part (stock.parts name part is);
+        jobs = λ number j is. job_more m after grows number j (λ w. record { same = refl; none_yet = w.none_yet }) (stock.jobs number j is);
+        demands = λ number d is.
+            elim (found_after number d is) [
+              | inl q ↦ row_new number d q.0 q.1
+              | inr q ↦
+                  let old = stock.demands number d q in
+                  demand_more m after grows (omega (arith, some)) number d old (record { few = old.counted.few; reserved = old.counted.reserved; made = old.counted.made })
+            ];
+      }
+
+  row_fits : (x : Demand) → IsNew order first lines x → DemandFits m (keeping texts message (order_change order lines first)) x
+  row_fits x r =
+      let least = r.least in
+      let same : x.number ≡ r.number = ap (λ (d : Demand). d.number) r.is in
+      let later : m.last_demand < x.number = omega (arith, least, same) in
+      subst (λ o. MatchOption o ((m.last_demand < x.number) × (Some order ≡ Some x.order)) (λ old. x ≡ record old { reserved = x.reserved; made = x.made }))
+      (sym (none_later x.number later)) (later, ap (λ (d : Demand). Some d.order) (sym r.is))
+
+  pub order_fits : kept_at m (pair_of message) ≡ None → Fits m (keeping texts message (order_change order lines first))
+  order_fits new =
+      let some = ordered.some in
+      let numbers = ordered.numbers in
+      record {
+        material = tt;
+        parts = All-nil _;
+        known = All-nil _;
+        rising = no_pairs (λ (a b : Part). name_cmp a.name b.name ≡ Less);
+        job = tt;
+        order = ordered.unused;
+        demands = all_from (DemandFits m (keeping texts message (order_change order lines first))) rows (λ x i. row_fits x (new_in order first lines x i));
+        wanted = all_from (λ (d : Demand). IsSome (material_at m d.material) × (d.reserved + d.made ≤ d.wanted)) rows
+            (λ x i. let r = new_in order first lines x i in
+            subst (λ (d : Demand). IsSome (material_at m d.material) × (d.reserved + d.made ≤ d.wanted)) (sym r.is) (ordered.known r.line r.there, omega arith));
+        once = pairs_from (λ (a b : Demand). a.number ≡ b.number → ⊥) rows (new_apart order first lines);
+        lines = pairs_from (LinesDiffer m) rows
+            (pairs_more (λ (a b : Demand). a.line ≡ b.line → ⊥) (LinesDiffer m) (λ a b differ new other. differ) rows (lines_apart order first lines ordered.rising));
+        act = tt;
+        demand = (omega (arith, some), omega (arith, some, numbers));
+        kept = new;
+      }
+
+-- ---- its refusals
+
+line_agrees : (last : ℕ) (line : OrderLine) (o : Option Material) → NoFault (line_refusal last line o)
+line_agrees last line None = λ e. cc
+line_agrees last line (Some m) = other (not (is_good_line last line m.kind)) _ _ (λ e. cc) nothing
+
+lines_agree : (at : List ℕ → Option Material) (last : ℕ) (lines : List OrderLine) → NoFault (lines_refusal at last lines)
+lines_agree at last [] = λ e. cc
+lines_agree at last (line ∷ lines) = either (line_refusal last line (at line.material)) (lines_refusal at line.line lines) (line_agrees last line (at line.material)) (lines_agree at line.line lines)
+
+pub order_agrees : (used : Bool) (at : List ℕ → Option Material) (lines : List OrderLine) (first : ℕ) → NoFault (order_refusal used at lines first)
+order_agrees used at lines first =
+    either _ _ (other used _ _ (λ e. cc) (other (not (nat_le 1 (length lines) && nat_le (length lines) MOST_LINES)) _ _ (λ e. cc) nothing))
+    (either _ _ (lines_agree at 0 lines) (other (nat_lt (MOST_NUMBERS + 1) (first + length lines)) _ _ (λ e. cc) nothing))

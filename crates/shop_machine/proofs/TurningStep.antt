@@ -1,0 +1,160 @@
+-- A content after a standing part as a whole got another state.
+use Rattle.std.proofs.Common.{◌≡◌, ℕ, ◌+◌, List, [], ◌∷◌, inl, inr, true, false, refl, sym, ap, subst, ◌∙◌, arith}
+use Rattle.std.specs.Prelude.{Option, Some, None, IsSome, MatchOption, ⊤, not}
+use Rattle.std.specs.declared.cmp.Ordering.TheVariants.{Less}
+use Rattle.std.proofs.lemmas.List.Elements.{All-nil}
+use Rattle.std.proofs.lemmas.Bool.{not-false}
+use Rattle.cut_measure.specs.Names.{Name, name_cmp}
+use Rattle.shop_machine.specs.declared.records.Part.{Part}
+use Rattle.shop_machine.specs.declared.records.State.{State}
+use Rattle.shop_machine.specs.declared.records.State.TheVariants.{Standing, Reserved}
+use Rattle.shop_machine.specs.declared.records.Job.{Job}
+use Rattle.shop_machine.specs.declared.records.Demand.{Demand}
+use Rattle.shop_machine.specs.declared.messages.Message.{Message}
+use Rattle.shop_machine.specs.declared.messages.Reply.{Reply}
+use Rattle.shop_machine.specs.declared.refusals.Refusal.TheVariants.{NotStanding}
+use Rattle.shop_machine.specs.Messages.{Texts, pair_of}
+use Rattle.shop_machine.specs.Columns.{is_whole, is_there, is_free, is_piece_for}
+use Rattle.shop_machine.specs.Content.{Content, material_at, part_at, kept_at, changed, in_state}
+use Rattle.shop_machine.specs.Turning.{scrap_refusal, return_refusal, turn_change}
+use Rattle.shop_machine.specs.Machine.{keeping}
+use Rattle.shop_machine.specs.History.{IsIn}
+use Rattle.shop_machine.specs.Soundness.{IsPlaced, IsWaiting, PartFits, Fits, LinesDiffer, made_in}
+use Rattle.shop_machine.proofs.Basics.{same_some}
+use Rattle.shop_machine.proofs.Puts.{all_from, pairs_from, not_both}
+use Rattle.shop_machine.proofs.AddedUp.{is_uncut}
+use Rattle.shop_machine.proofs.Moved.{found_moved, other_moved, received_moved, adds_up_moved, made_moved}
+use Rattle.shop_machine.proofs.Agreeing.{NoFault, other, nothing}
+use Rattle.shop_machine.proofs.Allowed.{none_of, free_stands}
+use Rattle.shop_machine.proofs.Grown.{IsStock, Grows, Untouched, placed_more, job_more, demand_more, no_pairs}
+use Rattle.shop_machine.proofs.ReservingStep.{left_as_before}
+
+-- a part that may become scrap stands
+pub scrap_stands : (found : Option Part) (row : Part) → found ≡ Some row → scrap_refusal found ≡ None → row.state ≡ Standing
+scrap_stands found row is allowed =
+    let free = none_of (not (is_free row.state)) NotStanding None (subst (λ o. scrap_refusal o ≡ None) is allowed) in
+    free_stands row.state (not-false (is_free row.state) free.0)
+
+-- so does a unit that may be given back
+pub returned_stands : (found : Option Part) (row : Part) → found ≡ Some row → return_refusal found ≡ None → row.state ≡ Standing
+returned_stands found row is allowed =
+    let free = none_of (not (is_free row.state)) NotStanding _ (subst (λ o. return_refusal o ≡ None) is allowed) in
+    free_stands row.state (not-false (is_free row.state) free.0)
+
+pub scrap_agrees : (part : Option Part) → NoFault (scrap_refusal part)
+scrap_agrees None = λ e. cc
+scrap_agrees (Some part) = other (not (is_free part.state)) _ _ (λ e. cc) nothing
+
+pub return_agrees : (part : Option Part) → NoFault (return_refusal part)
+return_agrees None = λ e. cc
+return_agrees (Some part) = other (not (is_free part.state)) _ _ (λ e. cc) (other (not (is_whole part)) _ _ (λ e. cc) nothing)
+
+module _ (m : Content) (stock : IsStock m) (name : Name) (row : Part) (found : part_at m name ≡ Some row) (stands : row.state ≡ Standing)
+    (s : State) (uncut : is_uncut s ≡ true) (plain : (number : ℕ) → is_piece_for number s ≡ false) (texts : Texts) (message : Message) (answer : Reply) where
+  abbrev after : Content
+  after = changed m (keeping texts message (turn_change s row answer))
+
+  there : part_at m row.name ≡ Some row
+  there = ap (λ n. part_at m n) (stock.parts name row found).named ∙ found
+
+  none_new : (x : Part) → IsIn x [] → part_at m x.name ≡ None
+  none_new x i = absurd i
+
+  grows : Grows m after
+  grows = record { materials = λ code x is. is; demands = λ number h. h; acts = omega arith }
+
+  -- no job waits for a part that stands
+  not_reserved : (number : ℕ) → row.state ≡ Reserved number → ⊥
+  not_reserved number e = let no : true ≡ false = ap is_free (sym stands ∙ e) in cc
+
+  untouched : (j : Job) → IsWaiting m j → Untouched m after grows j
+  untouched j w = record {
+    same = other_moved m.parts row s [] there none_new tt j.part
+        (λ e. not_reserved j.act (ap (λ (p : Part). p.state) (same_some row w.on.row (sym there ∙ ap (λ n. part_at m n) (sym e) ∙ w.on.found)) ∙ w.reserved))
+        (λ x i e. i);
+    none_yet = λ node.
+        other_moved m.parts row s [] there none_new tt (record { act = j.act; node = node })
+        (λ e. not_both (part_at m (record { act = j.act; node = node })) row (w.none_yet node) (ap (λ n. part_at m n) e ∙ there))
+        (λ x i e. i) ∙ w.none_yet node;
+  }
+
+  made_same : (number : ℕ) → made_in number after ≡ made_in number m
+  made_same number =
+      let sum = made_moved m.parts row s [] there none_new tt number (ap (is_piece_for number) stands) (plain number) in
+      sum ∙ omega arith
+
+  row_placed : IsPlaced after row.name (in_state s row)
+  row_placed =
+      let old = stock.parts row.name row there in
+      record {
+        named = refl;
+        rooted = old.rooted;
+        known = old.known;
+        some_width = old.some_width;
+        some_height = old.some_height;
+        right = old.right;
+        bottom = old.bottom;
+        flat = old.flat;
+        asked = λ number piece. absurd (let no : true ≡ false = sym piece ∙ plain number in cc);
+      }
+
+  pub turn_stock : IsStock after
+  turn_stock = record {
+    in_range = record {
+      acts = λ n p is.
+          elim (found_moved m.parts row s [] there none_new tt n p is) [
+            | inl q ↦
+                let old = stock.in_range.acts row.name row there in
+                let same : n.act ≡ row.name.act = ap (λ (n : Name). n.act) q.1 in
+                omega (arith, old, same)
+            | inr r ↦ elim r [ inl q ↦ absurd q.0 | inr q ↦ stock.in_range.acts n p q.1 ]
+          ];
+      last = stock.in_range.last;
+      last_demand = stock.in_range.last_demand;
+      received = λ code.
+          let same = received_moved m.parts row s [] there none_new tt code refl in
+          let old = stock.in_range.received code in
+          omega (arith, same, old);
+      adds_up = λ code.
+          adds_up_moved m.parts row s [] there none_new tt code refl (left_as_before code row s (ap is_there stands) uncut) (stock.in_range.adds_up code);
+    };
+    materials = stock.materials;
+    parts = λ n p is.
+        elim (found_moved m.parts row s [] there none_new tt n p is) [
+          | inl q ↦ subst (λ (n : Name). IsPlaced after n p) (sym q.1) (subst (IsPlaced after row.name) (sym q.0) row_placed)
+          | inr r ↦ elim r [ inl q ↦ absurd q.0 | inr q ↦ placed_more m after grows n p (stock.parts n p q.1) ]
+        ];
+    jobs = λ number j is. job_more m after grows number j (untouched j) (stock.jobs number j is);
+    demands = λ number d is.
+        let old = stock.demands number d is in
+        demand_more m after grows (omega arith) number d old
+        (record { few = old.counted.few; reserved = old.counted.reserved; made = old.counted.made ∙ sym (made_same number) });
+  }
+
+  row_fits : PartFits m (in_state s row)
+  row_fits = subst (λ o. MatchOption o ⊤ (λ old. in_state s row ≡ in_state s old)) (sym there) refl
+
+  fits_in : (x : Part) → IsIn x (in_state s row ∷ []) → PartFits m x
+  fits_in x (inl e) = subst (PartFits m) (sym e) row_fits
+  fits_in x (inr i) = absurd i
+
+  known_in : (x : Part) → IsIn x (in_state s row ∷ []) → IsSome (material_at m x.material)
+  known_in x (inl e) = subst (λ (p : Part). IsSome (material_at m p.material)) (sym e) (stock.parts row.name row there).known
+  known_in x (inr i) = absurd i
+
+  pub turn_fits : kept_at m (pair_of message) ≡ None → Fits m (keeping texts message (turn_change s row answer))
+  turn_fits new = record {
+    material = tt;
+    parts = all_from (PartFits m) (in_state s row ∷ []) fits_in;
+    known = all_from (λ (part : Part). IsSome (material_at m part.material)) (in_state s row ∷ []) known_in;
+    rising = pairs_from (λ (a b : Part). name_cmp a.name b.name ≡ Less) (in_state s row ∷ []) (λ y i. absurd i, tt);
+    job = tt;
+    order = tt;
+    demands = All-nil _;
+    wanted = All-nil _;
+    once = no_pairs (λ (a b : Demand). a.number ≡ b.number → ⊥);
+    lines = no_pairs (LinesDiffer m);
+    act = tt;
+    demand = tt;
+    kept = new;
+  }

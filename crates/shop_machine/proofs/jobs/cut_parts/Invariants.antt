@@ -1,7 +1,0 @@
-use Rattle.std.proofs.Common.{◌≡◌, ◌∷◌, take, map}
-use Rattle.shop_machine.specs.declared.records.State.TheVariants.{Cut}
-use Rattle.shop_machine.specs.Machine.{in_state, row_part}
-use Rattle.shop_machine.proofs.jobs.cut_parts.Given as goal
-
-abbrev pub invariant-loop-row : goal.invariant-loop-row
-invariant-loop-row l = l.parts ≡ in_state (Cut l.act) l.part ∷ map (row_part l.part l.limits l.act) (take l.row-index l.rows)

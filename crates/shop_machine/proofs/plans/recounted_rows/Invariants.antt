@@ -1,5 +1,0 @@
-use Rattle.shop_machine.proofs.Recounts.{AreAdded}
-use Rattle.shop_machine.proofs.plans.recounted_rows.Given as goal
-
-abbrev pub invariant-loop-found : goal.invariant-loop-found
-invariant-loop-found l = AreAdded l.how l.plan.tree l.leaves l.found-index l.rows

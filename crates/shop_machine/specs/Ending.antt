@@ -1,0 +1,131 @@
+-- The end of a job: its cuts are made, or it is released.
+use Rattle.std.specs.Prelude.{◌≡◌, ℕ, ◌+◌, ◌*◌, ◌&&◌, ◌==◌, List, [], ◌∷◌, map, Bool, false, not, nat_le, if◌then◌else◌, Option, Some, None, sum_by}
+use Rattle.std.specs.List.{list_all}
+use Rattle.cut_measure.specs.declared.ranges.TheConstants.{MOST_WIDTH, MOST_HEIGHT, MOST_NUMBERS}
+use Rattle.cut_measure.specs.Measures.{Extent, Rule, is_kept}
+use Rattle.cut_tree.specs.declared.lay.Owner.{Owner}
+use Rattle.cut_tree.specs.declared.lay.Owner.TheVariants as owner
+use Rattle.cut_tree.specs.declared.lay.Row.{Row}
+use Rattle.cut_tree.specs.Tree.{count_of}
+use Rattle.cut_tree.specs.Cells.{all_made}
+use Rattle.cut_tree.specs.Laying.{IsLaid}
+use Rattle.shop_machine.specs.declared.records.Material.{Material}
+use Rattle.shop_machine.specs.declared.records.Part.{Part}
+use Rattle.shop_machine.specs.declared.records.State.{State}
+use Rattle.shop_machine.specs.declared.records.State.TheVariants.{Standing, Cut, Piece, Kerf, Scrap}
+use Rattle.shop_machine.specs.declared.records.Job.{Job}
+use Rattle.shop_machine.specs.declared.records.JobState.TheVariants as job
+use Rattle.shop_machine.specs.declared.records.Demand.{Demand}
+use Rattle.shop_machine.specs.declared.records.Column.{Column}
+use Rattle.shop_machine.specs.declared.records.Column.TheVariants as column
+use Rattle.shop_machine.specs.declared.changes.Change.{Change}
+use Rattle.shop_machine.specs.declared.refusals.Refusal.{Refusal}
+use Rattle.shop_machine.specs.declared.refusals.Refusal.TheVariants.{NoJob, JobOver, StoreFault}
+use Rattle.shop_machine.specs.declared.messages.Reply.{Reply}
+use Rattle.shop_machine.specs.declared.messages.Reply.TheVariants as reply
+use Rattle.shop_machine.specs.Columns.{is_counted, is_reserved_for, is_waiting}
+use Rattle.shop_machine.specs.Content.{Content, material_at, part_at, job_at, demand_at, material_of, part_of_job, in_state}
+use Rattle.shop_machine.specs.Decisions.{first_of, no_change}
+use Rattle.shop_machine.specs.Recounts.{plan_leaves, AreRecounted, with_made, with_freed}
+
+-- so many of the demand are reserved, and with what is made they are no more than wanted
+abbrev pub has_reserved : ℕ → Option Demand → Bool
+has_reserved n None = false
+has_reserved n (Some demand) = nat_le n demand.reserved && nat_le (demand.reserved + demand.made) demand.wanted
+
+-- the job has an act's number, and the part is reserved for it, has the sides of its plan, and lies in a unit
+abbrev pub is_part_of : Job → Part → Bool
+is_part_of j part =
+    nat_le 1 j.act && nat_le j.act MOST_NUMBERS && is_reserved_for j.act part.state && part.size.w == j.plan.w && part.size.h == j.plan.h
+    && nat_le (part.x + part.size.w) MOST_WIDTH && nat_le (part.y + part.size.h) MOST_HEIGHT
+
+-- The rows on which a waiting job rests are there: its part, the part's material, and its pieces' demands. So they are in
+-- each content that a history gives.
+abbrev pub rests : Job → Option Part → Option Material → (ℕ → Option Demand) → Bool
+rests j None material at = false
+rests j (Some part) None at = false
+rests j (Some part) (Some material) at =
+    is_part_of j part && list_all (λ leaf. has_reserved (count_of j.plan.tree leaf.demand) (at leaf.demand)) (plan_leaves j.plan)
+
+abbrev pub job_refusal : Option Job → Option Part → Option Material → (ℕ → Option Demand) → Option Refusal
+job_refusal None part material at = Some NoJob
+job_refusal (Some j) part material at =
+    first_of ((not (is_waiting j.state), JobOver) ∷ (not (rests j part material at), StoreFault) ∷ [])
+
+abbrev pub end_refusal : Content → Option Job → Option Refusal
+end_refusal old found = job_refusal found (part_of_job old found) (material_of old (part_of_job old found)) (demand_at old)
+
+-- a job with the rows on which it rests
+pub record IsWork (old : Content) (number : ℕ) (j : Job) (part : Part) (material : Material) : Type 0 where
+  pub found : job_at old number ≡ Some j
+  pub on : part_at old j.part ≡ Some part
+  pub of : material_at old part.material ≡ Some material
+
+-- what becomes of a laid rectangle
+abbrev pub fate : Rule → Owner → Extent → State
+fate rule (owner.Piece demand) size = Piece demand
+fate rule owner.Rest size = if is_kept rule size then Standing else Scrap
+fate rule owner.Kerf size = Kerf
+fate rule owner.Uncut size = if is_kept rule size then Standing else Scrap
+fate rule owner.Lost size = Scrap
+
+-- the part that a laid row of a job on a part becomes, in the received unit's coordinates
+abbrev pub row_part : Part → Rule → ℕ → Row → Part
+row_part part rule act row =
+    let size : Extent = record { w = row.w; h = row.h } in
+    record {
+      name = record { act = act; node = row.node };
+      material = part.material;
+      batch = part.batch;
+      root = part.root;
+      x = part.x + row.x;
+      y = part.y + row.y;
+      size = size;
+      state = fate rule row.owner size;
+    }
+
+-- the cells of parts that a column counts
+abbrev pub cells_counted : Column → List Part → ℕ
+cells_counted column parts = sum_by (λ part. if is_counted column part then part.size.w * part.size.h else 0) parts
+
+abbrev pub finished_reply : ℕ → List Part → Reply
+finished_reply number parts =
+    reply.Done number (cells_counted column.Kerf parts) (cells_counted column.Pieces parts) (cells_counted column.Rack parts) (cells_counted column.Scrap parts)
+
+abbrev pub done_change : Job → Part → Rule → List Row → List Demand → Change
+done_change j part rule laid rows =
+    let made = map (row_part part rule j.act) laid in
+    record (no_change (finished_reply j.act made)) {
+      parts = in_state (Cut j.act) part ∷ made;
+      job = Some (record j { state = job.Done });
+      demands = rows;
+    }
+
+-- all cuts of the plan were made
+pub record IsDone (j : Job) (part : Part) (rule : Rule) (at : ℕ → Option Demand) (change : Change) : Type 0 where
+  pub laid : List Row
+  pub is_laid : IsLaid j.plan.tree j.plan.w j.plan.h j.plan.kerf all_made laid
+  pub rows : List Demand
+  pub recounted : AreRecounted at with_made j.plan.tree rows
+  pub is : change ≡ done_change j part rule laid rows
+
+abbrev pub release_change : Job → Part → List Demand → Change
+release_change j part rows =
+    record (no_change (reply.Release j.act)) {
+      parts = in_state Standing part ∷ [];
+      job = Some (record j { state = job.Released });
+      demands = rows;
+    }
+
+-- the part stands again
+pub record IsRelease (j : Job) (part : Part) (at : ℕ → Option Demand) (change : Change) : Type 0 where
+  pub rows : List Demand
+  pub recounted : AreRecounted at with_freed j.plan.tree rows
+  pub is : change ≡ release_change j part rows
+
+-- the parts of a finished job, the cut one first, and what is told of them
+pub record AreFinished (j : Job) (part : Part) (rule : Rule) (parts : List Part) (answer : Reply) : Type 0 where
+  pub laid : List Row
+  pub is_laid : IsLaid j.plan.tree j.plan.w j.plan.h j.plan.kerf all_made laid
+  pub are : parts ≡ in_state (Cut j.act) part ∷ map (row_part part rule j.act) laid
+  pub told : answer ≡ finished_reply j.act (map (row_part part rule j.act) laid)

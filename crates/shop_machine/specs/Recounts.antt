@@ -1,0 +1,69 @@
+-- The demands of a plan: how its pieces are counted for them, and the rows that were found for its leaves.
+use Rattle.std.specs.Prelude.{◌≡◌, ◌≢◌, ℕ, ◌+◌, ◌-◌, ◌≤◌, List, [], ◌∷◌, map, Option, Some, MatchOption, All, Any, AllPairs, ◌⊎◌, ◌++◌, ◌<◌, ◌^◌, IfSome}
+use Rattle.cut_tree.specs.declared.leaves.Leaf.{Leaf}
+use Rattle.cut_tree.specs.Tree.{Tree, count_of}
+use Rattle.cut_tree.specs.Patterns.{Pattern}
+use Rattle.cut_tree.specs.Leaves.{leaves_of}
+use Rattle.shop_machine.specs.declared.records.Demand.{Demand}
+use Rattle.shop_machine.specs.declared.recounts.FoundLeaf.{FoundLeaf}
+use Rattle.shop_machine.specs.declared.recounts.Recount.{Recount}
+use Rattle.shop_machine.specs.declared.recounts.Recount.TheVariants.{Reserved, Made, Freed}
+
+abbrev pub plan_leaves : Pattern → List Leaf
+plan_leaves plan = leaves_of plan.tree plan.w plan.h plan.kerf
+
+-- The rows are those of the tree's demands, each once, recounted by how many of the tree's pieces are its own. A function
+-- finds the rows before.
+pub record AreRecounted (at : ℕ → Option Demand) (recount : ℕ → Demand → Demand) (tree : Tree) (rows : List Demand) : Type 0 where
+  pub only : All (λ row. (before : Demand) × (at row.number ≡ Some before) × (1 ≤ count_of tree row.number) × (row ≡ recount (count_of tree row.number) before)) rows
+  pub each : (number : ℕ) → 1 ≤ count_of tree number → Any (λ row. row.number ≡ number) rows
+  pub once : AllPairs (λ a b. a.number ≢ b.number) rows
+
+-- so many more are reserved
+abbrev pub with_reserved : ℕ → Demand → Demand
+with_reserved n demand = record demand { reserved = demand.reserved + n }
+
+-- so many pass from reserved to made
+abbrev pub with_made : ℕ → Demand → Demand
+with_made n demand = record demand { reserved = demand.reserved - n; made = demand.made + n }
+
+-- so many are free again
+abbrev pub with_freed : ℕ → Demand → Demand
+with_freed n demand = record demand { reserved = demand.reserved - n }
+
+abbrev pub leaves_in : List FoundLeaf → List Leaf
+leaves_in found = map (λ (f : FoundLeaf). f.leaf) found
+
+-- the rows of the demands are those that the function finds
+abbrev pub AreDemandsFound : (ℕ → Option Demand) → List FoundLeaf → Type 0
+AreDemandsFound at found = All (λ f. f.demand ≡ at f.leaf.demand) found
+
+-- the leaves are those of the plan, with the rows of their demands
+abbrev pub AreLeavesFound : (ℕ → Option Demand) → Pattern → List FoundLeaf → Type 0
+AreLeavesFound at plan found = (leaves_in found ≡ plan_leaves plan) × AreDemandsFound at found
+
+abbrev pub recount_by : Recount → ℕ → Demand → Demand
+recount_by Reserved n demand = with_reserved n demand
+recount_by Made n demand = with_made n demand
+recount_by Freed n demand = with_freed n demand
+
+-- the counts stay in range
+abbrev pub HasRoom : Recount → ℕ → Demand → Type 0
+HasRoom Reserved n demand = demand.reserved + n < 2 ^ 32
+HasRoom Made n demand = (n ≤ demand.reserved) × (demand.made + n < 2 ^ 32)
+HasRoom Freed n demand = n ≤ demand.reserved
+
+-- The row of a leaf's demand is there, under its own number, and stays in range when the tree's pieces are counted.
+abbrev pub HasRow : Recount → Tree → FoundLeaf → Type 0
+HasRow how tree found =
+    MatchOption found.demand ⊥ (λ demand. (demand.number ≡ found.leaf.demand) × HasRoom how (count_of tree found.leaf.demand) demand)
+
+-- where the row of a leaf's demand is there, it stands under its own number
+abbrev pub IsNumbered : FoundLeaf → Type 0
+IsNumbered found = IfSome found.demand (λ demand. demand.number ≡ found.leaf.demand)
+
+-- the row stands behind the others, unless one of its number is there
+abbrev pub IsAddedOnce : List Demand → Demand → List Demand → Type 0
+IsAddedOnce old row new =
+    (Any (λ other. other.number ≡ row.number) old × (new ≡ old))
+    ⊎ (All (λ other. other.number ≢ row.number) old × (new ≡ old ++ row ∷ []))

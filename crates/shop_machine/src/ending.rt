@@ -1,0 +1,333 @@
+ghost use Rattle.std.specs.Prelude.{◌≡◌, ◌*◌, ◌≤◌, IfOk, IfErr, IsTrue, ◌+◌, ◌∷◌, ℕ, Option, None, All, map, ◌<◌, ◌^◌, Some, IfSome, MatchOption, sum_by, drop};
+ghost use Rattle.std.specs.List.{list_all};
+ghost use Rattle.cut_measure.specs.declared.ranges.TheConstants.{MOST_HEIGHT, MOST_NUMBERS, MOST_WIDTH};
+ghost use Rattle.cut_tree.specs.Tree.{count_of};
+ghost use Rattle.shop_machine.specs.declared.records.Material.{Material as MaterialOf};
+ghost use Rattle.shop_machine.specs.declared.records.Demand.{Demand as DemandOf};
+ghost use Rattle.shop_machine.specs.declared.recounts.Recount.TheVariants.{Made, Freed};
+ghost use Rattle.shop_machine.specs.declared.records.State.TheVariants.{Cut};
+ghost use Rattle.shop_machine.specs.Messages.{is_accepted};
+ghost use Rattle.shop_machine.specs.Decisions.{Decides};
+ghost use Rattle.shop_machine.specs.Recounts.{plan_leaves, AreDemandsFound, leaves_in, HasRoom, HasRow, IsNumbered};
+ghost use Rattle.shop_machine.specs.Ending.{has_reserved, IsDone, IsRelease, cells_counted, finished_reply, fate, is_part_of, job_refusal, rests, row_part, AreFinished};
+ghost use Rattle.shop_machine.specs.Content.{in_state};
+
+use crate::changes::{Change, PartList};
+use crate::decisions::no_change;
+use crate::messages::Reply;
+use crate::records::{Column, Demand, Job, JobState, Material, Part, State};
+use crate::recounts::{FoundLeaf, Recount, recounted_rows, wide};
+use crate::refusals::Refusal;
+use cut_measure::{Kind, Limits, MOST_HEIGHT, MOST_NUMBERS, MOST_WIDTH, PartName, Size};
+use cut_tree::{Owner, Plan, Row, Stop};
+use std::alloc::{AllocError, Global};
+
+// What becomes of a laid rectangle.
+fn fate(limits: Limits, owner: Owner, size: Size) -> State
+    ensures { result ≡ fate limits owner size }
+{
+    match owner {
+        Owner::Piece(demand) => State::Piece(demand),
+        Owner::Kerf => State::Kerf,
+        Owner::Lost => State::Scrap,
+        Owner::Rest | Owner::Uncut => {
+            if limits.keeps(size) {
+                State::Standing
+            } else {
+                State::Scrap
+            }
+        }
+    }
+}
+
+// The part that a laid row of a job on a part becomes.
+fn row_part(part: &Part, limits: Limits, act: u32, row: &Row) -> Part
+    requires act { (1 ≤ act) × (act ≤ MOST_NUMBERS) }
+    requires across { (1 ≤ row.now.w) × (part.now.x + row.now.x + row.now.w ≤ MOST_WIDTH) }
+    requires down { (1 ≤ row.now.h) × (part.now.y + row.now.y + row.now.h ≤ MOST_HEIGHT) }
+    ensures { result ≡ row_part part.now limits act row.now }
+{
+    let Some(size) = Size::new(Kind::Sheet, row.w, row.h) else {
+        unreachable!()
+    };
+    Part {
+        name: PartName::new(act, row.node),
+        material: part.material,
+        batch: part.batch,
+        root: part.root,
+        x: part.x + row.x,
+        y: part.y + row.y,
+        size,
+        state: fate(limits, row.owner, size),
+    }
+}
+
+// The parts that the laid rows of a job become, behind its own part.
+fn cut_parts(
+    alloc: Global,
+    part: &Part,
+    limits: Limits,
+    act: u32,
+    rows: &[Row],
+) -> Result<PartList, AllocError>
+    requires act { (1 ≤ act) × (act ≤ MOST_NUMBERS) }
+    requires across { All (λ row. (1 ≤ row.w) × (part.now.x + row.x + row.w ≤ MOST_WIDTH)) rows.now }
+    requires down { All (λ row. (1 ≤ row.h) × (part.now.y + row.y + row.h ≤ MOST_HEIGHT)) rows.now }
+    ensures { IfOk result (λ parts. parts ≡ in_state (Cut act) part.now ∷ map (row_part part.now limits act) rows.now) }
+{
+    let mut parts = PartList::new(alloc);
+    parts.push(Part {
+        state: State::Cut(act),
+        ..*part
+    })?;
+    for row in rows {
+        parts.push(row_part(part, limits, act, row))?;
+    }
+    Ok(parts)
+}
+
+// The cells of parts that a column counts.
+fn cells_counted(column: Column, parts: &[Part]) -> u64
+    requires { sum_by (λ part. part.size.w * part.size.h) parts.now < 2 ^ 64 }
+    ensures { result ≡ cells_counted column parts.now }
+{
+    let mut cells = 0;
+    for part in parts {
+        if part.counts_in(column) {
+            cells += part.size.cells();
+        }
+    }
+    cells
+}
+
+// Whether of each leaf's demand all pieces of the plan are reserved.
+fn are_reserved(plan: &Plan, leaves: &[FoundLeaf]) -> bool
+    requires numbered { All IsNumbered leaves.now }
+    ensures test { (at : ℕ → Option DemandOf) → AreDemandsFound at leaves.now →
+        result ≡ list_all (λ leaf. has_reserved (count_of plan.now.tree leaf.demand) (at leaf.demand)) (leaves_in leaves.now) }
+    ensures made { IsTrue result → All (HasRow Made plan.now.tree) leaves.now }
+    ensures freed { IsTrue result → All (HasRow Freed plan.now.tree) leaves.now }
+{
+    let [found, more @ ..] = leaves else {
+        return true;
+    };
+    match has_reserved(plan.count(found.leaf.demand), &found.demand) {
+        true => are_reserved(plan, more),
+        false => false,
+    }
+}
+
+fn has_reserved(count: u32, demand: &Option<Demand>) -> bool
+    ensures test { result ≡ has_reserved count demand.now }
+    ensures made { IsTrue result → IfSome demand.now (HasRoom Made count) }
+{
+    match demand {
+        None => false,
+        Some(demand) => {
+            count <= demand.reserved
+                && wide(demand.reserved) + wide(demand.made) <= wide(demand.wanted)
+        }
+    }
+}
+
+fn is_part_of(job: &Job, part: &Part) -> bool
+    ensures { result ≡ is_part_of job.now part.now }
+{
+    let size = job.plan.size();
+    let w = part.size.w();
+    let h = part.size.h();
+    1 <= job.act
+        && job.act <= MOST_NUMBERS
+        && part.state.is_reserved_for(job.act)
+        && w == size.w()
+        && h == size.h()
+        && wide(part.x) + wide(w) <= wide(MOST_WIDTH)
+        && wide(part.y) + wide(h) <= wide(MOST_HEIGHT)
+}
+
+// Whether the rows on which a waiting job rests are there.
+fn rests(job: &Job, part: &Part, leaves: &[FoundLeaf]) -> bool
+    requires numbered { All IsNumbered leaves.now }
+    requires leaves { leaves_in leaves.now ≡ plan_leaves job.now.plan }
+    ensures test { (at : ℕ → Option DemandOf) → (material : MaterialOf) → AreDemandsFound at leaves.now → result ≡ rests job.now (Some part.now) (Some material) at }
+    ensures part { IsTrue result → IsTrue (is_part_of job.now part.now) }
+    ensures made { IsTrue result → All (HasRow Made job.now.plan.tree) leaves.now }
+    ensures freed { IsTrue result → All (HasRow Freed job.now.plan.tree) leaves.now }
+{
+    is_part_of(job, part) && are_reserved(&job.plan, leaves)
+}
+
+// A waiting job with the rows on which it rests.
+struct Work {
+    job: Job,
+    part: Part,
+    limits: Limits,
+}
+
+// The rows on which a job rests, or why it can't end.
+fn work_of(
+    job: Option<Job>,
+    part: Option<Part>,
+    material: Option<Material>,
+    leaves: &[FoundLeaf],
+) -> Result<Work, Refusal>
+    requires numbered { All IsNumbered leaves.now }
+    requires leaves { IfSome job (λ j. leaves_in leaves.now ≡ plan_leaves j.plan) }
+    ensures allowed { IfOk result (λ _. (at : ℕ → Option DemandOf) → AreDemandsFound at leaves.now → job_refusal job part material at ≡ None) }
+    ensures refused { IfErr result (λ refusal. (at : ℕ → Option DemandOf) → AreDemandsFound at leaves.now → job_refusal job part material at ≡ Some refusal) }
+    ensures work { IfOk result (λ work. (job ≡ Some work.job) × (part ≡ Some work.part) × IfSome material (λ m. m.limits ≡ work.limits)) }
+    ensures part { IfOk result (λ work. IsTrue (is_part_of work.job work.part)) }
+    ensures rows { IfOk result (λ work. All (HasRow Made work.job.plan.tree) leaves.now × All (HasRow Freed work.job.plan.tree) leaves.now) }
+{
+    let Some(job) = job else {
+        return Err(Refusal::NoJob);
+    };
+    if !job.state.is_waiting() {
+        return Err(Refusal::JobOver);
+    }
+    let Some(part) = part else {
+        return Err(Refusal::StoreFault);
+    };
+    let Some(material) = material else {
+        return Err(Refusal::StoreFault);
+    };
+    if !rests(&job, &part, leaves) {
+        return Err(Refusal::StoreFault);
+    }
+    Ok(Work {
+        job,
+        part,
+        limits: material.limits,
+    })
+}
+
+// What is told of a finished job: the cells of its new parts.
+fn finished_reply(act: u32, parts: &[Part]) -> Reply
+    requires { sum_by (λ part. part.size.w * part.size.h) parts.now < 2 ^ 64 }
+    ensures { result ≡ finished_reply act parts.now }
+{
+    Reply::Done {
+        job: act,
+        kerf: cells_counted(Column::Kerf, parts),
+        pieces: cells_counted(Column::Pieces, parts),
+        rack: cells_counted(Column::Rack, parts),
+        scrap: cells_counted(Column::Scrap, parts),
+    }
+}
+
+// The parts of a finished job, the cut one first, and what is told of them.
+fn finished_parts(
+    alloc: Global,
+    job: &Job,
+    part: &Part,
+    limits: Limits,
+) -> Result<(PartList, Reply), AllocError>
+    requires { IsTrue (is_part_of job.now part.now) }
+    ensures { IfOk result (λ made. AreFinished job.now part.now limits made.0 made.1) }
+{
+    let rows = job.plan.lay(alloc, Stop::All)?;
+    let parts = cut_parts(alloc, part, limits, job.act, &rows)?;
+    let reply = finished_reply(job.act, behind(parts.as_slice()));
+    Ok((parts, reply))
+}
+
+// The parts behind the first one.
+fn behind(parts: &[Part]) -> &[Part]
+    ensures { result.now ≡ drop 1 parts.now }
+{
+    match parts {
+        [] => parts,
+        [_, more @ ..] => more,
+    }
+}
+
+// The change of a job whose cuts were all made.
+fn done(alloc: Global, work: Work, leaves: &[FoundLeaf]) -> Result<Change, AllocError>
+    requires leaves { leaves_in leaves.now ≡ plan_leaves work.job.plan }
+    requires part { IsTrue (is_part_of work.job work.part) }
+    requires rows { All (HasRow Made work.job.plan.tree) leaves.now }
+    ensures change { IfOk result (λ change. (at : ℕ → Option DemandOf) → AreDemandsFound at leaves.now → IsDone work.job work.part work.limits at change) }
+    ensures told { IfOk result (λ change. IsTrue (is_accepted change.reply)) }
+{
+    let Work { job, part, limits } = work;
+    let demands = recounted_rows(alloc, Recount::Made, &job.plan, leaves)?;
+    let (parts, reply) = finished_parts(alloc, &job, &part, limits)?;
+    Ok(Change {
+        parts,
+        job: Some(Job {
+            state: JobState::Done,
+            ..job
+        }),
+        demands,
+        ..no_change(alloc, reply)
+    })
+}
+
+// The change of a job that is released.
+fn release(alloc: Global, work: Work, leaves: &[FoundLeaf]) -> Result<Change, AllocError>
+    requires leaves { leaves_in leaves.now ≡ plan_leaves work.job.plan }
+    requires rows { All (HasRow Freed work.job.plan.tree) leaves.now }
+    ensures change { IfOk result (λ change. (at : ℕ → Option DemandOf) → AreDemandsFound at leaves.now → IsRelease work.job work.part at change) }
+    ensures told { IfOk result (λ change. IsTrue (is_accepted change.reply)) }
+{
+    let Work {
+        job,
+        part,
+        limits: _,
+    } = work;
+    let demands = recounted_rows(alloc, Recount::Freed, &job.plan, leaves)?;
+    let mut parts = PartList::new(alloc);
+    parts.push(Part {
+        state: State::Standing,
+        ..part
+    })?;
+    let reply = Reply::Release { job: job.act };
+    Ok(Change {
+        parts,
+        job: Some(Job {
+            state: JobState::Released,
+            ..job
+        }),
+        demands,
+        ..no_change(alloc, reply)
+    })
+}
+
+/// Finishes a job, from its row, the rows of its part and the part's material, and its plan's leaves with the rows of
+/// their demands.
+pub fn decide_done(
+    alloc: Global,
+    job: Option<Job>,
+    part: Option<Part>,
+    material: Option<Material>,
+    leaves: &[FoundLeaf],
+) -> Result<Change, Refusal>
+    requires numbered { All IsNumbered leaves.now }
+    requires leaves { IfSome job (λ j. leaves_in leaves.now ≡ plan_leaves j.plan) }
+    ensures decision { (at : ℕ → Option DemandOf) → AreDemandsFound at leaves.now →
+        Decides (job_refusal job part material at) (λ change. MatchOption job ⊥ (λ j. MatchOption part ⊥ (λ p. MatchOption material ⊥ (λ m. IsDone j p m.limits at change)))) result }
+    ensures told { IfOk result (λ change. IsTrue (is_accepted change.reply)) }
+{
+    let work = work_of(job, part, material, leaves)?;
+    let change = done(alloc, work, leaves)?;
+    Ok(change)
+}
+
+/// Releases a job, from the same rows.
+pub fn decide_release(
+    alloc: Global,
+    job: Option<Job>,
+    part: Option<Part>,
+    material: Option<Material>,
+    leaves: &[FoundLeaf],
+) -> Result<Change, Refusal>
+    requires numbered { All IsNumbered leaves.now }
+    requires leaves { IfSome job (λ j. leaves_in leaves.now ≡ plan_leaves j.plan) }
+    ensures decision { (at : ℕ → Option DemandOf) → AreDemandsFound at leaves.now →
+        Decides (job_refusal job part material at) (λ change. MatchOption job ⊥ (λ j. MatchOption part ⊥ (λ p. MatchOption material ⊥ (λ _. IsRelease j p at change)))) result }
+    ensures told { IfOk result (λ change. IsTrue (is_accepted change.reply)) }
+{
+    let work = work_of(job, part, material, leaves)?;
+    let change = release(alloc, work, leaves)?;
+    Ok(change)
+}

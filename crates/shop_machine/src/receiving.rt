@@ -1,0 +1,91 @@
+ghost use Rattle.std.specs.Prelude.{◌≡◌, ◌≤◌, IfOk, IsTrue};
+ghost use Rattle.cut_measure.specs.declared.ranges.TheConstants.{MOST_NUMBERS};
+ghost use Rattle.shop_machine.specs.Messages.{is_accepted};
+ghost use Rattle.shop_machine.specs.Decisions.{Decides};
+ghost use Rattle.shop_machine.specs.Receiving.{receive_refusal, receive_change, unit_parts};
+
+use crate::changes::{Change, PartList};
+use crate::decisions::no_change;
+use crate::messages::Reply;
+use crate::records::{Material, Part, State};
+use crate::refusals::Refusal;
+use cut_measure::{Code, MOST_NUMBERS, PartName, Size};
+use std::alloc::{AllocError, Global};
+
+/// The most cells of a material that may be received in all.
+pub const MOST_RECEIVED: u64 = 1_000_000_000_000_000;
+
+/// The most units of one receipt.
+pub const MOST_UNITS: u32 = 100;
+
+// The parts of units that were just received.
+fn received_parts(
+    alloc: Global,
+    material: Code,
+    batch: Code,
+    size: Size,
+    act: u32,
+    count: u32,
+) -> Result<PartList, AllocError>
+    requires least { 1 ≤ act }
+    requires most { act ≤ MOST_NUMBERS }
+    ensures { IfOk result (λ rows. rows ≡ unit_parts material batch size act count) }
+{
+    let mut rows = PartList::new(alloc);
+    for node in 0..count {
+        let name = PartName::new(act, node);
+        rows.push(Part {
+            name,
+            material,
+            batch,
+            root: name,
+            x: 0,
+            y: 0,
+            size,
+            state: State::Standing,
+        })?;
+    }
+    Ok(rows)
+}
+
+/// Receives units of one size, from the row of their material, what was received of it, and the next act's number.
+pub fn decide_receive(
+    alloc: Global,
+    known: Option<Material>,
+    received: u64,
+    act: u32,
+    material: Code,
+    batch: Code,
+    w: u32,
+    h: u32,
+    count: u32,
+) -> Result<Change, Refusal>
+    requires { 1 ≤ act }
+    ensures decision { Decides (receive_refusal known received act w h count)
+        (λ change. change ≡ receive_change material batch (record { w = w; h = h }) act count) result }
+    ensures told { IfOk result (λ change. IsTrue (is_accepted change.reply)) }
+{
+    let Some(known) = known else {
+        return Err(Refusal::NoMaterial);
+    };
+    let Some(size) = Size::new(known.kind, w, h) else {
+        return Err(Refusal::BadSize);
+    };
+    if count < 1 || count > MOST_UNITS {
+        return Err(Refusal::BadCount);
+    }
+    if received > MOST_RECEIVED || size.cells() * u64::from(count) > MOST_RECEIVED - received {
+        return Err(Refusal::TooMuch);
+    }
+    if act > MOST_NUMBERS {
+        return Err(Refusal::NumbersSpent);
+    }
+    let Ok(parts) = received_parts(alloc, material, batch, size, act, count) else {
+        return Err(Refusal::NoMemory);
+    };
+    Ok(Change {
+        parts,
+        act: Some(act),
+        ..no_change(alloc, Reply::Receive { act, count })
+    })
+}

@@ -1,0 +1,94 @@
+ghost use Rattle.std.specs.Prelude.{◌≡◌, ◌≢◌, IfOk, IsTrue, ℕ, Option, OnOk, All, ◌<◌, ◌^◌, Any, false};
+ghost use Rattle.shop_machine.specs.declared.records.Demand.{Demand as DemandOf};
+ghost use Rattle.shop_machine.specs.Recounts.{AreRecounted, plan_leaves, AreDemandsFound, leaves_in, recount_by, HasRoom, HasRow, IsAddedOnce};
+
+use crate::changes::DemandList;
+use crate::records::Demand;
+use cut_tree::{Leaf, Plan};
+use std::alloc::{AllocError, Global};
+
+/// A piece leaf of a plan, with the row of its demand.
+#[derive(Clone, Copy, Debug)]
+pub struct FoundLeaf {
+    pub leaf: Leaf,
+    pub demand: Option<Demand>,
+}
+
+/// How a plan counts for a demand.
+#[derive(Clone, Copy)]
+pub enum Recount {
+    /// Its pieces are reserved.
+    Reserved,
+    /// They pass from reserved to made.
+    Made,
+    /// They are free again.
+    Freed,
+}
+
+pub fn wide(n: u32) -> u64
+    ensures value { result ≡ n }
+    ensures range { result < 2 ^ 32 }
+{
+    u64::from(n)
+}
+
+fn recounted(how: Recount, count: u32, demand: &Demand) -> Demand
+    requires { HasRoom how count demand.now }
+    ensures { result ≡ recount_by how count demand.now }
+{
+    match how {
+        Recount::Reserved => Demand {
+            reserved: demand.reserved + count,
+            ..*demand
+        },
+        Recount::Made => Demand {
+            reserved: demand.reserved - count,
+            made: demand.made + count,
+            ..*demand
+        },
+        Recount::Freed => Demand {
+            reserved: demand.reserved - count,
+            ..*demand
+        },
+    }
+}
+
+// Whether a row has the number.
+fn has_number(rows: &[Demand], number: u32) -> bool
+    ensures yes { IsTrue result → Any (λ row. row.number ≡ number) rows.now }
+    ensures no { result ≡ false → All (λ row. row.number ≢ number) rows.now }
+{
+    rows.iter().any(|row| row.number == number)
+}
+
+// Puts a row behind the others, unless one of its number is there.
+fn add_once(rows: &mut DemandList, row: Demand) -> Result<(), AllocError>
+    ensures { OnOk result (IsAddedOnce rows.old row rows.new) }
+{
+    if has_number(rows.as_slice(), row.number) {
+        return Ok(());
+    }
+    rows.push(row)
+}
+
+/// The rows of a plan's demands, each once, recounted.
+pub fn recounted_rows(
+    alloc: Global,
+    how: Recount,
+    plan: &Plan,
+    leaves: &[FoundLeaf],
+) -> Result<DemandList, AllocError>
+    requires leaves { leaves_in leaves.now ≡ plan_leaves plan.now }
+    requires found { All (HasRow how plan.now.tree) leaves.now }
+    ensures { IfOk result (λ rows. (at : ℕ → Option DemandOf) → AreDemandsFound at leaves.now → AreRecounted at (recount_by how) plan.now.tree rows) }
+{
+    let mut rows = DemandList::new(alloc);
+    for found in leaves {
+        let Some(demand) = &found.demand else {
+            unreachable!()
+        };
+        let count = plan.count(found.leaf.demand);
+        add_once(&mut rows, recounted(how, count, demand))?;
+    }
+    Ok(rows)
+}

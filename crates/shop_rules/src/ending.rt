@@ -1,0 +1,108 @@
+ghost use Rattle.std.specs.Prelude.{◌≡◌, IfOk};
+ghost use Rattle.serde_json.specs.View.{view};
+ghost use Rattle.shop_machine.specs.declared.messages.Command.TheVariants.{Done, Release};
+ghost use Rattle.shop_machine.specs.declared.messages.Reply.TheVariants as reply;
+ghost use Rattle.shop_rules.specs.Fields.{row};
+ghost use Rattle.shop_rules.specs.Forms as form;
+ghost use Rattle.shop_rules.specs.Forms.{message_data, reply_data};
+
+use crate::fields::{has_keys, number_at, wide_at};
+use serde_json::{Value, json};
+use shop_machine::{Command, Reply};
+use std::alloc::{AllocError, Global};
+
+// The command that a job is done.
+pub(crate) fn done_command(value: &Value) -> Option<Command>
+    ensures { result ≡ row 4 form.done_command (view value.now) }
+{
+    if !has_keys(value, 4) {
+        return None;
+    }
+    let job = number_at(value, "job")?;
+    Some(Command::Done { job })
+}
+
+// The object of a message that ends a job.
+pub(crate) fn done_value(alloc: Global, pair: (u64, u64), job: u64) -> Result<Value, AllocError>
+    ensures { IfOk result (λ value. view value ≡ message_data (record { terminal = pair.0; number = pair.1; command = Done job })) }
+{
+    json!(in alloc; {"do": "done", "job": job, "number": pair.1, "terminal": pair.0})
+}
+
+// The reply to it.
+pub(crate) fn done_made(value: &Value) -> Option<Reply>
+    ensures { result ≡ row 6 form.done_made (view value.now) }
+{
+    if !has_keys(value, 6) {
+        return None;
+    }
+    let job = number_at(value, "job")?;
+    let kerf = wide_at(value, "kerf")?;
+    let pieces = wide_at(value, "pieces")?;
+    let rack = wide_at(value, "rack")?;
+    let scrap = wide_at(value, "scrap")?;
+    Some(Reply::Done {
+        job,
+        kerf,
+        pieces,
+        rack,
+        scrap,
+    })
+}
+
+// The object of the reply.
+pub(crate) fn done_reply(
+    alloc: Global,
+    job: u64,
+    kerf: u64,
+    pieces: u64,
+    rack: u64,
+    scrap: u64,
+) -> Result<Value, AllocError>
+    ensures { IfOk result (λ value. view value ≡ reply_data (reply.Done job kerf pieces rack scrap)) }
+{
+    json!(in alloc; {
+        "job": job,
+        "kerf": kerf,
+        "ok": "done",
+        "pieces": pieces,
+        "rack": rack,
+        "scrap": scrap
+    })
+}
+
+// The command to release a job's part.
+pub(crate) fn release_command(value: &Value) -> Option<Command>
+    ensures { result ≡ row 4 form.release_command (view value.now) }
+{
+    if !has_keys(value, 4) {
+        return None;
+    }
+    let job = number_at(value, "job")?;
+    Some(Command::Release { job })
+}
+
+// The object of a message that releases a job's part.
+pub(crate) fn release_value(alloc: Global, pair: (u64, u64), job: u64) -> Result<Value, AllocError>
+    ensures { IfOk result (λ value. view value ≡ message_data (record { terminal = pair.0; number = pair.1; command = Release job })) }
+{
+    json!(in alloc; {"do": "release", "job": job, "number": pair.1, "terminal": pair.0})
+}
+
+// The reply to it.
+pub(crate) fn release_made(value: &Value) -> Option<Reply>
+    ensures { result ≡ row 2 form.release_made (view value.now) }
+{
+    if !has_keys(value, 2) {
+        return None;
+    }
+    let job = number_at(value, "job")?;
+    Some(Reply::Release { job })
+}
+
+// The object of the reply.
+pub(crate) fn release_reply(alloc: Global, job: u64) -> Result<Value, AllocError>
+    ensures { IfOk result (λ value. view value ≡ reply_data (reply.Release job)) }
+{
+    json!(in alloc; {"job": job, "ok": "release"})
+}

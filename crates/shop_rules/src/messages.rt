@@ -1,0 +1,166 @@
+ghost use Rattle.std.specs.Prelude.{◌≡◌, ◌≢◌, IfOk, IfErr, Some, None, option_map};
+ghost use Rattle.std.specs.Option.{ok_or};
+ghost use Rattle.serde_json.specs.View.{view};
+ghost use Rattle.shop_machine.specs.Messages.{IsMessage};
+ghost use Rattle.shop_machine.specs.declared.refusals.Refusal.TheVariants.{BadMessage, NoMemory};
+ghost use Rattle.shop_rules.specs.Forms as form;
+ghost use Rattle.shop_rules.specs.Forms.{message_data, json_texts};
+
+use crate::adding::{material_command, material_value};
+use crate::asking::asked;
+use crate::ending::{done_command, done_value, release_command, release_value};
+use crate::fields::{number_at, word_at};
+use crate::ordering::{order_command, order_value, see_lines};
+use crate::receiving::{receive_command, receive_value};
+use crate::reserving::{reserve_command, reserve_value};
+use crate::turning::{return_command, return_value, scrap_command, scrap_value};
+use crate::words::{see_part, wide};
+use serde_json::Value;
+use shop_machine::{Command, Message, Query, Refusal, Text};
+use std::alloc::{AllocError, Global};
+
+// The command that a value stands for, by the word of `do`.
+fn command(alloc: Global, value: &Value, word: &str) -> Result<Option<Command>, AllocError>
+    ensures { IfOk result (λ command. command ≡ form.command_of word.now (view value.now)) }
+{
+    if word == "material" {
+        Ok(material_command(value))
+    } else if word == "receive" {
+        Ok(receive_command(value))
+    } else if word == "order" {
+        order_command(alloc, value)
+    } else if word == "reserve" {
+        reserve_command(alloc, value)
+    } else if word == "done" {
+        Ok(done_command(value))
+    } else if word == "release" {
+        Ok(release_command(value))
+    } else if word == "scrap" {
+        Ok(scrap_command(value))
+    } else if word == "return" {
+        Ok(return_command(value))
+    } else {
+        Ok(None)
+    }
+}
+
+// The word of `do`, the terminal and the number.
+fn head(value: &Value) -> Option<(&str, u32, u32)>
+    ensures { option_map (λ head. (head.0.now, head.1, head.2)) result ≡ form.sent_head (view value.now) }
+{
+    let word = word_at(value, "do", "ask")?;
+    let terminal = number_at(value, "terminal")?;
+    let number = number_at(value, "number")?;
+    Some((word, terminal, number))
+}
+
+// A message of any terminal.
+fn sent(alloc: Global, value: &Value) -> Result<Option<Message>, AllocError>
+    ensures { IfOk result (λ message. message ≡ form.sent_of (view value.now)) }
+{
+    let Some((word, terminal, number)) = head(value) else {
+        return Ok(None);
+    };
+    match command(alloc, value, word)? {
+        Some(command) => Ok(Some(Message {
+            terminal,
+            number,
+            command,
+        })),
+        None => Ok(None),
+    }
+}
+
+/// The message that a value stands for; refused `BadMessage` where it stands for none, and where its terminal is 0, and
+/// `NoMemory` where memory runs out.
+pub fn read_message(alloc: Global, value: &Value) -> Result<Message, Refusal>
+    ensures ok { IfOk result (λ message. form.message_of (view value.now) ≡ Some message) }
+    ensures err { IfErr result (λ refusal. refusal ≢ NoMemory → (refusal ≡ BadMessage) × (form.message_of (view value.now) ≡ None)) }
+{
+    match sent(alloc, value) {
+        Ok(Some(message)) => {
+            if message.terminal < 1 {
+                return Err(Refusal::BadMessage);
+            }
+            Ok(message)
+        }
+        Ok(None) => Err(Refusal::BadMessage),
+        Err(_) => Err(Refusal::NoMemory),
+    }
+}
+
+/// A message as an object.
+pub fn message_value(alloc: Global, message: &Message) -> Result<Value, AllocError>
+    ensures value { IfOk result (λ value. view value ≡ message_data message.now) }
+    ensures message { IsMessage message.now }
+{
+    let pair = (wide(message.terminal), wide(message.number));
+    match &message.command {
+        Command::AddMaterial {
+            material,
+            kind,
+            kerf,
+            min_long,
+            min_short,
+        } => material_value(
+            alloc,
+            pair,
+            material.as_str(),
+            *kind,
+            wide(*kerf),
+            wide(*min_long),
+            wide(*min_short),
+        ),
+        Command::Receive {
+            material,
+            batch,
+            w,
+            h,
+            count,
+        } => receive_value(
+            alloc,
+            pair,
+            material.as_str(),
+            batch.as_str(),
+            wide(*w),
+            wide(*h),
+            wide(*count),
+        ),
+        Command::AddOrder { order, lines } => {
+            see_lines(lines.as_slice());
+            order_value(alloc, pair, order.as_str(), lines.as_slice())
+        }
+        Command::Reserve { part, tree } => {
+            see_part(part);
+            reserve_value(alloc, pair, part, tree.as_str())
+        }
+        Command::Done { job } => done_value(alloc, pair, wide(*job)),
+        Command::Release { job } => release_value(alloc, pair, wide(*job)),
+        Command::Scrap { part } => {
+            see_part(part);
+            scrap_value(alloc, pair, part)
+        }
+        Command::GiveBack { part } => {
+            see_part(part);
+            return_value(alloc, pair, part)
+        }
+    }
+}
+
+#[tactic(auto, using(crate::proofs::Back::message_no_float), unfolding(crate::specs::Forms::json_texts))]
+/// The canonical text of a message: compact, with its keys in byte order.
+pub fn message_text(alloc: Global, message: &Message) -> Result<Text, AllocError>
+    ensures text { IfOk result (λ text. text ≡ json_texts.of_message message.now) }
+    ensures message { IsMessage message.now }
+{
+    let value = message_value(alloc, message)?;
+    let text = value.to_string(alloc)?;
+    Ok(Text::of(text))
+}
+
+/// The query that a value stands for; refused `BadMessage` where it stands for none.
+pub fn read_query(value: &Value) -> Result<Query, Refusal>
+    ensures { result ≡ ok_or (form.query_of (view value.now)) BadMessage }
+{
+    asked(value).ok_or(Refusal::BadMessage)
+}

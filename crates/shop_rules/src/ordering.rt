@@ -1,0 +1,187 @@
+ghost use Rattle.std.specs.Prelude.{◌≡◌, IfOk, All, map};
+ghost use Rattle.serde_json.specs.View.{view};
+ghost use Rattle.shop_machine.specs.declared.messages.Command.TheVariants.{AddOrder};
+ghost use Rattle.shop_machine.specs.declared.messages.Reply.TheVariants as reply;
+ghost use Rattle.shop_machine.specs.Messages.{IsLine};
+ghost use Rattle.shop_rules.specs.Fields.{all_of, row};
+ghost use Rattle.shop_rules.specs.Forms as form;
+ghost use Rattle.shop_rules.specs.Forms.{message_data, reply_data};
+
+use crate::fields::{code_at, elements_at, flag_at, has_keys, number_at};
+use crate::words::wide;
+use serde_json::{Value, json};
+use shop_machine::{Command, LineList, OrderLine, Reply};
+use std::alloc::{AllocError, Global};
+
+fn line_fields(value: &Value) -> Option<OrderLine>
+    ensures { result ≡ form.line_fields (view value.now) }
+{
+    let line = number_at(value, "line")?;
+    let material = code_at(value, "material")?;
+    let w = number_at(value, "w")?;
+    let h = number_at(value, "h")?;
+    let turn = flag_at(value, "turn")?;
+    let count = number_at(value, "count")?;
+    let worth = number_at(value, "worth")?;
+    Some(OrderLine {
+        line,
+        material,
+        w,
+        h,
+        turn,
+        count,
+        worth,
+    })
+}
+
+fn read_line(value: &Value) -> Option<OrderLine>
+    ensures { result ≡ form.line_of (view value.now) }
+{
+    if has_keys(value, 7) {
+        line_fields(value)
+    } else {
+        None
+    }
+}
+
+// The lines that the values stand for, where each stands for one.
+fn read_lines(alloc: Global, values: &[Value]) -> Result<Option<LineList>, AllocError>
+    ensures { IfOk result (λ lines. lines ≡ all_of form.line_of (map view values.now)) }
+{
+    let mut lines = LineList::new(alloc);
+    for value in values {
+        let Some(line) = read_line(value) else {
+            return Ok(None);
+        };
+        lines.push(line)?;
+    }
+    Ok(Some(lines))
+}
+
+// The lines at a key.
+fn lines_at(alloc: Global, value: &Value, key: &str) -> Result<Option<LineList>, AllocError>
+    ensures { IfOk result (λ lines. lines ≡ form.lines_at key.now (view value.now)) }
+{
+    match elements_at(value, key) {
+        Some(values) => read_lines(alloc, values),
+        None => Ok(None),
+    }
+}
+
+// The command to add an order.
+pub(crate) fn order_command(alloc: Global, value: &Value) -> Result<Option<Command>, AllocError>
+    ensures { IfOk result (λ command. command ≡ row 5 form.order_command (view value.now)) }
+{
+    if !has_keys(value, 5) {
+        return Ok(None);
+    }
+    match code_at(value, "order") {
+        Some(order) => match lines_at(alloc, value, "lines")? {
+            Some(lines) => Ok(Some(Command::AddOrder { order, lines })),
+            None => Ok(None),
+        },
+        None => Ok(None),
+    }
+}
+
+// An order's line as an object.
+fn line_value(alloc: Global, line: &OrderLine) -> Result<Value, AllocError>
+    ensures { IfOk result (λ value. view value ≡ form.line_data line.now) }
+{
+    let count = wide(line.count);
+    let h = wide(line.h);
+    let number = wide(line.line);
+    let w = wide(line.w);
+    let worth = wide(line.worth);
+    json!(in alloc; {
+        "count": count,
+        "h": h,
+        "line": number,
+        "material": line.material.as_str(),
+        "turn": line.turn,
+        "w": w,
+        "worth": worth
+    })
+}
+
+// An order's lines as a list of objects.
+fn lines_value(alloc: Global, lines: &[OrderLine]) -> Result<Value, AllocError>
+    ensures { IfOk result (λ value. view value ≡ form.lines_data lines.now) }
+{
+    let mut values: Vec<Value> = Vec::new(alloc);
+    for line in lines {
+        values.push(line_value(alloc, line)?)?;
+    }
+    Ok(Value::Array(values))
+}
+
+// The object of a message that adds an order.
+pub(crate) fn order_value(
+    alloc: Global,
+    pair: (u64, u64),
+    order: &str,
+    lines: &[OrderLine],
+) -> Result<Value, AllocError>
+    ensures { IfOk result (λ value. view value ≡ message_data (record { terminal = pair.0; number = pair.1; command = AddOrder order.now lines.now })) }
+{
+    let lines = lines_value(alloc, lines)?;
+    json!(in alloc; {
+        "do": "order",
+        "lines": lines,
+        "number": pair.1,
+        "order": order,
+        "terminal": pair.0
+    })
+}
+
+// Reads a line, which so is known to be in range.
+fn see_line(line: &OrderLine)
+    ensures { IsLine line.now }
+{
+    let _numbers = [
+        wide(line.line),
+        wide(line.w),
+        wide(line.h),
+        wide(line.count),
+        wide(line.worth),
+    ];
+    let _material = line.material.as_str();
+}
+
+// Reads each line, so that all are known to be in range.
+pub(crate) fn see_lines(lines: &[OrderLine])
+    ensures { All IsLine lines.now }
+{
+    for line in lines {
+        see_line(line);
+    }
+}
+
+// The reply to it.
+pub(crate) fn order_made(value: &Value) -> Option<Reply>
+    ensures { result ≡ row 4 form.order_made (view value.now) }
+{
+    if !has_keys(value, 4) {
+        return None;
+    }
+    let count = number_at(value, "count")?;
+    let first = number_at(value, "first")?;
+    let order = code_at(value, "order")?;
+    Some(Reply::AddOrder {
+        count,
+        first,
+        order,
+    })
+}
+
+// The object of the reply.
+pub(crate) fn order_reply(
+    alloc: Global,
+    count: u64,
+    first: u64,
+    order: &str,
+) -> Result<Value, AllocError>
+    ensures { IfOk result (λ value. view value ≡ reply_data (reply.AddOrder count first order.now)) }
+{
+    json!(in alloc; {"count": count, "first": first, "ok": "order", "order": order})
+}

@@ -1,0 +1,46 @@
+-- A replay over a fresh book.
+use Rattle.std.proofs.Common.{◌≡◌, List, [], ◌++◌, length, ℕ, Option, Result, Ok, Err, refl}
+use Rattle.std.specs.Prelude.{IfOk, IfErr}
+use Rattle.shop_machine.specs.Content.{fresh}
+use Rattle.shop_machine.proofs.Sound.{gives_sound}
+use Rattle.shop_rules.specs.Forms.{json_texts}
+use Rattle.shop_store.specs.declared.books.Book.{Ghosts}
+use Rattle.shop_wire.specs.declared.faults.ReplayFault.{ReplayFault}
+use Rattle.shop_wire.specs.declared.faults.ReplayFault.TheVariants.{Read}
+use Rattle.shop_wire.specs.Lines.{AreLines}
+use Rattle.shop_wire.specs.Replays.{IsReplayed, IsReplayedFresh}
+
+module _ {B : Type 0} (book : Ghosts B) (before after : B) (honest : book.is_honest after) (held : book.holds before fresh) where
+  pub from_fresh : (held_old held_new : Option (List ℕ)) (lines : List (List ℕ)) (unwritten : List ℕ)
+      → IsReplayed book before after held_old held_new lines unwritten → IsReplayedFresh held_old held_new lines unwritten
+  from_fresh held_old held_new lines unwritten r =
+      let one = r.run honest fresh held (gives_sound json_texts [] fresh refl) in
+      let later = one.account [] refl in
+      record {
+        replies = r.replies;
+        each = r.each;
+        bytes = r.bytes;
+        told = r.told;
+        written = r.written;
+        run = record { next = one.next; run = one.run; history = later.0; messages = later.1; account = later.2 };
+      }
+
+  module _ (left held_old held_new : Option (List ℕ)) (result : Result ℕ ReplayFault) where
+    pub ok_from_fresh : IfOk result (λ count. (lines : List (List ℕ)) × AreLines left lines × (count ≡ length lines) × IsReplayed book before after held_old held_new lines [])
+        → IfOk result (λ count. (lines : List (List ℕ)) × AreLines left lines × (count ≡ length lines) × IsReplayedFresh held_old held_new lines [])
+    ok_from_fresh = by result
+      where
+        by : (r : Result ℕ ReplayFault) → IfOk r (λ count. (lines : List (List ℕ)) × AreLines left lines × (count ≡ length lines) × IsReplayed book before after held_old held_new lines [])
+            → IfOk r (λ count. (lines : List (List ℕ)) × AreLines left lines × (count ≡ length lines) × IsReplayedFresh held_old held_new lines [])
+        by (Ok count) p = (p.0, p.1, p.2, from_fresh held_old held_new p.0 [] p.3)
+        by (Err fault) p = tt
+
+    pub err_from_fresh : IfErr result (λ fault. (lines more : List (List ℕ)) × AreLines left (lines ++ more) × (unwritten : List ℕ) × (fault ≡ Read → unwritten ≡ []) × IsReplayed book before after held_old held_new lines unwritten)
+        → IfErr result (λ fault. (lines more : List (List ℕ)) × AreLines left (lines ++ more) × (unwritten : List ℕ) × (fault ≡ Read → unwritten ≡ []) × IsReplayedFresh held_old held_new lines unwritten)
+    err_from_fresh = by result
+      where
+        by : (r : Result ℕ ReplayFault)
+            → IfErr r (λ fault. (lines more : List (List ℕ)) × AreLines left (lines ++ more) × (unwritten : List ℕ) × (fault ≡ Read → unwritten ≡ []) × IsReplayed book before after held_old held_new lines unwritten)
+            → IfErr r (λ fault. (lines more : List (List ℕ)) × AreLines left (lines ++ more) × (unwritten : List ℕ) × (fault ≡ Read → unwritten ≡ []) × IsReplayedFresh held_old held_new lines unwritten)
+        by (Ok count) p = tt
+        by (Err fault) p = (p.0, p.1, p.2, p.3, p.4, from_fresh held_old held_new p.0 p.3 p.5)

@@ -1,0 +1,8 @@
+/// The most reads of a replay.
+pub(crate) const MOST_READS: u32 = 1_000_000_000;
+
+/// The most bytes of a line that may be a message or a query.
+pub(crate) const LONGEST_LINE: usize = 131_072;
+
+/// The most bytes of one read.
+pub(crate) const ROOM: usize = 65_536;
