@@ -5,6 +5,8 @@ mod counted;
 mod streams;
 #[cfg(test)]
 mod tests;
+mod writer;
 
 pub use counted::Counted;
 pub use streams::{Failed, Sink, Source};
+pub use writer::write_all;

@@ -3,7 +3,7 @@ use Rattle.std.proofs.Common.{◌≡◌, ℕ, ◌+◌, Bool, true, false, nat_lt
 use Rattle.std.proofs.lemmas.Bool.Decides.{nat_tests}
 use Rattle.std.specs.Prelude.{if◌then◌else◌}
 use Rattle.shop_text.specs.Streams.{most_counted}
-use Rattle.shop_wire.specs.Streams.{HasFailed}
+use Rattle.shop_text.specs.Streams.{HasFailed}
 
 by_test : (before after : ℕ) (t : Bool) → nat_lt before most_counted ≡ t → after ≡ (if t then before + 1 else before) → HasFailed before after
 by_test before after true e is = inl (omega (arith, is))

@@ -1,5 +1,5 @@
 -- A part of a buffer up to a line feed.
-use Rattle.std.proofs.Common.{◌≡◌, ℕ, zero, suc, ◌+◌, ◌-◌, ◌<◌, ◌≤◌, List, [], ◌∷◌, ◌++◌, length, take, drop, get_or, Bool, true, false, nat_eq, refl, sym, ap, ◌∙◌, arith, length-drop}
+use Rattle.std.proofs.Common.{◌≡◌, ℕ, zero, suc, ◌+◌, ◌-◌, ◌<◌, ◌≤◌, List, [], ◌∷◌, ◌++◌, length, take, drop, get_or, Bool, true, false, nat_eq, refl, sym, ap, ◌∙◌, arith}
 use Rattle.std.proofs.Math.Seq.{take-length, drop-cons}
 use Rattle.std.proofs.lemmas.Bool.{eqb-true}
 use Rattle.std.proofs.lemmas.List.{take-append-drop, drop-drop, drop-take}
@@ -38,6 +38,3 @@ split_at_feed buffer start end at within inside is =
 
 pub pending_none : (buffer : List ℕ) (n : ℕ) → pending buffer n n ≡ []
 pending_none buffer n = let none : n - n ≡ 0 = omega arith in ap (λ m. take m (drop n buffer)) none
-
-pub rest_whole : (n : ℕ) (text : List ℕ) → take (length text - n) (drop n text) ≡ drop n text
-rest_whole n text = ap (λ m. take m (drop n text)) (sym (length-drop {A = ℕ} n text)) ∙ take-length (drop n text)

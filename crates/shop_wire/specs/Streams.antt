@@ -22,10 +22,6 @@ TookBytes before None after new = ⊤
 TookBytes before (Some xs) after None = ⊥
 TookBytes before (Some xs) after (Some ys) = after + length ys ≤ before + length xs
 
--- the count of failures rose, or stood at its greatest value before
-abbrev pub HasFailed : ℕ → ℕ → Type 0
-HasFailed before after = (before < after) ⊎ (most_counted ≤ before)
-
 -- after so many reads there are too many bytes left for the rest of them, where they are told
 abbrev pub IsLong : ℕ → Option (List ℕ) → Type 0
 IsLong reads left = IfSome left (λ input. most_reads ≤ reads + length input)

@@ -12,7 +12,6 @@ mod replays;
 mod tests;
 #[cfg(test)]
 mod turning_tests;
-mod writer;
 
 pub use faults::ReplayFault;
 pub use replays::replay;

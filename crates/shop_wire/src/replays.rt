@@ -2,15 +2,15 @@ ghost use Rattle.std.specs.Prelude.{◌≡◌, ◌+◌, ◌≤◌, ◌++◌, ◌
 ghost use Rattle.shop_desk.specs.Faults.{CountsUp};
 ghost use Rattle.shop_wire.specs.Lines.{AreLines};
 ghost use Rattle.shop_wire.specs.Replays.{IsReplayed};
-ghost use Rattle.shop_wire.specs.Streams.{AreReads, HasFailed, IsLong, most_reads};
+ghost use Rattle.shop_text.specs.Streams.{HasFailed};
+ghost use Rattle.shop_wire.specs.Streams.{AreReads, IsLong, most_reads};
 ghost use Rattle.shop_wire.specs.declared.faults.ReplayFault.TheVariants.{Read, Write, NoMemory};
 
 use crate::answers::{answer, line_text};
 use crate::faults::ReplayFault;
 use crate::reader::LineReader;
-use crate::writer::write_all;
 use shop_store::Book;
-use shop_text::{Sink, Source};
+use shop_text::{Sink, Source, write_all};
 use std::alloc::Global;
 
 // Answers a line.

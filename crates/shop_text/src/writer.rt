@@ -1,11 +1,11 @@
 ghost use Rattle.std.specs.Prelude.{◌≡◌, ◌++◌, ℕ, List, OnErr, OnOk};
 ghost use Rattle.std.specs.Io.KnownBytes.{Appends};
-ghost use Rattle.shop_wire.specs.Streams.{HasFailed};
+ghost use Rattle.shop_text.specs.Streams.{HasFailed};
 
-use shop_text::{Failed, Sink};
+use crate::streams::{Failed, Sink};
 
 /// Writes bytes to the last. After an Err the first of them were written.
-pub(crate) fn write_all<W: Sink>(sink: &mut W, bytes: &[u8]) -> Result<(), Failed>
+pub fn write_all<W: Sink>(sink: &mut W, bytes: &[u8]) -> Result<(), Failed>
     ensures ok { OnOk result (Appends (W.held sink.old) (W.held sink.new) bytes.now) }
     ensures err { OnErr result ((done : List ℕ) × (rest : List ℕ) × (done ++ rest ≡ bytes.now) × Appends (W.held sink.old) (W.held sink.new) done) }
     ensures failed { OnErr result (HasFailed (W.failed sink.old) (W.failed sink.new)) }

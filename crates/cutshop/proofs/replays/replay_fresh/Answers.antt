@@ -1,6 +1,6 @@
 use Rattle.shop_store.specs.contracts.memory.MemBookBook.TheImpl as mem
 use Rattle.shop_wire.proofs.Fresh.{ok_from_fresh, err_from_fresh}
-use Rattle.cutshop.proofs.replay_fresh.Goals as goal
+use Rattle.cutshop.proofs.replays.replay_fresh.Goals as goal
 
 pub returns-clause-ok : goal.returns-clause-ok
 returns-clause-ok g c =

@@ -1,8 +1,11 @@
-use Rattle.std.proofs.Common.{◌≡◌, ◌++◌, ◌-◌, List, ℕ, length, take, drop, ap, ◌∙◌, append_assoc}
+use Rattle.std.proofs.Common.{◌≡◌, ◌++◌, ◌-◌, List, ℕ, length, take, drop, ap, sym, ◌∙◌, append_assoc, length-drop}
+use Rattle.std.proofs.Math.Seq.{take-length}
 use Rattle.std.proofs.lemmas.List.{take-append-drop}
 use Rattle.std.proofs.KnownBytes.{Appends-trans}
-use Rattle.shop_wire.proofs.Parts.{rest_whole}
-use Rattle.shop_wire.proofs.writer.write_all.Goals as goal
+use Rattle.shop_text.proofs.writer.write_all.Goals as goal
+
+rest_whole : (n : ℕ) (text : List ℕ) → take (length text - n) (drop n text) ≡ drop n text
+rest_whole n text = ap (λ m. take m (drop n text)) (sym (length-drop {A = ℕ} n text)) ∙ take-length (drop n text)
 
 went_on : (n : ℕ) (done rest bytes : List ℕ) → done ++ rest ≡ bytes → (done ++ take n rest) ++ take (length rest - n) (drop n rest) ≡ bytes
 went_on n done rest bytes is =
