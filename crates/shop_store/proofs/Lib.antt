@@ -2,3 +2,4 @@ pub mod Places
 pub mod Summed
 pub mod Held
 pub mod Orders
+pub mod Handed

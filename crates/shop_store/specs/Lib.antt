@@ -1,5 +1,6 @@
 pub mod Failures
 pub mod Books
+pub mod Visits
 pub mod Kept
 pub mod Rows
 pub mod Sums

@@ -3,7 +3,9 @@ ghost use Rattle.shop_machine.specs.Content.{Content, material_at, part_at, job_
 ghost use Rattle.shop_machine.specs.Soundness.{Fits};
 ghost use Rattle.shop_store.specs.Failures.{CountsFailure};
 ghost use Rattle.shop_store.specs.Books.{Keeps};
+ghost use Rattle.shop_store.specs.Visits.{IsVisit};
 
+use crate::visits::PartVisitor;
 use cut_measure::{Code, PartName};
 use shop_machine::{Change, Demand, Job, Kept, Material, Part, PartList, Refusal, Totals};
 use std::alloc::{AllocError, Global};
@@ -118,6 +120,17 @@ pub trait Book {
     /// The standing and the reserved parts of a material, by rising act and then node.
     fn parts_of(&mut self, alloc: Global, material: Code) -> Result<PartList, BookFault>
         ensures rows { is_honest self.new → (m : Content) → holds self.old m → IfOk result (λ rows. rows ≡ listed_parts m material) }
+        ensures keeps { Keeps is_honest holds may_leave failed (CountsFailure result) self.old self.new };
+
+    /// Hands out the list of `parts_of` in order, one part at a time, for as long as the visitor answers true. The answer is
+    /// true where that was all of the list and false where the visitor stopped; after an `Err` too the parts that were
+    /// handed out begin the list, and the visitor is what they in turn made of it.
+    fn visit_parts<V: PartVisitor>(
+        &mut self,
+        material: Code,
+        visitor: &mut V,
+    ) -> Result<bool, BookFault>
+        ensures visit { IsVisit V.looks (λ what. is_honest self.new → (m : Content) → holds self.old m → what (listed_parts m material)) visitor.old result visitor.new }
         ensures keeps { Keeps is_honest holds may_leave failed (CountsFailure result) self.old self.new };
 
     /// Makes a change that fits the content as a whole, or not at all. After an `Err` the content is what it was, whatever

@@ -7,6 +7,8 @@ mod rows;
 mod sums;
 #[cfg(test)]
 mod tests;
+mod visits;
 
 pub use books::{Book, BookFault};
 pub use memory::MemBook;
+pub use visits::PartVisitor;

@@ -7,11 +7,13 @@ ghost use Rattle.shop_machine.specs.Soundness.{IsInRange};
 ghost use Rattle.shop_store.specs.Memory.{material_key, part_key, job_key, order_key, demand_key, put_kept, materials_of, parts_in, jobs_in, orders_in, demands_in};
 ghost use Rattle.std.specs.FinMap.{find as find_entry};
 ghost use Rattle.shop_store.specs.Rows.{rise, row_at, IsPut};
+ghost use Rattle.shop_store.specs.Visits.{IsVisit};
 ghost use Rattle.shop_store.specs.Sums.{sums_key, AreSumsOf, all_small};
 
 use crate::books::{Book, BookFault};
 use crate::rows::{Row, at, find, put};
 use crate::sums::{Sums, add_part, take_replaced, totals_in};
+use crate::visits::PartVisitor;
 use cut_measure::{Code, PartName};
 use shop_machine::{
     Change, Demand, Job, Kept, KeptMessage, Material, Pair, Part, PartList, Totals,
@@ -237,6 +239,18 @@ fn listed(alloc: Global, parts: &[Part], material: Code) -> Result<PartList, All
         }
     }
     Ok(rows)
+}
+
+// Hands out the listed parts of a material, for as long as the visitor answers true.
+fn visit<V: PartVisitor>(parts: &[Part], material: Code, visitor: &mut V) -> bool
+    ensures { IsVisit V.looks (λ what. what (filter (is_listed material) parts.now)) visitor.old (Ok result) visitor.new }
+{
+    for part in parts {
+        if part.is_listed(&material) && !visitor.part(part) {
+            return false;
+        }
+    }
+    true
 }
 
 // A copy of the job of a number.
@@ -608,6 +622,19 @@ impl Book for MemBook {
     {
         let rows = listed(alloc, &self.parts, material)?;
         Ok(rows)
+    }
+
+    fn visit_parts<V: PartVisitor>(
+        &mut self,
+        material: Code,
+        visitor: &mut V,
+    ) -> Result<bool, BookFault>
+        ensures visit { IsVisit V.looks (λ what. what (listed_parts self.old.content material)) visitor.old result visitor.new }
+        ensures sure { IsOk result }
+        ensures same { self.new ≡ self.old }
+    {
+        let on = visit(&self.parts, material, visitor);
+        Ok(on)
     }
 
     fn commit(&mut self, change: Change) -> Result<(), BookFault>
