@@ -9,6 +9,11 @@ use crate::visits::PartVisitor;
 use cut_measure::{Code, PartName};
 use shop_machine::{Change, Demand, Job, Kept, Material, Part, PartList, Refusal, Totals};
 use std::alloc::{AllocError, Global};
+use std::error::Error;
+use std::fmt;
+
+/// The greatest number of failures that is counted.
+pub const MOST_FAILURES: u64 = 18446744073709551615;
 
 /// Why a book has no answer.
 #[derive(Clone, Copy, Debug, PartialEq, Eq)]
@@ -18,6 +23,22 @@ pub enum BookFault {
     /// The store failed; the book counts it.
     Store,
 }
+
+impl fmt::Display for BookFault {
+    ghost use Rattle.std.specs.Prelude.{Some};
+    ghost use Rattle.shop_store.specs.Failures.{book_fault_text};
+
+    ghost output = { λ fault. Some (book_fault_text fault) };
+
+    fn fmt<W: fmt::Write>(&self, f: &mut fmt::Formatter<W>) -> fmt::Result {
+        f.write_str(match self {
+            BookFault::NoMemory => "fault memory",
+            BookFault::Store => "fault store",
+        })
+    }
+}
+
+impl Error for BookFault {}
 
 impl From<BookFault> for Refusal {
     ghost use Rattle.std.specs.Prelude.{◌≡◌};
@@ -145,7 +166,7 @@ pub trait Book {
         ensures honest { is_honest self.new → is_honest self.old }
         ensures failures { CountsFailure result (failed self.old) (failed self.new) };
 
-    /// How often the store failed, up to 18446744073709551615.
+    /// How often the store failed, up to `MOST_FAILURES`.
     fn failures(&self) -> u64
         ensures { result ≡ failed self.now };
 }

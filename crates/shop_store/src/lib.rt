@@ -9,6 +9,6 @@ mod sums;
 mod tests;
 mod visits;
 
-pub use books::{Book, BookFault};
+pub use books::{Book, BookFault, MOST_FAILURES};
 pub use memory::MemBook;
 pub use visits::PartVisitor;

@@ -168,11 +168,11 @@ impl Model for MemBook {
 
     ghost coded = { memory_code };
 
-    ghost use Rattle.shop_store.specs.MemBooks.{book_of, IsWhole};
+    ghost use Rattle.shop_store.specs.MemBooks.{book_of, IsConsistent};
 
     ghost view = { book_of };
 
-    ghost invariant = { IsWhole };
+    ghost invariant = { IsConsistent };
 }
 
 impl MemBook {

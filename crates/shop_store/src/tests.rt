@@ -304,6 +304,13 @@ fn a_job_is_put_again(rt: HostRuntime) -> Result<(), Fail> {
     Ok(())
 }
 
+#[test]
+fn prints_faults(rt: HostRuntime) -> Result<(), Fail> {
+    let text = format!(in rt.alloc(); "{}", BookFault::Store)?;
+    assert_eq!(rt; text.as_str(), "fault store");
+    Ok(())
+}
+
 // Keeps the names of the parts that it looks at, and asks for so many.
 #[derive(Drop)]
 struct Names {
