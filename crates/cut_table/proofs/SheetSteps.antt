@@ -27,11 +27,11 @@ down_has k s (y ∷ ys) x has =
       | inr h ↦ Contains-tail (want_down k s y) (wants_down k s ys) (want_down k s x) (down_has k s ys x h)
     ]
 
-down_worth : (k s : ℕ) (xs : List Want) (d : ℕ) → of_demand (λ x. x.worth) (wants_down k s xs) d ≡ of_demand (λ x. x.worth) xs d
+pub down_worth : (k s : ℕ) (xs : List Want) (d : ℕ) → of_demand (λ x. x.worth) (wants_down k s xs) d ≡ of_demand (λ x. x.worth) xs d
 down_worth k s [] d = refl
 down_worth k s (x ∷ xs) d = ap (λ n. cond (eqb x.demand d) x.worth n) (down_worth k s xs d)
 
-leaf_sum-same : (f g : ℕ → ℕ) (t : Tree) → ((d : ℕ) → f d ≡ g d) → leaf_sum f t ≡ leaf_sum g t
+pub leaf_sum-same : (f g : ℕ → ℕ) (t : Tree) → ((d : ℕ) → f d ≡ g d) → leaf_sum f t ≡ leaf_sum g t
 leaf_sum-same f g Rest same = refl
 leaf_sum-same f g (Piece d t) same = same d
 leaf_sum-same f g (Trim X a t) same = leaf_sum-same f g t same
