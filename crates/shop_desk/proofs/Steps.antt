@@ -11,7 +11,7 @@ use Rattle.shop_machine.specs.declared.messages.Message.{Message}
 use Rattle.shop_machine.specs.declared.refusals.Refusal.{Refusal}
 use Rattle.shop_machine.specs.declared.refusals.Refusal.TheVariants.{NoMemory, StoreFault, NumberReused}
 use Rattle.shop_machine.specs.declared.messages.Reply.{Reply}
-use Rattle.shop_machine.specs.declared.messages.Reply.TheVariants.{AddMaterial, Receive, AddOrder, Reserve, Done, Release, Scrap, GiveBack, Totals, Trace, Demand, Refused}
+use Rattle.shop_machine.specs.declared.messages.Reply.TheVariants.{AddMaterial, Receive, AddOrder, Reserve, Done, Break, Release, Scrap, GiveBack, Totals, Trace, Demand, Refused}
 use Rattle.shop_machine.specs.Messages.{Texts, IsMessage, IsMade, refusal_in, is_accepted, pair_of}
 use Rattle.shop_machine.specs.Readings.{Reading}
 use Rattle.shop_machine.specs.Content.{Content, kept_at, changed}
@@ -63,6 +63,7 @@ module _ (texts : Texts) where
   none_made (AddOrder count first order) made = refl
   none_made (Reserve cuts job) made = refl
   none_made (Done job kerf pieces rack scrap) made = refl
+  none_made (Break job kerf pieces rack scrap) made = refl
   none_made (Release job) made = refl
   none_made (Scrap part) made = refl
   none_made (GiveBack part) made = refl
