@@ -2,6 +2,7 @@
 #![tactic(auto)]
 
 mod books;
+mod keys;
 mod memory;
 mod rows;
 mod sums;
