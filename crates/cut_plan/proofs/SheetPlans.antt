@@ -1,6 +1,8 @@
 -- A sheet's plan: what is known of the kept leaves of a best tree, and of the tree that they are laid out to.
-use Rattle.std.proofs.Common.{◌≡◌, ◌≢◌, ℕ, zero, suc, ◌+◌, ◌-◌, ◌*◌, ◌<◌, ◌≤◌, ◌⊎◌, false, List, [], ◌∷◌, length, get_or, min, sym, refl, ap, ◌∙◌, inl, inr, arith, Some, cond, eqb}
+use Rattle.std.proofs.Common.{◌≡◌, ◌≢◌, ℕ, zero, suc, ◌+◌, ◌-◌, ◌*◌, ◌<◌, ◌≤◌, ◌⊎◌, true, false, List, [], ◌∷◌, length, get_or, min, sym, subst, refl, ap, ◌∙◌, inl, inr, arith, Some, cond, eqb}
 use Rattle.std.specs.Prelude.{All, Contains, sum_by, slice_get}
+use Rattle.std.specs.List.{list_all}
+use Rattle.std.proofs.Math.Nat.{mod-one}
 use Rattle.std.proofs.lemmas.Nat.{mul-le}
 use Rattle.std.proofs.lemmas.Bool.{ne_eqb}
 use Rattle.std.proofs.lemmas.Bool.Decides.{eqb_tells}
@@ -12,15 +14,17 @@ use Rattle.cut_measure.specs.Measures.{Extent}
 use Rattle.cut_tree.specs.Tree.{Tree, Rest, Piece, Trim, Cut, IsShaped, leaf_sum, count_of, cut_count}
 use Rattle.cut_tree.specs.Patterns.{HasDemands}
 use Rattle.cut_table.specs.declared.wants.Want.{Want}
-use Rattle.cut_table.specs.Legal.{Legal, of_demand, IsWithinCounts, HaveOwnDemands, leaf_count}
-use Rattle.cut_table.specs.Rounded.{steps_down, want_up, wants_up}
+use Rattle.cut_table.specs.Legal.{Legal, of_demand, worth_of, IsWithinCounts, HaveOwnDemands, leaf_count}
+use Rattle.cut_table.specs.Rounded.{steps_down, want_up, wants_up, wants_down, is_exact}
+use Rattle.cut_table.specs.Best.{IsBestOf}
 use Rattle.cut_table.specs.Counts.{AreCounts, worth_of_counts}
 use Rattle.cut_table.specs.Kept.{KeepsLeaves, Places}
 use Rattle.cut_table.proofs.LeafSums.{Contains-cases, Contains-head, Contains-tail, of_demand_found, weigh, weigh-count}
 use Rattle.cut_table.proofs.BarCounts.{tree_counts, tree_total}
 use Rattle.cut_table.proofs.BestWorths.{in_get}
+use Rattle.cut_table.proofs.SheetSteps.{down_worth, leaf_sum-same, exact_wants}
 use Rattle.cut_plan.specs.Proposals.{AreDemands, HasDemandNumber}
-use Rattle.cut_plan.specs.Sheets.{IsCutting, kept_counts, dropped_of, IsSheetPlan}
+use Rattle.cut_plan.specs.Sheets.{IsCutting, kept_counts, dropped_of, IsSheetPlan, IsCeiling}
 
 pub cutting : (wants : List Want) (p q : ℕ) (old new : List ℕ) (kept : Tree) → KeepsLeaves wants p q old new kept → length new ≡ length wants → ((i : ℕ) → get_or old i 0 ≡ 0) → p ≤ MOST_STEPS → q ≤ MOST_STEPS
     → ((i : ℕ) → i < length new → get_or new i 0 ≤ get_or old i 0 + p * q) → IsCutting wants p q new kept
@@ -208,3 +212,47 @@ few_laid size k s wants counts kept tree own c p len =
           c.few i.0 (want_up k s x) (get_up k s wants i.0 x i.1),
           c.small i.0 (omega (arith, in_get wants i.0 x i.1)),
         )
+
+-- ---- where nothing was dropped
+
+none_dropped : (g : ℕ → ℕ) (xs : List Want) → sum_by (λ x. g x.demand - x.left) xs ≡ 0 → (x : Want) → Contains xs x → g x.demand ≤ x.left
+none_dropped g [] none x has = absurd (omega (arith, has.1))
+none_dropped g (y ∷ ys) none x has =
+    let parts = sum_by-cons (λ (z : Want). g z.demand - z.left) y ys in
+    elim (Contains-cases y ys x has) [
+      | inl e ↦ subst (λ (z : Want). g z.demand ≤ z.left) e (omega (arith, parts))
+      | inr h ↦ none_dropped g ys (omega (arith, parts)) x h
+    ]
+
+weigh_same : (f : Want → ℕ) (g h : ℕ → ℕ) (xs : List Want) → ((x : Want) → Contains xs x → g x.demand ≡ h x.demand) → weigh f g xs ≡ weigh f h xs
+weigh_same f g h [] each = refl
+weigh_same f g h (x ∷ xs) each =
+    ap (λ n. f x * n + weigh f g xs) (each x (Contains-head x xs)) ∙ ap (λ n. f x * h x.demand + n) (weigh_same f g h xs (λ y has. each y (Contains-tail x xs y has)))
+
+-- with step 1 rounding changes nothing
+all_exact : (k : ℕ) (xs : List Want) → list_all (is_exact k 1) xs ≡ true
+all_exact k [] = refl
+all_exact k (x ∷ xs) = rw (mod-one (x.size.w + k), mod-one (x.size.h + k)) (all_exact k xs)
+
+same_steps : (k : ℕ) (xs : List Want) → wants_up k 1 xs ≡ wants_down k 1 xs
+same_steps k xs = exact_wants k 1 xs (omega arith) (all_exact k xs)
+
+-- a whole best tree is worth what it is worth in steps
+whole_worth : (size : Extent) (k : ℕ) (wants : List Want) (tree : Tree) (worth : ℕ) → HaveOwnDemands wants → (l : IsSheetPlan size k 1 wants tree worth 0)
+    → worth ≡ worth_of (wants_up k 1 wants) l.up
+whole_worth size k wants tree worth own l =
+    let few : (x : Want) → Contains wants x → count_of l.up x.demand ≤ x.left = none_dropped (count_of l.up) wants (sym l.dropped_is) in
+    let one : (x : Want) → Contains wants x → count_of tree x.demand ≡ count_of l.up x.demand = λ x has. omega (arith, l.kept x has, few x has) in
+    l.worth_is
+    ∙ sym (weigh-count (λ x. x.worth) wants tree own)
+    ∙ weigh_same (λ x. x.worth) (count_of tree) (count_of l.up) wants one
+    ∙ weigh-count (λ x. x.worth) wants l.up own
+    ∙ sym (leaf_sum-same (of_demand (λ x. x.worth) (wants_down k 1 wants)) (of_demand (λ x. x.worth) wants) l.up (down_worth k 1 wants))
+    ∙ ap (λ xs. worth_of xs l.up) (sym (same_steps k wants))
+
+pub whole_best : (size : Extent) (k : ℕ) (wants : List Want) (tree : Tree) (worth ceiling : ℕ) → HaveOwnDemands wants → IsSheetPlan size k 1 wants tree worth 0
+    → IsCeiling size k 1 wants ceiling → worth ≡ ceiling
+whole_best size k wants tree worth ceiling own l c =
+    let up = subst (λ xs. IsBestOf xs 0 (steps_down k 1 size.w) (steps_down k 1 size.h) worth) (same_steps k wants)
+    (subst (IsBestOf (wants_up k 1 wants) 0 (steps_down k 1 size.w) (steps_down k 1 size.h)) (sym (whole_worth size k wants tree worth own l)) l.best_up.best) in
+    omega (arith, c.best.most up.found.0 up.found.1, up.found.2, up.most c.best.found.0 c.best.found.1, c.best.found.2)

@@ -16,6 +16,6 @@ pub use cut_table::bar::LONGEST_BAR;
 pub use cut_table::sheet::MOST_STEPS;
 pub use cut_table::wants::Want;
 pub use faults::{MOST_WANTS, PlanFault};
-pub use laws::legal_pieces_are_listed;
+pub use laws::{legal_pieces_are_listed, whole_plans_are_best};
 pub use lengths::reached;
 pub use sheets::{SheetProposal, plan_sheet};

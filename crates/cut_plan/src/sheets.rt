@@ -4,6 +4,7 @@ ghost use Rattle.cut_tree.specs.Tree.{cut_count};
 ghost use Rattle.cut_tree.specs.Nodes.{tree_of};
 ghost use Rattle.cut_table.specs.Legal.{HaveOwnDemands};
 ghost use Rattle.cut_table.specs.Table.{HaveSidesAndBoundedWorths};
+ghost use Rattle.cut_table.specs.Best.{IsBestOf};
 ghost use Rattle.cut_plan.specs.declared.faults.PlanFault.TheVariants.{NoMemory, TableTooLarge};
 ghost use Rattle.cut_plan.specs.Faults.{fault_of};
 ghost use Rattle.cut_plan.specs.Proposals.{AreDemands};
@@ -12,9 +13,10 @@ ghost use Rattle.cut_plan.specs.Sheets as spec;
 use crate::faults::{PlanFault, first_fault};
 use cut_measure::{Kind, MOST_KERF, Size};
 use cut_table::bar::counted_worth;
-use cut_table::bound::{all_up, ceiling};
+use cut_table::bound::{all_up, ceiling_beside};
 use cut_table::keep::keep;
 use cut_table::place::place;
+use cut_table::read::worth_at;
 use cut_table::sheet::{MOST_STEPS, best_table};
 use cut_table::wants::{Scaled, Want};
 use cut_tree::{MOST_CUTS, Node, Plan, count_cuts};
@@ -29,19 +31,21 @@ pub struct SheetProposal {
     pub ceiling: u64,
 }
 
-/// The counts of a best tree's leaves by want, and the tree of those that are kept.
+/// The counts of a best tree's leaves by want, the tree of those that are kept, and what the best tree is worth.
 #[derive(Drop)]
 pub struct Cutting {
     pub counts: Vec<u32>,
     pub kept: Node,
+    pub best: u64,
 }
 
-/// The kept leaves laid out on the sheet.
+/// The kept leaves laid out on the sheet, and a ceiling.
 #[derive(Drop)]
 pub struct Laid {
     pub root: Node,
     pub worth: u64,
     pub dropped: u32,
+    pub ceiling: u64,
 }
 
 // Which leaves of a best tree are kept.
@@ -55,12 +59,14 @@ fn kept_leaves(
     requires small { HaveSidesAndBoundedWorths wants.now }
     requires across { across ≤ MOST_STEPS }
     requires down { down ≤ MOST_STEPS }
-    ensures { IfOk result (λ c. spec.IsCutting wants.now across down c.counts.items (tree_of c.kept)) }
+    ensures kept { IfOk result (λ c. spec.IsCutting wants.now across down c.counts.items (tree_of c.kept)) }
+    ensures best { IfOk result (λ c. IsBestOf wants.now 0 across down c.best) }
 {
     let table = best_table(alloc, wants, across, down)?;
     let mut counts = vec![in alloc; 0u32; wants.len()]?;
     let kept = keep(alloc, wants, &table, across + 1, across, down, &mut counts)?;
-    Ok(Cutting { counts, kept })
+    let best = worth_at(wants, &table, across + 1, across, down);
+    Ok(Cutting { counts, kept, best })
 }
 
 // Of each count at most what is left.
@@ -100,6 +106,7 @@ fn lay_out(
     requires faultless { fault_of Sheet size kerf step wants.now ≡ None }
     ensures laid { IfOk result (λ l. spec.IsSheetPlan size kerf step wants.now (tree_of l.root) l.worth l.dropped) }
     ensures few { IfOk result (λ l. cut_count (tree_of l.root) < 2 ^ 32) }
+    ensures ceiling { IfOk result (λ l. spec.IsCeiling size kerf step wants.now l.ceiling) }
 {
     let scaled = all_up(alloc, wants, kerf, step)?;
     let across = ((size.w() + kerf) / step) as usize;
@@ -109,10 +116,12 @@ fn lay_out(
     let kept = kept_counts(alloc, wants, &cutting.counts)?;
     let worth = counted_worth(wants, &kept);
     let dropped = dropped_of(wants, &cutting.counts);
+    let ceiling = ceiling_beside(alloc, wants, size, kerf, step, cutting.best)?;
     Ok(Laid {
         root,
         worth,
         dropped,
+        ceiling,
     })
 }
 
@@ -123,13 +132,12 @@ fn proposal_of(
     step: u32,
     wants: &[Want],
     laid: Laid,
-    ceiling: u64,
 ) -> Result<SheetProposal, PlanFault>
     requires kerf { kerf ≤ MOST_KERF }
     requires demands { AreDemands wants.now }
     requires laid { spec.IsSheetPlan size kerf step wants.now (tree_of laid.root) laid.worth laid.dropped }
     requires few { cut_count (tree_of laid.root) < 2 ^ 32 }
-    requires ceiling { spec.IsCeiling size kerf step wants.now ceiling }
+    requires ceiling { spec.IsCeiling size kerf step wants.now laid.ceiling }
     ensures ok { IfOk result (spec.IsSheetProposal size kerf step wants.now) }
     ensures err { IfErr result (λ fault. (fault ≡ TableTooLarge) × spec.HasManyKept size kerf step wants.now) }
 {
@@ -142,7 +150,7 @@ fn proposal_of(
         plan,
         worth: laid.worth,
         dropped: laid.dropped,
-        ceiling,
+        ceiling: laid.ceiling,
     })
 }
 
@@ -160,10 +168,7 @@ fn faultless_sheet(
     ensures err { IfErr result (λ fault. (fault ≡ NoMemory) ⊎ ((fault ≡ TableTooLarge) × spec.HasManyKept size kerf step wants.now)) }
 {
     match lay_out(alloc, size, kerf, step, wants) {
-        Ok(laid) => match ceiling(alloc, wants, size, kerf, step) {
-            Ok(ceiling) => proposal_of(size, kerf, step, wants, laid, ceiling),
-            Err(_) => Err(PlanFault::NoMemory),
-        },
+        Ok(laid) => proposal_of(size, kerf, step, wants, laid),
         Err(_) => Err(PlanFault::NoMemory),
     }
 }

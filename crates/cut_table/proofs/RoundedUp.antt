@@ -1,7 +1,7 @@
 -- A tree of the problem rounded up becomes a legal one, with the same pieces and few cuts.
 use Rattle.std.proofs.Common.{◌≡◌, ℕ, ◌+◌, ◌-◌, ◌*◌, ◌/◌, ◌<◌, ◌≤◌, Bool, true, false, List, [], ◌∷◌, refl, ap, ◌∙◌, subst, inl, inr, arith}
 use Rattle.std.specs.Prelude.{Contains, IsTrue, nat_le, ◌&&◌, ◌||◌}
-use Rattle.std.proofs.lemmas.Bool.{cases_lt, leb-true, false≢true}
+use Rattle.std.proofs.lemmas.Bool.{cases_lt, leb-true, and_parts}
 use Rattle.std.proofs.lemmas.Nat.{mul-le}
 use Rattle.std.proofs.Math.Nat.{le_refl, lt-div-mul-add}
 use Rattle.cut_table.specs.declared.wants.Want.{Want}
@@ -166,10 +166,6 @@ round_up wants k s pos sides (Cut Y a t u) p q w h l pw qh =
       ]
     ]
 
-both : (a b : Bool) → (a && b) ≡ true → (a ≡ true) × (b ≡ true)
-both true b e = (refl, e)
-both false b e = absurd (false≢true e)
-
 -- a want that fits a unit is cut from it
 pub fitted : (k : ℕ) (wants : List Want) (x : Want) (w h : ℕ) → Contains wants x → 1 ≤ x.size.w → 1 ≤ x.size.h
     → IsTrue ((nat_le x.size.w w && nat_le x.size.h h) || (x.may_turn && nat_le x.size.h w && nat_le x.size.w h)) → Placed wants k w h 2 (λ f. f x.demand)
@@ -178,12 +174,12 @@ fitted k wants x w h has one one' fits = go (nat_le x.size.w w && nat_le x.size.
     turned : ((nat_le x.size.w w && nat_le x.size.h h) ≡ false) → Placed wants k w h 2 (λ f. f x.demand)
     turned e =
         let b : (x.may_turn && nat_le x.size.h w && nat_le x.size.w h) ≡ true = rw e at fits in
-        let c = both (x.may_turn && nat_le x.size.h w) (nat_le x.size.w h) b in
-        let d = both x.may_turn (nat_le x.size.h w) c.0 in
+        let c = and_parts (x.may_turn && nat_le x.size.h w) (nat_le x.size.w h) b in
+        let d = and_parts x.may_turn (nat_le x.size.h w) c.0 in
         piece_up wants k x.demand true x.size.h x.size.w w h (x, has, refl, (d.0, refl, refl)) one' one (leb-true x.size.h w d.1) (leb-true x.size.w h c.1)
 
     go : (b : Bool) → (nat_le x.size.w w && nat_le x.size.h h) ≡ b → Placed wants k w h 2 (λ f. f x.demand)
     go false e = turned e
     go true e =
-        let c = both (nat_le x.size.w w) (nat_le x.size.h h) e in
+        let c = and_parts (nat_le x.size.w w) (nat_le x.size.h h) e in
         piece_up wants k x.demand false x.size.w x.size.h w h (x, has, refl, (refl, refl)) one one' (leb-true x.size.w w c.0) (leb-true x.size.h h c.1)

@@ -1,8 +1,9 @@
 -- Between a sheet with kerf and the same sheet in steps.
-use Rattle.std.proofs.Common.{◌≡◌, ℕ, ◌+◌, ◌-◌, ◌*◌, ◌/◌, ◌<◌, ◌≤◌, true, false, cond, eqb, List, [], ◌∷◌, length, refl, ap, ◌∙◌, subst, inl, inr, arith}
+use Rattle.std.proofs.Common.{◌≡◌, ℕ, ◌+◌, ◌-◌, ◌*◌, ◌/◌, ◌%◌, ◌<◌, ◌≤◌, true, false, cond, eqb, List, [], ◌∷◌, length, refl, ap, ◌∙◌, subst, inl, inr, arith}
 use Rattle.std.specs.Prelude.{Contains}
-use Rattle.std.proofs.lemmas.Bool.{cases_lt}
-use Rattle.std.proofs.lemmas.Nat.{mul-le}
+use Rattle.std.specs.List.{list_all}
+use Rattle.std.proofs.lemmas.Bool.{cases_lt, and_parts, eqb-true}
+use Rattle.std.proofs.lemmas.Nat.{mul-le, div-add-mod', div-mul-add}
 use Rattle.std.proofs.Math.Nat.{le_refl, lt-div-mul-add, div-mul-le_self, le-div_iff_mul-le}
 use Rattle.cut_table.specs.declared.wants.Want.{Want}
 use Rattle.cut_tree.specs.Tree.{Tree, leaf_sum, Rest, Piece, Trim, Cut}
@@ -10,7 +11,7 @@ use Rattle.cut_measure.specs.declared.sizes.Axis.TheVariants.{X, Y}
 use Rattle.cut_table.specs.Legal.{IsWantedPiece, Legal, of_demand, worth_of, HaveOwnDemands}
 use Rattle.cut_table.specs.Table.{HaveBoundedWorths, HaveSidesAndBoundedWorths, HaveSides}
 use Rattle.cut_table.specs.Best.{IsBestOf}
-use Rattle.cut_table.specs.Rounded.{steps_down, steps_up, want_up, want_down, wants_down, wants_up, IsStep}
+use Rattle.cut_table.specs.Rounded.{steps_down, steps_up, want_up, want_down, wants_down, wants_up, IsStep, is_exact}
 use Rattle.std.proofs.Common.{take, get_or, ◌++◌, sym}
 use Rattle.std.proofs.lemmas.List.{map-append}
 use Rattle.std.proofs.lemmas.List.{take_more}
@@ -26,11 +27,11 @@ down_has k s (y ∷ ys) x has =
       | inr h ↦ Contains-tail (want_down k s y) (wants_down k s ys) (want_down k s x) (down_has k s ys x h)
     ]
 
-down_worth : (k s : ℕ) (xs : List Want) (d : ℕ) → of_demand (λ x. x.worth) (wants_down k s xs) d ≡ of_demand (λ x. x.worth) xs d
+pub down_worth : (k s : ℕ) (xs : List Want) (d : ℕ) → of_demand (λ x. x.worth) (wants_down k s xs) d ≡ of_demand (λ x. x.worth) xs d
 down_worth k s [] d = refl
 down_worth k s (x ∷ xs) d = ap (λ n. cond (eqb x.demand d) x.worth n) (down_worth k s xs d)
 
-leaf_sum-same : (f g : ℕ → ℕ) (t : Tree) → ((d : ℕ) → f d ≡ g d) → leaf_sum f t ≡ leaf_sum g t
+pub leaf_sum-same : (f g : ℕ → ℕ) (t : Tree) → ((d : ℕ) → f d ≡ g d) → leaf_sum f t ≡ leaf_sum g t
 leaf_sum-same f g Rest same = refl
 leaf_sum-same f g (Piece d t) same = same d
 leaf_sum-same f g (Trim X a t) same = leaf_sum-same f g t same
@@ -213,3 +214,18 @@ pub ups_more : (k s : ℕ) (xs : List Want) (i : ℕ) (d y : Want) (items pushed
 ups_more k s xs i d y items pushed lt is push e =
     push ∙ ap (λ l. l ++ y ∷ []) is ∙ ap (λ z. wants_up k s (take i xs) ++ z ∷ []) e
     ∙ sym (ap (wants_up k s) (take_more xs i d lt) ∙ map-append (want_up k s) (take i xs) (get_or xs i d ∷ []))
+
+-- whole steps rounded up are what they are rounded down
+whole_up : (n s : ℕ) → 1 ≤ s → n % s ≡ 0 → (n + (s - 1)) / s ≡ n / s
+whole_up n s some none =
+    let whole : n ≡ n / s * s = omega (arith, div-add-mod' n s) in
+    ap (λ m. (m + (s - 1)) / s) whole ∙ div-mul-add (n / s) s (s - 1) (omega arith)
+
+pub exact_wants : (k s : ℕ) (wants : List Want) → 1 ≤ s → list_all (is_exact k s) wants ≡ true → wants_up k s wants ≡ wants_down k s wants
+exact_wants k s [] some exact = refl
+exact_wants k s (x ∷ xs) some exact =
+    let here = and_parts (is_exact k s x) (list_all (is_exact k s) xs) exact in
+    let sides = and_parts (eqb ((x.size.w + k) % s) 0) (eqb ((x.size.h + k) % s) 0) here.0 in
+    ap (λ w. record x { size = record { w = w; h = steps_up k s x.size.h } } ∷ wants_up k s xs) (whole_up (x.size.w + k) s some (eqb-true _ _ sides.0))
+    ∙ ap (λ h. record x { size = record { w = steps_down k s x.size.w; h = h } } ∷ wants_up k s xs) (whole_up (x.size.h + k) s some (eqb-true _ _ sides.1))
+    ∙ ap (λ ys. want_down k s x ∷ ys) (exact_wants k s xs some here.1)

@@ -1,5 +1,5 @@
 -- A sheet problem in steps: the kerf is added to each side, and the sides are counted in steps.
-use Rattle.std.specs.Prelude.{ℕ, ◌+◌, ◌-◌, ◌/◌, ◌≤◌, List, map, Contains}
+use Rattle.std.specs.Prelude.{ℕ, ◌+◌, ◌-◌, ◌/◌, ◌%◌, ◌==◌, ◌&&◌, ◌≤◌, Bool, List, map, Contains}
 use Rattle.cut_table.specs.declared.wants.Want.{Want}
 
 abbrev pub steps_down : ℕ → ℕ → ℕ → ℕ
@@ -19,6 +19,10 @@ wants_down k s xs = map (want_down k s) xs
 
 abbrev pub wants_up : ℕ → ℕ → List Want → List Want
 wants_up k s xs = map (want_up k s) xs
+
+-- each side and a kerf are whole steps
+abbrev pub is_exact : ℕ → ℕ → Want → Bool
+is_exact k s x = (x.size.w + k) % s == 0 && (x.size.h + k) % s == 0
 
 -- a step of at least 1 and at most each side and a kerf
 pub record IsStep (k s : ℕ) (wants : List Want) : Type 0 where

@@ -1,12 +1,13 @@
 // The ceiling of a sheet, and the least number of units.
 ghost use Rattle.std.specs.Prelude.{◌≡◌, ℕ, ◌+◌, ◌*◌, ◌/◌, ◌^◌, ◌<◌, ◌≤◌, length, IfOk, sum_by, Contains, List};
+ghost use Rattle.std.specs.List.{list_all};
 ghost use Rattle.cut_table.specs.declared.wants.Want.{Want};
 ghost use Rattle.cut_tree.specs.Tree.{Tree};
 ghost use Rattle.cut_table.specs.Legal.{HaveOwnDemands, Legal, IsWithinCounts, worth_of};
 ghost use Rattle.cut_table.specs.Best.{IsBestOf};
-ghost use Rattle.cut_table.specs.Rounded.{want_down, wants_down, want_up, wants_up, steps_down, IsStep};
+ghost use Rattle.cut_table.specs.Rounded.{want_down, wants_down, want_up, wants_up, steps_down, IsStep, is_exact};
 ghost use Rattle.cut_table.specs.Bound.{Meets, worth_left, div_up};
-ghost use Rattle.cut_table.specs.Table.{HaveBoundedWorths, HaveSides};
+ghost use Rattle.cut_table.specs.Table.{HaveBoundedWorths, HaveSides, HaveSidesAndBoundedWorths};
 
 use crate::read::worth_at;
 use crate::sheet::{MOST_STEPS, best_table};
@@ -79,6 +80,23 @@ pub fn all_up(
     Ok(rounded)
 }
 
+/// The best worth of a sheet in steps.
+fn table_worth(
+    alloc: Global,
+    wants: &[Scaled],
+    across: usize,
+    down: usize,
+) -> Result<u64, AllocError>
+    requires own { HaveOwnDemands wants.now }
+    requires small { HaveSidesAndBoundedWorths wants.now }
+    requires across { across ≤ MOST_STEPS }
+    requires down { down ≤ MOST_STEPS }
+    ensures { IfOk result (IsBestOf wants.now 0 across down) }
+{
+    let table = best_table(alloc, wants, across, down)?;
+    Ok(worth_at(wants, &table, across + 1, across, down))
+}
+
 /// The best worth of the sheet in steps, with sides rounded down: no legal plan is worth more.
 pub fn ceiling(
     alloc: Global,
@@ -100,9 +118,45 @@ pub fn ceiling(
     let rounded = all_down(alloc, wants, kerf, step)?;
     let across = ((size.w() + kerf) / step) as usize;
     let down = ((size.h() + kerf) / step) as usize;
-    let table = best_table(alloc, &rounded, across, down)?;
-    let best = worth_at(&rounded, &table, across + 1, across, down);
+    let best = table_worth(alloc, &rounded, across, down)?;
     Ok(best)
+}
+
+/// Whether each side and a kerf are whole steps, so that rounding up and down give the same wants.
+fn are_exact(wants: &[Want], kerf: u32, step: u32) -> bool
+    requires kerf { kerf ≤ MOST_KERF }
+    requires step { 1 ≤ step }
+    ensures { result ≡ list_all (is_exact kerf step) wants.now }
+{
+    wants.iter().all(|want| {
+        (want.size.w() + kerf) % step == 0 && (want.size.h() + kerf) % step == 0
+    })
+}
+
+/// The same, beside the best worth with sides rounded up: where rounding down gives the same wants it is that worth, and
+/// no second table is made.
+pub fn ceiling_beside(
+    alloc: Global,
+    wants: &[Want],
+    size: Size,
+    kerf: u32,
+    step: u32,
+    best_up: u64,
+) -> Result<u64, AllocError>
+    requires own { HaveOwnDemands wants.now }
+    requires worthy { HaveBoundedWorths wants.now }
+    requires kerf { kerf ≤ MOST_KERF }
+    requires step { IsStep kerf step wants.now }
+    requires wide { steps_down kerf step size.w ≤ MOST_STEPS }
+    requires tall { steps_down kerf step size.h ≤ MOST_STEPS }
+    requires best { IsBestOf (wants_up kerf step wants.now) 0 (steps_down kerf step size.w) (steps_down kerf step size.h) best_up }
+    ensures best { IfOk result (IsBestOf (wants_down kerf step wants.now) 0 (steps_down kerf step size.w) (steps_down kerf step size.h)) }
+    ensures most { IfOk result (λ best. (t : Tree) → Legal wants.now kerf t size.w size.h → worth_of wants.now t ≤ best) }
+{
+    if are_exact(wants, kerf, step) {
+        return Ok(best_up);
+    }
+    ceiling(alloc, wants, size, kerf, step)
 }
 
 /// What all that is left is worth.

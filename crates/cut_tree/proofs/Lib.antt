@@ -25,3 +25,4 @@ pub mod LaidExamples
 -- halts
 pub mod Closed
 pub mod TwoForms
+pub mod Tested

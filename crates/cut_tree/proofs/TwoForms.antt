@@ -20,7 +20,7 @@ step_to : (n c : ℕ) → (is_among (below n) c ≡ true → c < n) → (is_amon
 step_to n c earlier (inl e) = let l = earlier e in omega (arith, l)
 step_to n c earlier (inr e) = let l = among_one n c e in omega (arith, l)
 
-among_to : (n c : ℕ) → is_among (below n) c ≡ true → c < n
+pub among_to : (n c : ℕ) → is_among (below n) c ≡ true → c < n
 among_to zero c e = absurd (true≢false (sym e))
 among_to (suc n) c e = step_to n c (among_to n c) (or_cases _ _ (sym (among_suc n c) ∙ e))
 
@@ -29,7 +29,7 @@ step_from n c earlier l (inl e) = among_suc n c ∙ or_right _ _ (or_left (n == 
 step_from n c earlier l (inr (inl below)) = among_suc n c ∙ or_left _ _ (earlier below)
 step_from n c earlier l (inr (inr above)) = absurd (omega (arith, l, above))
 
-among_from : (n c : ℕ) → c < n → is_among (below n) c ≡ true
+pub among_from : (n c : ℕ) → c < n → is_among (below n) c ≡ true
 among_from zero c l = absurd (omega (arith, l))
 among_from (suc n) c l = step_from n c (among_from n c) l (cases_order c n)
 

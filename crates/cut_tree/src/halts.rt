@@ -1,4 +1,4 @@
-ghost use Rattle.std.specs.Prelude.{◌≡◌, ◌+◌, ◌^◌, ◌<◌, ◌≤◌, ◌↔◌, ◌||◌, ℕ, IsTrue, true, false};
+ghost use Rattle.std.specs.Prelude.{◌≡◌, ◌+◌, ◌^◌, ◌<◌, ◌≤◌, ◌↔◌, ◌||◌, ℕ, IsTrue, IfOk, true, false};
 ghost use Rattle.std.specs.List.Sorted.{IsStrictlyIncreasing};
 ghost use Rattle.cut_tree.specs.Tree.{cut_count};
 ghost use Rattle.cut_tree.specs.Above.{IsAbove};
@@ -8,6 +8,7 @@ ghost use Rattle.cut_tree.specs.Stops.{is_among, outcome_after, outcome_of, is_t
 use crate::lay::Owner;
 use crate::node::{Node, count_cuts};
 use cut_measure::RowList;
+use std::alloc::{AllocError, Global};
 
 /// Numbers of cuts, in order.
 pub type CutList = RowList<u32>;
@@ -22,7 +23,7 @@ pub enum Halt {
 }
 
 impl Halt {
-    ghost use Rattle.std.specs.Prelude.{◌≡◌};
+    ghost use Rattle.std.specs.Prelude.{◌≡◌, IfOk};
     ghost use Rattle.cut_tree.specs.Stops.{is_made, is_lost};
 
     /// Whether the cut of this number was made.
@@ -44,6 +45,33 @@ impl Halt {
             Halt::Listed { lost, .. } => *lost == Some(cut),
         }
     }
+
+    /// The same halt in memory of its own.
+    pub fn copy(&self, alloc: Global) -> Result<Halt, AllocError>
+        ensures { IfOk result (λ copy. copy ≡ self.now) }
+    {
+        match self {
+            Halt::First { cuts, lost } => Ok(Halt::First {
+                cuts: *cuts,
+                lost: *lost,
+            }),
+            Halt::Listed { cuts, lost } => {
+                let cuts = copy_cuts(alloc, cuts.as_slice())?;
+                Ok(Halt::Listed { cuts, lost: *lost })
+            }
+        }
+    }
+}
+
+// The same numbers in memory of their own.
+fn copy_cuts(alloc: Global, cuts: &[u32]) -> Result<CutList, AllocError>
+    ensures { IfOk result (λ copy. copy ≡ cuts.now) }
+{
+    let mut copy = CutList::new(alloc);
+    for cut in cuts {
+        copy.push(*cut)?;
+    }
+    Ok(copy)
 }
 
 /// Where the work on a plan ended.

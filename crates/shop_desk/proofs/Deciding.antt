@@ -2,6 +2,7 @@
 use Rattle.std.proofs.Common.{◌≡◌, ℕ, ◌+◌, List, Option, Some, None, Ok, Err, inr, refl, sym, ap, subst, ◌∙◌}
 use Rattle.std.specs.Prelude.{Bool, Result, MatchOption}
 use Rattle.cut_measure.specs.Names.{Name}
+use Rattle.cut_tree.specs.declared.halts.Stop.{Stop}
 use Rattle.cut_tree.specs.Patterns.{Pattern}
 use Rattle.shop_machine.specs.declared.records.Material.{Material}
 use Rattle.shop_machine.specs.declared.records.Part.{Part}
@@ -35,9 +36,9 @@ module _ (m : Content) (command : Command) (read : Reading) (reads : Reads m com
 
 -- the rows of a job
 module _ (m : Content) (number : ℕ) (found : Option Job) (on : Option Part) (of : Option Material) (is_j : found ≡ job_at m number) (is_p : on ≡ part_of_job m found) (is_m : of ≡ material_of m on) where
-  same_end : end_refusal m (job_at m number) ≡ job_refusal found on of (demand_at m)
-  same_end =
-      ap (end_refusal m) (sym is_j) ∙ ap (λ p. job_refusal found p (material_of m p) (demand_at m)) (sym is_p) ∙ ap (λ t. job_refusal found on t (demand_at m)) (sym is_m)
+  same_end : (stop : Stop) → end_refusal m stop (job_at m number) ≡ job_refusal stop found on of (demand_at m)
+  same_end stop =
+      ap (end_refusal m stop) (sym is_j) ∙ ap (λ p. job_refusal stop found p (material_of m p) (demand_at m)) (sym is_p) ∙ ap (λ t. job_refusal stop found on t (demand_at m)) (sym is_m)
 
   work_by : (E : Job → Part → Material → Type 0) → MatchOption found ⊥ (λ j. MatchOption on ⊥ (λ p. MatchOption of ⊥ (λ t. E j p t)))
       → (j : Job) × (part : Part) × (material : Material) × IsWork m number j part material × E j part material
@@ -52,18 +53,18 @@ module _ (m : Content) (number : ℕ) (found : Option Job) (on : Option Part) (o
 
 -- the end of a job, by its rows
 module _ (m : Content) (number : ℕ) (found : Option Job) (on : Option Part) (of : Option Material) (leaves : List FoundLeaf) (rows : AreJobRows m number found on of leaves)
-    (command : Command) (reads : Reads m command unread) (same : refusal_of m command unread ≡ end_refusal m (job_at m number)) (E : Change → Job → Part → Material → Type 0)
+    (stop : Stop) (command : Command) (reads : Reads m command unread) (same : refusal_of m command unread ≡ end_refusal m stop (job_at m number)) (E : Change → Job → Part → Material → Type 0)
     (makes : (change : Change) → (j : Job) × (part : Part) × (material : Material) × IsWork m number j part material × E change j part material → Makes m command unread change) where
   abbrev Ended : Change → Type 0
   Ended change = MatchOption found ⊥ (λ j. MatchOption on ⊥ (λ p. MatchOption of ⊥ (λ t. E change j p t)))
 
-  refused : refusal_of m command unread ≡ job_refusal found on of (demand_at m)
-  refused = same ∙ same_end m number found on of rows.of_job rows.of_part rows.of_material
+  refused : refusal_of m command unread ≡ job_refusal stop found on of (demand_at m)
+  refused = same ∙ same_end m number found on of rows.of_job rows.of_part rows.of_material stop
 
   ended : (change : Change) → Ended change → Makes m command unread change
   ended change it = makes change (work_by m number found on of rows.of_job rows.of_part rows.of_material (E change) it)
 
-  pub end_decided : (before after : ℕ) (result : Result Change Refusal) → Decides (job_refusal found on of (demand_at m)) Ended result → IsJudged m command before result after
+  pub end_decided : (before after : ℕ) (result : Result Change Refusal) → Decides (job_refusal stop found on of (demand_at m)) Ended result → IsJudged m command before result after
   end_decided before after = decided_by m command unread reads before after _ refused Ended ended
 
 -- the rows of a reservation

@@ -1,7 +1,8 @@
 -- Steps of a book, and runs of them.
 use Rattle.std.proofs.Common.{◌≡◌, ◌≢◌, ℕ, List, [], ◌∷◌, ◌++◌, Option, Some, None, Ok, Err, inl, inr, refl, sym, subst, arith}
 use Rattle.std.specs.Prelude.{◌⊎◌, ◌+◌, Bool, true, false, nat_lt, if◌then◌else◌, MatchOption, is_some, not}
-use Rattle.shop_store.specs.Failures.{most_failures, refusal_for}
+use Rattle.shop_store.specs.declared.books.TheConstants.{MOST_FAILURES}
+use Rattle.shop_store.specs.Failures.{refusal_for}
 use Rattle.shop_store.specs.declared.books.BookFault.{BookFault}
 use Rattle.shop_store.specs.declared.books.BookFault.TheVariants as fault
 use Rattle.shop_machine.specs.declared.kept_texts.Kept.{Kept}
@@ -10,7 +11,7 @@ use Rattle.shop_machine.specs.declared.messages.Message.{Message}
 use Rattle.shop_machine.specs.declared.refusals.Refusal.{Refusal}
 use Rattle.shop_machine.specs.declared.refusals.Refusal.TheVariants.{NoMemory, StoreFault, NumberReused}
 use Rattle.shop_machine.specs.declared.messages.Reply.{Reply}
-use Rattle.shop_machine.specs.declared.messages.Reply.TheVariants.{AddMaterial, Receive, AddOrder, Reserve, Done, Release, Scrap, GiveBack, Totals, Trace, Demand, Refused}
+use Rattle.shop_machine.specs.declared.messages.Reply.TheVariants.{AddMaterial, Receive, AddOrder, Reserve, Done, Break, Release, Scrap, GiveBack, Totals, Trace, Demand, Refused}
 use Rattle.shop_machine.specs.Messages.{Texts, IsMessage, IsMade, refusal_in, is_accepted, pair_of}
 use Rattle.shop_machine.specs.Readings.{Reading}
 use Rattle.shop_machine.specs.Content.{Content, kept_at, changed}
@@ -28,14 +29,14 @@ counts_made before after answer made same = by (refusal_in answer) made
     by None e = same
     by (Some refusal) e = cc
 
-rose : (before after : ℕ) (below : Bool) → after ≡ (if below then before + 1 else most_failures) → StoreFailed before after
+rose : (before after : ℕ) (below : Bool) → after ≡ (if below then before + 1 else MOST_FAILURES) → StoreFailed before after
 rose before after true e = inl (omega arith)
 rose before after false e = inr e
 
 -- a refusal that tells of a failed store is counted
 pub store_failed : (before after : ℕ) (answer : Reply) → CountsReply answer before after → answer ≡ Refused StoreFault → StoreFailed before after
 store_failed before after answer counts e =
-    rose before after (nat_lt before most_failures) (subst (λ (r : Reply). CountsReply r before after) e counts)
+    rose before after (nat_lt before MOST_FAILURES) (subst (λ (r : Reply). CountsReply r before after) e counts)
 
 -- a decision to accept is counted as no failure
 pub counted_made : (before after : ℕ) (change : Change) → CountsOrDisagrees (Ok change) before after → after ≡ before
@@ -62,6 +63,7 @@ module _ (texts : Texts) where
   none_made (AddOrder count first order) made = refl
   none_made (Reserve cuts job) made = refl
   none_made (Done job kerf pieces rack scrap) made = refl
+  none_made (Break job kerf pieces rack scrap) made = refl
   none_made (Release job) made = refl
   none_made (Scrap part) made = refl
   none_made (GiveBack part) made = refl

@@ -6,11 +6,12 @@ use Rattle.shop_machine.specs.declared.messages.Reply.{Reply}
 use Rattle.shop_machine.specs.declared.messages.Reply.TheVariants.{Refused}
 use Rattle.shop_machine.specs.Messages.{refusal_in}
 use Rattle.shop_machine.specs.History.{IsIn}
-use Rattle.shop_store.specs.Failures.{most_failures, one_more_failure}
+use Rattle.shop_store.specs.declared.books.TheConstants.{MOST_FAILURES}
+use Rattle.shop_store.specs.Failures.{one_more_failure}
 
 -- the count of failures rose, or was at its greatest value
 abbrev pub StoreFailed : ℕ → ℕ → Type 0
-StoreFailed before after = (before < after) ⊎ (after ≡ most_failures)
+StoreFailed before after = (before < after) ⊎ (after ≡ MOST_FAILURES)
 
 -- replies tell of a failed store only where it failed meanwhile
 abbrev pub TellOfFailures : List Reply → ℕ → ℕ → Type 0
@@ -18,7 +19,7 @@ TellOfFailures answers before after = IsIn (Refused StoreFault) answers → Stor
 
 -- the count of failures stayed, rose in its range, or stands at its greatest value
 abbrev pub CountsUp : ℕ → ℕ → Type 0
-CountsUp before after = (after ≡ before) ⊎ (((before < after) × (after ≤ most_failures)) ⊎ (after ≡ most_failures))
+CountsUp before after = (after ≡ before) ⊎ (((before < after) × (after ≤ MOST_FAILURES)) ⊎ (after ≡ MOST_FAILURES))
 
 -- a refusal that tells of a failed store goes with one more failure, and each other one with none
 abbrev pub CountsRefusal : Refusal → ℕ → ℕ → Type 0

@@ -5,18 +5,18 @@ ghost use Rattle.shop_machine.specs.Content.{Content, demand_at};
 ghost use Rattle.shop_machine.specs.Recounts.{plan_leaves, AreDemandsFound, IsNumbered, leaves_in};
 ghost use Rattle.shop_store.specs.Failures.{CountsFailure};
 ghost use Rattle.shop_store.specs.Kept.{KeepsBook, Says};
-ghost use Rattle.shop_machine.specs.declared.messages.Command.TheVariants.{AddMaterial, Receive, AddOrder, Reserve, Done, Release, Scrap, GiveBack};
+ghost use Rattle.shop_machine.specs.declared.messages.Command.TheVariants.{AddMaterial, Receive, AddOrder, Reserve, Done, Break, Release, Scrap, GiveBack};
 ghost use Rattle.shop_machine.specs.declared.messages.Reply.TheVariants.{Refused};
 ghost use Rattle.shop_machine.specs.declared.refusals.Refusal.TheVariants.{BadMessage};
 ghost use Rattle.shop_desk.specs.Decided.{IsJudged, CountsOrDisagrees, AreJobRows};
 
 use crate::found::{found_leaves, found_lines, material_for, part_for, plan_for};
 use cut_measure::{Kind, PartName};
-use cut_tree::Plan;
+use cut_tree::{Halt, Plan};
 use shop_rules::{
     Change, Code, Command, FoundLeaf, Job, KeptMessage, LineList, Material, Part, Refusal, Reply,
-    Text, decide_done, decide_give_back, decide_material, decide_order, decide_receive,
-    decide_release, decide_reserve, decide_scrap,
+    Text, decide_break, decide_done, decide_give_back, decide_material, decide_order,
+    decide_receive, decide_release, decide_reserve, decide_scrap,
 };
 use shop_store::{Book, BookFault};
 use std::alloc::Global;
@@ -170,6 +170,26 @@ fn done<B: Book>(alloc: Global, book: &mut B, number: u32) -> Result<Change, Ref
     decide_done(alloc, job, part, material, &leaves)
 }
 
+// Breaks a job off.
+fn break_off<B: Book>(
+    alloc: Global,
+    book: &mut B,
+    number: u32,
+    halt: &Halt,
+) -> Result<Change, Refusal>
+    ensures decision { Says B.Book book.old book.new (λ m. IsJudged m (Break number halt.now) (B.failed book.old) result (B.failed book.new)) }
+    ensures keeps { KeepsBook B.Book (CountsOrDisagrees result) book.old book.new }
+    ensures told { IfOk result (λ change. IsTrue (is_accepted change.reply)) }
+{
+    let JobRows {
+        job,
+        part,
+        material,
+        leaves,
+    } = job_rows(alloc, book, number)?;
+    decide_break(alloc, job, part, material, &leaves, halt)
+}
+
 // Releases a job.
 fn release<B: Book>(alloc: Global, book: &mut B, number: u32) -> Result<Change, Refusal>
     ensures decision { Says B.Book book.old book.new (λ m. IsJudged m (Release number) (B.failed book.old) result (B.failed book.new)) }
@@ -229,6 +249,7 @@ pub fn decide<B: Book>(alloc: Global, book: &mut B, command: &Command) -> Result
         Command::AddOrder { order, lines } => add_order(alloc, book, *order, lines),
         Command::Reserve { part, tree } => reserve(alloc, book, *part, tree),
         Command::Done { job } => done(alloc, book, *job),
+        Command::Break { job, halt } => break_off(alloc, book, *job, halt),
         Command::Release { job } => release(alloc, book, *job),
         Command::Scrap { part } => scrap(alloc, book, *part),
         Command::GiveBack { part } => give_back(alloc, book, *part),

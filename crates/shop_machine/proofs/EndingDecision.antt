@@ -1,51 +1,82 @@
 -- A job's end from the rows that were found.
-use Rattle.std.proofs.Common.{◌≡◌, ℕ, Bool, true, false, List, map, [], ◌∷◌, sym, ap, subst, ◌∙◌}
+use Rattle.std.proofs.Common.{◌≡◌, ◌+◌, ◌≤◌, ◌<◌, ◌^◌, ℕ, Bool, true, false, List, map, get_or, All, [], ◌∷◌, sym, ap, subst, ◌∙◌, arith}
 use Rattle.std.specs.Prelude.{Option, Some, None, not, IfSome, MatchOption}
 use Rattle.cut_measure.specs.Measures.{Rule}
 use Rattle.cut_tree.specs.declared.lay.Row.{Row}
+use Rattle.cut_tree.specs.declared.halts.Stop.{Stop}
+use Rattle.cut_tree.specs.Tree.{Tree, count_of}
 use Rattle.shop_machine.specs.declared.changes.Change.{Change}
 use Rattle.shop_machine.specs.declared.messages.Reply.{Reply}
 use Rattle.shop_machine.specs.declared.records.State.TheVariants.{Cut}
-use Rattle.shop_machine.specs.declared.records.JobState.TheVariants as job
+use Rattle.shop_machine.specs.declared.records.JobState.{JobState}
 use Rattle.shop_machine.specs.declared.records.Material.{Material}
 use Rattle.shop_machine.specs.declared.records.Job.{Job}
 use Rattle.shop_machine.specs.declared.records.Part.{Part}
 use Rattle.shop_machine.specs.declared.records.Demand.{Demand}
-use Rattle.shop_machine.specs.declared.refusals.Refusal.TheVariants.{StoreFault, JobOver}
+use Rattle.shop_machine.specs.declared.refusals.Refusal.TheVariants.{StoreFault, BadCut, JobOver}
 use Rattle.shop_machine.specs.Columns.{is_waiting}
 use Rattle.shop_machine.specs.Decisions.{first_of, no_change}
-use Rattle.shop_machine.specs.Ending.{job_refusal, rests, row_part, finished_reply, done_change}
+use Rattle.shop_machine.specs.Ending.{job_refusal, can_end, rests, row_part, ended_state, ended_reply, end_change}
+use Rattle.shop_machine.specs.declared.recounts.FoundLeaf.{FoundLeaf}
+use Rattle.shop_machine.specs.Recounts.{HasRow, CanBeMade, pieces_in}
 use Rattle.shop_machine.specs.Content.{in_state}
 
 -- a waiting job, by whether its rows are there
-pub job_test : (j : Job) (part : Part) (material : Material) (at : ℕ → Option Demand) (b : Bool) → is_waiting j.state ≡ true → rests j (Some part) (Some material) at ≡ b
-    → job_refusal (Some j) (Some part) (Some material) at ≡ first_of ((not b, StoreFault) ∷ [])
-job_test j part material at b waits there =
-    ap (λ w. first_of ((not w, JobOver) ∷ (not (rests j (Some part) (Some material) at), StoreFault) ∷ [])) waits ∙ ap (λ r. first_of ((not r, StoreFault) ∷ [])) there
+pub job_test : (stop : Stop) (j : Job) (part : Part) (material : Material) (at : ℕ → Option Demand) (b : Bool) → is_waiting j.state ≡ true → can_end j.plan.tree stop ≡ true
+    → rests j (Some part) (Some material) at ≡ b → job_refusal stop (Some j) (Some part) (Some material) at ≡ first_of ((not b, StoreFault) ∷ [])
+job_test stop j part material at b waits can there =
+    ap (λ w. first_of ((not w, JobOver) ∷ (not (can_end j.plan.tree stop), BadCut) ∷ (not (rests j (Some part) (Some material) at), StoreFault) ∷ [])) waits
+    ∙ ap (λ c. first_of ((not c, BadCut) ∷ (not (rests j (Some part) (Some material) at), StoreFault) ∷ [])) can ∙ ap (λ r. first_of ((not r, StoreFault) ∷ [])) there
 
 -- what holds of a job with the rows on which it rested, of the rows that were found
-pub worked : (E : Job → Part → Rule → Type 0) (found : Option Job) (on : Option Part) (of : Option Material) (at : ℕ → Option Demand) (j : Job) (part : Part) (rule : Rule)
-    → found ≡ Some j → on ≡ Some part → IfSome of (λ m. m.limits ≡ rule) → job_refusal found on of at ≡ None → E j part rule
+pub worked : (stop : Stop) (E : Job → Part → Rule → Type 0) (found : Option Job) (on : Option Part) (of : Option Material) (at : ℕ → Option Demand) (j : Job) (part : Part) (rule : Rule)
+    → found ≡ Some j → on ≡ Some part → IfSome of (λ m. m.limits ≡ rule) → job_refusal stop found on of at ≡ None → E j part rule
     → MatchOption found ⊥ (λ j. MatchOption on ⊥ (λ p. MatchOption of ⊥ (λ m. E j p m.limits)))
-worked E found on None at j part rule is_j is_p is_m allowed it = absurd (not_allowed found on j part is_j is_p allowed)
+worked stop E found on None at j part rule is_j is_p is_m allowed it = absurd (not_allowed found on j part is_j is_p allowed)
   where
-    by : (b : Bool) → first_of ((b, JobOver) ∷ (true, StoreFault) ∷ []) ≡ None → ⊥
-    by true e = cc
-    by false e = cc
+    by : (b c : Bool) → first_of ((b, JobOver) ∷ (c, BadCut) ∷ (true, StoreFault) ∷ []) ≡ None → ⊥
+    by true c e = cc
+    by false true e = cc
+    by false false e = cc
 
-    not_allowed : (found : Option Job) (on : Option Part) (j : Job) (part : Part) → found ≡ Some j → on ≡ Some part → job_refusal found on None at ≡ None → ⊥
+    not_allowed : (found : Option Job) (on : Option Part) (j : Job) (part : Part) → found ≡ Some j → on ≡ Some part → job_refusal stop found on None at ≡ None → ⊥
     not_allowed found on j part is_j is_p allowed =
-        by (not (is_waiting j.state)) (subst (λ (o : Option Part). job_refusal (Some j) o None at ≡ None) is_p (subst (λ (o : Option Job). job_refusal o on None at ≡ None) is_j allowed))
-worked E found on (Some m) at j part rule is_j is_p is_m allowed it =
+        by (not (is_waiting j.state)) (not (can_end j.plan.tree stop))
+        (subst (λ (o : Option Part). job_refusal stop (Some j) o None at ≡ None) is_p (subst (λ (o : Option Job). job_refusal stop o on None at ≡ None) is_j allowed))
+worked stop E found on (Some m) at j part rule is_j is_p is_m allowed it =
     subst (λ (o : Option Job). MatchOption o ⊥ (λ j. MatchOption on ⊥ (λ p. E j p m.limits))) (sym is_j)
     (subst (λ (o : Option Part). MatchOption o ⊥ (λ p. E j p m.limits)) (sym is_p) (subst (λ (r : Rule). E j part r) (sym is_m) it))
 
--- the change of a finished job, from its parts
-pub done_made : (j : Job) (part : Part) (rule : Rule) (laid : List Row) (rows : List Demand) (parts : List Part) (answer : Reply) (base : Change) → base ≡ no_change answer
-    → parts ≡ in_state (Cut j.act) part ∷ map (row_part part rule j.act) laid → answer ≡ finished_reply j.act (map (row_part part rule j.act) laid)
-    → record base { parts = parts; job = Some (record j { state = job.Done }); demands = rows } ≡ done_change j part rule laid rows
-done_made j part rule laid rows parts answer base e f g =
+-- the change of a job that ended so, from its parts
+pub end_made : (stop : Stop) (j : Job) (part : Part) (rule : Rule) (laid : List Row) (rows : List Demand) (parts : List Part) (answer : Reply) (state : JobState) (base : Change) → base ≡ no_change answer
+    → state ≡ ended_state stop → parts ≡ in_state (Cut j.act) part ∷ map (row_part part rule j.act) laid → answer ≡ ended_reply stop j.act (map (row_part part rule j.act) laid)
+    → record base { parts = parts; job = Some (record j { state = state }); demands = rows } ≡ end_change stop j part rule laid rows
+end_made stop j part rule laid rows parts answer state base e s f g =
     let all = in_state (Cut j.act) part ∷ map (row_part part rule j.act) laid in
-    ap (λ (base : Change). record base { parts = parts; job = Some (record j { state = job.Done }); demands = rows }) e
-    ∙ ap (λ (parts : List Part). record (no_change answer) { parts = parts; job = Some (record j { state = job.Done }); demands = rows }) f
-    ∙ ap (λ (answer : Reply). record (no_change answer) { parts = all; job = Some (record j { state = job.Done }); demands = rows }) g
+    ap (λ (state : JobState). record base { parts = parts; job = Some (record j { state = state }); demands = rows }) s
+    ∙ ap (λ (base : Change). record base { parts = parts; job = Some (record j { state = ended_state stop }); demands = rows }) e
+    ∙ ap (λ (parts : List Part). record (no_change answer) { parts = parts; job = Some (record j { state = ended_state stop }); demands = rows }) f
+    ∙ ap (λ (answer : Reply). record (no_change answer) { parts = all; job = Some (record j { state = ended_state stop }); demands = rows }) g
+
+-- where no more is laid than all pieces, what is laid can be made
+pub room_laid : (laid : List Row) (tree : Tree) (leaves : List FoundLeaf) → ((d : ℕ) → pieces_in d laid ≤ count_of tree d) → All (HasRow CanBeMade tree) leaves
+    → All (HasRow (λ n demand. (n ≤ demand.reserved) × (demand.made + pieces_in demand.number laid < 2 ^ 32)) tree) leaves
+room_laid laid tree leaves few all k d within = by (get_or leaves k d) (get_or leaves k d).demand (all k d within)
+  where
+    by : (f : FoundLeaf) (o : Option Demand) → MatchOption o ⊥ (λ demand. (demand.number ≡ f.leaf.demand) × CanBeMade (count_of tree f.leaf.demand) demand)
+        → MatchOption o ⊥ (λ demand. (demand.number ≡ f.leaf.demand) × ((count_of tree f.leaf.demand ≤ demand.reserved) × (demand.made + pieces_in demand.number laid < 2 ^ 32)))
+    by f None has = absurd has
+    by f (Some demand) has =
+        let own : count_of tree demand.number ≡ count_of tree f.leaf.demand = ap (count_of tree) has.0 in
+        let less = few demand.number in
+        let room : demand.made + count_of tree f.leaf.demand < 2 ^ 32 = has.1.1 in
+        (has.0, (has.1.0, omega (arith, own, less, room)))
+
+-- what can be made can be freed
+pub room_freed : (tree : Tree) (leaves : List FoundLeaf) → All (HasRow CanBeMade tree) leaves → All (HasRow (λ n demand. n ≤ demand.reserved) tree) leaves
+room_freed tree leaves all k d within = by (get_or leaves k d) (get_or leaves k d).demand (all k d within)
+  where
+    by : (f : FoundLeaf) (o : Option Demand) → MatchOption o ⊥ (λ demand. (demand.number ≡ f.leaf.demand) × CanBeMade (count_of tree f.leaf.demand) demand)
+        → MatchOption o ⊥ (λ demand. (demand.number ≡ f.leaf.demand) × (count_of tree f.leaf.demand ≤ demand.reserved))
+    by f None has = absurd has
+    by f (Some demand) has = (has.0, has.1.0)

@@ -5,7 +5,12 @@ use Rattle.std.specs.FinMap.{FinMap, get, insert}
 use Rattle.cut_measure.specs.Names.{Name, name_cmp}
 use Rattle.cut_measure.specs.Measures.{Rule}
 use Rattle.cut_tree.specs.declared.lay.Row.{Row}
-use Rattle.cut_tree.specs.Cells.{Outcome, all_made, spot_of}
+use Rattle.cut_tree.specs.declared.halts.Halt.{Halt}
+use Rattle.cut_tree.specs.declared.halts.Stop.{Stop}
+use Rattle.cut_tree.specs.declared.halts.Stop.TheVariants as stop
+use Rattle.cut_tree.specs.Tree.{count_of}
+use Rattle.cut_tree.specs.Cells.{Outcome, spot_of}
+use Rattle.cut_tree.specs.Stops.{outcome_of}
 use Rattle.cut_tree.specs.Laying.{IsLaid}
 use Rattle.shop_machine.specs.declared.records.Material.{Material}
 use Rattle.shop_machine.specs.declared.records.Part.{Part}
@@ -16,16 +21,17 @@ use Rattle.shop_machine.specs.declared.records.Demand.{Demand}
 use Rattle.shop_machine.specs.declared.changes.Change.{Change}
 use Rattle.shop_machine.specs.declared.messages.Message.{Message}
 use Rattle.shop_machine.specs.declared.messages.Command.{Command}
-use Rattle.shop_machine.specs.declared.messages.Command.TheVariants.{Done, Release}
+use Rattle.shop_machine.specs.declared.messages.Command.TheVariants.{Done, Break, Release}
 use Rattle.shop_machine.specs.Messages.{Texts}
 use Rattle.shop_machine.specs.Content.{Content, material_at, part_at, job_at, in_state, demand_at, with_parts}
-use Rattle.shop_machine.specs.Ending.{release_change, row_part, done_change, IsDone, IsRelease, end_refusal, IsWork}
-use Rattle.shop_machine.specs.Recounts.{AreRecounted, with_freed, with_made}
+use Rattle.shop_machine.specs.Ending.{release_change, row_part, ended_state, end_change, IsEnd, IsDone, IsBroken, IsRelease, end_refusal, IsWork}
+use Rattle.shop_machine.specs.Recounts.{AreRecounted, with_freed, with_laid, pieces_in}
 use Rattle.shop_machine.specs.Soundness.{IsSound, IsWaiting}
 use Rattle.shop_machine.specs.History.{Deed, nothing, ReceivedUnit, acts_of, ordered_lines, material_rule, owner_by, owner_of, is_cut, standing_as, HasOwner, Ends, deed, unit_material, Reservation, Owner, stands_as, owner_at, cut_owner, OneOwner, IsIn}
 use Rattle.shop_machine.specs.Readings.{Reading}
 use Rattle.shop_machine.proofs.Basics.{name_cases, same_some}
-use Rattle.shop_machine.proofs.Moved.{no_freed, no_made}
+use Rattle.shop_machine.proofs.Moved.{no_freed, no_laid}
+use Rattle.cut_tree.proofs.OneLaidList.{laid_few}
 use Rattle.shop_machine.proofs.OrderedLines.{lines_recounted}
 use Rattle.shop_machine.proofs.Cells.{Named, restated, found_cases, found_cut, kept_old, cut_up}
 use Rattle.shop_machine.proofs.Accounts.{IsRow, IsWhole, reservation, Follows, row_later, row_restated, material_is, stands_yes, stands_no}
@@ -149,14 +155,26 @@ module _ (texts : Texts) (message : Message) (earlier : List Deed) (old : Conten
             }
           ]
 
-      pub by_done : AreRecounted (demand_at old) with_made j.plan.tree rows → After texts message earlier old sound f done (done_change j row material.limits laid rows)
-      by_done recounted = record {
+      few_laid : (d : ℕ) → pieces_in d laid ≤ count_of j.plan.tree d
+      few_laid d =
+          let plan = (sound.jobs j.act j found).plan in
+          let wide : j.plan.w ≡ row.size.w = waits.on.width ∙ ap (λ (q : Part). q.size.w) same_row in
+          let high : j.plan.h ≡ row.size.h = waits.on.height ∙ ap (λ (q : Part). q.size.h) same_row in
+          let kerf : j.plan.kerf ≡ material.limits.kerf = waits.on.kerf ∙ ap (λ (m : Material). m.limits.kerf) same_material in
+          let in_plan = subst (λ k. IsLaid j.plan.tree j.plan.w j.plan.h k outcome laid) (sym kerf)
+          (subst (λ h. IsLaid j.plan.tree j.plan.w h material.limits.kerf outcome laid) (sym high)
+          (subst (λ w. IsLaid j.plan.tree w row.size.h material.limits.kerf outcome laid) (sym wide) is_laid)) in
+          laid_few j.plan.tree j.plan.w j.plan.h j.plan.kerf outcome laid d plan.shaped plan.some_width plan.some_height in_plan
+
+      pub by_end : (stop : Stop) → AreRecounted (demand_at old) (with_laid laid) j.plan.tree rows → After texts message earlier old sound f done (end_change stop j row material.limits laid rows)
+      by_end stop recounted = record {
         acts = (let e : old.last_act ≡ acts_of earlier = f.acts in omega arith);
         numbers = f.numbers;
-        lines = lines_recounted (ordered_lines earlier) old.demands with_made j.plan.tree rows recounted no_made (λ n d. refl) f.lines;
+        lines = lines_recounted (ordered_lines earlier) old.demands (with_laid laid) j.plan.tree rows recounted
+            (no_laid old.demands j.plan.tree laid few_laid (λ number d is. (sound.demands number d is).numbered)) (λ n d. refl) f.lines;
         rules = f.rules;
         rows = rows_after;
-        jobs = job_restated texts message earlier old sound f j job_state.Done found;
+        jobs = job_restated texts message earlier old sound f j (ended_state stop) found;
         wholes = λ unit i. whole_after unit (f.wholes unit i);
         cells = λ unit i x y across down. cell_after unit.name x y (f.cells unit i x y across down);
       }
@@ -172,7 +190,7 @@ module _ (texts : Texts) (message : Message) (earlier : List Deed) (old : Conten
   by_release j row rows recounted found kept reserved = record {
     acts = (let e : old.last_act ≡ acts_of earlier = f.acts in omega arith);
     numbers = f.numbers;
-    lines = lines_recounted (ordered_lines earlier) old.demands with_freed j.plan.tree rows recounted no_freed (λ n d. refl) f.lines;
+    lines = lines_recounted (ordered_lines earlier) old.demands with_freed j.plan.tree rows recounted (no_freed old.demands j.plan.tree) (λ n d. refl) f.lines;
     rules = f.rules;
     rows = rows_restated texts message earlier old sound f row Standing kept nothing;
     jobs = job_restated texts message earlier old sound f j job_state.Released found;
@@ -185,32 +203,40 @@ module _ (texts : Texts) (message : Message) (earlier : List Deed) (old : Conten
   abbrev Then : Command → Reading → Change → Type 0
   Then command read change = After texts message earlier old sound f (deed command read) change
 
-  waiting : (done : ℕ) (j : Job) → job_at old done ≡ Some j → end_refusal old (job_at old done) ≡ None → IsWaiting old j
-  waiting done j found allowed = (sound.jobs done j found).waits (job_waits old done j found allowed)
+  waiting : (stop : Stop) (number : ℕ) (j : Job) → job_at old number ≡ Some j → end_refusal old stop (job_at old number) ≡ None → IsWaiting old j
+  waiting stop number j found allowed = (sound.jobs number j found).waits (job_waits old stop number j found allowed)
 
-  numbered : (done : ℕ) (j : Job) → job_at old done ≡ Some j → j.act ≡ done
-  numbered done j found = (sound.jobs done j found).numbered
+  numbered : (number : ℕ) (j : Job) → job_at old number ≡ Some j → j.act ≡ number
+  numbered number j found = (sound.jobs number j found).numbered
 
-  pub ends : (done : ℕ) (read : Reading) (change : Change) (j : Job) (part : Part) (material : Material) → end_refusal old (job_at old done) ≡ None
-      → IsWork old done j part material → IsDone j part material.limits (demand_at old) change → Then (Done done) read change
-  ends done read change j part material allowed work made =
-      let waits : IsWaiting old j = waiting done j work.found allowed in
-      let is : j.act ≡ done = numbered done j work.found in
+  ended : (stop : Stop) (number : ℕ) (change : Change) (j : Job) (part : Part) (material : Material) → end_refusal old stop (job_at old number) ≡ None
+      → IsWork old number j part material → IsEnd stop j part material.limits (demand_at old) change → Next (Ends number (outcome_of stop)) change
+  ended stop number change j part material allowed work made =
+      let waits : IsWaiting old j = waiting stop number j work.found allowed in
+      let is : j.act ≡ number = numbered number j work.found in
       let found : job_at old j.act ≡ Some j = ap (job_at old) is ∙ work.found in
-      subst (λ n. Then (Done n) read change) is
-      (subst (Then (Done j.act) read) (sym made.is)
-      (by_done texts message earlier old sound f j part material found waits work.on work.of all_made made.rows made.laid
-      (on_part texts message earlier old sound f j part material found waits work.on work.of all_made made.laid made.is_laid)
-      made.recounted))
+      subst (λ n. Next (Ends n (outcome_of stop)) change) is
+      (subst (Next (Ends j.act (outcome_of stop))) (sym made.is)
+      (by_end texts message earlier old sound f j part material found waits work.on work.of (outcome_of stop) made.rows made.laid
+      (on_part texts message earlier old sound f j part material found waits work.on work.of (outcome_of stop) made.laid made.is_laid)
+      stop made.recounted))
 
-  pub releases : (done : ℕ) (read : Reading) (change : Change) (j : Job) (part : Part) (material : Material) → end_refusal old (job_at old done) ≡ None
-      → IsWork old done j part material → IsRelease j part (demand_at old) change → Then (Release done) read change
-  releases done read change j part material allowed work made =
-      let waits : IsWaiting old j = waiting done j work.found allowed in
-      let is : j.act ≡ done = numbered done j work.found in
+  pub ends : (number : ℕ) (read : Reading) (change : Change) (j : Job) (part : Part) (material : Material) → end_refusal old stop.All (job_at old number) ≡ None
+      → IsWork old number j part material → IsDone j part material.limits (demand_at old) change → Then (Done number) read change
+  ends number read change j part material allowed work made = ended stop.All number change j part material allowed work made
+
+  pub breaks : (number : ℕ) (halt : Halt) (read : Reading) (change : Change) (j : Job) (part : Part) (material : Material) → end_refusal old (stop.After halt) (job_at old number) ≡ None
+      → IsWork old number j part material → IsBroken halt j part material.limits (demand_at old) change → Then (Break number halt) read change
+  breaks number halt read change j part material allowed work made = ended (stop.After halt) number change j part material allowed work made
+
+  pub releases : (number : ℕ) (read : Reading) (change : Change) (j : Job) (part : Part) (material : Material) → end_refusal old stop.All (job_at old number) ≡ None
+      → IsWork old number j part material → IsRelease j part (demand_at old) change → Then (Release number) read change
+  releases number read change j part material allowed work made =
+      let waits : IsWaiting old j = waiting stop.All number j work.found allowed in
+      let is : j.act ≡ number = numbered number j work.found in
       let found : job_at old j.act ≡ Some j = ap (job_at old) is ∙ work.found in
       subst (λ n. Then (Release n) read change) is
       (subst (Then (Release j.act) read) (sym made.is)
       (by_release j part made.rows made.recounted found
-      (kept_row texts message earlier old sound f j part material found waits work.on work.of all_made)
-      (reserved texts message earlier old sound f j part material found waits work.on work.of all_made)))
+      (kept_row texts message earlier old sound f j part material found waits work.on work.of (outcome_of stop.All))
+      (reserved texts message earlier old sound f j part material found waits work.on work.of (outcome_of stop.All))))

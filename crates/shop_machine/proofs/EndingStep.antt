@@ -17,10 +17,12 @@ use Rattle.cut_tree.specs.declared.lay.Owner.{Owner}
 use Rattle.cut_tree.specs.declared.lay.Owner.TheVariants as owner
 use Rattle.cut_tree.specs.declared.lay.Row.{Row}
 use Rattle.cut_tree.specs.Tree.{count_of}
-use Rattle.cut_tree.specs.Cells.{all_made}
+use Rattle.cut_tree.specs.declared.halts.Stop.{Stop}
+use Rattle.cut_tree.specs.declared.halts.Stop.TheVariants as stop
+use Rattle.cut_tree.specs.Stops.{outcome_of}
 use Rattle.cut_tree.specs.Laying.{IsLaid}
 use Rattle.cut_tree.specs.Counting.{is_demand_piece as is_owner_of}
-use Rattle.cut_tree.proofs.OneLaidList.{laid_all}
+use Rattle.cut_tree.proofs.OneLaidList.{laid_few}
 use Rattle.cut_tree.proofs.CellCounts.{add_up, count_all}
 use Rattle.cut_tree.specs.declared.leaves.Leaf.{Leaf}
 use Rattle.shop_machine.specs.declared.records.Material.{Material}
@@ -32,16 +34,17 @@ use Rattle.shop_machine.specs.declared.records.JobState.TheVariants as job
 use Rattle.shop_machine.specs.declared.records.Demand.{Demand}
 use Rattle.shop_machine.specs.declared.records.Column.TheVariants.{Received}
 use Rattle.shop_machine.specs.declared.messages.Message.{Message}
+use Rattle.shop_machine.specs.declared.messages.Reply.{Reply}
 use Rattle.shop_machine.specs.declared.messages.Reply.TheVariants as reply
-use Rattle.shop_machine.specs.declared.refusals.Refusal.TheVariants.{JobOver, StoreFault}
+use Rattle.shop_machine.specs.declared.refusals.Refusal.TheVariants.{JobOver, BadCut, StoreFault}
 use Rattle.shop_machine.specs.declared.records.Column.{Column}
 use Rattle.shop_machine.specs.declared.records.Column.TheVariants as column
-use Rattle.shop_machine.specs.Messages.{Texts, pair_of, IsMade, IsWide}
+use Rattle.shop_machine.specs.Messages.{Texts, pair_of, IsMade, IsNumber, IsWide}
 use Rattle.shop_machine.specs.Same.{same_name}
 use Rattle.shop_machine.specs.Columns.{is_there, is_piece_for, is_waiting, state_of, is_reserved_for, is_counted}
 use Rattle.shop_machine.specs.Content.{Content, part_at, job_at, demand_at, kept_at, changed, in_state, material_of, part_of_job}
-use Rattle.shop_machine.specs.Recounts.{AreRecounted, with_made, with_freed, plan_leaves}
-use Rattle.shop_machine.specs.Ending.{IsWork, fate, row_part, finished_reply, done_change, release_change, end_refusal, has_reserved, rests, job_refusal, cells_counted}
+use Rattle.shop_machine.specs.Recounts.{AreRecounted, with_laid, with_freed, pieces_in, plan_leaves}
+use Rattle.shop_machine.specs.Ending.{IsWork, fate, row_part, ended_state, ended_reply, end_change, release_change, end_refusal, can_end, has_reserved, rests, job_refusal, cells_counted}
 use Rattle.shop_machine.specs.Machine.{keeping}
 use Rattle.shop_machine.specs.History.{IsIn}
 use Rattle.shop_machine.specs.Soundness.{IsPlaced, IsOnPart, IsWaiting, IsJob, IsCounted, JobFits, Fits, reserved_in}
@@ -49,7 +52,7 @@ use Rattle.shop_machine.proofs.Basics.{in_map, same_some, map_in, earlier_act, e
 use Rattle.shop_machine.proofs.Inside.{row_inside}
 use Rattle.shop_machine.proofs.Puts.{pairs_in, pairs_more, map_pairs, in_counted, sum_map, sum_as, sum_none, is_known, sum_over, some_known}
 use Rattle.shop_machine.proofs.AddedUp.{cells_as, cells_left, is_uncut}
-use Rattle.shop_machine.proofs.Moved.{no_made, no_freed}
+use Rattle.shop_machine.proofs.Moved.{LeavesOthers, no_laid, no_freed}
 use Rattle.shop_machine.proofs.Grown.{IsStock}
 use Rattle.shop_machine.proofs.PartStep.{IsPartStep, step_stock, step_fits, untouched, made_after}
 use Rattle.shop_machine.proofs.ReservingStep.{left_as_before}
@@ -58,9 +61,9 @@ use Rattle.shop_machine.proofs.Agreeing.{NoFault, other, no_such}
 
 -- ---- a job whose end isn't refused
 
-pub job_waits : (m : Content) (number : ℕ) (j : Job) → job_at m number ≡ Some j → end_refusal m (job_at m number) ≡ None → is_waiting j.state ≡ true
-job_waits m number j found allowed =
-    not-false (is_waiting j.state) (none_of (not (is_waiting j.state)) JobOver _ (subst (λ o. end_refusal m o ≡ None) found allowed)).0
+pub job_waits : (m : Content) (stop : Stop) (number : ℕ) (j : Job) → job_at m number ≡ Some j → end_refusal m stop (job_at m number) ≡ None → is_waiting j.state ≡ true
+job_waits m stop number j found allowed =
+    not-false (is_waiting j.state) (none_of (not (is_waiting j.state)) JobOver _ (subst (λ o. end_refusal m stop o ≡ None) found allowed)).0
 
 -- ---- what becomes of a rectangle
 
@@ -219,28 +222,32 @@ module _ (m : Content) (stock : IsStock m) (number : ℕ) (j : Job) (part : Part
       let few = old.few in
       let was = old.reserved in
       let less = reserved_less m stock number j part material work waits job.Released refl d in
-      let same = made_after m stock part state.Standing [] None released release_step with_freed no_freed freed_keeps j.plan.tree rows recounted texts message (reply.Release j.act) d in
+      let same = made_after m stock part state.Standing [] None released release_step with_freed j.plan.tree (no_freed m.demands j.plan.tree) freed_keeps rows recounted texts message (reply.Release j.act) d in
       let made = old.made in
       record { few = omega (arith, few); reserved = omega (arith, was, less); made = omega (arith, made, same) }
 
   pub release_stock : IsStock after_release
   release_stock =
-      step_stock m stock part state.Standing [] None released release_step with_freed no_freed freed_keeps j.plan.tree rows recounted texts message (reply.Release j.act)
+      step_stock m stock part state.Standing [] None released release_step with_freed j.plan.tree (no_freed m.demands j.plan.tree) freed_keeps rows recounted texts message (reply.Release j.act)
       (job_over m stock number j part material work waits job.Released refl after_release refl)
       (λ n other is apart w.
-      untouched m stock part state.Standing [] None released release_step with_freed no_freed freed_keeps j.plan.tree rows recounted texts message (reply.Release j.act)
+      untouched m stock part state.Standing [] None released release_step with_freed j.plan.tree (no_freed m.demands j.plan.tree) freed_keeps rows recounted texts message (reply.Release j.act)
       other w (not_other m stock number j part material work waits n other is apart) (λ x i e. i))
       released_counts
 
   pub release_fits : kept_at m (pair_of message) ≡ None → Fits m (keeping texts message (release_change j part rows))
   release_fits =
-      step_fits m stock part state.Standing [] None released release_step with_freed no_freed freed_keeps j.plan.tree rows recounted texts message (reply.Release j.act)
+      step_fits m stock part state.Standing [] None released release_step with_freed j.plan.tree (no_freed m.demands j.plan.tree) freed_keeps rows recounted texts message (reply.Release j.act)
       (job_fits m stock number j part material work waits job.Released refl) released_counts
 
--- ---- a job is done
+-- ---- the work on a job ended
+
+no_wait : (stop : Stop) → is_waiting (ended_state stop) ≡ false
+no_wait stop.All = refl
+no_wait (stop.After halt) = refl
 
 module _ (m : Content) (stock : IsStock m) (number : ℕ) (j : Job) (part : Part) (material : Material) (work : IsWork m number j part material) (waits : is_waiting j.state ≡ true)
-    (laid : List Row) (is_laid : IsLaid j.plan.tree j.plan.w j.plan.h j.plan.kerf all_made laid) where
+    (stop : Stop) (laid : List Row) (is_laid : IsLaid j.plan.tree j.plan.w j.plan.h j.plan.kerf (outcome_of stop) laid) where
   abbrev pub made : List Part
   made = map (row_part part material.limits j.act) laid
 
@@ -249,21 +256,25 @@ module _ (m : Content) (stock : IsStock m) (number : ℕ) (j : Job) (part : Part
 
   pub all_cells : sum_by (λ (r : Row). r.w * r.h) laid ≡ part.size.w * part.size.h
   all_cells =
-      add_up j.plan.tree j.plan.w j.plan.h j.plan.kerf all_made laid is_laid (λ n o a b. true) ∙ count_all j.plan.w j.plan.h
+      add_up j.plan.tree j.plan.w j.plan.h j.plan.kerf (outcome_of stop) laid is_laid (λ n o a b. true) ∙ count_all j.plan.w j.plan.h
       ∙ ap (λ n. n * j.plan.h) (width m stock number j part material work waits) ∙ ap (λ n. part.size.w * n) (height m stock number j part material work waits)
 
-  pieces_made : (d : ℕ) → count_by (λ (p : Part). is_piece_for d p.state) made ≡ count_of j.plan.tree d
-  pieces_made d =
+  -- no more is laid than the plan's pieces
+  few_laid : (d : ℕ) → pieces_in d laid ≤ count_of j.plan.tree d
+  few_laid d =
       let plan = (is_job m stock number j part material work waits).plan in
+      laid_few j.plan.tree j.plan.w j.plan.h j.plan.kerf (outcome_of stop) laid d plan.shaped plan.some_width plan.some_height is_laid
+
+  pieces_made : (d : ℕ) → count_by (λ (p : Part). is_piece_for d p.state) made ≡ pieces_in d laid
+  pieces_made d =
       sum_map (λ (p : Part). if is_piece_for d p.state then 1 else 0) (row_part part material.limits j.act) laid
       ∙ sum_as (λ (r : Row). if is_piece_for d (fate material.limits r.owner (record { w = r.w; h = r.h })) then 1 else 0) (λ (r : Row). if is_owner_of d r.owner then 1 else 0) laid
       (λ r i. ap (λ b. if b then 1 else 0) (fate_piece d material.limits r.owner (record { w = r.w; h = r.h })))
-      ∙ laid_all j.plan.tree j.plan.w j.plan.h j.plan.kerf laid d plan.shaped plan.some_width plan.some_height is_laid
 
   row_placed : (r : Row) → IsIn r laid → IsPlaced m (record { act = j.act; node = r.node }) (row_part part material.limits j.act r)
   row_placed r i =
       let old = placed m stock number j part material work waits in
-      let in_plan = row_inside j.plan.tree j.plan.w j.plan.h j.plan.kerf all_made laid is_laid r i in
+      let in_plan = row_inside j.plan.tree j.plan.w j.plan.h j.plan.kerf (outcome_of stop) laid is_laid r i in
       let right = in_plan.right in
       let bottom = in_plan.bottom in
       let wide = width m stock number j part material work waits in
@@ -284,7 +295,8 @@ module _ (m : Content) (stock : IsStock m) (number : ℕ) (j : Job) (part : Part
         asked = λ d piece.
             let one = in_counted (λ (p : Part). is_piece_for d p.state) made (row_part part material.limits j.act r) (map_in (row_part part material.limits j.act) laid r i) piece in
             let count = pieces_made d in
-            (waiting m stock number j part material work waits).demands d (omega (arith, one, count));
+            let few = few_laid d in
+            (waiting m stock number j part material work waits).demands d (omega (arith, one, count, few));
       }
 
   not_whole : (r : Row) → same_name (record { act = j.act; node = r.node }) part.root ≡ false
@@ -321,8 +333,8 @@ module _ (m : Content) (stock : IsStock m) (number : ℕ) (j : Job) (part : Part
       by true = all_cells
       by false = sum_none (λ (r : Row). 0) laid (λ r i. refl)
 
-  done_step : IsPartStep m part (state.Cut j.act) made None
-  done_step = record {
+  end_step : IsPartStep m part (state.Cut j.act) made None
+  end_step = record {
     there = here m stock number j part material work waits;
     stands = stands m stock number j part material work waits;
     plain = λ number. refl;
@@ -370,55 +382,70 @@ module _ (m : Content) (stock : IsStock m) (number : ℕ) (j : Job) (part : Part
               by true = refl
               by false = refl
 
-  module _ (rows : List Demand) (recounted : AreRecounted (demand_at m) with_made j.plan.tree rows) (texts : Texts) (message : Message) where
-    abbrev done : Job
-    done = record j { state = job.Done }
+  module _ (rows : List Demand) (recounted : AreRecounted (demand_at m) (with_laid laid) j.plan.tree rows) (texts : Texts) (message : Message) where
+    abbrev over : Job
+    over = record j { state = ended_state stop }
 
-    abbrev after_done : Content
-    after_done = changed m (keeping texts message (done_change j part material.limits laid rows))
+    abbrev after_end : Content
+    after_end = changed m (keeping texts message (end_change stop j part material.limits laid rows))
 
-    made_keeps : (n : ℕ) (d : Demand) → with_made n d ≡ record d { reserved = (with_made n d).reserved; made = (with_made n d).made }
-    made_keeps n d = refl
+    abbrev answer : Reply
+    answer = ended_reply stop j.act made
 
-    done_counts : (d : ℕ) (before : Demand) → demand_at m d ≡ Some before → IsCounted after_done d (with_made (count_of j.plan.tree d) before)
-    done_counts d before is =
+    is_over : is_waiting (ended_state stop) ≡ false
+    is_over = no_wait stop
+
+    others_left : LeavesOthers m.demands (with_laid laid) j.plan.tree
+    others_left = no_laid m.demands j.plan.tree laid few_laid (λ number d is. (stock.demands number d is).numbered)
+
+    laid_keeps : (n : ℕ) (d : Demand) → with_laid laid n d ≡ record d { reserved = (with_laid laid n d).reserved; made = (with_laid laid n d).made }
+    laid_keeps n d = refl
+
+    end_counts : (d : ℕ) (before : Demand) → demand_at m d ≡ Some before → IsCounted after_end d (with_laid laid (count_of j.plan.tree d) before)
+    end_counts d before is =
         let old = (stock.demands d before is).counted in
         let few = old.few in
         let was = old.reserved in
-        let less = reserved_less m stock number j part material work waits job.Done refl d in
-        let more = made_after m stock part (state.Cut j.act) made None done done_step with_made no_made made_keeps j.plan.tree rows recounted texts message (finished_reply j.act made) d in
+        let less = reserved_less m stock number j part material work waits (ended_state stop) is_over d in
+        let more = made_after m stock part (state.Cut j.act) made None over end_step (with_laid laid) j.plan.tree others_left laid_keeps rows recounted texts message answer d in
         let pieces = pieces_made d in
         let of = old.made in
         let room = enough m stock number j part material work waits d before is in
-        record { few = omega (arith, few, room); reserved = omega (arith, was, less); made = omega (arith, of, more, pieces) }
+        let own : pieces_in before.number laid ≡ pieces_in d laid = ap (λ n. pieces_in n laid) (stock.demands d before is).numbered in
+        let laid_of = few_laid d in
+        record { few = omega (arith, few, room, own, laid_of); reserved = omega (arith, was, less); made = omega (arith, of, more, pieces, own) }
 
-    pub done_stock : IsStock after_done
-    done_stock =
-        step_stock m stock part (state.Cut j.act) made None done done_step with_made no_made made_keeps j.plan.tree rows recounted texts message (finished_reply j.act made)
-        (job_over m stock number j part material work waits job.Done refl after_done refl)
+    pub end_stock : IsStock after_end
+    end_stock =
+        step_stock m stock part (state.Cut j.act) made None over end_step (with_laid laid) j.plan.tree others_left laid_keeps rows recounted texts message answer
+        (job_over m stock number j part material work waits (ended_state stop) is_over after_end refl)
         (λ n other is apart w.
-        untouched m stock part (state.Cut j.act) made None done done_step with_made no_made made_keeps j.plan.tree rows recounted texts message (finished_reply j.act made)
+        untouched m stock part (state.Cut j.act) made None over end_step (with_laid laid) j.plan.tree others_left laid_keeps rows recounted texts message answer
         other w (not_other m stock number j part material work waits n other is apart)
         (λ x i e. other_act m stock number j part material work waits n other is apart (sym (ap (λ (p : Part). p.name.act) (made_of x i).2) ∙ e)))
-        done_counts
+        end_counts
 
-    pub done_fits : kept_at m (pair_of message) ≡ None → Fits m (keeping texts message (done_change j part material.limits laid rows))
-    done_fits =
-        step_fits m stock part (state.Cut j.act) made None done done_step with_made no_made made_keeps j.plan.tree rows recounted texts message (finished_reply j.act made)
-        (job_fits m stock number j part material work waits job.Done refl) done_counts
+    pub end_fits : kept_at m (pair_of message) ≡ None → Fits m (keeping texts message (end_change stop j part material.limits laid rows))
+    end_fits =
+        step_fits m stock part (state.Cut j.act) made None over end_step (with_laid laid) j.plan.tree others_left laid_keeps rows recounted texts message answer
+        (job_fits m stock number j part material work waits (ended_state stop) is_over) end_counts
 
--- ---- what is told of a job that is done
+-- ---- what is told of a job whose work ended
+
+reply_made : (stop : Stop) (number : ℕ) (parts : List Part) → IsNumber number → ((column : Column) → IsWide (cells_counted column parts)) → IsMade (ended_reply stop number parts)
+reply_made stop.All number parts small few = (small, few column.Kerf, few column.Pieces, few column.Rack, few column.Scrap)
+reply_made (stop.After halt) number parts small few = (small, few column.Kerf, few column.Pieces, few column.Rack, few column.Scrap)
 
 module _ (m : Content) (stock : IsStock m) (number : ℕ) (j : Job) (part : Part) (material : Material) (work : IsWork m number j part material) (waits : is_waiting j.state ≡ true)
-    (laid : List Row) (is_laid : IsLaid j.plan.tree j.plan.w j.plan.h j.plan.kerf all_made laid) where
+    (stop : Stop) (laid : List Row) (is_laid : IsLaid j.plan.tree j.plan.w j.plan.h j.plan.kerf (outcome_of stop) laid) where
   abbrev parts : List Part
-  parts = made m stock number j part material work waits laid is_laid
+  parts = made m stock number j part material work waits stop laid is_laid
 
   cells_few : (column : Column) → IsWide (cells_counted column parts)
   cells_few column =
       let le = sum_by-le-sum_by (λ (p : Part). if is_counted column p then p.size.w * p.size.h else 0) (λ (p : Part). p.size.w * p.size.h) parts (λ p. by (is_counted column p) (p.size.w * p.size.h)) in
       let all : sum_by (λ (p : Part). p.size.w * p.size.h) parts ≡ part.size.w * part.size.h =
-      sum_map (λ (p : Part). p.size.w * p.size.h) _ laid ∙ all_cells m stock number j part material work waits laid is_laid in
+      sum_map (λ (p : Part). p.size.w * p.size.h) _ laid ∙ all_cells m stock number j part material work waits stop laid is_laid in
       let old = placed m stock number j part material work waits in
       let right = old.right in
       let bottom = old.bottom in
@@ -429,21 +456,22 @@ module _ (m : Content) (stock : IsStock m) (number : ℕ) (j : Job) (part : Part
       by true n = omega arith
       by false n = omega arith
 
-  pub done_told : IsMade (finished_reply j.act parts)
-  done_told =
+  pub end_told : IsMade (ended_reply stop j.act parts)
+  end_told =
       let le = so_far m stock number j part material work waits in
       let last = stock.in_range.last in
-      (omega (arith, le, last), cells_few column.Kerf, cells_few column.Pieces, cells_few column.Rack, cells_few column.Scrap)
+      reply_made stop j.act parts (omega (arith, le, last)) cells_few
 
 -- ---- a waiting job rests on its rows
 
-job_agrees : (found : Option Job) (part : Option Part) (material : Option Material) (at : ℕ → Option Demand)
-    → ((j : Job) → found ≡ Some j → is_waiting j.state ≡ true → rests j part material at ≡ true) → NoFault (job_refusal found part material at)
-job_agrees None part material at h = λ e. cc
-job_agrees (Some j) part material at h = by (is_waiting j.state) refl
+job_agrees : (stop : Stop) (found : Option Job) (part : Option Part) (material : Option Material) (at : ℕ → Option Demand)
+    → ((j : Job) → found ≡ Some j → is_waiting j.state ≡ true → rests j part material at ≡ true) → NoFault (job_refusal stop found part material at)
+job_agrees stop None part material at h = λ e. cc
+job_agrees stop (Some j) part material at h = by (is_waiting j.state) refl
   where
-    by : (b : Bool) → is_waiting j.state ≡ b → NoFault (if not b then Some JobOver else (if not (rests j part material at) then Some StoreFault else None))
-    by true e = no_such (rests j part material at) (h j refl e)
+    by : (b : Bool) → is_waiting j.state ≡ b
+        → NoFault (if not b then Some JobOver else (if not (can_end j.plan.tree stop) then Some BadCut else (if not (rests j part material at) then Some StoreFault else None)))
+    by true e = other (not (can_end j.plan.tree stop)) _ _ (λ f. cc) (no_such (rests j part material at) (h j refl e))
     by false e = λ f. cc
 
 module _ (m : Content) (stock : IsStock m) where
@@ -485,8 +513,8 @@ module _ (m : Content) (stock : IsStock m) where
       (enough m stock number j row material work waits leaf.demand there.0 there.1)
       (stock.demands leaf.demand there.0 there.1).counted.few)))
 
-  pub end_agrees : (number : ℕ) → NoFault (end_refusal m (job_at m number))
-  end_agrees number =
-      job_agrees (job_at m number) (part_of_job m (job_at m number)) (material_of m (part_of_job m (job_at m number))) (demand_at m)
+  pub end_agrees : (stop : Stop) (number : ℕ) → NoFault (end_refusal m stop (job_at m number))
+  end_agrees stop number =
+      job_agrees stop (job_at m number) (part_of_job m (job_at m number)) (material_of m (part_of_job m (job_at m number))) (demand_at m)
       (λ j found waits.
       subst (λ o. rests j (part_of_job m o) (material_of m (part_of_job m o)) (demand_at m) ≡ true) (sym found) (waiting_rests number j found waits))

@@ -9,7 +9,7 @@ use Rattle.cut_measure.specs.Names.{name_cmp}
 use Rattle.shop_machine.specs.declared.changes.Change.{Change}
 use Rattle.shop_machine.specs.declared.messages.Message.{Message}
 use Rattle.shop_machine.specs.declared.messages.Command.{Command}
-use Rattle.shop_machine.specs.declared.messages.Command.TheVariants.{AddMaterial, Receive, AddOrder, Reserve, Done, Release, Scrap, GiveBack}
+use Rattle.shop_machine.specs.declared.messages.Command.TheVariants.{AddMaterial, Receive, AddOrder, Reserve, Done, Break, Release, Scrap, GiveBack}
 use Rattle.shop_machine.specs.Messages.{Texts}
 use Rattle.shop_machine.specs.Readings.{Reading}
 use Rattle.shop_machine.specs.Content.{Content, fresh, changed}
@@ -24,7 +24,7 @@ use Rattle.shop_machine.proofs.AddingDeed.{by_material}
 use Rattle.shop_machine.proofs.OrderingDeed.{by_order}
 use Rattle.shop_machine.proofs.ReceivingDeed.{by_receipt}
 use Rattle.shop_machine.proofs.ReservingDeed.{reserves}
-use Rattle.shop_machine.proofs.EndingDeed.{ends, releases}
+use Rattle.shop_machine.proofs.EndingDeed.{ends, breaks, releases}
 use Rattle.shop_machine.proofs.TurningDeed.{scraps, gives_back}
 
 module _ (texts : Texts) (message : Message) (earlier : List Deed) (old : Content) (sound : IsSound texts old) (f : Follows earlier old) where
@@ -41,6 +41,7 @@ module _ (texts : Texts) (message : Message) (earlier : List Deed) (old : Conten
       subst (Then (AddOrder order lines) read) (sym makes) (by_order texts message earlier old sound f order lines)
   by_message (Reserve part text) read change reads allowed makes = reserves texts message earlier old sound f part text read change makes.0 makes.1 makes.2 makes.3 reads makes.4
   by_message (Done done) read change reads allowed makes = ends texts message earlier old sound f done read change makes.0 makes.1 makes.2 allowed makes.3 makes.4
+  by_message (Break done halt) read change reads allowed makes = breaks texts message earlier old sound f done halt read change makes.0 makes.1 makes.2 allowed makes.3 makes.4
   by_message (Release released) read change reads allowed makes = releases texts message earlier old sound f released read change makes.0 makes.1 makes.2 allowed makes.3 makes.4
   by_message (Scrap part) read change reads allowed makes = scraps texts message earlier old sound f part read change makes.0 allowed makes.1 makes.2
   by_message (GiveBack part) read change reads allowed makes = gives_back texts message earlier old sound f part read change makes.0 allowed makes.1 makes.2

@@ -4,6 +4,7 @@ use Rattle.std.specs.Prelude.{Option, Some, None, IsSome, sum_by, count_by, if�
 use Rattle.std.specs.Ordering.{nat_cmp}
 use Rattle.std.specs.FinMap.{FinMap, get, insert, values}
 use Rattle.cut_measure.specs.Names.{Name, name_cmp}
+use Rattle.cut_tree.specs.declared.lay.Row.{Row}
 use Rattle.cut_tree.specs.Tree.{Tree, count_of}
 use Rattle.shop_machine.specs.declared.records.Part.{Part}
 use Rattle.shop_machine.specs.declared.records.State.{State}
@@ -11,7 +12,7 @@ use Rattle.shop_machine.specs.declared.records.Demand.{Demand}
 use Rattle.shop_machine.specs.declared.records.Column.TheVariants.{Received}
 use Rattle.shop_machine.specs.Columns.{is_piece_for}
 use Rattle.shop_machine.specs.Content.{with_parts, with_demands, cells_in, totals_in, AddsUp, in_state}
-use Rattle.shop_machine.specs.Recounts.{AreRecounted, with_reserved, with_made, with_freed}
+use Rattle.shop_machine.specs.Recounts.{AreRecounted, with_reserved, with_laid, with_freed, pieces_in}
 use Rattle.shop_machine.specs.History.{IsIn}
 use Rattle.shop_machine.proofs.Basics.{all_in, any_in, same_some, names_total, names_same, get_other, put_cases, demand_cases}
 use Rattle.shop_machine.proofs.Puts.{is_known, not_both, Pairwise, put_other, sum_parts, sum_over}
@@ -19,8 +20,12 @@ use Rattle.shop_machine.proofs.AddedUp.{cells_as, cells_left, adds_up, adds_up_s
 
 -- ---- recounts
 
+-- a recount leaves a demand of which the tree has no piece
+abbrev pub LeavesOthers : FinMap nat_cmp Demand → (ℕ → Demand → Demand) → Tree → Type 0
+LeavesOthers old recount tree = (number : ℕ) (d : Demand) → get old number ≡ Some d → count_of tree number ≡ 0 → recount 0 d ≡ d
+
 module _ (old : FinMap nat_cmp Demand) (recount : ℕ → Demand → Demand) (tree : Tree) (rows : List Demand)
-    (r : AreRecounted (λ number. get old number) recount tree rows) (none : (d : Demand) → recount 0 d ≡ d) where
+    (r : AreRecounted (λ number. get old number) recount tree rows) (none : LeavesOthers old recount tree) where
   -- a demand that is found, and how it was before
   pub record IsRecount (number : ℕ) (demand : Demand) : Type 0 where
     pub before : Demand
@@ -49,7 +54,7 @@ module _ (old : FinMap nat_cmp Demand) (recount : ℕ → Demand → Demand) (tr
             record {
               before = demand;
               was = sym q.1 ∙ is;
-              now = sym (ap (λ n. recount n demand) (uncounted number q.0) ∙ none demand);
+              now = sym (ap (λ n. recount n demand) (uncounted number q.0) ∙ none number demand (sym q.1 ∙ is) (uncounted number q.0));
             }
       ]
 
@@ -65,14 +70,21 @@ same_demand : (a b : Demand) → a.number ≡ b.number → a.order ≡ b.order �
 same_demand a b n o l m s t w x r d i =
     record { number = n i; order = o i; line = l i; material = m i; size = s i; may_turn = t i; worth = w i; wanted = x i; reserved = r i; made = d i }
 
-pub no_reserved : (d : Demand) → with_reserved 0 d ≡ d
-no_reserved d = same_demand (with_reserved 0 d) d refl refl refl refl refl refl refl refl (omega arith) refl
+module _ (old : FinMap nat_cmp Demand) (tree : Tree) where
+  pub no_reserved : LeavesOthers old with_reserved tree
+  no_reserved number d is gone = same_demand (with_reserved 0 d) d refl refl refl refl refl refl refl refl (omega arith) refl
 
-pub no_made : (d : Demand) → with_made 0 d ≡ d
-no_made d = same_demand (with_made 0 d) d refl refl refl refl refl refl refl refl (omega arith) (omega arith)
+  pub no_freed : LeavesOthers old with_freed tree
+  no_freed number d is gone = same_demand (with_freed 0 d) d refl refl refl refl refl refl refl refl (omega arith) refl
 
-pub no_freed : (d : Demand) → with_freed 0 d ≡ d
-no_freed d = same_demand (with_freed 0 d) d refl refl refl refl refl refl refl refl (omega arith) refl
+  -- where each demand stands under its own number, and no more is laid than the tree's pieces
+  pub no_laid : (laid : List Row) → ((d : ℕ) → pieces_in d laid ≤ count_of tree d) → ((number : ℕ) (d : Demand) → get old number ≡ Some d → d.number ≡ number)
+      → LeavesOthers old (with_laid laid) tree
+  no_laid laid few numbered number d is gone =
+      let less = few d.number in
+      let own : count_of tree d.number ≡ count_of tree number = ap (count_of tree) (numbered number d is) in
+      let none : pieces_in d.number laid ≡ 0 = omega (arith, less, own, gone) in
+      same_demand (with_laid laid 0 d) d refl refl refl refl refl refl refl refl (omega arith) (omega (arith, none))
 
 -- ---- parts
 

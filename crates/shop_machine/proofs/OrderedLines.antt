@@ -15,7 +15,7 @@ use Rattle.shop_machine.specs.Ordering.{new_demand, new_demands}
 use Rattle.shop_machine.specs.History.{Deed, OrderedLine, ordered_lines, nth_line, demand_of, DemandsAreLines}
 use Rattle.shop_machine.specs.Soundness.{IsDemand, reserved_in, made_in}
 use Rattle.shop_machine.proofs.Basics.{nat_cases, get_same, get_other, demand_cases}
-use Rattle.shop_machine.proofs.Moved.{row_recount}
+use Rattle.shop_machine.proofs.Moved.{LeavesOthers, row_recount}
 
 -- what a demand asks for, as it was ordered
 abbrev pub ordered_as : Demand → OrderedLine
@@ -81,7 +81,7 @@ lines_more order new lines = length-append lines (map (in_order order) new) ∙ 
 -- ---- a recount
 
 pub lines_recounted : (lines : List OrderedLine) (demands : FinMap nat_cmp Demand) (recount : ℕ → Demand → Demand) (tree : Tree) (rows : List Demand)
-    → AreRecounted (λ number. get demands number) recount tree rows → ((d : Demand) → recount 0 d ≡ d) → ((n : ℕ) (d : Demand) → ordered_as (recount n d) ≡ ordered_as d)
+    → AreRecounted (λ number. get demands number) recount tree rows → LeavesOthers demands recount tree → ((n : ℕ) (d : Demand) → ordered_as (recount n d) ≡ ordered_as d)
     → AskFor lines demands → AskFor lines (with_demands rows demands)
 lines_recounted lines demands recount tree rows recounted none same before number =
     elim (demand_cases rows demands number) [

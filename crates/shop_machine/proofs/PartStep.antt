@@ -26,7 +26,7 @@ use Rattle.shop_machine.specs.Soundness.{IsPlaced, IsWaiting, IsJob, IsDemand, I
 use Rattle.shop_machine.proofs.Basics.{at_in, names_total, same_some}
 use Rattle.shop_machine.proofs.Puts.{Pairwise, all_from, pairs_from, pairs_more, not_both, found_one}
 use Rattle.shop_machine.proofs.AddedUp.{cells_as, cells_left, is_uncut}
-use Rattle.shop_machine.proofs.Moved.{IsRecount, row_recount, recount_of, demand_there, found_moved, other_moved, received_moved, adds_up_moved, made_moved}
+use Rattle.shop_machine.proofs.Moved.{LeavesOthers, IsRecount, row_recount, recount_of, demand_there, found_moved, other_moved, received_moved, adds_up_moved, made_moved}
 use Rattle.shop_machine.proofs.Grown.{IsStock, Grows, Untouched, placed_more, job_more}
 
 standing_no_piece : (s : State) → is_there s ≡ true → (number : ℕ) → is_piece_for number s ≡ false
@@ -71,9 +71,9 @@ few_numbers None last few h = few
 few_numbers (Some a) last few h = h.1
 
 module _ (m : Content) (stock : IsStock m) (row : Part) (s : State) (made : List Part) (act : Option ℕ) (job : Job) (step : IsPartStep m row s made act)
-    (recount : ℕ → Demand → Demand) (none : (d : Demand) → recount 0 d ≡ d)
+    (recount : ℕ → Demand → Demand) (tree : Tree) (none : LeavesOthers m.demands recount tree)
     (keeps : (n : ℕ) (d : Demand) → recount n d ≡ record d { reserved = (recount n d).reserved; made = (recount n d).made })
-    (tree : Tree) (rows : List Demand) (recounted : AreRecounted (demand_at m) recount tree rows) (texts : Texts) (message : Message) (answer : Reply) where
+    (rows : List Demand) (recounted : AreRecounted (demand_at m) recount tree rows) (texts : Texts) (message : Message) (answer : Reply) where
   abbrev step_change : Change
   step_change = record {
     material = None;

@@ -13,7 +13,7 @@ use Rattle.cut_tree.specs.Patterns.{Pattern}
 use Rattle.shop_machine.specs.declared.records.Demand.{Demand}
 use Rattle.shop_machine.specs.declared.recounts.FoundLeaf.{FoundLeaf}
 use Rattle.shop_machine.specs.declared.recounts.Recount.{Recount}
-use Rattle.shop_machine.specs.declared.recounts.Recount.TheVariants.{Reserved, Made, Freed}
+use Rattle.shop_machine.specs.declared.recounts.Recount.TheVariants.{Reserved, Laid, Freed}
 use Rattle.shop_machine.specs.Recounts.{AreRecounted, plan_leaves, AreDemandsFound, leaves_in, recount_by, HasRoom, HasRow, IsAddedOnce}
 use Rattle.shop_machine.specs.Reserving.{is_over}
 use Rattle.shop_machine.specs.Ending.{has_reserved}
@@ -65,7 +65,7 @@ none_added how tree leaves = record {
 
 pub number_kept : (how : Recount) (n : ℕ) (demand : Demand) → (recount_by how n demand).number ≡ demand.number
 number_kept Reserved n demand = refl
-number_kept Made n demand = refl
+number_kept (Laid laid) n demand = refl
 number_kept Freed n demand = refl
 
 any_row : (rows : List Demand) (a b : ℕ) → a ≡ b → Any (λ (row : Demand). row.number ≡ a) rows → Any (λ (row : Demand). row.number ≡ b) rows
@@ -168,10 +168,10 @@ all_added how plan leaves rows at taken same all added found =
     }
 
 -- the row that a leaf has
-pub row_of : (how : Recount) (tree : Tree) (found : FoundLeaf) (demand : Demand) → HasRow how tree found → found.demand ≡ Some demand
-    → (demand.number ≡ found.leaf.demand) × HasRoom how (count_of tree found.leaf.demand) demand
-row_of how tree found demand has is =
-    subst (λ (o : Option Demand). MatchOption o ⊥ (λ (d : Demand). (d.number ≡ found.leaf.demand) × HasRoom how (count_of tree found.leaf.demand) d)) is has
+pub row_of : (room : ℕ → Demand → Type 0) (tree : Tree) (found : FoundLeaf) (demand : Demand) → HasRow room tree found → found.demand ≡ Some demand
+    → (demand.number ≡ found.leaf.demand) × room (count_of tree found.leaf.demand) demand
+row_of room tree found demand has is =
+    subst (λ (o : Option Demand). MatchOption o ⊥ (λ (d : Demand). (d.number ≡ found.leaf.demand) × room (count_of tree found.leaf.demand) d)) is has
 
 pub found_behind : (at : ℕ → Option Demand) (leaves : List FoundLeaf) → AreDemandsFound at leaves → AreDemandsFound at (take (length leaves - 1) (drop 1 leaves))
 found_behind at [] found = found

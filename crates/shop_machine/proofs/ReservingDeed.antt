@@ -46,7 +46,7 @@ module _ (texts : Texts) (message : Message) (earlier : List Deed) (old : Conten
     by_part recounted = record {
       acts = refl;
       numbers = f.numbers;
-      lines = lines_recounted (ordered_lines earlier) old.demands with_reserved plan.tree rows recounted no_reserved (λ n d. refl) f.lines;
+      lines = lines_recounted (ordered_lines earlier) old.demands with_reserved plan.tree rows recounted (no_reserved old.demands plan.tree) (λ n d. refl) f.lines;
       rules = f.rules;
       rows = rows_restated texts message earlier old sound f row (Reserved (acts_of earlier + 1)) kept_row (Reserves part plan.tree);
       jobs = λ k job g. elim (nat_cases k (acts_of earlier + 1)) [

@@ -185,7 +185,7 @@ module _ (m : Content) (stock : IsStock m) (name : Name) (text : List ℕ) (row 
 
   made_same : (number : ℕ) → made_in number after ≡ made_in number m
   made_same number =
-      let sum = made_after m stock row (state.Reserved act) [] (Some act) new_job step with_reserved no_reserved keeps plan.tree rows recounted texts message (reply.Reserve (cut_count plan.tree) act) number in
+      let sum = made_after m stock row (state.Reserved act) [] (Some act) new_job step with_reserved plan.tree (no_reserved m.demands plan.tree) keeps rows recounted texts message (reply.Reserve (cut_count plan.tree) act) number in
       sum ∙ omega arith
 
   few_after : (number : ℕ) (before : Demand) → demand_at m number ≡ Some before → (c : ℕ) → count_of plan.tree number ≡ c → before.reserved + c + before.made ≤ before.wanted
@@ -255,7 +255,7 @@ module _ (m : Content) (stock : IsStock m) (name : Name) (text : List ℕ) (row 
     older = older;
     demands = λ number some.
         let has = fitting.demands number some in
-        demand_there m.demands with_reserved plan.tree rows recounted no_reserved number (is_known (demand_at m number) has.demand has.found);
+        demand_there m.demands with_reserved plan.tree rows recounted (no_reserved m.demands plan.tree) number (is_known (demand_at m number) has.demand has.found);
     none_yet = λ node.
         none_at (part_at after (record { act = act; node = node })) (λ p is. by node p (found_moved m.parts row (state.Reserved act) [] here (λ x i. absurd i) tt (record { act = act; node = node }) p is));
   }
@@ -270,16 +270,16 @@ module _ (m : Content) (stock : IsStock m) (name : Name) (text : List ℕ) (row 
 
   pub reserve_stock : IsStock after
   reserve_stock =
-      step_stock m stock row (state.Reserved act) [] (Some act) new_job step with_reserved no_reserved keeps plan.tree rows recounted texts message (reply.Reserve (cut_count plan.tree) act)
+      step_stock m stock row (state.Reserved act) [] (Some act) new_job step with_reserved plan.tree (no_reserved m.demands plan.tree) keeps rows recounted texts message (reply.Reserve (cut_count plan.tree) act)
       job_after
       (λ number j is other w.
-      untouched m stock row (state.Reserved act) [] (Some act) new_job step with_reserved no_reserved keeps plan.tree rows recounted texts message (reply.Reserve (cut_count plan.tree) act)
+      untouched m stock row (state.Reserved act) [] (Some act) new_job step with_reserved plan.tree (no_reserved m.demands plan.tree) keeps rows recounted texts message (reply.Reserve (cut_count plan.tree) act)
       j w (free_unreserved row.state j.act fitting.free) (λ x i e. i))
       counts
 
   pub reserve_fits : kept_at m (pair_of message) ≡ None → Fits m (keeping texts message (reserve_change row plan act rows))
   reserve_fits =
-      step_fits m stock row (state.Reserved act) [] (Some act) new_job step with_reserved no_reserved keeps plan.tree rows recounted texts message (reply.Reserve (cut_count plan.tree) act)
+      step_fits m stock row (state.Reserved act) [] (Some act) new_job step with_reserved plan.tree (no_reserved m.demands plan.tree) keeps rows recounted texts message (reply.Reserve (cut_count plan.tree) act)
       (record { fits = subst (λ o. MatchOption o (IsOnPart m new_job × (plan.kerf ≡ plan.kerf)) (λ old. new_job ≡ record old { state = job.Waiting })) (sym no_job) (on_part, refl); part = is_known (part_at m row.name) row here })
       counts
 

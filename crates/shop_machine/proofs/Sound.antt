@@ -5,12 +5,13 @@ use Rattle.std.specs.FinMap.{entries, get-empty, len-entries, len-empty, empty, 
 use Rattle.std.specs.Ordering.{nat_cmp}
 use Rattle.cut_measure.specs.Codes.{code_cmp}
 use Rattle.cut_measure.specs.Names.{Name, IsName, name_cmp}
+use Rattle.cut_tree.specs.declared.halts.Stop.TheVariants as stop
 use Rattle.shop_machine.specs.declared.receiving.TheConstants.{MOST_RECEIVED}
 use Rattle.shop_machine.specs.declared.records.Part.{Part}
 use Rattle.shop_machine.specs.declared.records.State.TheVariants as state
 use Rattle.shop_machine.specs.declared.changes.Change.{Change}
 use Rattle.shop_machine.specs.declared.messages.Command.{Command}
-use Rattle.shop_machine.specs.declared.messages.Command.TheVariants.{AddMaterial, Receive, AddOrder, Reserve, Done, Release, Scrap, GiveBack}
+use Rattle.shop_machine.specs.declared.messages.Command.TheVariants.{AddMaterial, Receive, AddOrder, Reserve, Done, Break, Release, Scrap, GiveBack}
 use Rattle.shop_machine.specs.declared.messages.Message.{Message}
 use Rattle.shop_machine.specs.declared.messages.Reply.TheVariants as reply
 use Rattle.shop_machine.specs.declared.refusals.Refusal.TheVariants.{StoreFault}
@@ -24,7 +25,7 @@ use Rattle.shop_machine.specs.History.{Entry, Gives}
 use Rattle.shop_machine.specs.Soundness.{IsSound, Fits, IsKept}
 use Rattle.shop_machine.proofs.Puts.{not_both, found_one, pairs_total, pairs_exact}
 use Rattle.shop_machine.proofs.OrderingStep.{order_of, order_stock, order_fits, order_agrees}
-use Rattle.shop_machine.proofs.EndingStep.{job_waits, done_stock, done_fits, release_stock, release_fits, so_far, done_told, end_agrees}
+use Rattle.shop_machine.proofs.EndingStep.{job_waits, end_stock, end_fits, release_stock, release_fits, so_far, end_told, end_agrees}
 use Rattle.shop_machine.proofs.ReceivingStep.{receive_stock, receive_fits, receipt, receive_agrees}
 use Rattle.shop_machine.proofs.ReservingStep.{reserve_stock, reserve_fits, reading, fitting, reserve_agrees}
 use Rattle.shop_machine.proofs.TurningStep.{scrap_stands, returned_stands, turn_stock, turn_fits, scrap_agrees, return_agrees}
@@ -49,11 +50,15 @@ fits_by texts message m stock (Reserve part text) read change reads allowed make
     makes.4.rows makes.4.recounted texts message new)
 fits_by texts message m stock (Done number) read change reads allowed makes new =
     subst (λ (c : Change). Fits m (keeping texts message c)) (sym makes.4.is)
-    (done_fits m stock number makes.0 makes.1 makes.2 makes.3 (job_waits m number makes.0 makes.3.found allowed) makes.4.laid makes.4.is_laid
+    (end_fits m stock number makes.0 makes.1 makes.2 makes.3 (job_waits m stop.All number makes.0 makes.3.found allowed) stop.All makes.4.laid makes.4.is_laid
+    makes.4.rows makes.4.recounted texts message new)
+fits_by texts message m stock (Break number halt) read change reads allowed makes new =
+    subst (λ (c : Change). Fits m (keeping texts message c)) (sym makes.4.is)
+    (end_fits m stock number makes.0 makes.1 makes.2 makes.3 (job_waits m (stop.After halt) number makes.0 makes.3.found allowed) (stop.After halt) makes.4.laid makes.4.is_laid
     makes.4.rows makes.4.recounted texts message new)
 fits_by texts message m stock (Release number) read change reads allowed makes new =
     subst (λ (c : Change). Fits m (keeping texts message c)) (sym makes.4.is)
-    (release_fits m stock number makes.0 makes.1 makes.2 makes.3 (job_waits m number makes.0 makes.3.found allowed) makes.4.rows makes.4.recounted texts message new)
+    (release_fits m stock number makes.0 makes.1 makes.2 makes.3 (job_waits m stop.All number makes.0 makes.3.found allowed) makes.4.rows makes.4.recounted texts message new)
 fits_by texts message m stock (Scrap part) read change reads allowed makes new =
     subst (λ (c : Change). Fits m (keeping texts message c)) (sym makes.2)
     (turn_fits m stock part makes.0 makes.1 (scrap_stands (part_at m part) makes.0 makes.1 allowed) state.Scrap refl (λ number. refl) texts message (reply.Scrap makes.0.name) new)
@@ -77,11 +82,15 @@ stock_by texts message m stock (Reserve part text) read change reads allowed mak
     makes.4.rows makes.4.recounted texts message)
 stock_by texts message m stock (Done number) read change reads allowed makes =
     subst (λ (c : Change). IsStock (changed m (keeping texts message c))) (sym makes.4.is)
-    (done_stock m stock number makes.0 makes.1 makes.2 makes.3 (job_waits m number makes.0 makes.3.found allowed) makes.4.laid makes.4.is_laid
+    (end_stock m stock number makes.0 makes.1 makes.2 makes.3 (job_waits m stop.All number makes.0 makes.3.found allowed) stop.All makes.4.laid makes.4.is_laid
+    makes.4.rows makes.4.recounted texts message)
+stock_by texts message m stock (Break number halt) read change reads allowed makes =
+    subst (λ (c : Change). IsStock (changed m (keeping texts message c))) (sym makes.4.is)
+    (end_stock m stock number makes.0 makes.1 makes.2 makes.3 (job_waits m (stop.After halt) number makes.0 makes.3.found allowed) (stop.After halt) makes.4.laid makes.4.is_laid
     makes.4.rows makes.4.recounted texts message)
 stock_by texts message m stock (Release number) read change reads allowed makes =
     subst (λ (c : Change). IsStock (changed m (keeping texts message c))) (sym makes.4.is)
-    (release_stock m stock number makes.0 makes.1 makes.2 makes.3 (job_waits m number makes.0 makes.3.found allowed) makes.4.rows makes.4.recounted texts message)
+    (release_stock m stock number makes.0 makes.1 makes.2 makes.3 (job_waits m stop.All number makes.0 makes.3.found allowed) makes.4.rows makes.4.recounted texts message)
 stock_by texts message m stock (Scrap part) read change reads allowed makes =
     subst (λ (c : Change). IsStock (changed m (keeping texts message c))) (sym makes.2)
     (turn_stock m stock part makes.0 makes.1 (scrap_stands (part_at m part) makes.0 makes.1 allowed) state.Scrap refl (λ number. refl) texts message (reply.Scrap makes.0.name))
@@ -109,9 +118,12 @@ told_by m stock (Reserve part text) read change reads allowed makes is =
     subst (λ (c : Change). IsMade c.reply) (sym makes.4.is) (omega (arith, few), omega (arith, number))
 told_by m stock (Done number) read change reads allowed makes is =
     subst (λ (c : Change). IsMade c.reply) (sym makes.4.is)
-    (done_told m stock number makes.0 makes.1 makes.2 makes.3 (job_waits m number makes.0 makes.3.found allowed) makes.4.laid makes.4.is_laid)
+    (end_told m stock number makes.0 makes.1 makes.2 makes.3 (job_waits m stop.All number makes.0 makes.3.found allowed) stop.All makes.4.laid makes.4.is_laid)
+told_by m stock (Break number halt) read change reads allowed makes is =
+    subst (λ (c : Change). IsMade c.reply) (sym makes.4.is)
+    (end_told m stock number makes.0 makes.1 makes.2 makes.3 (job_waits m (stop.After halt) number makes.0 makes.3.found allowed) (stop.After halt) makes.4.laid makes.4.is_laid)
 told_by m stock (Release number) read change reads allowed makes is =
-    let waits = job_waits m number makes.0 makes.3.found allowed in
+    let waits = job_waits m stop.All number makes.0 makes.3.found allowed in
     let le = so_far m stock number makes.0 makes.1 makes.2 makes.3 waits in
     let last = stock.in_range.last in
     subst (λ (c : Change). IsMade c.reply) (sym makes.4.is) (omega (arith, le, last))
@@ -127,8 +139,9 @@ agrees_by m stock (AddOrder order lines) read = order_agrees _ (material_at m) l
 agrees_by m stock (Reserve part text) read =
     reserve_agrees (part_at m part) (material_of m (part_at m part)) (plan_in read) (demand_at m) (m.last_act + 1)
     (λ p there. subst (λ o. IsSome (material_of m o)) (sym there) (stock.parts part p there).known)
-agrees_by m stock (Done number) read = end_agrees m stock number
-agrees_by m stock (Release number) read = end_agrees m stock number
+agrees_by m stock (Done number) read = end_agrees m stock stop.All number
+agrees_by m stock (Break number halt) read = end_agrees m stock (stop.After halt) number
+agrees_by m stock (Release number) read = end_agrees m stock stop.All number
 agrees_by m stock (Scrap part) read = scrap_agrees (part_at m part)
 agrees_by m stock (GiveBack part) read = return_agrees (part_at m part)
 

@@ -1,32 +1,37 @@
--- The end of a job: its cuts are made, or it is released.
-use Rattle.std.specs.Prelude.{◌≡◌, ℕ, ◌+◌, ◌*◌, ◌&&◌, ◌==◌, List, [], ◌∷◌, map, Bool, false, not, nat_le, if◌then◌else◌, Option, Some, None, sum_by}
+-- The end of a job: all its cuts are made, or some of them, or it is released.
+use Rattle.std.specs.Prelude.{◌≡◌, ℕ, ◌+◌, ◌*◌, ◌&&◌, ◌==◌, List, [], ◌∷◌, map, Bool, false, not, nat_le, if◌then◌else◌, Option, Some, None, sum_by, length, is_some, true, ◌||◌}
 use Rattle.std.specs.List.{list_all}
 use Rattle.cut_measure.specs.declared.ranges.TheConstants.{MOST_WIDTH, MOST_HEIGHT, MOST_NUMBERS}
 use Rattle.cut_measure.specs.Measures.{Extent, Rule, is_kept}
 use Rattle.cut_tree.specs.declared.lay.Owner.{Owner}
 use Rattle.cut_tree.specs.declared.lay.Owner.TheVariants as owner
 use Rattle.cut_tree.specs.declared.lay.Row.{Row}
-use Rattle.cut_tree.specs.Tree.{count_of}
-use Rattle.cut_tree.specs.Cells.{all_made}
+use Rattle.cut_tree.specs.declared.halts.Halt.{Halt}
+use Rattle.cut_tree.specs.declared.halts.Halt.TheVariants.{First, Listed}
+use Rattle.cut_tree.specs.declared.halts.Stop.{Stop}
+use Rattle.cut_tree.specs.declared.halts.Stop.TheVariants as stop
+use Rattle.cut_tree.specs.Tree.{Tree, count_of}
+use Rattle.cut_tree.specs.Stops.{allows, outcome_of}
 use Rattle.cut_tree.specs.Laying.{IsLaid}
 use Rattle.shop_machine.specs.declared.records.Material.{Material}
 use Rattle.shop_machine.specs.declared.records.Part.{Part}
 use Rattle.shop_machine.specs.declared.records.State.{State}
 use Rattle.shop_machine.specs.declared.records.State.TheVariants.{Standing, Cut, Piece, Kerf, Scrap}
 use Rattle.shop_machine.specs.declared.records.Job.{Job}
+use Rattle.shop_machine.specs.declared.records.JobState.{JobState}
 use Rattle.shop_machine.specs.declared.records.JobState.TheVariants as job
 use Rattle.shop_machine.specs.declared.records.Demand.{Demand}
 use Rattle.shop_machine.specs.declared.records.Column.{Column}
 use Rattle.shop_machine.specs.declared.records.Column.TheVariants as column
 use Rattle.shop_machine.specs.declared.changes.Change.{Change}
 use Rattle.shop_machine.specs.declared.refusals.Refusal.{Refusal}
-use Rattle.shop_machine.specs.declared.refusals.Refusal.TheVariants.{NoJob, JobOver, StoreFault}
+use Rattle.shop_machine.specs.declared.refusals.Refusal.TheVariants.{NoJob, JobOver, BadCut, StoreFault}
 use Rattle.shop_machine.specs.declared.messages.Reply.{Reply}
 use Rattle.shop_machine.specs.declared.messages.Reply.TheVariants as reply
 use Rattle.shop_machine.specs.Columns.{is_counted, is_reserved_for, is_waiting}
 use Rattle.shop_machine.specs.Content.{Content, material_at, part_at, job_at, demand_at, material_of, part_of_job, in_state}
 use Rattle.shop_machine.specs.Decisions.{first_of, no_change}
-use Rattle.shop_machine.specs.Recounts.{plan_leaves, AreRecounted, with_made, with_freed}
+use Rattle.shop_machine.specs.Recounts.{plan_leaves, AreRecounted, with_laid, with_freed}
 
 -- so many of the demand are reserved, and with what is made they are no more than wanted
 abbrev pub has_reserved : ℕ → Option Demand → Bool
@@ -47,13 +52,24 @@ rests j (Some part) None at = false
 rests j (Some part) (Some material) at =
     is_part_of j part && list_all (λ leaf. has_reserved (count_of j.plan.tree leaf.demand) (at leaf.demand)) (plan_leaves j.plan)
 
-abbrev pub job_refusal : Option Job → Option Part → Option Material → (ℕ → Option Demand) → Option Refusal
-job_refusal None part material at = Some NoJob
-job_refusal (Some j) part material at =
-    first_of ((not (is_waiting j.state), JobOver) ∷ (not (rests j part material at), StoreFault) ∷ [])
+-- a cut was made, or one went wrong
+abbrev pub has_begun : Halt → Bool
+has_begun (First cuts lost) = nat_le 1 cuts || lost
+has_begun (Listed cuts lost) = nat_le 1 (length cuts) || is_some lost
 
-abbrev pub end_refusal : Content → Option Job → Option Refusal
-end_refusal old found = job_refusal found (part_of_job old found) (material_of old (part_of_job old found)) (demand_at old)
+-- the work on the tree can have ended so, and where it halted, it had begun
+abbrev pub can_end : Tree → Stop → Bool
+can_end tree stop.All = true
+can_end tree (stop.After halt) = allows tree halt && has_begun halt
+
+-- why a job can't end so, if it can't; a job that is released ends as one whose cuts were all made
+abbrev pub job_refusal : Stop → Option Job → Option Part → Option Material → (ℕ → Option Demand) → Option Refusal
+job_refusal stop None part material at = Some NoJob
+job_refusal stop (Some j) part material at =
+    first_of ((not (is_waiting j.state), JobOver) ∷ (not (can_end j.plan.tree stop), BadCut) ∷ (not (rests j part material at), StoreFault) ∷ [])
+
+abbrev pub end_refusal : Content → Stop → Option Job → Option Refusal
+end_refusal old stop found = job_refusal stop found (part_of_job old found) (material_of old (part_of_job old found)) (demand_at old)
 
 -- a job with the rows on which it rests
 pub record IsWork (old : Content) (number : ℕ) (j : Job) (part : Part) (material : Material) : Type 0 where
@@ -88,26 +104,42 @@ row_part part rule act row =
 abbrev pub cells_counted : Column → List Part → ℕ
 cells_counted column parts = sum_by (λ part. if is_counted column part then part.size.w * part.size.h else 0) parts
 
-abbrev pub finished_reply : ℕ → List Part → Reply
-finished_reply number parts =
-    reply.Done number (cells_counted column.Kerf parts) (cells_counted column.Pieces parts) (cells_counted column.Rack parts) (cells_counted column.Scrap parts)
+-- the job is done where all cuts were made, else broken
+abbrev pub ended_state : Stop → JobState
+ended_state stop.All = job.Done
+ended_state (stop.After halt) = job.Broken
 
-abbrev pub done_change : Job → Part → Rule → List Row → List Demand → Change
-done_change j part rule laid rows =
+abbrev pub ended_reply : Stop → ℕ → List Part → Reply
+ended_reply stop.All number parts =
+    reply.Done number (cells_counted column.Kerf parts) (cells_counted column.Pieces parts) (cells_counted column.Rack parts) (cells_counted column.Scrap parts)
+ended_reply (stop.After halt) number parts =
+    reply.Break number (cells_counted column.Kerf parts) (cells_counted column.Pieces parts) (cells_counted column.Rack parts) (cells_counted column.Scrap parts)
+
+abbrev pub end_change : Stop → Job → Part → Rule → List Row → List Demand → Change
+end_change stop j part rule laid rows =
     let made = map (row_part part rule j.act) laid in
-    record (no_change (finished_reply j.act made)) {
+    record (no_change (ended_reply stop j.act made)) {
       parts = in_state (Cut j.act) part ∷ made;
-      job = Some (record j { state = job.Done });
+      job = Some (record j { state = ended_state stop });
       demands = rows;
     }
 
--- all cuts of the plan were made
-pub record IsDone (j : Job) (part : Part) (rule : Rule) (at : ℕ → Option Demand) (change : Change) : Type 0 where
+-- The work on the plan ended so: its part falls into what was laid, none of its pieces is reserved any more, and those that
+-- were laid are made.
+pub record IsEnd (stop : Stop) (j : Job) (part : Part) (rule : Rule) (at : ℕ → Option Demand) (change : Change) : Type 0 where
   pub laid : List Row
-  pub is_laid : IsLaid j.plan.tree j.plan.w j.plan.h j.plan.kerf all_made laid
+  pub is_laid : IsLaid j.plan.tree j.plan.w j.plan.h j.plan.kerf (outcome_of stop) laid
   pub rows : List Demand
-  pub recounted : AreRecounted at with_made j.plan.tree rows
-  pub is : change ≡ done_change j part rule laid rows
+  pub recounted : AreRecounted at (with_laid laid) j.plan.tree rows
+  pub is : change ≡ end_change stop j part rule laid rows
+
+-- all cuts of the plan were made
+abbrev pub IsDone : Job → Part → Rule → (ℕ → Option Demand) → Change → Type 0
+IsDone = IsEnd stop.All
+
+-- the work on the plan halted
+abbrev pub IsBroken : Halt → Job → Part → Rule → (ℕ → Option Demand) → Change → Type 0
+IsBroken halt = IsEnd (stop.After halt)
 
 abbrev pub release_change : Job → Part → List Demand → Change
 release_change j part rows =
@@ -123,9 +155,7 @@ pub record IsRelease (j : Job) (part : Part) (at : ℕ → Option Demand) (chang
   pub recounted : AreRecounted at with_freed j.plan.tree rows
   pub is : change ≡ release_change j part rows
 
--- the parts of a finished job, the cut one first, and what is told of them
-pub record AreFinished (j : Job) (part : Part) (rule : Rule) (parts : List Part) (answer : Reply) : Type 0 where
-  pub laid : List Row
-  pub is_laid : IsLaid j.plan.tree j.plan.w j.plan.h j.plan.kerf all_made laid
+-- the parts of a job that ended so, the cut one first, and what is told of them
+pub record AreEnded (stop : Stop) (j : Job) (part : Part) (rule : Rule) (laid : List Row) (parts : List Part) (answer : Reply) : Type 0 where
   pub are : parts ≡ in_state (Cut j.act) part ∷ map (row_part part rule j.act) laid
-  pub told : answer ≡ finished_reply j.act (map (row_part part rule j.act) laid)
+  pub told : answer ≡ ended_reply stop j.act (map (row_part part rule j.act) laid)

@@ -9,6 +9,7 @@ use Rattle.cut_measure.specs.Names.{Name, name_cmp}
 use Rattle.cut_measure.specs.Measures.{Extent, Rule, below, cells_of}
 use Rattle.cut_tree.specs.Tree.{Tree}
 use Rattle.cut_tree.specs.Cells.{Outcome, Spot, spot_of, all_made}
+use Rattle.cut_tree.specs.Stops.{outcome_after}
 use Rattle.shop_machine.specs.declared.records.Part.{Part}
 use Rattle.shop_machine.specs.declared.records.Demand.{Demand}
 use Rattle.shop_machine.specs.declared.records.Column.{Column}
@@ -17,7 +18,7 @@ use Rattle.shop_machine.specs.declared.records.State.{State}
 use Rattle.shop_machine.specs.declared.records.State.TheVariants as state
 use Rattle.shop_machine.specs.declared.kept_texts.Pair.{Pair}
 use Rattle.shop_machine.specs.declared.messages.Command.{Command}
-use Rattle.shop_machine.specs.declared.messages.Command.TheVariants.{AddMaterial, Receive, AddOrder, Reserve, Done, Release, Scrap as ScrapPart, GiveBack}
+use Rattle.shop_machine.specs.declared.messages.Command.TheVariants.{AddMaterial, Receive, AddOrder, Reserve, Done, Break, Release, Scrap as ScrapPart, GiveBack}
 use Rattle.shop_machine.specs.declared.messages.Message.{Message}
 use Rattle.shop_machine.specs.declared.messages.OrderLine.{OrderLine}
 use Rattle.shop_machine.specs.declared.messages.Reply.{Reply}
@@ -91,6 +92,7 @@ deed (AddOrder order lines) read = Orders order lines
 deed (Reserve part text) (Plan plan) = Reserves part plan.tree
 deed (Reserve part text) _ = nothing
 deed (Done job) read = Ends job all_made
+deed (Break job halt) read = Ends job (outcome_after halt)
 deed (Release job) read = nothing
 deed (ScrapPart part) read = Turns part state.Scrap
 deed (GiveBack part) read = Turns part state.Returned

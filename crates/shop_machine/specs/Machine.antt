@@ -1,5 +1,6 @@
 -- The shop as a machine: what it answers to a message, and what it contains afterwards.
 use Rattle.std.specs.Prelude.{◌≡◌, ◌≢◌, ℕ, ◌+◌, List, [], ◌∷◌, Option, Some, None, MatchOption}
+use Rattle.cut_tree.specs.declared.halts.Stop.TheVariants as stop
 use Rattle.cut_tree.specs.Patterns.{Pattern}
 use Rattle.shop_machine.specs.declared.records.Material.{Material}
 use Rattle.shop_machine.specs.declared.records.Part.{Part}
@@ -10,7 +11,7 @@ use Rattle.shop_machine.specs.declared.records.Totals.{Totals}
 use Rattle.shop_machine.specs.declared.kept_texts.Kept.{Kept}
 use Rattle.shop_machine.specs.declared.changes.Change.{Change}
 use Rattle.shop_machine.specs.declared.messages.Command.{Command}
-use Rattle.shop_machine.specs.declared.messages.Command.TheVariants.{AddMaterial, Receive, AddOrder, Reserve, Done, Release, Scrap, GiveBack}
+use Rattle.shop_machine.specs.declared.messages.Command.TheVariants.{AddMaterial, Receive, AddOrder, Reserve, Done, Break, Release, Scrap, GiveBack}
 use Rattle.shop_machine.specs.declared.messages.Message.{Message}
 use Rattle.shop_machine.specs.declared.messages.Query.{Query}
 use Rattle.shop_machine.specs.declared.messages.Query.TheVariants as query
@@ -26,7 +27,7 @@ use Rattle.shop_machine.specs.Adding.{material_refusal, material_change}
 use Rattle.shop_machine.specs.Receiving.{receive_refusal, receive_change}
 use Rattle.shop_machine.specs.Ordering.{order_refusal, order_change}
 use Rattle.shop_machine.specs.Reserving.{IsReading, reserve_refusal, IsReservation}
-use Rattle.shop_machine.specs.Ending.{end_refusal, IsWork, IsDone, IsRelease}
+use Rattle.shop_machine.specs.Ending.{end_refusal, IsWork, IsDone, IsBroken, IsRelease}
 use Rattle.shop_machine.specs.Turning.{scrap_refusal, return_refusal, turn_change}
 
 -- ---- commands
@@ -39,6 +40,7 @@ Reads old (AddMaterial material kind kerf min_long min_short) read = read ≡ un
 Reads old (Receive material batch w h count) read = read ≡ unread
 Reads old (AddOrder order lines) read = read ≡ unread
 Reads old (Done number) read = read ≡ unread
+Reads old (Break number halt) read = read ≡ unread
 Reads old (Release number) read = read ≡ unread
 Reads old (Scrap part) read = read ≡ unread
 Reads old (GiveBack part) read = read ≡ unread
@@ -53,8 +55,9 @@ refusal_of old (AddOrder order lines) read =
     order_refusal (has_order old order) (material_at old) lines (old.last_demand + 1)
 refusal_of old (Reserve part text) read =
     reserve_refusal (part_at old part) (material_of old (part_at old part)) (plan_in read) (demand_at old) (old.last_act + 1)
-refusal_of old (Done number) read = end_refusal old (job_at old number)
-refusal_of old (Release number) read = end_refusal old (job_at old number)
+refusal_of old (Done number) read = end_refusal old stop.All (job_at old number)
+refusal_of old (Break number halt) read = end_refusal old (stop.After halt) (job_at old number)
+refusal_of old (Release number) read = end_refusal old stop.All (job_at old number)
 refusal_of old (Scrap part) read = scrap_refusal (part_at old part)
 refusal_of old (GiveBack part) read = return_refusal (part_at old part)
 
@@ -71,6 +74,9 @@ Makes old (Reserve part text) read change =
 Makes old (Done number) read change =
     (j : Job) × (part : Part) × (material : Material) × IsWork old number j part material
     × IsDone j part material.limits (demand_at old) change
+Makes old (Break number halt) read change =
+    (j : Job) × (part : Part) × (material : Material) × IsWork old number j part material
+    × IsBroken halt j part material.limits (demand_at old) change
 Makes old (Release number) read change =
     (j : Job) × (part : Part) × (material : Material) × IsWork old number j part material
     × IsRelease j part (demand_at old) change

@@ -1,11 +1,13 @@
 -- Messages: what holds of each, what they are known by, and how they are written down.
-use Rattle.std.specs.Prelude.{ℕ, ◌<◌, ◌^◌, List, IsTrue, Bool, not, Option, Some, None, is_some, All}
+use Rattle.std.specs.Prelude.{ℕ, ◌<◌, ◌^◌, List, IsTrue, Bool, not, Option, Some, None, is_some, All, IfSome}
 use Rattle.std.specs.Str.{is_utf8}
 use Rattle.cut_measure.specs.Codes.{is_code}
 use Rattle.cut_measure.specs.Names.{IsName}
 use Rattle.shop_machine.specs.declared.kept_texts.Pair.{Pair}
+use Rattle.cut_tree.specs.declared.halts.Halt.{Halt}
+use Rattle.cut_tree.specs.declared.halts.Halt.TheVariants.{First, Listed}
 use Rattle.shop_machine.specs.declared.messages.Command.{Command}
-use Rattle.shop_machine.specs.declared.messages.Command.TheVariants.{AddMaterial, Receive, AddOrder, Reserve, Done, Release, Scrap, GiveBack}
+use Rattle.shop_machine.specs.declared.messages.Command.TheVariants.{AddMaterial, Receive, AddOrder, Reserve, Done, Break, Release, Scrap, GiveBack}
 use Rattle.shop_machine.specs.declared.messages.OrderLine.{OrderLine}
 use Rattle.shop_machine.specs.declared.messages.Message.{Message}
 use Rattle.shop_machine.specs.declared.messages.Reply.{Reply}
@@ -29,6 +31,11 @@ pub record IsLine (l : OrderLine) : Type 0 where
   pub count : IsNumber l.count
   pub worth : IsNumber l.worth
 
+-- what holds of every halt
+abbrev pub IsHalt : Halt → Type 0
+IsHalt (First cuts lost) = IsNumber cuts
+IsHalt (Listed cuts lost) = All IsNumber cuts × IfSome lost IsNumber
+
 -- what holds of every command: its codes are codes, its texts are UTF-8, and its numbers have 32 bits
 abbrev pub IsCommand : Command → Type 0
 IsCommand (AddMaterial material kind kerf min_long min_short) =
@@ -38,6 +45,7 @@ IsCommand (Receive material batch w h count) =
 IsCommand (AddOrder order lines) = IsTrue (is_code order) × All IsLine lines
 IsCommand (Reserve part tree) = IsName part × IsTrue (is_utf8 tree)
 IsCommand (Done job) = IsNumber job
+IsCommand (Break job halt) = IsNumber job × IsHalt halt
 IsCommand (Release job) = IsNumber job
 IsCommand (Scrap part) = IsName part
 IsCommand (GiveBack part) = IsName part
@@ -55,6 +63,7 @@ IsMade (reply.Receive act count) = IsNumber act × IsNumber count
 IsMade (reply.AddOrder count first order) = IsNumber count × IsNumber first × IsTrue (is_code order)
 IsMade (reply.Reserve cuts job) = IsNumber cuts × IsNumber job
 IsMade (reply.Done job kerf pieces rack scrap) = IsNumber job × IsWide kerf × IsWide pieces × IsWide rack × IsWide scrap
+IsMade (reply.Break job kerf pieces rack scrap) = IsNumber job × IsWide kerf × IsWide pieces × IsWide rack × IsWide scrap
 IsMade (reply.Release job) = IsNumber job
 IsMade (reply.Scrap part) = IsName part
 IsMade (reply.GiveBack part) = IsName part

@@ -1,13 +1,15 @@
 -- The demands of a plan: how its pieces are counted for them, and the rows that were found for its leaves.
-use Rattle.std.specs.Prelude.{◌≡◌, ◌≢◌, ℕ, ◌+◌, ◌-◌, ◌≤◌, List, [], ◌∷◌, map, Option, Some, MatchOption, All, Any, AllPairs, ◌⊎◌, ◌++◌, ◌<◌, ◌^◌, IfSome}
+use Rattle.std.specs.Prelude.{◌≡◌, ◌≢◌, ℕ, ◌+◌, ◌-◌, ◌≤◌, List, [], ◌∷◌, map, Option, Some, MatchOption, All, Any, AllPairs, ◌⊎◌, ◌++◌, ◌<◌, ◌^◌, IfSome, count_by}
 use Rattle.cut_tree.specs.declared.leaves.Leaf.{Leaf}
+use Rattle.cut_tree.specs.declared.lay.Row.{Row}
 use Rattle.cut_tree.specs.Tree.{Tree, count_of}
 use Rattle.cut_tree.specs.Patterns.{Pattern}
 use Rattle.cut_tree.specs.Leaves.{leaves_of}
+use Rattle.cut_tree.specs.Counting.{is_demand_piece}
 use Rattle.shop_machine.specs.declared.records.Demand.{Demand}
 use Rattle.shop_machine.specs.declared.recounts.FoundLeaf.{FoundLeaf}
 use Rattle.shop_machine.specs.declared.recounts.Recount.{Recount}
-use Rattle.shop_machine.specs.declared.recounts.Recount.TheVariants.{Reserved, Made, Freed}
+use Rattle.shop_machine.specs.declared.recounts.Recount.TheVariants.{Reserved, Laid, Freed}
 
 abbrev pub plan_leaves : Pattern → List Leaf
 plan_leaves plan = leaves_of plan.tree plan.w plan.h plan.kerf
@@ -23,13 +25,17 @@ pub record AreRecounted (at : ℕ → Option Demand) (recount : ℕ → Demand �
 abbrev pub with_reserved : ℕ → Demand → Demand
 with_reserved n demand = record demand { reserved = demand.reserved + n }
 
--- so many pass from reserved to made
-abbrev pub with_made : ℕ → Demand → Demand
-with_made n demand = record demand { reserved = demand.reserved - n; made = demand.made + n }
-
 -- so many are free again
 abbrev pub with_freed : ℕ → Demand → Demand
 with_freed n demand = record demand { reserved = demand.reserved - n }
+
+-- how many of the laid rows are pieces of the demand
+abbrev pub pieces_in : ℕ → List Row → ℕ
+pieces_in number laid = count_by (λ row. is_demand_piece number row.owner) laid
+
+-- so many are no longer reserved, and those of them that are laid are made
+abbrev pub with_laid : List Row → ℕ → Demand → Demand
+with_laid laid n demand = record demand { reserved = demand.reserved - n; made = demand.made + pieces_in demand.number laid }
 
 abbrev pub leaves_in : List FoundLeaf → List Leaf
 leaves_in found = map (λ (f : FoundLeaf). f.leaf) found
@@ -44,19 +50,23 @@ AreLeavesFound at plan found = (leaves_in found ≡ plan_leaves plan) × AreDema
 
 abbrev pub recount_by : Recount → ℕ → Demand → Demand
 recount_by Reserved n demand = with_reserved n demand
-recount_by Made n demand = with_made n demand
+recount_by (Laid laid) n demand = with_laid laid.now n demand
 recount_by Freed n demand = with_freed n demand
 
 -- the counts stay in range
 abbrev pub HasRoom : Recount → ℕ → Demand → Type 0
 HasRoom Reserved n demand = demand.reserved + n < 2 ^ 32
-HasRoom Made n demand = (n ≤ demand.reserved) × (demand.made + n < 2 ^ 32)
+HasRoom (Laid laid) n demand = (n ≤ demand.reserved) × (demand.made + pieces_in demand.number laid.now < 2 ^ 32)
 HasRoom Freed n demand = n ≤ demand.reserved
 
--- The row of a leaf's demand is there, under its own number, and stays in range when the tree's pieces are counted.
-abbrev pub HasRow : Recount → Tree → FoundLeaf → Type 0
-HasRow how tree found =
-    MatchOption found.demand ⊥ (λ demand. (demand.number ≡ found.leaf.demand) × HasRoom how (count_of tree found.leaf.demand) demand)
+-- so many are reserved, and can be made
+abbrev pub CanBeMade : ℕ → Demand → Type 0
+CanBeMade n demand = (n ≤ demand.reserved) × (demand.made + n < 2 ^ 32)
+
+-- The row of a leaf's demand is there, under its own number, with room for the tree's pieces.
+abbrev pub HasRow : (room : ℕ → Demand → Type 0) → Tree → FoundLeaf → Type 0
+HasRow room tree found =
+    MatchOption found.demand ⊥ (λ demand. (demand.number ≡ found.leaf.demand) × room (count_of tree found.leaf.demand) demand)
 
 -- where the row of a leaf's demand is there, it stands under its own number
 abbrev pub IsNumbered : FoundLeaf → Type 0

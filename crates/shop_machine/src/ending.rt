@@ -2,24 +2,27 @@ ghost use Rattle.std.specs.Prelude.{◌≡◌, ◌*◌, ◌≤◌, IfOk, IfErr, 
 ghost use Rattle.std.specs.List.{list_all};
 ghost use Rattle.cut_measure.specs.declared.ranges.TheConstants.{MOST_HEIGHT, MOST_NUMBERS, MOST_WIDTH};
 ghost use Rattle.cut_tree.specs.Tree.{count_of};
+ghost use Rattle.cut_tree.specs.Laying.{IsLaid};
+ghost use Rattle.cut_tree.specs.Stops.{outcome_of, IsStopOf};
+ghost use Rattle.cut_tree.specs.declared.halts.Stop.TheVariants.{All as AllCuts, After};
 ghost use Rattle.shop_machine.specs.declared.records.Material.{Material as MaterialOf};
 ghost use Rattle.shop_machine.specs.declared.records.Demand.{Demand as DemandOf};
-ghost use Rattle.shop_machine.specs.declared.recounts.Recount.TheVariants.{Made, Freed};
+ghost use Rattle.shop_machine.specs.declared.recounts.Recount.TheVariants.{Freed};
 ghost use Rattle.shop_machine.specs.declared.records.State.TheVariants.{Cut};
 ghost use Rattle.shop_machine.specs.Messages.{is_accepted};
 ghost use Rattle.shop_machine.specs.Decisions.{Decides};
-ghost use Rattle.shop_machine.specs.Recounts.{plan_leaves, AreDemandsFound, leaves_in, HasRoom, HasRow, IsNumbered};
-ghost use Rattle.shop_machine.specs.Ending.{has_reserved, IsDone, IsRelease, cells_counted, finished_reply, fate, is_part_of, job_refusal, rests, row_part, AreFinished};
+ghost use Rattle.shop_machine.specs.Recounts.{plan_leaves, AreDemandsFound, AreRecounted, leaves_in, HasRoom, HasRow, CanBeMade, IsNumbered, pieces_in, with_laid};
+ghost use Rattle.shop_machine.specs.Ending.{has_reserved, IsEnd, IsDone, IsBroken, IsRelease, cells_counted, ended_reply, ended_state, fate, has_begun, can_end, is_part_of, job_refusal, rests, row_part, AreEnded};
 ghost use Rattle.shop_machine.specs.Content.{in_state};
 
-use crate::changes::{Change, PartList};
+use crate::changes::{Change, DemandList, PartList};
 use crate::decisions::no_change;
 use crate::messages::Reply;
 use crate::records::{Column, Demand, Job, JobState, Material, Part, State};
 use crate::recounts::{FoundLeaf, Recount, recounted_rows, wide};
 use crate::refusals::Refusal;
 use cut_measure::{Kind, Limits, MOST_HEIGHT, MOST_NUMBERS, MOST_WIDTH, PartName, Size};
-use cut_tree::{Owner, Plan, Row, Stop};
+use cut_tree::{Halt, Owner, Plan, Row, Stop};
 use std::alloc::{AllocError, Global};
 
 // What becomes of a laid rectangle.
@@ -105,8 +108,7 @@ fn are_reserved(plan: &Plan, leaves: &[FoundLeaf]) -> bool
     requires numbered { All IsNumbered leaves.now }
     ensures test { (at : ℕ → Option DemandOf) → AreDemandsFound at leaves.now →
         result ≡ list_all (λ leaf. has_reserved (count_of plan.now.tree leaf.demand) (at leaf.demand)) (leaves_in leaves.now) }
-    ensures made { IsTrue result → All (HasRow Made plan.now.tree) leaves.now }
-    ensures freed { IsTrue result → All (HasRow Freed plan.now.tree) leaves.now }
+    ensures rows { IsTrue result → All (HasRow CanBeMade plan.now.tree) leaves.now }
 {
     let [found, more @ ..] = leaves else {
         return true;
@@ -119,7 +121,7 @@ fn are_reserved(plan: &Plan, leaves: &[FoundLeaf]) -> bool
 
 fn has_reserved(count: u32, demand: &Option<Demand>) -> bool
     ensures test { result ≡ has_reserved count demand.now }
-    ensures made { IsTrue result → IfSome demand.now (HasRoom Made count) }
+    ensures made { IsTrue result → IfSome demand.now (CanBeMade count) }
 {
     match demand {
         None => false,
@@ -151,10 +153,30 @@ fn rests(job: &Job, part: &Part, leaves: &[FoundLeaf]) -> bool
     requires leaves { leaves_in leaves.now ≡ plan_leaves job.now.plan }
     ensures test { (at : ℕ → Option DemandOf) → (material : MaterialOf) → AreDemandsFound at leaves.now → result ≡ rests job.now (Some part.now) (Some material) at }
     ensures part { IsTrue result → IsTrue (is_part_of job.now part.now) }
-    ensures made { IsTrue result → All (HasRow Made job.now.plan.tree) leaves.now }
-    ensures freed { IsTrue result → All (HasRow Freed job.now.plan.tree) leaves.now }
+    ensures rows { IsTrue result → All (HasRow CanBeMade job.now.plan.tree) leaves.now }
 {
     is_part_of(job, part) && are_reserved(&job.plan, leaves)
+}
+
+// Whether a cut was made, or one went wrong.
+fn has_begun(halt: &Halt) -> bool
+    ensures { result ≡ has_begun halt.now }
+{
+    match halt {
+        Halt::First { cuts, lost } => 1 <= *cuts || *lost,
+        Halt::Listed { cuts, lost } => 1 <= cuts.as_slice().len() || lost.is_some(),
+    }
+}
+
+// Whether the work on a plan can have ended so.
+fn can_end(plan: &Plan, stop: &Stop) -> bool
+    ensures test { result ≡ can_end plan.now.tree stop.now }
+    ensures stop { IsTrue result → IsStopOf plan.now.tree stop.now }
+{
+    match stop {
+        Stop::All => true,
+        Stop::After(halt) => plan.allows(halt) && has_begun(halt),
+    }
 }
 
 // A waiting job with the rows on which it rests.
@@ -164,26 +186,31 @@ struct Work {
     limits: Limits,
 }
 
-// The rows on which a job rests, or why it can't end.
+// The rows on which a job rests, or why it can't end so.
 fn work_of(
     job: Option<Job>,
     part: Option<Part>,
     material: Option<Material>,
     leaves: &[FoundLeaf],
+    stop: &Stop,
 ) -> Result<Work, Refusal>
     requires numbered { All IsNumbered leaves.now }
     requires leaves { IfSome job (λ j. leaves_in leaves.now ≡ plan_leaves j.plan) }
-    ensures allowed { IfOk result (λ _. (at : ℕ → Option DemandOf) → AreDemandsFound at leaves.now → job_refusal job part material at ≡ None) }
-    ensures refused { IfErr result (λ refusal. (at : ℕ → Option DemandOf) → AreDemandsFound at leaves.now → job_refusal job part material at ≡ Some refusal) }
+    ensures allowed { IfOk result (λ _. (at : ℕ → Option DemandOf) → AreDemandsFound at leaves.now → job_refusal stop.now job part material at ≡ None) }
+    ensures refused { IfErr result (λ refusal. (at : ℕ → Option DemandOf) → AreDemandsFound at leaves.now → job_refusal stop.now job part material at ≡ Some refusal) }
     ensures work { IfOk result (λ work. (job ≡ Some work.job) × (part ≡ Some work.part) × IfSome material (λ m. m.limits ≡ work.limits)) }
     ensures part { IfOk result (λ work. IsTrue (is_part_of work.job work.part)) }
-    ensures rows { IfOk result (λ work. All (HasRow Made work.job.plan.tree) leaves.now × All (HasRow Freed work.job.plan.tree) leaves.now) }
+    ensures stop { IfOk result (λ work. IsStopOf work.job.plan.tree stop.now) }
+    ensures rows { IfOk result (λ work. All (HasRow CanBeMade work.job.plan.tree) leaves.now) }
 {
     let Some(job) = job else {
         return Err(Refusal::NoJob);
     };
     if !job.state.is_waiting() {
         return Err(Refusal::JobOver);
+    }
+    if !can_end(&job.plan, stop) {
+        return Err(Refusal::BadCut);
     }
     let Some(part) = part else {
         return Err(Refusal::StoreFault);
@@ -201,33 +228,69 @@ fn work_of(
     })
 }
 
-// What is told of a finished job: the cells of its new parts.
-fn finished_reply(act: u32, parts: &[Part]) -> Reply
-    requires { sum_by (λ part. part.size.w * part.size.h) parts.now < 2 ^ 64 }
-    ensures { result ≡ finished_reply act parts.now }
+// How far a job is whose work ended so.
+fn ended_state(stop: &Stop) -> JobState
+    ensures { result ≡ ended_state stop.now }
 {
-    Reply::Done {
-        job: act,
-        kerf: cells_counted(Column::Kerf, parts),
-        pieces: cells_counted(Column::Pieces, parts),
-        rack: cells_counted(Column::Rack, parts),
-        scrap: cells_counted(Column::Scrap, parts),
+    match stop {
+        Stop::All => JobState::Done,
+        Stop::After(_) => JobState::Broken,
     }
 }
 
-// The parts of a finished job, the cut one first, and what is told of them.
-fn finished_parts(
+// What is told of a job that ended so: the cells of its new parts.
+fn ended_reply(stop: &Stop, job: u32, parts: &[Part]) -> Reply
+    requires { sum_by (λ part. part.size.w * part.size.h) parts.now < 2 ^ 64 }
+    ensures { result ≡ ended_reply stop.now job parts.now }
+{
+    let kerf = cells_counted(Column::Kerf, parts);
+    let pieces = cells_counted(Column::Pieces, parts);
+    let rack = cells_counted(Column::Rack, parts);
+    let scrap = cells_counted(Column::Scrap, parts);
+    match stop {
+        Stop::All => Reply::Done {
+            job,
+            kerf,
+            pieces,
+            rack,
+            scrap,
+        },
+        Stop::After(_) => Reply::Break {
+            job,
+            kerf,
+            pieces,
+            rack,
+            scrap,
+        },
+    }
+}
+
+// What is laid of a plan; of no demand more pieces than the plan has.
+fn laid_rows(alloc: Global, plan: &Plan, stop: &Stop) -> Result<Vec<Row>, AllocError>
+    requires { IsStopOf plan.now.tree stop.now }
+    ensures laid { IfOk result (λ rows. IsLaid plan.now.tree plan.now.w plan.now.h plan.now.kerf (outcome_of stop.now) rows.items) }
+    ensures few { IfOk result (λ rows. (d : ℕ) → pieces_in d rows.items ≤ count_of plan.now.tree d) }
+{
+    let _cuts = plan.cuts();
+    let rows = plan.lay_as(alloc, stop)?;
+    Ok(rows)
+}
+
+// The parts of a job that ended so, the cut one first, and what is told of them.
+fn ended_parts(
     alloc: Global,
     job: &Job,
     part: &Part,
     limits: Limits,
+    stop: &Stop,
+    rows: &[Row],
 ) -> Result<(PartList, Reply), AllocError>
-    requires { IsTrue (is_part_of job.now part.now) }
-    ensures { IfOk result (λ made. AreFinished job.now part.now limits made.0 made.1) }
+    requires part { IsTrue (is_part_of job.now part.now) }
+    requires laid { IsLaid job.now.plan.tree job.now.plan.w job.now.plan.h job.now.plan.kerf (outcome_of stop.now) rows.now }
+    ensures { IfOk result (λ made. AreEnded stop.now job.now part.now limits rows.now made.0 made.1) }
 {
-    let rows = job.plan.lay(alloc, Stop::All)?;
-    let parts = cut_parts(alloc, part, limits, job.act, &rows)?;
-    let reply = finished_reply(job.act, behind(parts.as_slice()));
+    let parts = cut_parts(alloc, part, limits, job.act, rows)?;
+    let reply = ended_reply(stop, job.act, behind(parts.as_slice()));
     Ok((parts, reply))
 }
 
@@ -241,21 +304,39 @@ fn behind(parts: &[Part]) -> &[Part]
     }
 }
 
-// The change of a job whose cuts were all made.
-fn done(alloc: Global, work: Work, leaves: &[FoundLeaf]) -> Result<Change, AllocError>
+// The rows of a plan's demands once its pieces aren't reserved any more, and those that were laid are made.
+fn laid_demands(
+    alloc: Global,
+    plan: &Plan,
+    rows: &[Row],
+    leaves: &[FoundLeaf],
+) -> Result<DemandList, AllocError>
+    requires leaves { leaves_in leaves.now ≡ plan_leaves plan.now }
+    requires rows { All (HasRow CanBeMade plan.now.tree) leaves.now }
+    requires few { (d : ℕ) → pieces_in d rows.now ≤ count_of plan.now.tree d }
+    ensures { IfOk result (λ demands. (at : ℕ → Option DemandOf) → AreDemandsFound at leaves.now → AreRecounted at (with_laid rows.now) plan.now.tree demands) }
+{
+    recounted_rows(alloc, Recount::Laid(rows), plan, leaves)
+}
+
+// The change of a job whose work ended so.
+fn end(alloc: Global, work: Work, leaves: &[FoundLeaf], stop: &Stop) -> Result<Change, AllocError>
     requires leaves { leaves_in leaves.now ≡ plan_leaves work.job.plan }
     requires part { IsTrue (is_part_of work.job work.part) }
-    requires rows { All (HasRow Made work.job.plan.tree) leaves.now }
-    ensures change { IfOk result (λ change. (at : ℕ → Option DemandOf) → AreDemandsFound at leaves.now → IsDone work.job work.part work.limits at change) }
+    requires stop { IsStopOf work.job.plan.tree stop.now }
+    requires rows { All (HasRow CanBeMade work.job.plan.tree) leaves.now }
+    ensures change { IfOk result (λ change. (at : ℕ → Option DemandOf) → AreDemandsFound at leaves.now → IsEnd stop.now work.job work.part work.limits at change) }
     ensures told { IfOk result (λ change. IsTrue (is_accepted change.reply)) }
 {
     let Work { job, part, limits } = work;
-    let demands = recounted_rows(alloc, Recount::Made, &job.plan, leaves)?;
-    let (parts, reply) = finished_parts(alloc, &job, &part, limits)?;
+    let rows = laid_rows(alloc, &job.plan, stop)?;
+    let laid: &[Row] = &rows;
+    let demands = laid_demands(alloc, &job.plan, laid, leaves)?;
+    let (parts, reply) = ended_parts(alloc, &job, &part, limits, stop, laid)?;
     Ok(Change {
         parts,
         job: Some(Job {
-            state: JobState::Done,
+            state: ended_state(stop),
             ..job
         }),
         demands,
@@ -266,7 +347,7 @@ fn done(alloc: Global, work: Work, leaves: &[FoundLeaf]) -> Result<Change, Alloc
 // The change of a job that is released.
 fn release(alloc: Global, work: Work, leaves: &[FoundLeaf]) -> Result<Change, AllocError>
     requires leaves { leaves_in leaves.now ≡ plan_leaves work.job.plan }
-    requires rows { All (HasRow Freed work.job.plan.tree) leaves.now }
+    requires rows { All (HasRow CanBeMade work.job.plan.tree) leaves.now }
     ensures change { IfOk result (λ change. (at : ℕ → Option DemandOf) → AreDemandsFound at leaves.now → IsRelease work.job work.part at change) }
     ensures told { IfOk result (λ change. IsTrue (is_accepted change.reply)) }
 {
@@ -293,6 +374,26 @@ fn release(alloc: Global, work: Work, leaves: &[FoundLeaf]) -> Result<Change, Al
     })
 }
 
+// How a job's end is decided, the work on its plan having ended so.
+fn decide_end(
+    alloc: Global,
+    job: Option<Job>,
+    part: Option<Part>,
+    material: Option<Material>,
+    leaves: &[FoundLeaf],
+    stop: &Stop,
+) -> Result<Change, Refusal>
+    requires numbered { All IsNumbered leaves.now }
+    requires leaves { IfSome job (λ j. leaves_in leaves.now ≡ plan_leaves j.plan) }
+    ensures decision { (at : ℕ → Option DemandOf) → AreDemandsFound at leaves.now →
+        Decides (job_refusal stop.now job part material at) (λ change. MatchOption job ⊥ (λ j. MatchOption part ⊥ (λ p. MatchOption material ⊥ (λ m. IsEnd stop.now j p m.limits at change)))) result }
+    ensures told { IfOk result (λ change. IsTrue (is_accepted change.reply)) }
+{
+    let work = work_of(job, part, material, leaves, stop)?;
+    let change = end(alloc, work, leaves, stop)?;
+    Ok(change)
+}
+
 /// Finishes a job, from its row, the rows of its part and the part's material, and its plan's leaves with the rows of
 /// their demands.
 pub fn decide_done(
@@ -305,11 +406,31 @@ pub fn decide_done(
     requires numbered { All IsNumbered leaves.now }
     requires leaves { IfSome job (λ j. leaves_in leaves.now ≡ plan_leaves j.plan) }
     ensures decision { (at : ℕ → Option DemandOf) → AreDemandsFound at leaves.now →
-        Decides (job_refusal job part material at) (λ change. MatchOption job ⊥ (λ j. MatchOption part ⊥ (λ p. MatchOption material ⊥ (λ m. IsDone j p m.limits at change)))) result }
+        Decides (job_refusal AllCuts job part material at) (λ change. MatchOption job ⊥ (λ j. MatchOption part ⊥ (λ p. MatchOption material ⊥ (λ m. IsDone j p m.limits at change)))) result }
     ensures told { IfOk result (λ change. IsTrue (is_accepted change.reply)) }
 {
-    let work = work_of(job, part, material, leaves)?;
-    let change = done(alloc, work, leaves)?;
+    let stop = Stop::All;
+    let change = decide_end(alloc, job, part, material, leaves, &stop)?;
+    Ok(change)
+}
+
+/// Breaks a job off, the work on its plan having halted so, from the same rows.
+pub fn decide_break(
+    alloc: Global,
+    job: Option<Job>,
+    part: Option<Part>,
+    material: Option<Material>,
+    leaves: &[FoundLeaf],
+    halt: &Halt,
+) -> Result<Change, Refusal>
+    requires numbered { All IsNumbered leaves.now }
+    requires leaves { IfSome job (λ j. leaves_in leaves.now ≡ plan_leaves j.plan) }
+    ensures decision { (at : ℕ → Option DemandOf) → AreDemandsFound at leaves.now →
+        Decides (job_refusal (After halt.now) job part material at) (λ change. MatchOption job ⊥ (λ j. MatchOption part ⊥ (λ p. MatchOption material ⊥ (λ m. IsBroken halt.now j p m.limits at change)))) result }
+    ensures told { IfOk result (λ change. IsTrue (is_accepted change.reply)) }
+{
+    let stop = Stop::After(halt.copy(alloc)?);
+    let change = decide_end(alloc, job, part, material, leaves, &stop)?;
     Ok(change)
 }
 
@@ -324,10 +445,11 @@ pub fn decide_release(
     requires numbered { All IsNumbered leaves.now }
     requires leaves { IfSome job (λ j. leaves_in leaves.now ≡ plan_leaves j.plan) }
     ensures decision { (at : ℕ → Option DemandOf) → AreDemandsFound at leaves.now →
-        Decides (job_refusal job part material at) (λ change. MatchOption job ⊥ (λ j. MatchOption part ⊥ (λ p. MatchOption material ⊥ (λ _. IsRelease j p at change)))) result }
+        Decides (job_refusal AllCuts job part material at) (λ change. MatchOption job ⊥ (λ j. MatchOption part ⊥ (λ p. MatchOption material ⊥ (λ _. IsRelease j p at change)))) result }
     ensures told { IfOk result (λ change. IsTrue (is_accepted change.reply)) }
 {
-    let work = work_of(job, part, material, leaves)?;
+    let stop = Stop::All;
+    let work = work_of(job, part, material, leaves, &stop)?;
     let change = release(alloc, work, leaves)?;
     Ok(change)
 }

@@ -19,7 +19,7 @@ mod turning;
 pub use adding::decide_material;
 pub use changes::{Change, DemandList, PartList};
 pub use cut_measure::RowList;
-pub use ending::{decide_done, decide_release};
+pub use ending::{decide_break, decide_done, decide_release};
 pub use kept_texts::{Kept, KeptMessage, Pair, Text};
 pub use laws::{accepted_changes_fit, histories_have_accounts};
 pub use messages::{Command, LineList, Message, OrderLine, Query, Reply};

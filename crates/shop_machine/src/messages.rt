@@ -2,6 +2,7 @@ use crate::kept_texts::Text;
 use crate::records::StateWord;
 use crate::refusals::Refusal;
 use cut_measure::{Code, Kind, PartName, RowList};
+use cut_tree::Halt;
 
 /// A line of an order: so many pieces of one size of a material.
 #[derive(Clone, Copy, Debug)]
@@ -49,6 +50,11 @@ pub enum Command {
     },
     Done {
         job: u32,
+    },
+    /// The work on a job's plan halted.
+    Break {
+        job: u32,
+        halt: Halt,
     },
     Release {
         job: u32,
@@ -101,6 +107,14 @@ pub enum Reply {
     },
     /// Cells of the job's new parts.
     Done {
+        job: u32,
+        kerf: u64,
+        pieces: u64,
+        rack: u64,
+        scrap: u64,
+    },
+    /// The same of a broken job.
+    Break {
         job: u32,
         kerf: u64,
         pieces: u64,

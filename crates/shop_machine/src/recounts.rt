@@ -1,10 +1,11 @@
 ghost use Rattle.std.specs.Prelude.{◌≡◌, ◌≢◌, IfOk, IsTrue, ℕ, Option, OnOk, All, ◌<◌, ◌^◌, Any, false};
+ghost use Rattle.cut_tree.specs.Counting.{is_demand_piece};
 ghost use Rattle.shop_machine.specs.declared.records.Demand.{Demand as DemandOf};
-ghost use Rattle.shop_machine.specs.Recounts.{AreRecounted, plan_leaves, AreDemandsFound, leaves_in, recount_by, HasRoom, HasRow, IsAddedOnce};
+ghost use Rattle.shop_machine.specs.Recounts.{AreRecounted, plan_leaves, AreDemandsFound, leaves_in, recount_by, HasRoom, HasRow, IsAddedOnce, pieces_in};
 
 use crate::changes::DemandList;
 use crate::records::Demand;
-use cut_tree::{Leaf, Plan};
+use cut_tree::{Leaf, Owner, Plan, Row};
 use std::alloc::{AllocError, Global};
 
 /// A piece leaf of a plan, with the row of its demand.
@@ -16,11 +17,11 @@ pub struct FoundLeaf {
 
 /// How a plan counts for a demand.
 #[derive(Clone, Copy)]
-pub enum Recount {
+pub enum Recount<'a> {
     /// Its pieces are reserved.
     Reserved,
-    /// They pass from reserved to made.
-    Made,
+    /// They are no longer reserved, and those that these rows lay are made.
+    Laid(&'a [Row]),
     /// They are free again.
     Freed,
 }
@@ -32,18 +33,37 @@ pub fn wide(n: u32) -> u64
     u64::from(n)
 }
 
+// Whether a laid rectangle is a piece of a demand.
+fn is_piece(owner: Owner, demand: u32) -> bool
+    ensures { result ≡ is_demand_piece demand owner }
+{
+    match owner {
+        Owner::Piece(of) => of == demand,
+        Owner::Rest | Owner::Kerf | Owner::Uncut | Owner::Lost => false,
+    }
+}
+
+// How many of the laid rows are pieces of a demand.
+fn pieces_in(rows: &[Row], demand: u32) -> usize
+    ensures { result ≡ pieces_in demand rows.now }
+{
+    rows.iter()
+        .filter(|row| is_piece(row.owner, demand))
+        .count()
+}
+
 fn recounted(how: Recount, count: u32, demand: &Demand) -> Demand
     requires { HasRoom how count demand.now }
-    ensures { result ≡ recount_by how count demand.now }
+    ensures { result ≡ recount_by how.entry count demand.now }
 {
     match how {
         Recount::Reserved => Demand {
             reserved: demand.reserved + count,
             ..*demand
         },
-        Recount::Made => Demand {
+        Recount::Laid(rows) => Demand {
             reserved: demand.reserved - count,
-            made: demand.made + count,
+            made: demand.made + pieces_in(rows, demand.number) as u32,
             ..*demand
         },
         Recount::Freed => Demand {
@@ -79,8 +99,8 @@ pub fn recounted_rows(
     leaves: &[FoundLeaf],
 ) -> Result<DemandList, AllocError>
     requires leaves { leaves_in leaves.now ≡ plan_leaves plan.now }
-    requires found { All (HasRow how plan.now.tree) leaves.now }
-    ensures { IfOk result (λ rows. (at : ℕ → Option DemandOf) → AreDemandsFound at leaves.now → AreRecounted at (recount_by how) plan.now.tree rows) }
+    requires found { All (HasRow (HasRoom how) plan.now.tree) leaves.now }
+    ensures { IfOk result (λ rows. (at : ℕ → Option DemandOf) → AreDemandsFound at leaves.now → AreRecounted at (recount_by how.entry) plan.now.tree rows) }
 {
     let mut rows = DemandList::new(alloc);
     for found in leaves {

@@ -98,7 +98,7 @@ fn reservation(
     act: u32,
 ) -> Result<Change, AllocError>
     requires leaves { leaves_in leaves.now ≡ plan_leaves plan }
-    requires found { All (HasRow Reserved plan.tree) leaves.now }
+    requires found { All (HasRow (HasRoom Reserved) plan.tree) leaves.now }
     ensures change { IfOk result (λ change. (at : ℕ → Option DemandOf) → AreDemandsFound at leaves.now → IsReservation part plan at act change) }
     ensures told { IfOk result (λ change. IsTrue (is_accepted change.reply)) }
 {

@@ -1,16 +1,20 @@
 -- What is printed is read back.
-use Rattle.std.proofs.Common.{◌≡◌, ℕ, suc, ◌<◌, ◌≤◌, ◌^◌, List, [], append-nil, Bool, false, Option, Some, None, refl, sym, ap, ◌∙◌, arith, le-leb, codes}
+use Rattle.std.proofs.Common.{◌≡◌, ℕ, suc, ◌<◌, ◌≤◌, ◌^◌, List, [], append-nil, All, Bool, true, false, Option, Some, None, refl, sym, ap, ◌∙◌, arith, le-leb, codes}
 use Rattle.std.specs.Prelude.{◌||◌, max, option_map, option_and_then, if◌then◌else◌, is_some}
 use Rattle.cut_measure.specs.declared.sizes.Kind.{Kind}
 use Rattle.cut_measure.specs.Names.{Name, name_text}
+use Rattle.cut_tree.specs.declared.halts.Halt.{Halt}
+use Rattle.cut_tree.specs.declared.halts.Halt.TheVariants.{First, Listed}
+use Rattle.std.specs.Option.{option_or}
+use Rattle.std.specs.Cmp.Derive.{both_true}
 use Rattle.shop_machine.specs.declared.messages.Command.{Command}
-use Rattle.shop_machine.specs.declared.messages.Command.TheVariants.{AddMaterial, Receive, AddOrder, Reserve, Done, Release, Scrap, GiveBack}
+use Rattle.shop_machine.specs.declared.messages.Command.TheVariants.{AddMaterial, Receive, AddOrder, Reserve, Done, Break, Release, Scrap, GiveBack}
 use Rattle.shop_machine.specs.declared.messages.Message.{Message}
 use Rattle.shop_machine.specs.declared.messages.OrderLine.{OrderLine}
 use Rattle.shop_machine.specs.declared.messages.Query.{Query}
 use Rattle.shop_machine.specs.declared.messages.Reply.{Reply}
 use Rattle.shop_machine.specs.declared.messages.Reply.TheVariants as reply
-use Rattle.shop_machine.specs.Messages.{IsMessage, IsCommand, IsMade, IsNumber}
+use Rattle.shop_machine.specs.Messages.{IsMessage, IsCommand, IsHalt, IsMade, IsNumber, IsWide}
 use Rattle.std.proofs.Math.Nat.{max-le}
 use Rattle.json.proofs.Printed.Decimals.{IsNumber-decimal}
 use Rattle.json.proofs.Printed.Tokens.{tokens-print}
@@ -18,16 +22,17 @@ use Rattle.json.proofs.Printed.Trees.{value-json_tokens, ArePrintable-json_token
 use Rattle.json.specs.Json as json
 use Rattle.json.specs.Lex.{tokens}
 use Rattle.json.specs.Tree.{HasNumbers, depth, json_tokens}
-use Rattle.serde_json.specs.Data.{Data, number, string, unsigned}
-use Rattle.serde_json.specs.Find.{get, as_str}
+use Rattle.serde_json.specs.Data.{Data, boolean, number, string, unsigned}
+use Rattle.serde_json.specs.Find.{get, as_bool, as_number, as_str, as_u64}
 use Rattle.serde_json.specs.Read.{read, of_json, max_depth}
 use Rattle.serde_json.specs.Written.{compact_text, outline, has_float}
 use Rattle.serde_json.proofs.Numbers.{number_of-decimal}
 use Rattle.json.specs.Token.{Token}
 use Rattle.serde_json.proofs.Texts.{print-outline}
-use Rattle.shop_rules.specs.Forms.{message_of, sent_head, sent_of, from_one, command_of, material_command, receive_command, order_command, reserve_command, query_of, asked_of, reply_of, made_of, order_made, reserve_made, done_made, lines_data, message_data, reply_data, json_texts, kept_reply_of}
-use Rattle.shop_rules.specs.Fields.{kind_text}
-use Rattle.shop_rules.proofs.FieldFacts.{number_there, wide_there, code_there, kind_there, name_there, text_there}
+use Rattle.shop_rules.specs.Forms.{message_of, sent_head, sent_of, from_one, command_of, material_command, receive_command, order_command, reserve_command, query_of, asked_of, reply_of, made_of, order_made, reserve_made, ended_cells, first_cuts, listed_cuts, lost_cut, none_lost, list_data, break_command, has_few_cuts, lines_data, message_data, reply_data, json_texts, kept_reply_of}
+use Rattle.shop_rules.specs.Fields.{kind_text, small, number_at, flag_at}
+use Rattle.shop_rules.proofs.FieldFacts.{number_there, wide_there, flag_there, code_there, kind_there, name_there, text_there}
+use Rattle.shop_rules.proofs.Cuts.{cuts_there, cuts_numbers, cuts_shallow, cuts_json, cuts_no_float}
 use Rattle.shop_rules.proofs.Lists.{lines_there, lines_numbers, lines_shallow, lines_json, lines_no_float}
 
 -- ---- values
@@ -56,6 +61,30 @@ read_reserve : (d : Data) (part : Name) (tree : List ℕ)
     → IsCommand (Reserve part tree) → reserve_command d ≡ Some (Reserve part tree)
 read_reserve d part tree p q h = rw (name_there (codes "part") d part p h.0, text_there (codes "tree") d tree q) refl
 
+-- the first cuts, and whether the next one went wrong
+read_first : (d : Data) (cuts : ℕ) (lost : Bool) → get (codes "cuts") d ≡ Some (number (unsigned cuts)) → get (codes "lost") d ≡ Some (boolean lost) → IsNumber cuts
+    → option_or (first_cuts d) (listed_cuts d) ≡ Some (First cuts lost)
+read_first d cuts lost p q h = rw (number_there (codes "cuts") d cuts p h, flag_there (codes "lost") d lost q) refl
+
+-- listed cuts are no number of cuts
+read_listed : (d : Data) (cuts : List ℕ) (lost : Option ℕ) → get (codes "cuts") d ≡ Some (list_data cuts) → lost_cut (codes "lost") d ≡ Some lost → All IsNumber cuts
+    → option_or (first_cuts d) (listed_cuts d) ≡ Some (Listed cuts lost)
+read_listed d cuts lost p q h =
+    let none : number_at (codes "cuts") d ≡ None = ap (λ o. option_and_then small (option_and_then as_u64 (option_and_then as_number o))) p in
+    rw (none, cuts_there (codes "cuts") d cuts p h, q) refl
+
+none_wrong : (d : Data) → get (codes "lost") d ≡ Some (boolean false) → lost_cut (codes "lost") d ≡ Some None
+none_wrong d p =
+    let none : number_at (codes "lost") d ≡ None = ap (λ o. option_and_then small (option_and_then as_u64 (option_and_then as_number o))) p in
+    rw (none, flag_there (codes "lost") d false p) refl
+
+one_wrong : (d : Data) (cut : ℕ) → get (codes "lost") d ≡ Some (number (unsigned cut)) → IsNumber cut → lost_cut (codes "lost") d ≡ Some (Some cut)
+one_wrong d cut p h = rw (number_there (codes "lost") d cut p h) refl
+
+read_break : (d : Data) (job : ℕ) (halt : Halt) → get (codes "job") d ≡ Some (number (unsigned job)) → IsNumber job → option_or (first_cuts d) (listed_cuts d) ≡ Some halt
+    → break_command d ≡ Some (Break job halt)
+read_break d job halt p h is = rw (number_there (codes "job") d job p h, is) refl
+
 read_sent : (d : Data) (word : List ℕ) (terminal n : ℕ) (command : Command)
     → get (codes "ask") d ≡ None → get (codes "do") d ≡ Some (string word) → get (codes "terminal") d ≡ Some (number (unsigned terminal)) → get (codes "number") d ≡ Some (number (unsigned n))
     → IsNumber terminal → IsNumber n → command_of word d ≡ Some command → sent_of d ≡ Some (record { terminal = terminal; number = n; command = command })
@@ -81,6 +110,18 @@ sent_back_by terminal n (Reserve part tree) p q h =
 sent_back_by terminal n (Done job) p q h =
     let d = message_data (record { terminal = terminal; number = n; command = Done job }) in
     read_sent d (codes "done") terminal n (Done job) refl refl refl refl p q (ap (option_map Done) (number_there (codes "job") d job refl h))
+sent_back_by terminal n (Break job (First cuts lost)) p q h =
+    let d = message_data (record { terminal = terminal; number = n; command = Break job (First cuts lost) }) in
+    read_sent d (codes "break") terminal n (Break job (First cuts lost)) refl refl refl refl p q
+    (read_break d job (First cuts lost) refl h.0 (read_first d cuts lost refl refl h.1))
+sent_back_by terminal n (Break job (Listed cuts None)) p q h =
+    let d = message_data (record { terminal = terminal; number = n; command = Break job (Listed cuts None) }) in
+    read_sent d (codes "break") terminal n (Break job (Listed cuts None)) refl refl refl refl p q
+    (read_break d job (Listed cuts None) refl h.0 (read_listed d cuts None refl (none_wrong d refl) h.1.0))
+sent_back_by terminal n (Break job (Listed cuts (Some cut))) p q h =
+    let d = message_data (record { terminal = terminal; number = n; command = Break job (Listed cuts (Some cut)) }) in
+    read_sent d (codes "break") terminal n (Break job (Listed cuts (Some cut))) refl refl refl refl p q
+    (read_break d job (Listed cuts (Some cut)) refl h.0 (read_listed d cuts (Some cut) refl (one_wrong d cut refl h.1.1) h.1.0))
 sent_back_by terminal n (Release job) p q h =
     let d = message_data (record { terminal = terminal; number = n; command = Release job }) in
     read_sent d (codes "release") terminal n (Release job) refl refl refl refl p q (ap (option_map Release) (number_there (codes "job") d job refl h))
@@ -94,9 +135,9 @@ sent_back_by terminal n (GiveBack part) p q h =
 pub sent_back : (message : Message) → IsMessage message → sent_of (message_data message) ≡ Some message
 sent_back message h = sent_back_by message.terminal message.number message.command h.terminal h.number h.command
 
-pub message_back : (message : Message) → IsMessage message → 1 ≤ message.terminal → message_of (message_data message) ≡ Some message
-message_back message h from =
-    ap (option_and_then from_one) (sent_back message h) ∙ ap (λ (b : Bool). if b then Some message else None) (le-leb 1 message.terminal from)
+pub message_back : (message : Message) → IsMessage message → 1 ≤ message.terminal → has_few_cuts message.command ≡ true → message_of (message_data message) ≡ Some message
+message_back message h from few =
+    ap (option_and_then from_one) (sent_back message h) ∙ ap (λ (b : Bool). if b then Some message else None) (both_true (le-leb 1 message.terminal from) few)
 
 read_receipt : (d : Data) (act count : ℕ) → get (codes "ok") d ≡ Some (string (codes "receive")) → get (codes "act") d ≡ Some (number (unsigned act)) → get (codes "count") d ≡ Some (number (unsigned count))
     → made_of (codes "receive") d ≡ Some (reply.Receive act count) → reply_of d ≡ Some (reply.Receive act count)
@@ -113,12 +154,12 @@ read_reserve_reply : (d : Data) (cuts job : ℕ)
     → IsMade (reply.Reserve cuts job) → reserve_made d ≡ Some (reply.Reserve cuts job)
 read_reserve_reply d cuts job p q h = rw (number_there (codes "cuts") d cuts p h.0, number_there (codes "job") d job q h.1) refl
 
-read_done_reply : (d : Data) (job kerf pieces rack scrap : ℕ)
+read_ended : (d : Data) (job kerf pieces rack scrap : ℕ)
     → get (codes "job") d ≡ Some (number (unsigned job)) → get (codes "kerf") d ≡ Some (number (unsigned kerf)) → get (codes "pieces") d ≡ Some (number (unsigned pieces))
     → get (codes "rack") d ≡ Some (number (unsigned rack)) → get (codes "scrap") d ≡ Some (number (unsigned scrap))
-    → IsMade (reply.Done job kerf pieces rack scrap) → done_made d ≡ Some (reply.Done job kerf pieces rack scrap)
-read_done_reply d job kerf pieces rack scrap p q r s t h =
-    rw (number_there (codes "job") d job p h.0, wide_there (codes "kerf") d kerf q, wide_there (codes "pieces") d pieces r, wide_there (codes "rack") d rack s, wide_there (codes "scrap") d scrap t) refl
+    → IsNumber job → ended_cells d ≡ Some (job, kerf, pieces, rack, scrap)
+read_ended d job kerf pieces rack scrap p q r s t h =
+    rw (number_there (codes "job") d job p h, wide_there (codes "kerf") d kerf q, wide_there (codes "pieces") d pieces r, wide_there (codes "rack") d rack s, wide_there (codes "scrap") d scrap t) refl
 
 pub reply_back : (answer : Reply) → IsMade answer → reply_of (reply_data answer) ≡ Some answer
 reply_back (reply.AddMaterial material) h =
@@ -130,7 +171,9 @@ reply_back (reply.AddOrder count first order) h =
     read_order_reply (reply_data (reply.AddOrder count first order)) count first order refl refl refl h
 reply_back (reply.Reserve cuts job) h = read_reserve_reply (reply_data (reply.Reserve cuts job)) cuts job refl refl h
 reply_back (reply.Done job kerf pieces rack scrap) h =
-    read_done_reply (reply_data (reply.Done job kerf pieces rack scrap)) job kerf pieces rack scrap refl refl refl refl refl h
+    ap (option_map (λ (c : ℕ × ℕ × ℕ × ℕ × ℕ). reply.Done c.0 c.1 c.2 c.3 c.4)) (read_ended (reply_data (reply.Done job kerf pieces rack scrap)) job kerf pieces rack scrap refl refl refl refl refl h.0)
+reply_back (reply.Break job kerf pieces rack scrap) h =
+    ap (option_map (λ (c : ℕ × ℕ × ℕ × ℕ × ℕ). reply.Break c.0 c.1 c.2 c.3 c.4)) (read_ended (reply_data (reply.Break job kerf pieces rack scrap)) job kerf pieces rack scrap refl refl refl refl refl h.0)
 reply_back (reply.Release job) h = ap (option_map reply.Release) (number_there (codes "job") (reply_data (reply.Release job)) job refl h)
 reply_back (reply.Scrap part) h = ap (option_map reply.Scrap) (name_there (codes "part") (reply_data (reply.Scrap part)) part refl h)
 reply_back (reply.GiveBack part) h = ap (option_map reply.GiveBack) (name_there (codes "part") (reply_data (reply.GiveBack part)) part refl h)
@@ -147,6 +190,9 @@ no_float_by terminal n (Receive material batch w h count) = refl
 no_float_by terminal n (AddOrder order lines) = ap (λ (b : Bool). b || false) (lines_no_float lines)
 no_float_by terminal n (Reserve part tree) = refl
 no_float_by terminal n (Done job) = refl
+no_float_by terminal n (Break job (First cuts lost)) = refl
+no_float_by terminal n (Break job (Listed cuts None)) = ap (λ (b : Bool). b || false) (cuts_no_float cuts)
+no_float_by terminal n (Break job (Listed cuts (Some cut))) = ap (λ (b : Bool). b || false) (cuts_no_float cuts)
 no_float_by terminal n (Release job) = refl
 no_float_by terminal n (Scrap part) = refl
 no_float_by terminal n (GiveBack part) = refl
@@ -167,6 +213,10 @@ wide n h = omega arith
 -- an object with one list of objects
 shallow : (n : ℕ) → n ≤ 1 → suc (max 0 (max (suc n) (max 0 (max 0 (max 0 0))))) ≤ 127
 shallow n h = let e : max 0 (max (suc n) (max 0 (max 0 (max 0 0)))) ≤ 126 = max-le (omega arith) (max-le (omega (arith, h)) (omega arith)) in omega (arith, e)
+
+-- an object with a list of numbers first
+shallow_first : (n : ℕ) → n ≤ 1 → suc (max (suc n) (max 0 (max 0 (max 0 (max 0 (max 0 0)))))) ≤ 127
+shallow_first n h = let e : max (suc n) (max 0 (max 0 (max 0 (max 0 (max 0 0))))) ≤ 126 = max-le (omega (arith, h)) (omega arith) in omega (arith, e)
 
 text_read_by : (terminal n : ℕ) (command : Command) → IsNumber terminal → IsNumber n → IsCommand command
     → let d = message_data (record { terminal = terminal; number = n; command = command }) in read (compact_text d) ≡ Some d
@@ -209,6 +259,18 @@ text_read_by terminal n (Done job) p q h =
     let d = message_data (record { terminal = terminal; number = n; command = Done job }) in
     read-compact d (tt, (IsNumber-decimal job (wide job h), (IsNumber-decimal n (wide n q), (IsNumber-decimal terminal (wide terminal p), tt)))) (omega arith)
     (rw (number_of-decimal job (wide job h), number_of-decimal n (wide n q), number_of-decimal terminal (wide terminal p)) refl)
+text_read_by terminal n (Break job (First cuts lost)) p q h =
+    let d = message_data (record { terminal = terminal; number = n; command = Break job (First cuts lost) }) in
+    read-compact d (IsNumber-decimal cuts (wide cuts h.1), (tt, (IsNumber-decimal job (wide job h.0), (tt, (IsNumber-decimal n (wide n q), (IsNumber-decimal terminal (wide terminal p), tt)))))) (omega arith)
+    (rw (number_of-decimal cuts (wide cuts h.1), number_of-decimal job (wide job h.0), number_of-decimal n (wide n q), number_of-decimal terminal (wide terminal p)) refl)
+text_read_by terminal n (Break job (Listed cuts None)) p q h =
+    let d = message_data (record { terminal = terminal; number = n; command = Break job (Listed cuts None) }) in
+    read-compact d (cuts_numbers cuts h.1.0, (tt, (IsNumber-decimal job (wide job h.0), (tt, (IsNumber-decimal n (wide n q), (IsNumber-decimal terminal (wide terminal p), tt)))))) (shallow_first _ (cuts_shallow cuts))
+    (rw (cuts_json cuts h.1.0, number_of-decimal job (wide job h.0), number_of-decimal n (wide n q), number_of-decimal terminal (wide terminal p)) refl)
+text_read_by terminal n (Break job (Listed cuts (Some cut))) p q h =
+    let d = message_data (record { terminal = terminal; number = n; command = Break job (Listed cuts (Some cut)) }) in
+    read-compact d (cuts_numbers cuts h.1.0, (tt, (IsNumber-decimal job (wide job h.0), (IsNumber-decimal cut (wide cut h.1.1), (IsNumber-decimal n (wide n q), (IsNumber-decimal terminal (wide terminal p), tt)))))) (shallow_first _ (cuts_shallow cuts))
+    (rw (cuts_json cuts h.1.0, number_of-decimal job (wide job h.0), number_of-decimal cut (wide cut h.1.1), number_of-decimal n (wide n q), number_of-decimal terminal (wide terminal p)) refl)
 text_read_by terminal n (Release job) p q h =
     let d = message_data (record { terminal = terminal; number = n; command = Release job }) in
     read-compact d (tt, (IsNumber-decimal job (wide job h), (IsNumber-decimal n (wide n q), (IsNumber-decimal terminal (wide terminal p), tt)))) (omega arith)
@@ -240,6 +302,10 @@ reply_text_read (reply.Reserve cuts job) h =
     (rw (number_of-decimal cuts (wide cuts h.0), number_of-decimal job (wide job h.1)) refl)
 reply_text_read (reply.Done job kerf pieces rack scrap) h =
     read-compact (reply_data (reply.Done job kerf pieces rack scrap))
+    (IsNumber-decimal job (wide job h.0), (IsNumber-decimal kerf h.1, (tt, (IsNumber-decimal pieces h.2, (IsNumber-decimal rack h.3, (IsNumber-decimal scrap h.4, tt)))))) (omega arith)
+    (rw (number_of-decimal job (wide job h.0), number_of-decimal kerf h.1, number_of-decimal pieces h.2, number_of-decimal rack h.3, number_of-decimal scrap h.4) refl)
+reply_text_read (reply.Break job kerf pieces rack scrap) h =
+    read-compact (reply_data (reply.Break job kerf pieces rack scrap))
     (IsNumber-decimal job (wide job h.0), (IsNumber-decimal kerf h.1, (tt, (IsNumber-decimal pieces h.2, (IsNumber-decimal rack h.3, (IsNumber-decimal scrap h.4, tt)))))) (omega arith)
     (rw (number_of-decimal job (wide job h.0), number_of-decimal kerf h.1, number_of-decimal pieces h.2, number_of-decimal rack h.3, number_of-decimal scrap h.4) refl)
 reply_text_read (reply.Release job) h =

@@ -1,3 +1,4 @@
 pub mod FieldFacts
 pub mod Lists
+pub mod Cuts
 pub mod Back

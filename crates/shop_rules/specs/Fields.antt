@@ -24,6 +24,10 @@ wide_at key d = option_and_then as_u64 (option_and_then as_number (get key d))
 abbrev pub number_at : List ℕ → Data → Option ℕ
 number_at key d = option_and_then small (option_and_then as_u64 (option_and_then as_number (get key d)))
 
+-- the same of a value
+abbrev pub number_of : Data → Option ℕ
+number_of d = option_and_then small (option_and_then as_u64 (as_number d))
+
 abbrev pub flag_at : List ℕ → Data → Option Bool
 flag_at key d = option_and_then as_bool (get key d)
 

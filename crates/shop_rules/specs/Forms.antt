@@ -1,9 +1,13 @@
 -- Messages, queries and replies as JSON values: what a value stands for, and what is printed.
-use Rattle.std.specs.Prelude.{ℕ, List, map, nat_le, if◌then◌else◌, Option, Some, None, option_map, option_and_then, codes, bytes_eq}
+use Rattle.std.specs.Prelude.{ℕ, ◌&&◌, List, length, map, nat_le, Bool, true, false, if◌then◌else◌, Option, Some, None, option_map, option_and_then, codes, bytes_eq}
+use Rattle.std.specs.Option.{option_or}
 use Rattle.cut_measure.specs.Names.{Name, name_text}
 use Rattle.cut_measure.specs.declared.sizes.Kind.{Kind}
+use Rattle.cut_tree.specs.declared.halts.Halt.{Halt}
+use Rattle.cut_tree.specs.declared.halts.Halt.TheVariants.{First, Listed}
+use Rattle.cut_tree.specs.declared.token.TheConstants.{MOST_CUTS}
 use Rattle.shop_machine.specs.declared.messages.Command.{Command}
-use Rattle.shop_machine.specs.declared.messages.Command.TheVariants.{AddMaterial, Receive, AddOrder, Reserve, Done, Release, Scrap, GiveBack}
+use Rattle.shop_machine.specs.declared.messages.Command.TheVariants.{AddMaterial, Receive, AddOrder, Reserve, Done, Break, Release, Scrap, GiveBack}
 use Rattle.shop_machine.specs.declared.messages.Message.{Message}
 use Rattle.shop_machine.specs.declared.messages.OrderLine.{OrderLine}
 use Rattle.shop_machine.specs.declared.messages.Query.{Query}
@@ -12,11 +16,11 @@ use Rattle.shop_machine.specs.declared.messages.Reply.{Reply}
 use Rattle.shop_machine.specs.declared.messages.Reply.TheVariants as reply
 use Rattle.shop_machine.specs.Refusals.{refusal_number, refusal_name}
 use Rattle.shop_machine.specs.Messages.{Texts}
-use Rattle.serde_json.specs.Data.{Data, array, object, number, unsigned, Members, member, no_members, put}
+use Rattle.serde_json.specs.Data.{Data, array, boolean, object, number, unsigned, Members, member, no_members, put}
 use Rattle.serde_json.specs.Read.{read}
 use Rattle.serde_json.specs.View.{items_of}
 use Rattle.serde_json.specs.Written.{compact_text}
-use Rattle.shop_rules.specs.Fields.{number_at, wide_at, flag_at, text_at, code_at, name_at, kind_at, word_at, elements_at, all_of, row, kind_text, state_text, text_member, number_member, name_member, flag_member}
+use Rattle.shop_rules.specs.Fields.{number_at, number_of, wide_at, flag_at, text_at, code_at, name_at, kind_at, word_at, elements_at, all_of, row, kind_text, state_text, text_member, number_member, name_member, flag_member}
 
 -- A command has a row of keys that is read, the keys that are printed but `terminal` and `number`, in byte order, and the same
 -- of the reply to it.
@@ -130,16 +134,68 @@ abbrev pub done_members : ℕ → Members
 done_members job =
     text_member (codes "do") (codes "done") (number_member (codes "job") job no_members)
 
-abbrev pub done_made : Data → Option Reply
-done_made d =
+-- what is told of a job that ended: its number, and the cells of kerf, pieces, rack and scrap
+abbrev pub ended_cells : Data → Option (ℕ × ℕ × ℕ × ℕ × ℕ)
+ended_cells d =
     option_and_then (λ job. option_and_then (λ kerf. option_and_then (λ pieces. option_and_then (λ rack. option_map (λ scrap.
-    reply.Done job kerf pieces rack scrap)
+    (job, kerf, pieces, rack, scrap))
     (wide_at (codes "scrap") d)) (wide_at (codes "rack") d)) (wide_at (codes "pieces") d)) (wide_at (codes "kerf") d)) (number_at (codes "job") d)
 
-abbrev pub done_told : (job kerf pieces rack scrap : ℕ) → Data
-done_told job kerf pieces rack scrap =
-    object (number_member (codes "job") job (number_member (codes "kerf") kerf (text_member (codes "ok") (codes "done")
+abbrev pub ended_told : List ℕ → (job kerf pieces rack scrap : ℕ) → Data
+ended_told word job kerf pieces rack scrap =
+    object (number_member (codes "job") job (number_member (codes "kerf") kerf (text_member (codes "ok") word
     (number_member (codes "pieces") pieces (number_member (codes "rack") rack (number_member (codes "scrap") scrap no_members))))))
+
+abbrev pub done_made : Data → Option Reply
+done_made d = option_map (λ c. reply.Done c.0 c.1 c.2 c.3 c.4) (ended_cells d)
+
+-- ---- a broken job
+
+-- the cuts at a key
+abbrev pub cuts_at : List ℕ → Data → Option (List ℕ)
+cuts_at key d = option_and_then (all_of number_of) (elements_at key d)
+
+-- no cut went wrong
+abbrev pub none_lost : Bool → Option (Option ℕ)
+none_lost true = None
+none_lost false = Some None
+
+-- the cut that went wrong by its number, or `false` where none did
+abbrev pub lost_cut : List ℕ → Data → Option (Option ℕ)
+lost_cut key d = option_or (option_map Some (number_at key d)) (option_and_then none_lost (flag_at key d))
+
+-- how many first cuts were made, and whether the next one went wrong
+abbrev pub first_cuts : Data → Option Halt
+first_cuts d = option_and_then (λ cuts. option_map (λ lost. First cuts lost) (flag_at (codes "lost") d)) (number_at (codes "cuts") d)
+
+-- the cuts that were made, and the one that went wrong
+abbrev pub listed_cuts : Data → Option Halt
+listed_cuts d = option_and_then (λ cuts. option_map (λ lost. Listed cuts lost) (lost_cut (codes "lost") d)) (cuts_at (codes "cuts") d)
+
+abbrev pub break_command : Data → Option Command
+break_command d = option_and_then (λ job. option_map (λ halt. Break job halt) (option_or (first_cuts d) (listed_cuts d))) (number_at (codes "job") d)
+
+abbrev pub list_data : List ℕ → Data
+list_data cuts = array (items_of (map (λ cut. number (unsigned cut)) cuts))
+
+abbrev pub cuts_data : Halt → Data
+cuts_data (First cuts lost) = number (unsigned cuts)
+cuts_data (Listed cuts lost) = list_data cuts
+
+abbrev pub lost_data : Halt → Data
+lost_data (First cuts lost) = boolean lost
+lost_data (Listed cuts None) = boolean false
+lost_data (Listed cuts (Some cut)) = number (unsigned cut)
+
+abbrev pub break_members : ℕ → Halt → Members
+break_members job halt =
+    member (codes "cuts") (cuts_data halt) (text_member (codes "do") (codes "break") (number_member (codes "job") job
+    (member (codes "lost") (lost_data halt) no_members)))
+
+abbrev pub break_made : Data → Option Reply
+break_made d = option_map (λ c. reply.Break c.0 c.1 c.2 c.3 c.4) (ended_cells d)
+
+-- ---- a released job
 
 abbrev pub release_command : Data → Option Command
 release_command d = option_map Release (number_at (codes "job") d)
@@ -232,9 +288,10 @@ command_of word d =
     else (if bytes_eq word (codes "order") then row 5 order_command d
     else (if bytes_eq word (codes "reserve") then row 5 reserve_command d
     else (if bytes_eq word (codes "done") then row 4 done_command d
+    else (if bytes_eq word (codes "break") then row 6 break_command d
     else (if bytes_eq word (codes "release") then row 4 release_command d
     else (if bytes_eq word (codes "scrap") then row 4 scrap_command d
-    else (if bytes_eq word (codes "return") then row 4 return_command d else None)))))))
+    else (if bytes_eq word (codes "return") then row 4 return_command d else None))))))))
 
 -- the word of `do`, the terminal and the number
 abbrev pub sent_head : Data → Option (List ℕ × ℕ × ℕ)
@@ -247,9 +304,14 @@ abbrev pub sent_of : Data → Option Message
 sent_of d =
     option_and_then (λ head. option_map (λ command. record { terminal = head.1; number = head.2; command = command }) (command_of head.0 d)) (sent_head d)
 
--- terminal 0 sends nothing
+-- a halt lists at most 255 cuts
+abbrev pub has_few_cuts : Command → Bool
+has_few_cuts (Break job (Listed cuts lost)) = nat_le (length cuts) MOST_CUTS
+has_few_cuts _ = true
+
+-- terminal 0 sends nothing, and no terminal a long list of cuts
 abbrev pub from_one : Message → Option Message
-from_one message = if nat_le 1 message.terminal then Some message else None
+from_one message = if nat_le 1 message.terminal && has_few_cuts message.command then Some message else None
 
 abbrev pub message_of : Data → Option Message
 message_of d = option_and_then from_one (sent_of d)
@@ -261,6 +323,7 @@ command_members (Receive material batch w h count) = receive_members material ba
 command_members (AddOrder order lines) = order_members order lines
 command_members (Reserve part tree) = reserve_members part tree
 command_members (Done job) = done_members job
+command_members (Break job halt) = break_members job halt
 command_members (Release job) = release_members job
 command_members (Scrap part) = scrap_members part
 command_members (GiveBack part) = return_members part
@@ -280,9 +343,10 @@ made_of word d =
     else (if bytes_eq word (codes "order") then row 4 order_made d
     else (if bytes_eq word (codes "reserve") then row 3 reserve_made d
     else (if bytes_eq word (codes "done") then row 6 done_made d
+    else (if bytes_eq word (codes "break") then row 6 break_made d
     else (if bytes_eq word (codes "release") then row 2 release_made d
     else (if bytes_eq word (codes "scrap") then row 2 scrap_made d
-    else (if bytes_eq word (codes "return") then row 2 return_made d else None)))))))
+    else (if bytes_eq word (codes "return") then row 2 return_made d else None))))))))
 
 abbrev pub reply_of : Data → Option Reply
 reply_of d = option_and_then (λ word. made_of word d) (text_at (codes "ok") d)
@@ -293,7 +357,8 @@ reply_data (reply.AddMaterial material) = material_told material
 reply_data (reply.Receive act count) = receive_told act count
 reply_data (reply.AddOrder count first order) = order_told count first order
 reply_data (reply.Reserve cuts job) = reserve_told cuts job
-reply_data (reply.Done job kerf pieces rack scrap) = done_told job kerf pieces rack scrap
+reply_data (reply.Done job kerf pieces rack scrap) = ended_told (codes "done") job kerf pieces rack scrap
+reply_data (reply.Break job kerf pieces rack scrap) = ended_told (codes "break") job kerf pieces rack scrap
 reply_data (reply.Release job) = release_told job
 reply_data (reply.Scrap part) = scrap_told part
 reply_data (reply.GiveBack part) = return_told part

@@ -29,6 +29,18 @@ pub(crate) fn done_value(alloc: Global, pair: (u64, u64), job: u64) -> Result<Va
     json!(in alloc; {"do": "done", "job": job, "number": pair.1, "terminal": pair.0})
 }
 
+// What is told of a job that ended: its number, and the cells of kerf, pieces, rack and scrap.
+pub(crate) fn ended_cells(value: &Value) -> Option<(u32, u64, u64, u64, u64)>
+    ensures { result ≡ form.ended_cells (view value.now) }
+{
+    let job = number_at(value, "job")?;
+    let kerf = wide_at(value, "kerf")?;
+    let pieces = wide_at(value, "pieces")?;
+    let rack = wide_at(value, "rack")?;
+    let scrap = wide_at(value, "scrap")?;
+    Some((job, kerf, pieces, rack, scrap))
+}
+
 // The reply to it.
 pub(crate) fn done_made(value: &Value) -> Option<Reply>
     ensures { result ≡ row 6 form.done_made (view value.now) }
@@ -36,11 +48,7 @@ pub(crate) fn done_made(value: &Value) -> Option<Reply>
     if !has_keys(value, 6) {
         return None;
     }
-    let job = number_at(value, "job")?;
-    let kerf = wide_at(value, "kerf")?;
-    let pieces = wide_at(value, "pieces")?;
-    let rack = wide_at(value, "rack")?;
-    let scrap = wide_at(value, "scrap")?;
+    let (job, kerf, pieces, rack, scrap) = ended_cells(value)?;
     Some(Reply::Done {
         job,
         kerf,
@@ -50,21 +58,22 @@ pub(crate) fn done_made(value: &Value) -> Option<Reply>
     })
 }
 
-// The object of the reply.
-pub(crate) fn done_reply(
+// The object of the reply to a job's end, by its word.
+pub(crate) fn ended_reply(
     alloc: Global,
+    word: &str,
     job: u64,
     kerf: u64,
     pieces: u64,
     rack: u64,
     scrap: u64,
 ) -> Result<Value, AllocError>
-    ensures { IfOk result (λ value. view value ≡ reply_data (reply.Done job kerf pieces rack scrap)) }
+    ensures { IfOk result (λ value. view value ≡ form.ended_told word.now job kerf pieces rack scrap) }
 {
     json!(in alloc; {
         "job": job,
         "kerf": kerf,
-        "ok": "done",
+        "ok": word,
         "pieces": pieces,
         "rack": rack,
         "scrap": scrap

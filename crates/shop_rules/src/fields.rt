@@ -16,7 +16,14 @@ pub(crate) fn wide_at(value: &Value, key: &str) -> Option<u64>
 pub(crate) fn number_at(value: &Value, key: &str) -> Option<u32>
     ensures { result ≡ form.number_at key.now (view value.now) }
 {
-    let number = value.get(key)?.as_u64()?;
+    number_of(value.get(key)?)
+}
+
+// The same of a value.
+pub(crate) fn number_of(value: &Value) -> Option<u32>
+    ensures { result ≡ form.number_of (view value.now) }
+{
+    let number = value.as_u64()?;
     if number < 4_294_967_296 {
         Some(number as u32)
     } else {

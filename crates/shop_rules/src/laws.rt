@@ -1,14 +1,14 @@
-ghost use Rattle.std.specs.Prelude.{◌≡◌, ◌≤◌, Some};
+ghost use Rattle.std.specs.Prelude.{◌≡◌, ◌≤◌, IsTrue, Some};
 ghost use Rattle.serde_json.specs.Data.{Data};
 ghost use Rattle.shop_machine.specs.declared.messages.Message.{Message};
 ghost use Rattle.shop_machine.specs.declared.messages.Query.{Query};
 ghost use Rattle.shop_machine.specs.declared.messages.Reply.{Reply};
 ghost use Rattle.shop_machine.specs.Messages.{IsMessage, IsMade};
-ghost use Rattle.shop_rules.specs.Forms.{message_of, query_of, reply_of, message_data, reply_data, json_texts};
+ghost use Rattle.shop_rules.specs.Forms.{has_few_cuts, message_of, query_of, reply_of, message_data, reply_data, json_texts};
 
-/// A message of a terminal from 1 on, and a reply that an accepted message can get, are read back from their objects.
+/// A message of a terminal from 1 on with at most 255 listed cuts, and a reply that an accepted message can get, are read back from their objects.
 pub fn read_back()
-    ensures message { (message : Message) → IsMessage message → 1 ≤ message.terminal → message_of (message_data message) ≡ Some message }
+    ensures message { (message : Message) → IsMessage message → 1 ≤ message.terminal → IsTrue (has_few_cuts message.command) → message_of (message_data message) ≡ Some message }
     ensures reply { (answer : Reply) → IsMade answer → reply_of (reply_data answer) ≡ Some answer }
 {}
 

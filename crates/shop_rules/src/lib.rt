@@ -3,6 +3,7 @@
 
 mod adding;
 mod asking;
+mod breaking;
 mod ending;
 mod fields;
 mod laws;
@@ -17,13 +18,14 @@ mod turning;
 mod words;
 
 pub use cut_measure::{Axis, Code, Kind, Limits, PartName, Size};
+pub use cut_tree::{CutList, Halt};
 pub use laws::{one_kind_of_value, one_text, read_back};
 pub use messages::{message_text, message_value, read_message, read_query};
 pub use replies::{kept_reply, read_reply, reply_text, reply_value};
 pub use shop_machine::{
     Change, Column, Command, Demand, DemandList, FoundLeaf, FoundLine, Job, JobState, Kept,
     KeptMessage, LineList, Material, Message, OrderLine, Pair, Part, PartList, Query, Refusal,
-    Reply, RowList, State, StateWord, Text, Totals, accepted_changes_fit, decide_done,
-    decide_give_back, decide_material, decide_order, decide_receive, decide_release,
+    Reply, RowList, State, StateWord, Text, Totals, accepted_changes_fit, decide_break,
+    decide_done, decide_give_back, decide_material, decide_order, decide_receive, decide_release,
     decide_reserve, decide_scrap, histories_have_accounts,
 };

@@ -8,6 +8,7 @@ ghost use Rattle.shop_rules.specs.Forms.{message_data, json_texts};
 
 use crate::adding::{material_command, material_value};
 use crate::asking::asked;
+use crate::breaking::{break_command, break_value, has_few_cuts, see_halt};
 use crate::ending::{done_command, done_value, release_command, release_value};
 use crate::fields::{number_at, word_at};
 use crate::ordering::{order_command, order_value, see_lines};
@@ -33,6 +34,8 @@ fn command(alloc: Global, value: &Value, word: &str) -> Result<Option<Command>, 
         reserve_command(alloc, value)
     } else if word == "done" {
         Ok(done_command(value))
+    } else if word == "break" {
+        break_command(alloc, value)
     } else if word == "release" {
         Ok(release_command(value))
     } else if word == "scrap" {
@@ -71,15 +74,15 @@ fn sent(alloc: Global, value: &Value) -> Result<Option<Message>, AllocError>
     }
 }
 
-/// The message that a value stands for; refused `BadMessage` where it stands for none, and where its terminal is 0, and
-/// `NoMemory` where memory runs out.
+/// The message that a value stands for; refused `BadMessage` where it stands for none, where its terminal is 0 and where
+/// it lists over 255 cuts, and `NoMemory` where memory runs out.
 pub fn read_message(alloc: Global, value: &Value) -> Result<Message, Refusal>
     ensures ok { IfOk result (λ message. form.message_of (view value.now) ≡ Some message) }
     ensures err { IfErr result (λ refusal. refusal ≢ NoMemory → (refusal ≡ BadMessage) × (form.message_of (view value.now) ≡ None)) }
 {
     match sent(alloc, value) {
         Ok(Some(message)) => {
-            if message.terminal < 1 {
+            if message.terminal < 1 || !has_few_cuts(&message.command) {
                 return Err(Refusal::BadMessage);
             }
             Ok(message)
@@ -135,6 +138,10 @@ pub fn message_value(alloc: Global, message: &Message) -> Result<Value, AllocErr
             reserve_value(alloc, pair, part, tree.as_str())
         }
         Command::Done { job } => done_value(alloc, pair, wide(*job)),
+        Command::Break { job, halt } => {
+            see_halt(halt);
+            break_value(alloc, pair, wide(*job), halt)
+        }
         Command::Release { job } => release_value(alloc, pair, wide(*job)),
         Command::Scrap { part } => {
             see_part(part);

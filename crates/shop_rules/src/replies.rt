@@ -9,7 +9,8 @@ ghost use Rattle.shop_rules.specs.Forms.{reply_data, json_texts};
 
 use crate::adding::{material_made, material_reply};
 use crate::asking::{Counts, Place, demand_reply, totals_reply, trace_reply};
-use crate::ending::{done_made, done_reply, release_made, release_reply};
+use crate::breaking::break_made;
+use crate::ending::{done_made, ended_reply, release_made, release_reply};
 use crate::fields::text_at;
 use crate::ordering::{order_made, order_reply};
 use crate::receiving::{receive_made, receive_reply};
@@ -35,6 +36,8 @@ fn made(value: &Value) -> Option<Reply>
         reserve_made(value)
     } else if word == "done" {
         done_made(value)
+    } else if word == "break" {
+        break_made(value)
     } else if word == "release" {
         release_made(value)
     } else if word == "scrap" {
@@ -88,7 +91,14 @@ pub fn reply_value(alloc: Global, reply: &Reply) -> Result<Value, AllocError>
             pieces,
             rack,
             scrap,
-        } => done_reply(alloc, wide(*job), *kerf, *pieces, *rack, *scrap),
+        } => ended_reply(alloc, "done", wide(*job), *kerf, *pieces, *rack, *scrap),
+        Reply::Break {
+            job,
+            kerf,
+            pieces,
+            rack,
+            scrap,
+        } => ended_reply(alloc, "break", wide(*job), *kerf, *pieces, *rack, *scrap),
         Reply::Release { job } => { release_reply(alloc, wide(*job)) }
         Reply::Scrap { part } => scrap_reply(alloc, part),
         Reply::GiveBack { part } => return_reply(alloc, part),

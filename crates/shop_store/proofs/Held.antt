@@ -4,20 +4,25 @@ use Rattle.std.specs.Prelude.{Option, Some, None, T, cond, unwrap_or}
 use Rattle.std.specs.Map.{lookup}
 use Rattle.std.specs.declared.cmp.Ordering.{Ordering}
 use Rattle.std.specs.declared.cmp.Ordering.TheVariants.{Less, Equal, Greater}
-use Rattle.std.specs.Ordering.{is_eq, match_ordering}
+use Rattle.std.specs.Option.{option_to_list}
+use Rattle.std.specs.Ordering.{is_eq, match_ordering, nat_cmp}
 use Rattle.shop_machine.specs.declared.records.Column.{Column}
 use Rattle.shop_machine.specs.declared.records.Column.TheVariants as column
-use Rattle.shop_machine.specs.Content.{Content, pair_cmp, cells_in, with_kept, with_number}
+use Rattle.cut_measure.specs.Codes.{code_cmp}
+use Rattle.shop_machine.specs.declared.records.Material.{Material}
+use Rattle.shop_machine.specs.declared.records.Job.{Job}
+use Rattle.shop_machine.specs.declared.records.Demand.{Demand}
+use Rattle.shop_machine.specs.Content.{Content, pair_cmp, cells_in, with_material, with_job, with_demands, with_kept, with_number}
 use Rattle.shop_machine.specs.Soundness.{IsInRange}
 use Rattle.std.specs.Cmp.{IsTotalOrder}
 use Rattle.std.specs.BTreeMap.{insert_entry}
-use Rattle.std.specs.FinMap.{empty, insert, from_sorted, find, put, is_sorted, get, get-from_sorted, values, entries-from_sorted, entries-insert, same_entries_map, len-entries, empty_of_len}
+use Rattle.std.specs.FinMap.{FinMap, empty, insert, from_sorted, find, put, is_sorted, get, get-from_sorted, values, entries-from_sorted, entries-insert, same_entries_map, len-entries, empty_of_len}
 use Rattle.std.specs.FinMap.Entries.{by_order, is_sorted-put}
 use Rattle.shop_machine.specs.declared.kept_texts.Pair.{Pair}
 use Rattle.shop_machine.specs.declared.kept_texts.Kept.{Kept}
 use Rattle.shop_machine.specs.declared.kept_texts.KeptMessage.{KeptMessage}
-use Rattle.shop_store.specs.Memory.{put_kept, pairs_total}
-use Rattle.shop_store.specs.Rows.{entries_of, rise, row_at}
+use Rattle.shop_store.specs.Memory.{material_key, job_key, demand_key, put_kept, pairs_total}
+use Rattle.shop_store.specs.Rows.{entries_of, rise, row_at, put_each, map_of, with_rows, ArePut}
 use Rattle.std.specs.Bool.{Decides}
 use Rattle.std.specs.Cmp.Lexicographic.{pointwise}
 use Rattle.std.proofs.lemmas.Bool.Decides.{Decides-like}
@@ -54,6 +59,18 @@ put_is_insert cmp o key x old new up is =
 pub sorted_after : {K X : Type 0} (cmp : K → K → Ordering) → IsTotalOrder cmp → (key : K) (x : X) (old new : List (K × X)) → is_sorted cmp old ≡ true → new ≡ put cmp key x old → is_sorted cmp new ≡ true
 sorted_after cmp o key x old new up is = ap (is_sorted cmp) is ∙ met _ (is_sorted-put cmp o key x old (tested _ up))
 
+module _ {X K : Type 0} (key_of : X → K) (cmp : K → K → Ordering) (o : IsTotalOrder cmp) where
+  put_in_turn : (rows : List X) (entries : List (K × X)) → is_sorted cmp entries ≡ true → from_sorted {R = cmp} (put_each key_of cmp rows entries) ≡ with_rows key_of cmp rows (from_sorted entries)
+  put_in_turn [] entries up = refl
+  put_in_turn (row ∷ rows) entries up =
+      put_in_turn rows (put cmp (key_of row) row entries) (sorted_after cmp o (key_of row) row entries (put cmp (key_of row) row entries) up refl)
+      ∙ ap (with_rows key_of cmp rows) (put_is_insert cmp o (key_of row) row entries (put cmp (key_of row) row entries) up refl)
+
+  -- rows that were put one after another, behind room that was made for them, were inserted so
+  pub map_after : (rows old roomy new : List X) → rise key_of cmp old ≡ true → roomy ≡ old → ArePut key_of cmp rows roomy new → map_of key_of cmp new ≡ with_rows key_of cmp rows (map_of key_of cmp old)
+  map_after rows old roomy new up same is =
+      ap (from_sorted {R = cmp}) (is ∙ ap (λ (xs : List X). put_each key_of cmp rows (entries_of key_of cmp xs)) same) ∙ put_in_turn rows (entries_of key_of cmp old) up
+
 -- the map of no rows
 pub no_rows : {K X : Type 0} (cmp : K → K → Ordering) → from_sorted {X = X} {R = cmp} [] ≡ empty
 no_rows cmp = empty_of_len _ (len-entries _ ∙ ap length (entries-from_sorted cmp [] tt))
@@ -89,6 +106,18 @@ column_within content range code column.Scrap = let r = range.received code in l
 column_within content range code column.Returned = let r = range.received code in let a = range.adds_up code in omega arith
 
 -- ---- a change
+
+pub material_after : (row : Option Material) (m : FinMap code_cmp Material) → with_rows material_key code_cmp (option_to_list row) m ≡ with_material row m
+material_after None m = refl
+material_after (Some row) m = refl
+
+pub job_after : (row : Option Job) (m : FinMap nat_cmp Job) → with_rows job_key nat_cmp (option_to_list row) m ≡ with_job row m
+job_after None m = refl
+job_after (Some row) m = refl
+
+pub demands_after : (rows : List Demand) (m : FinMap nat_cmp Demand) → with_rows demand_key nat_cmp rows m ≡ with_demands rows m
+demands_after [] m = refl
+demands_after (row ∷ rows) m = demands_after rows (insert m row.number row)
 
 pub kept_after : (message : Option KeptMessage) (old new : List (Pair × Kept)) → is_sorted pair_cmp old ≡ true → new ≡ put_kept message old
     → from_sorted {R = pair_cmp} new ≡ with_kept message (from_sorted old)

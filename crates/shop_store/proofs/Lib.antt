@@ -1,4 +1,8 @@
+-- rows that rise by their keys
 pub mod Places
-pub mod Summed
-pub mod Held
 pub mod Orders
+-- sums of parts
+pub mod Summed
+-- what a book in memory holds, and hands out
+pub mod Held
+pub mod Handed

@@ -1,6 +1,7 @@
 -- Codes in order, and the set that they are.
 use Rattle.std.proofs.Common.{◌≡◌, ℕ, Bool, true, false, List, [], ◌∷◌, map, refl, sym, ap, subst, ◌∙◌}
 use Rattle.std.specs.Prelude.{Option, Some, None, T, ◌&&◌, ◌||◌, cond, is_some}
+use Rattle.std.specs.Option.{option_to_list}
 use Rattle.std.specs.List.{list_any}
 use Rattle.std.specs.Bool.{Decides}
 use Rattle.std.specs.Ordering.{is_lt, eq_by_cmp}
@@ -12,7 +13,8 @@ use Rattle.std.specs.FinSet.{contains, insert, contains-from_list, contains-inse
 use Rattle.std.proofs.lemmas.Bool.Decides.{Decides-like}
 use Rattle.std.proofs.lemmas.Slice.Eq.{slice_eq-Decides}
 use Rattle.cut_measure.specs.Codes.{code_cmp}
-use Rattle.shop_store.specs.Rows.{entries_of, rise, row_at, IsPut}
+use Rattle.shop_machine.specs.Content.{with_order}
+use Rattle.shop_store.specs.Rows.{entries_of, rise, row_at, IsPut, ArePut}
 use Rattle.shop_store.specs.Memory.{order_key, orders_in}
 use Rattle.shop_store.proofs.Places.{tested}
 
@@ -43,6 +45,11 @@ code_put code old new is =
     ∙ either (eq_by_cmp code_cmp q code) code (row_at order_key code_cmp q old)
     ∙ ap (λ b. eq_by_cmp code_cmp q code || b) (code_found old q)
     ∙ sym (contains-insert nat_list_cmp_total (orders_in old) code q))
+
+-- so it is with the code of a new order, behind room that was made for it
+pub order_after : (code : Option (List ℕ)) (old roomy new : List (List ℕ)) → roomy ≡ old → ArePut order_key code_cmp (option_to_list code) roomy new → orders_in new ≡ with_order code (orders_in old)
+order_after None old roomy new same is = ap orders_in (sym (firsts new) ∙ ap (map (λ (e : List ℕ × List ℕ). e.0)) is ∙ firsts roomy ∙ same)
+order_after (Some code) old roomy new same is = code_put code roomy new is ∙ ap (λ codes. insert (orders_in codes) code) same
 
 -- ---- equal sets have equal codes in order
 

@@ -28,6 +28,7 @@ use Rattle.shop_machine.specs.declared.records.State.TheVariants as state
 use Rattle.shop_machine.specs.declared.kept_texts.Pair.{Pair}
 use Rattle.shop_machine.specs.declared.kept_texts.Kept.{Kept}
 use Rattle.shop_machine.specs.Content.{Content}
+use Rattle.shop_machine.specs.Same.{same_name, same_pair}
 use Rattle.shop_machine.specs.contracts.records.MaterialPartialEq.TheImpl as material_eq
 use Rattle.cut_measure.specs.contracts.sizes.KindPartialEq.TheImpl as kind_eq
 use Rattle.shop_machine.specs.contracts.records.StatePartialEq.TheImpl as state_eq
@@ -36,7 +37,6 @@ use Rattle.shop_machine.specs.contracts.records.JobPartialEq.TheImpl as job_eq
 use Rattle.shop_machine.specs.contracts.records.JobStatePartialEq.TheImpl as job_state_eq
 use Rattle.shop_machine.specs.contracts.records.DemandPartialEq.TheImpl as demand_eq
 use Rattle.cut_tree.specs.SamePatterns.{same_pattern_decides}
-use Rattle.shop_machine.specs.contracts.kept_texts.PairPartialEq.TheImpl as pair_eq
 use Rattle.shop_machine.specs.contracts.kept_texts.KeptPartialEq.TheImpl as kept_eq
 use Rattle.shop_store.specs.Memory.{MemoryBook}
 
@@ -54,14 +54,8 @@ same_job = job_eq.ghosts.eq
 abbrev pub same_demand : Demand → Demand → Bool
 same_demand = demand_eq.ghosts.eq
 
-abbrev pub same_pair : Pair → Pair → Bool
-same_pair = pair_eq.ghosts.eq
-
 abbrev pub same_kept : Kept → Kept → Bool
 same_kept = kept_eq.ghosts.eq
-
-abbrev pub same_name : Name → Name → Bool
-same_name a b = a.act == b.act && a.node == b.node
 
 -- whether two maps have the same entries
 abbrev pub same_entries : {K X : Type 0} {R : K → K → Ordering} → (K → K → Bool) → (X → X → Bool) → FinMap R X → FinMap R X → Bool
@@ -102,21 +96,18 @@ codes_decide s t = Decides-like _ (one_set s t) (ap items) (pointwise_decides by
 no : {A : Type 0} → false ≡ true → A
 no e = absurd (subst T (sym e) tt)
 
-abbrev same_kind : Kind → Kind → Bool
-same_kind = kind_eq.ghosts.eq
-
-one_kind : (a b : Kind) → same_kind a b ≡ true → a ≡ b
+one_kind : (a b : Kind) → kind_eq.ghosts.eq a b ≡ true → a ≡ b
 one_kind Bar Bar e = refl
 one_kind Bar Sheet e = no e
 one_kind Sheet Bar e = no e
 one_kind Sheet Sheet e = refl
 
-own_kind : (a : Kind) → same_kind a a ≡ true
+own_kind : (a : Kind) → kind_eq.ghosts.eq a a ≡ true
 own_kind Bar = refl
 own_kind Sheet = refl
 
-kind_decides : (a b : Kind) → Decides (same_kind a b) (a ≡ b)
-kind_decides a b = (one_kind a b, λ e. subst (λ k. same_kind a k ≡ true) e (own_kind a))
+kind_decides : (a b : Kind) → Decides (kind_eq.ghosts.eq a b) (a ≡ b)
+kind_decides a b = (one_kind a b, λ e. subst (λ k. kind_eq.ghosts.eq a k ≡ true) e (own_kind a))
 
 abbrev same_state : State → State → Bool
 same_state = state_eq.ghosts.eq

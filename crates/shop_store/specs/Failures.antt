@@ -1,16 +1,14 @@
 -- How failures of a store are counted.
-use Rattle.std.specs.Prelude.{◌≡◌, ℕ, ◌+◌, nat_lt, if◌then◌else◌, Result, Ok, Err}
+use Rattle.std.specs.Prelude.{◌≡◌, ℕ, ◌+◌, nat_lt, if◌then◌else◌, List, codes, Result, Ok, Err}
+use Rattle.shop_store.specs.declared.books.TheConstants.{MOST_FAILURES}
 use Rattle.shop_store.specs.declared.books.BookFault.{BookFault}
 use Rattle.shop_store.specs.declared.books.BookFault.TheVariants.{NoMemory, Store}
 use Rattle.shop_machine.specs.declared.refusals.Refusal.{Refusal}
 use Rattle.shop_machine.specs.declared.refusals.Refusal.TheVariants as refusal
 
-abbrev pub most_failures : ℕ
-most_failures = 18446744073709551615
-
 -- one more, and at the greatest count the same
 abbrev pub one_more_failure : ℕ → ℕ
-one_more_failure n = if nat_lt n most_failures then n + 1 else most_failures
+one_more_failure n = if nat_lt n MOST_FAILURES then n + 1 else MOST_FAILURES
 
 -- a failed store raises the count, and nothing else does
 abbrev pub CountsFailure : {T : Type 0} → Result T BookFault → ℕ → ℕ → Type 0
@@ -22,3 +20,8 @@ CountsFailure (Err Store) before after = after ≡ one_more_failure before
 abbrev pub refusal_for : BookFault → Refusal
 refusal_for NoMemory = refusal.NoMemory
 refusal_for Store = refusal.StoreFault
+
+-- what a fault is printed as
+abbrev pub book_fault_text : BookFault → List ℕ
+book_fault_text NoMemory = codes "fault memory"
+book_fault_text Store = codes "fault store"

@@ -1,6 +1,9 @@
+-- what a book promises
 pub mod Failures
 pub mod Books
+pub mod Visits
 pub mod Kept
+-- a book in memory
 pub mod Rows
 pub mod Sums
 pub mod Memory

@@ -17,7 +17,7 @@ book_of book = record {
 }
 
 -- the rows rise by their keys, and the sums are those of the parts
-pub record IsWhole (book : Inside) : Type 0 where
+pub record IsConsistent (book : Inside) : Type 0 where
   pub materials : IsTrue (rise material_key code_cmp book.materials.items)
   pub parts : IsTrue (rise part_key name_cmp book.parts.items)
   pub totals : IsTrue (rise sums_key code_cmp book.totals.items)

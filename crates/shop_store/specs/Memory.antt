@@ -25,7 +25,7 @@ use Rattle.shop_machine.specs.declared.kept_texts.Pair.{Pair}
 use Rattle.shop_machine.specs.declared.kept_texts.Kept.{Kept}
 use Rattle.shop_machine.specs.declared.kept_texts.KeptMessage.{KeptMessage}
 use Rattle.shop_machine.specs.Content.{Content, pair_cmp}
-use Rattle.shop_store.specs.Rows.{entries_of}
+use Rattle.shop_store.specs.Rows.{map_of}
 
 abbrev pub material_key : Material → List ℕ
 material_key m = m.code
@@ -81,30 +81,18 @@ memory_code =
     })
     (λ _. refl)
 
--- the maps that rows stand for, and the set
-abbrev pub materials_of : List Material → map.FinMap code_cmp Material
-materials_of rows = map.from_sorted (entries_of material_key code_cmp rows)
-
-abbrev pub parts_in : List Part → map.FinMap name_cmp Part
-parts_in rows = map.from_sorted (entries_of part_key name_cmp rows)
-
-abbrev pub jobs_in : List Job → map.FinMap nat_cmp Job
-jobs_in rows = map.from_sorted (entries_of job_key nat_cmp rows)
-
+-- the set of orders' codes
 abbrev pub orders_in : List (List ℕ) → set.FinSet code_cmp
 orders_in codes = set.from_list codes
-
-abbrev pub demands_in : List Demand → map.FinMap nat_cmp Demand
-demands_in rows = map.from_sorted (entries_of demand_key nat_cmp rows)
 
 abbrev pub content_of_rows : List Material → List Part → List Job → List (List ℕ) → List Demand → List (Pair × Kept) → ℕ → ℕ → Content
 content_of_rows materials parts jobs orders demands kept last_act last_demand =
     record {
-      materials = materials_of materials;
-      parts = parts_in parts;
-      jobs = jobs_in jobs;
+      materials = map_of material_key code_cmp materials;
+      parts = map_of part_key name_cmp parts;
+      jobs = map_of job_key nat_cmp jobs;
       orders = orders_in orders;
-      demands = demands_in demands;
+      demands = map_of demand_key nat_cmp demands;
       kept = map.from_sorted kept;
       last_act = last_act;
       last_demand = last_demand;

@@ -1,7 +1,7 @@
 -- Rows in the order of their keys, as entries of a map.
-use Rattle.std.specs.Prelude.{◌≡◌, List, map, Bool, Option}
+use Rattle.std.specs.Prelude.{◌≡◌, List, [], ◌∷◌, map, Bool, Option}
 use Rattle.std.specs.declared.cmp.Ordering.{Ordering}
-use Rattle.std.specs.FinMap.{is_sorted, find, put}
+use Rattle.std.specs.FinMap.{FinMap, is_sorted, find, put, insert, from_sorted}
 
 module _ {X K : Type 0} (key_of : X → K) (cmp : K → K → Ordering) where
   abbrev pub entry_of : X → K × X
@@ -21,3 +21,21 @@ module _ {X K : Type 0} (key_of : X → K) (cmp : K → K → Ordering) where
   -- The new rows are the old ones with this row in its place, instead of the one with its key.
   abbrev pub IsPut : X → List X → List X → Type 0
   IsPut row old new = entries_of new ≡ put cmp (key_of row) row (entries_of old)
+
+  -- the entries with these rows put one after another
+  abbrev pub put_each : List X → List (K × X) → List (K × X)
+  put_each [] entries = entries
+  put_each (row ∷ rows) entries = put_each rows (put cmp (key_of row) row entries)
+
+  -- the new rows are the old ones with these put one after another
+  abbrev pub ArePut : List X → List X → List X → Type 0
+  ArePut rows old new = entries_of new ≡ put_each rows (entries_of old)
+
+  -- the map that the rows stand for
+  abbrev pub map_of : List X → FinMap cmp X
+  map_of rows = from_sorted (entries_of rows)
+
+  -- a map with these rows
+  abbrev pub with_rows : List X → FinMap cmp X → FinMap cmp X
+  with_rows [] m = m
+  with_rows (row ∷ rows) m = with_rows rows (insert m (key_of row) row)

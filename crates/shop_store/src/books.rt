@@ -3,10 +3,17 @@ ghost use Rattle.shop_machine.specs.Content.{Content, material_at, part_at, job_
 ghost use Rattle.shop_machine.specs.Soundness.{Fits};
 ghost use Rattle.shop_store.specs.Failures.{CountsFailure};
 ghost use Rattle.shop_store.specs.Books.{Keeps};
+ghost use Rattle.shop_store.specs.Visits.{IsVisit};
 
+use crate::visits::PartVisitor;
 use cut_measure::{Code, PartName};
 use shop_machine::{Change, Demand, Job, Kept, Material, Part, PartList, Refusal, Totals};
 use std::alloc::{AllocError, Global};
+use std::error::Error;
+use std::fmt;
+
+/// The greatest number of failures that is counted.
+pub const MOST_FAILURES: u64 = 18446744073709551615;
 
 /// Why a book has no answer.
 #[derive(Clone, Copy, Debug, PartialEq, Eq)]
@@ -16,6 +23,22 @@ pub enum BookFault {
     /// The store failed; the book counts it.
     Store,
 }
+
+impl fmt::Display for BookFault {
+    ghost use Rattle.std.specs.Prelude.{Some};
+    ghost use Rattle.shop_store.specs.Failures.{book_fault_text};
+
+    ghost output = { λ fault. Some (book_fault_text fault) };
+
+    fn fmt<W: fmt::Write>(&self, f: &mut fmt::Formatter<W>) -> fmt::Result {
+        f.write_str(match self {
+            BookFault::NoMemory => "fault memory",
+            BookFault::Store => "fault store",
+        })
+    }
+}
+
+impl Error for BookFault {}
 
 impl From<BookFault> for Refusal {
     ghost use Rattle.std.specs.Prelude.{◌≡◌};
@@ -120,6 +143,17 @@ pub trait Book {
         ensures rows { is_honest self.new → (m : Content) → holds self.old m → IfOk result (λ rows. rows ≡ listed_parts m material) }
         ensures keeps { Keeps is_honest holds may_leave failed (CountsFailure result) self.old self.new };
 
+    /// Hands out the list of `parts_of` in order, one part at a time, for as long as the visitor answers true. The answer is
+    /// true where that was all of the list and false where the visitor stopped; after an `Err` too the parts that were
+    /// handed out begin the list, and the visitor is what they in turn made of it.
+    fn visit_parts<V: PartVisitor>(
+        &mut self,
+        material: Code,
+        visitor: &mut V,
+    ) -> Result<bool, BookFault>
+        ensures visit { IsVisit V.looks (λ what. is_honest self.new → (m : Content) → holds self.old m → what (listed_parts m material)) visitor.old result visitor.new }
+        ensures keeps { Keeps is_honest holds may_leave failed (CountsFailure result) self.old self.new };
+
     /// Makes a change that fits the content as a whole, or not at all. After an `Err` the content is what it was, whatever
     /// the change.
     fn commit(&mut self, change: Change) -> Result<(), BookFault>
@@ -132,7 +166,7 @@ pub trait Book {
         ensures honest { is_honest self.new → is_honest self.old }
         ensures failures { CountsFailure result (failed self.old) (failed self.new) };
 
-    /// How often the store failed, up to 18446744073709551615.
+    /// How often the store failed, up to `MOST_FAILURES`.
     fn failures(&self) -> u64
         ensures { result ≡ failed self.now };
 }

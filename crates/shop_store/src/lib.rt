@@ -2,11 +2,14 @@
 #![tactic(auto)]
 
 mod books;
+mod keys;
 mod memory;
 mod rows;
 mod sums;
 #[cfg(test)]
 mod tests;
+mod visits;
 
-pub use books::{Book, BookFault};
+pub use books::{Book, BookFault, MOST_FAILURES};
 pub use memory::MemBook;
+pub use visits::PartVisitor;

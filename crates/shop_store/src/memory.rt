@@ -4,145 +4,23 @@ ghost use Rattle.cut_measure.specs.Names.{name_cmp};
 ghost use Rattle.std.specs.Ordering.{nat_cmp};
 ghost use Rattle.shop_machine.specs.Content.{Content, material_at, part_at, job_at, has_order, demand_at, kept_at, totals_of, parts_of as listed_parts, changed, is_listed, with_parts, with_material, with_job, with_order, with_demands, pair_cmp};
 ghost use Rattle.shop_machine.specs.Soundness.{IsInRange};
-ghost use Rattle.shop_store.specs.Memory.{material_key, part_key, job_key, order_key, demand_key, put_kept, materials_of, parts_in, jobs_in, orders_in, demands_in};
+ghost use Rattle.shop_store.specs.Memory.{material_key, part_key, job_key, order_key, put_kept};
 ghost use Rattle.std.specs.FinMap.{find as find_entry};
-ghost use Rattle.shop_store.specs.Rows.{rise, row_at, IsPut};
+ghost use Rattle.shop_store.specs.Rows.{rise, row_at, map_of, IsPut};
+ghost use Rattle.shop_store.specs.Visits.{IsVisit};
 ghost use Rattle.shop_store.specs.Sums.{sums_key, AreSumsOf, all_small};
 
 use crate::books::{Book, BookFault};
-use crate::rows::{Row, at, find, put};
+use crate::rows::{at, find, put, put_all, put_some};
 use crate::sums::{Sums, add_part, take_replaced, totals_in};
+use crate::visits::PartVisitor;
 use cut_measure::{Code, PartName};
 use shop_machine::{
     Change, Demand, Job, Kept, KeptMessage, Material, Pair, Part, PartList, Totals,
 };
 use std::alloc::{AllocError, Global};
-use std::cmp::Ordering;
 use std::collections::BTreeMap;
 use std::marker::Model;
-
-impl Row for Material {
-    ghost use Rattle.cut_measure.specs.Codes.{code_cmp};
-    ghost use Rattle.std.specs.Cmp.Lexicographic.{nat_list_cmp_total};
-    ghost use Rattle.std.specs.FinMap.{slice_cmp-IsAntisymmetric, nat_cmp-IsAntisymmetric};
-    ghost use Rattle.shop_store.specs.Memory.{material_key};
-
-    type Key = Code;
-
-    ghost key_of = { material_key };
-
-    ghost cmp = { code_cmp };
-
-    fn compare(&self, key: Code) -> Ordering {
-        self.code.order(&key)
-    }
-
-    fn key(&self) -> Code {
-        self.code
-    }
-
-    ghost total = { nat_list_cmp_total };
-
-    ghost exact = { slice_cmp-IsAntisymmetric nat_cmp-IsAntisymmetric };
-}
-
-impl Row for Part {
-    ghost use Rattle.cut_measure.specs.Names.{name_cmp};
-    ghost use Rattle.shop_store.specs.Memory.{part_key, names_total, names_exact};
-
-    type Key = PartName;
-
-    ghost key_of = { part_key };
-
-    ghost cmp = { name_cmp };
-
-    fn compare(&self, key: PartName) -> Ordering {
-        self.name.order(&key)
-    }
-
-    fn key(&self) -> PartName {
-        self.name
-    }
-
-    ghost total = { names_total };
-
-    ghost exact = { names_exact };
-}
-
-impl Row for Job {
-    ghost use Rattle.std.specs.Ordering.{nat_cmp};
-    ghost use Rattle.std.specs.Cmp.{nat_cmp_total};
-    ghost use Rattle.std.specs.FinMap.{nat_cmp-IsAntisymmetric};
-    ghost use Rattle.shop_store.specs.Memory.{job_key};
-
-    type Key = u32;
-
-    ghost key_of = { job_key };
-
-    ghost cmp = { nat_cmp };
-
-    fn compare(&self, key: u32) -> Ordering {
-        self.act.cmp(&key)
-    }
-
-    fn key(&self) -> u32 {
-        self.act
-    }
-
-    ghost total = { nat_cmp_total };
-
-    ghost exact = { nat_cmp-IsAntisymmetric };
-}
-
-impl Row for Code {
-    ghost use Rattle.cut_measure.specs.Codes.{code_cmp};
-    ghost use Rattle.std.specs.Cmp.Lexicographic.{nat_list_cmp_total};
-    ghost use Rattle.std.specs.FinMap.{slice_cmp-IsAntisymmetric, nat_cmp-IsAntisymmetric};
-    ghost use Rattle.shop_store.specs.Memory.{order_key};
-
-    type Key = Code;
-
-    ghost key_of = { order_key };
-
-    ghost cmp = { code_cmp };
-
-    fn compare(&self, key: Code) -> Ordering {
-        self.order(&key)
-    }
-
-    fn key(&self) -> Code {
-        *self
-    }
-
-    ghost total = { nat_list_cmp_total };
-
-    ghost exact = { slice_cmp-IsAntisymmetric nat_cmp-IsAntisymmetric };
-}
-
-impl Row for Demand {
-    ghost use Rattle.std.specs.Ordering.{nat_cmp};
-    ghost use Rattle.std.specs.Cmp.{nat_cmp_total};
-    ghost use Rattle.std.specs.FinMap.{nat_cmp-IsAntisymmetric};
-    ghost use Rattle.shop_store.specs.Memory.{demand_key};
-
-    type Key = u32;
-
-    ghost key_of = { demand_key };
-
-    ghost cmp = { nat_cmp };
-
-    fn compare(&self, key: u32) -> Ordering {
-        self.number.cmp(&key)
-    }
-
-    fn key(&self) -> u32 {
-        self.number
-    }
-
-    ghost total = { nat_cmp_total };
-
-    ghost exact = { nat_cmp-IsAntisymmetric };
-}
 
 /// A book in memory.
 #[derive(Drop)]
@@ -166,11 +44,11 @@ impl Model for MemBook {
 
     ghost coded = { memory_code };
 
-    ghost use Rattle.shop_store.specs.MemBooks.{book_of, IsWhole};
+    ghost use Rattle.shop_store.specs.MemBooks.{book_of, IsConsistent};
 
     ghost view = { book_of };
 
-    ghost invariant = { IsWhole };
+    ghost invariant = { IsConsistent };
 }
 
 impl MemBook {
@@ -239,6 +117,18 @@ fn listed(alloc: Global, parts: &[Part], material: Code) -> Result<PartList, All
     Ok(rows)
 }
 
+// Hands out the listed parts of a material, for as long as the visitor answers true.
+fn visit<V: PartVisitor>(parts: &[Part], material: Code, visitor: &mut V) -> bool
+    ensures { IsVisit V.looks (λ what. what (filter (is_listed material) parts.now)) visitor.old (Ok result) visitor.new }
+{
+    for part in parts {
+        if part.is_listed(&material) && !visitor.part(part) {
+            return false;
+        }
+    }
+    true
+}
+
 // A copy of the job of a number.
 fn find_job(alloc: Global, jobs: &[Job], number: u32) -> Result<Option<Job>, AllocError>
     requires { IsTrue (rise job_key nat_cmp jobs.now) }
@@ -303,7 +193,7 @@ fn put_parts(parts: &mut Vec<Part>, totals: &mut Vec<Sums>, rows: &[Part])
     requires sums { AreSumsOf parts.old.items totals.old.items }
     requires parts_room { vec_len parts.old + length rows.now ≤ vec_capacity parts.old }
     requires totals_room { vec_len totals.old + length rows.now ≤ vec_capacity totals.old }
-    ensures put { parts_in parts.new.items ≡ with_parts rows.now (parts_in parts.old.items) }
+    ensures put { map_of part_key name_cmp parts.new.items ≡ with_parts rows.now (map_of part_key name_cmp parts.old.items) }
     ensures parts { IsTrue (rise part_key name_cmp parts.new.items) }
     ensures totals { IsTrue (rise sums_key code_cmp totals.new.items) }
     ensures small { IsTrue (all_small parts.new.items) }
@@ -311,54 +201,6 @@ fn put_parts(parts: &mut Vec<Part>, totals: &mut Vec<Sums>, rows: &[Part])
 {
     for part in rows {
         put_part(parts, totals, *part);
-    }
-}
-
-// Puts a material, if there is one.
-fn put_material(materials: &mut Vec<Material>, row: Option<Material>)
-    requires rising { IsTrue (rise material_key code_cmp materials.old.items) }
-    requires room { vec_len materials.old < vec_capacity materials.old }
-    ensures put { materials_of materials.new.items ≡ with_material row (materials_of materials.old.items) }
-    ensures rising { IsTrue (rise material_key code_cmp materials.new.items) }
-{
-    if let Some(row) = row {
-        let _ = put(materials, row);
-    }
-}
-
-// Puts a job, if there is one.
-fn put_job(jobs: &mut Vec<Job>, row: Option<Job>)
-    requires rising { IsTrue (rise job_key nat_cmp jobs.old.items) }
-    requires room { vec_len jobs.old < vec_capacity jobs.old }
-    ensures put { jobs_in jobs.new.items ≡ with_job row (jobs_in jobs.old.items) }
-    ensures rising { IsTrue (rise job_key nat_cmp jobs.new.items) }
-{
-    if let Some(row) = row {
-        let _ = put(jobs, row);
-    }
-}
-
-// Puts the code of an order, if there is one.
-fn put_order(orders: &mut Vec<Code>, code: Option<Code>)
-    requires rising { IsTrue (rise order_key code_cmp orders.old.items) }
-    requires room { vec_len orders.old < vec_capacity orders.old }
-    ensures put { orders_in orders.new.items ≡ with_order code (orders_in orders.old.items) }
-    ensures rising { IsTrue (rise order_key code_cmp orders.new.items) }
-{
-    if let Some(code) = code {
-        let _ = put(orders, code);
-    }
-}
-
-// Puts demands one after another.
-fn put_demands(demands: &mut Vec<Demand>, rows: &[Demand])
-    requires rising { IsTrue (rise demand_key nat_cmp demands.old.items) }
-    requires room { vec_len demands.old + length rows.now ≤ vec_capacity demands.old }
-    ensures put { demands_in demands.new.items ≡ with_demands rows.now (demands_in demands.old.items) }
-    ensures rising { IsTrue (rise demand_key nat_cmp demands.new.items) }
-{
-    for demand in rows {
-        let _ = put(demands, *demand);
     }
 }
 
@@ -610,6 +452,19 @@ impl Book for MemBook {
         Ok(rows)
     }
 
+    fn visit_parts<V: PartVisitor>(
+        &mut self,
+        material: Code,
+        visitor: &mut V,
+    ) -> Result<bool, BookFault>
+        ensures visit { IsVisit V.looks (λ what. what (listed_parts self.old.content material)) visitor.old result visitor.new }
+        ensures sure { IsOk result }
+        ensures same { self.new ≡ self.old }
+    {
+        let on = visit(&self.parts, material, visitor);
+        Ok(on)
+    }
+
     fn commit(&mut self, change: Change) -> Result<(), BookFault>
         ensures ok { OnOk result (self.new.content ≡ changed self.old.content change) }
         ensures err { OnErr result (self.new.content ≡ self.old.content) }
@@ -642,11 +497,11 @@ impl Book for MemBook {
             wanted.len(),
         )?;
         keep(&mut self.kept, kept)?;
-        put_material(&mut self.materials, material);
+        put_some(&mut self.materials, material);
         put_parts(&mut self.parts, &mut self.totals, rows);
-        put_job(&mut self.jobs, job);
-        put_order(&mut self.orders, order);
-        put_demands(&mut self.demands, wanted);
+        put_some(&mut self.jobs, job);
+        put_some(&mut self.orders, order);
+        put_all(&mut self.demands, wanted);
         self.last_act = act.unwrap_or(self.last_act);
         self.last_demand = demand.unwrap_or(self.last_demand);
         Ok(())

@@ -1,7 +1,8 @@
 ghost use Rattle.std.specs.declared.cmp.Ordering.{Ordering};
 ghost use Rattle.std.specs.Prelude.{◌≡◌, ◌+◌, ◌<◌, ◌≤◌, IfSome, IsSome, IsTrue, length, option_copied, vec_len, vec_capacity};
 ghost use Rattle.std.specs.List.Sorted.{IsBinarySearchResult, IsSearchInRange};
-ghost use Rattle.shop_store.specs.Rows.{rise, row_at, IsPut};
+ghost use Rattle.std.specs.Option.{option_to_list};
+ghost use Rattle.shop_store.specs.Rows.{rise, row_at, IsPut, ArePut};
 
 use std::cmp::Ordering;
 use std::mem::replace;
@@ -84,5 +85,29 @@ pub fn put<R: Row>(rows: &mut Vec<R>, row: R) -> Option<R>
             }
             None
         }
+    }
+}
+
+/// Puts a row in its place, if there is one.
+pub fn put_some<R: Row>(rows: &mut Vec<R>, row: Option<R>)
+    requires rising { IsTrue (rise R.key_of R.cmp rows.old.items) }
+    requires room { vec_len rows.old < vec_capacity rows.old }
+    ensures put { ArePut R.key_of R.cmp (option_to_list row) rows.old.items rows.new.items }
+    ensures rising { IsTrue (rise R.key_of R.cmp rows.new.items) }
+{
+    if let Some(row) = row {
+        let _ = put(rows, row);
+    }
+}
+
+/// Puts rows in their places, one after another.
+pub fn put_all<R: Row + Copy>(rows: &mut Vec<R>, added: &[R])
+    requires rising { IsTrue (rise R.key_of R.cmp rows.old.items) }
+    requires room { vec_len rows.old + length added.now ≤ vec_capacity rows.old }
+    ensures put { ArePut R.key_of R.cmp added.now rows.old.items rows.new.items }
+    ensures rising { IsTrue (rise R.key_of R.cmp rows.new.items) }
+{
+    for row in added {
+        let _ = put(rows, *row);
     }
 }

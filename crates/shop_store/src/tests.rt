@@ -1,4 +1,6 @@
-use crate::{Book, BookFault, MemBook};
+ghost use Rattle.std.specs.Prelude.{⊤};
+
+use crate::{Book, BookFault, MemBook, PartVisitor};
 use cut_measure::{Code, Kind, Limits, PartName, Size};
 use cut_tree::Plan;
 use shop_machine::{
@@ -298,6 +300,57 @@ fn a_job_is_put_again(rt: HostRuntime) -> Result<(), Fail> {
         assert!(rt; book.job(rt.alloc(), 2)? == Some(wanted));
         assert!(rt; book.job(rt.alloc(), 1)?.is_none());
         assert_eq!(rt; book == copy, state == JobState::Waiting);
+    }
+    Ok(())
+}
+
+#[test]
+fn prints_faults(rt: HostRuntime) -> Result<(), Fail> {
+    let text = format!(in rt.alloc(); "{}", BookFault::Store)?;
+    assert_eq!(rt; text.as_str(), "fault store");
+    Ok(())
+}
+
+// Keeps the names of the parts that it looks at, and asks for so many.
+#[derive(Drop)]
+struct Names {
+    names: Vec<PartName>,
+    most: usize,
+    has_memory: bool,
+}
+
+impl PartVisitor for Names {
+    ghost looks = { λ _ _ _ _. ⊤ };
+
+    fn part(&mut self, part: &Part) -> bool {
+        self.has_memory = self.names.push(part.name).is_ok();
+        self.has_memory && self.names.len() < self.most
+    }
+}
+
+// The first of the parts are handed out, in order, up to the one at which the visitor stops.
+#[test]
+fn parts_are_handed_out_until_a_stop(rt: HostRuntime) -> Result<(), Fail> {
+    let mut book = MemBook::new(rt.alloc());
+    let material = iron()?;
+    let code = material.code;
+    let bars = [bar(code, 0)?, bar(code, 1)?];
+    book.commit(receipt(rt.alloc(), material, bars[0], bars[1])?)?;
+    let names = [bars[0].name, bars[1].name];
+    for (most, seen, all) in [(1, 1, false), (2, 2, false), (3, 2, true)] {
+        let mut visitor = Names {
+            names: Vec::new(rt.alloc()),
+            most,
+            has_memory: true,
+        };
+        assert_eq!(rt;
+            book.visit_parts(code, &mut visitor)?,
+            all && visitor.has_memory
+        );
+        if visitor.has_memory {
+            assert_eq!(rt; visitor.names.as_slice(), &names[..seen]);
+        }
+        assert_eq!(rt; book.totals(code)?, totals(200, 200));
     }
     Ok(())
 }

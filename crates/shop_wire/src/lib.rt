@@ -2,6 +2,8 @@
 #![tactic(auto)]
 
 mod answers;
+#[cfg(test)]
+mod breaking_tests;
 mod faults;
 #[cfg(test)]
 mod job_tests;

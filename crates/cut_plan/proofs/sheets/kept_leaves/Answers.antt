@@ -5,8 +5,8 @@ use Rattle.cut_table.proofs.SheetTables.{whole_write}
 use Rattle.cut_plan.proofs.SheetPlans.{cutting, zero_at}
 use Rattle.cut_plan.proofs.sheets.kept_leaves.Goals as goal
 
-pub returns : goal.returns
-returns c =
+pub returns-clause-kept : goal.returns-clause-kept
+returns-clause-kept c =
     let zeros : All (λ (a : ℕ). a ≡ 0) c.deref_mut.result.now = λ i d lt. grind (arith, common_steps) in
     let all : length c.in_ok-counts.counts.items ≡ length c.keep.new.counts = omega arith in
     let n : c.in_ok-counts.counts.len ≡ length c.keep.new.counts = omega arith in

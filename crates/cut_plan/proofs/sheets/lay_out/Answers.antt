@@ -35,7 +35,7 @@ place-requires-clause-own c =
 pub place-requires-clause-places : goal.place-requires-clause-places
 place-requires-clause-places c =
     let f = sound.faultless Sheet c.args.size c.args.kerf c.args.step c.args.wants.now c.requires.faultless in
-    let cut = rw (c.deref.ensures.value, c.in_ok-scaled.ensures.value, c.w.ensures.value, c.h.ensures.value) at c.in_ok-cutting.ensures in
+    let cut = rw (c.deref.ensures.value, c.in_ok-scaled.ensures.value, c.w.ensures.value, c.h.ensures.value) at c.in_ok-cutting.ensures.kept in
     rw (c.w-2.ensures.value, c.h-2.ensures.value) (
     kept_places c.args.wants.now c.args.kerf c.args.step _ _ _ c.args.size.w c.args.size.h (sound.is_step c.args.kerf c.args.step c.args.wants.now f.stepped).some
     c.in_ok-scaled.ensures.sides cut.inside cut.pruned (steps_inside c.args.kerf c.args.step c.args.size.w) (steps_inside c.args.kerf c.args.step c.args.size.h)
@@ -44,7 +44,7 @@ place-requires-clause-places c =
 pub counted_worth-worth-requires-clause-len : goal.counted_worth-worth-requires-clause-len
 counted_worth-worth-requires-clause-len c =
     let f = sound.faultless Sheet c.args.size c.args.kerf c.args.step c.args.wants.now c.requires.faultless in
-    let cut = rw (c.deref.ensures.value, c.in_ok-scaled.ensures.value, c.w.ensures.value, c.h.ensures.value) at c.in_ok-cutting.ensures in
+    let cut = rw (c.deref.ensures.value, c.in_ok-scaled.ensures.value, c.w.ensures.value, c.h.ensures.value) at c.in_ok-cutting.ensures.kept in
     let len : length c.in_ok-cutting.cutting.counts.items ≡ length c.args.wants.now = cut.len ∙ length-map c.args.wants.now (want_up c.args.kerf c.args.step) in
     rw (c.deref-3.ensures.value, c.in_ok-kept.ensures, c.deref-2.ensures.value) (
     sound.counts_length c.args.wants.now (kept_counts c.args.wants.now c.in_ok-cutting.cutting.counts.items) (kept_left c.args.wants.now c.in_ok-cutting.cutting.counts.items len)
@@ -53,7 +53,7 @@ counted_worth-worth-requires-clause-len c =
 pub counted_worth-worth-requires-clause-small : goal.counted_worth-worth-requires-clause-small
 counted_worth-worth-requires-clause-small c =
     let f = sound.faultless Sheet c.args.size c.args.kerf c.args.step c.args.wants.now c.requires.faultless in
-    let cut = rw (c.deref.ensures.value, c.in_ok-scaled.ensures.value, c.w.ensures.value, c.h.ensures.value) at c.in_ok-cutting.ensures in
+    let cut = rw (c.deref.ensures.value, c.in_ok-scaled.ensures.value, c.w.ensures.value, c.h.ensures.value) at c.in_ok-cutting.ensures.kept in
     let len : length c.in_ok-cutting.cutting.counts.items ≡ length c.args.wants.now = cut.len ∙ length-map c.args.wants.now (want_up c.args.kerf c.args.step) in
     let left = kept_left c.args.wants.now c.in_ok-cutting.cutting.counts.items len in
     rw (c.deref-3.ensures.value, c.in_ok-kept.ensures, c.deref-2.ensures.value) (omega (
@@ -65,13 +65,13 @@ counted_worth-worth-requires-clause-small c =
 pub dropped_of-dropped-requires-clause-small : goal.dropped_of-dropped-requires-clause-small
 dropped_of-dropped-requires-clause-small c =
     let f = sound.faultless Sheet c.args.size c.args.kerf c.args.step c.args.wants.now c.requires.faultless in
-    let cut = rw (c.deref.ensures.value, c.in_ok-scaled.ensures.value, c.w.ensures.value, c.h.ensures.value) at c.in_ok-cutting.ensures in
+    let cut = rw (c.deref.ensures.value, c.in_ok-scaled.ensures.value, c.w.ensures.value, c.h.ensures.value) at c.in_ok-cutting.ensures.kept in
     rw c.deref-4.ensures.value (omega (arith, dropped_small c.args.wants.now c.in_ok-cutting.cutting.counts.items cut.small, sound.few Sheet c.args.wants.now f.in_range))
 
 pub returns-clause-laid : goal.returns-clause-laid
 returns-clause-laid c =
     let f = sound.faultless Sheet c.args.size c.args.kerf c.args.step c.args.wants.now c.requires.faultless in
-    let cut = rw (c.deref.ensures.value, c.in_ok-scaled.ensures.value, c.w.ensures.value, c.h.ensures.value) at c.in_ok-cutting.ensures in
+    let cut = rw (c.deref.ensures.value, c.in_ok-scaled.ensures.value, c.w.ensures.value, c.h.ensures.value) at c.in_ok-cutting.ensures.kept in
     let len : length c.in_ok-cutting.cutting.counts.items ≡ length c.args.wants.now = cut.len ∙ length-map c.args.wants.now (want_up c.args.kerf c.args.step) in
     let places = rw (c.w-2.ensures.value, c.h-2.ensures.value) at c.in_ok-root.ensures in
     laid c.args.size c.args.kerf c.args.step c.args.wants.now c.in_ok-cutting.cutting.counts.items _ _ _ _ (sound.own Sheet c.args.wants.now f.in_range) cut places len
@@ -80,7 +80,7 @@ returns-clause-laid c =
 pub returns-clause-few : goal.returns-clause-few
 returns-clause-few c =
     let f = sound.faultless Sheet c.args.size c.args.kerf c.args.step c.args.wants.now c.requires.faultless in
-    let cut = rw (c.deref.ensures.value, c.in_ok-scaled.ensures.value, c.w.ensures.value, c.h.ensures.value) at c.in_ok-cutting.ensures in
+    let cut = rw (c.deref.ensures.value, c.in_ok-scaled.ensures.value, c.w.ensures.value, c.h.ensures.value) at c.in_ok-cutting.ensures.kept in
     let len : length c.in_ok-cutting.cutting.counts.items ≡ length c.args.wants.now = cut.len ∙ length-map c.args.wants.now (want_up c.args.kerf c.args.step) in
     let places = rw (c.w-2.ensures.value, c.h-2.ensures.value) at c.in_ok-root.ensures in
     omega (
@@ -88,3 +88,18 @@ returns-clause-few c =
       few_laid c.args.size c.args.kerf c.args.step c.args.wants.now c.in_ok-cutting.cutting.counts.items _ _ (sound.own Sheet c.args.wants.now f.in_range) cut places len,
       sound.few Sheet c.args.wants.now f.in_range,
     )
+
+pub ceiling_beside-requires-clause-own : goal.ceiling_beside-requires-clause-own
+ceiling_beside-requires-clause-own c =
+    let f = sound.faultless Sheet c.args.size c.args.kerf c.args.step c.args.wants.now c.requires.faultless in
+    sound.own Sheet c.args.wants.now f.in_range
+
+pub ceiling_beside-requires-clause-worthy : goal.ceiling_beside-requires-clause-worthy
+ceiling_beside-requires-clause-worthy c =
+    let f = sound.faultless Sheet c.args.size c.args.kerf c.args.step c.args.wants.now c.requires.faultless in
+    sound.worthy Sheet c.args.wants.now f.in_range
+
+pub ceiling_beside-requires-clause-step : goal.ceiling_beside-requires-clause-step
+ceiling_beside-requires-clause-step c =
+    let f = sound.faultless Sheet c.args.size c.args.kerf c.args.step c.args.wants.now c.requires.faultless in
+    sound.is_step c.args.kerf c.args.step c.args.wants.now f.stepped

@@ -6,15 +6,15 @@ use Rattle.shop_machine.proofs.recounts.recounted_rows.Goals as goal
 
 pub recounted-requires : goal.recounted-requires
 recounted-requires c =
-    let has : HasRow c.args.how c.args.plan.now.tree c.found-item.result =
-    subst (HasRow c.args.how c.args.plan.now.tree) (sym c.found-item.is) (c.requires.found c.loop-found.found-index c.found-item.result c.loop-found-test.true) in
-    subst (λ n. HasRoom c.args.how n c.in-Some.demand) (sym c.count-count.ensures) (row_of c.args.how c.args.plan.now.tree c.found-item.result c.in-Some.demand has c.in-Some.is).1
+    let has : HasRow (HasRoom c.args.how) c.args.plan.now.tree c.found-item.result =
+    subst (HasRow (HasRoom c.args.how) c.args.plan.now.tree) (sym c.found-item.is) (c.requires.found c.loop-found.found-index c.found-item.result c.loop-found-test.true) in
+    subst (λ n. HasRoom c.args.how n c.in-Some.demand) (sym c.count-count.ensures) (row_of (HasRoom c.args.how) c.args.plan.now.tree c.found-item.result c.in-Some.demand has c.in-Some.is).1
 
 pub loop-found-preserved : goal.loop-found-preserved
 loop-found-preserved c =
-    let has : HasRow c.args.how c.args.plan.now.tree c.found-item.result =
-    subst (HasRow c.args.how c.args.plan.now.tree) (sym c.found-item.is) (c.requires.found c.loop-found.found-index c.found-item.result c.loop-found-test.true) in
-    let facts = row_of c.args.how c.args.plan.now.tree c.found-item.result c.in-Some.demand has c.in-Some.is in
+    let has : HasRow (HasRoom c.args.how) c.args.plan.now.tree c.found-item.result =
+    subst (HasRow (HasRoom c.args.how) c.args.plan.now.tree) (sym c.found-item.is) (c.requires.found c.loop-found.found-index c.found-item.result c.loop-found-test.true) in
+    let facts = row_of (HasRoom c.args.how) c.args.plan.now.tree c.found-item.result c.in-Some.demand has c.in-Some.is in
     added_more c.args.how c.args.plan.now.tree c.args.leaves.now c.loop-found.found-index c.loop-found.rows c.add_once.new.rows c.found-item.result c.in-Some.demand
     c.loop-found-test.true c.found-item.is c.in-Some.is facts.0 c.loop-found.invariant
     (subst (λ (row : Demand). IsAddedOnce c.loop-found.rows row c.add_once.new.rows) (c.recounted.ensures ∙ ap (λ n. recount_by c.args.how n c.in-Some.demand) c.count-count.ensures) c.in_ok-add_once.ensures)

@@ -3,8 +3,8 @@ use Rattle.std.proofs.Math.Seq.{drop-cons, drop-length}
 use Rattle.cut_measure.specs.Names.{name_cmp}
 use Rattle.shop_machine.specs.declared.records.Part.{Part}
 use Rattle.shop_machine.specs.Content.{with_parts}
-use Rattle.shop_store.specs.Rows.{entries_of}
-use Rattle.shop_store.specs.Memory.{part_key, parts_in, names_total}
+use Rattle.shop_store.specs.Rows.{entries_of, map_of}
+use Rattle.shop_store.specs.Memory.{part_key, names_total}
 use Rattle.shop_store.proofs.Held.{put_is_insert}
 use Rattle.shop_store.proofs.memory.put_parts.Goals as goal
 
@@ -25,7 +25,7 @@ loop-part-preserved c =
       totals_room = omega arith;
       rest = ap (with_parts (drop (at + 1) rows))
           (put_is_insert name_cmp names_total part.name part (entries_of part_key name_cmp c.loop-part.parts.items) (entries_of part_key name_cmp c.put_part.new.parts.items) c.loop-part.invariant.parts c.put_part.ensures.put)
-          ∙ ap (λ (ps : List Part). with_parts ps (parts_in c.loop-part.parts.items)) (sym next) ∙ c.loop-part.invariant.rest;
+          ∙ ap (λ (ps : List Part). with_parts ps (map_of part_key name_cmp c.loop-part.parts.items)) (sym next) ∙ c.loop-part.invariant.rest;
     }
 
 pub returns : goal.returns
@@ -34,7 +34,7 @@ returns c =
     let end : c.loop-part.part-index ≡ length rows = omega arith in
     let none : drop c.loop-part.part-index rows ≡ [] = ap (λ n. drop n rows) end ∙ drop-length rows in
     record {
-      put = sym (ap (λ (ps : List Part). with_parts ps (parts_in c.loop-part.parts.items)) none) ∙ c.loop-part.invariant.rest;
+      put = sym (ap (λ (ps : List Part). with_parts ps (map_of part_key name_cmp c.loop-part.parts.items)) none) ∙ c.loop-part.invariant.rest;
       parts = c.loop-part.invariant.parts;
       totals = c.loop-part.invariant.totals;
       small = c.loop-part.invariant.small;

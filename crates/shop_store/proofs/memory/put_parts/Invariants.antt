@@ -3,9 +3,9 @@ use Rattle.std.specs.Prelude.{IsTrue}
 use Rattle.cut_measure.specs.Codes.{code_cmp}
 use Rattle.cut_measure.specs.Names.{name_cmp}
 use Rattle.shop_machine.specs.Content.{with_parts}
-use Rattle.shop_store.specs.Rows.{rise}
+use Rattle.shop_store.specs.Rows.{rise, map_of}
 use Rattle.shop_store.specs.Sums.{sums_key, AreSumsOf, all_small}
-use Rattle.shop_store.specs.Memory.{part_key, parts_in}
+use Rattle.shop_store.specs.Memory.{part_key}
 use Rattle.shop_store.proofs.memory.put_parts.Given as goal
 
 abbrev pub invariant-loop-part : goal.invariant-loop-part
@@ -17,5 +17,5 @@ invariant-loop-part l =
       sums : AreSumsOf l.parts.items l.totals.items;
       parts_room : vec_len l.parts + (length l.rows - l.part-index) ≤ vec_capacity l.parts;
       totals_room : vec_len l.totals + (length l.rows - l.part-index) ≤ vec_capacity l.totals;
-      rest : with_parts (drop l.part-index l.rows) (parts_in l.parts.items) ≡ with_parts l.rows (parts_in l.fn.parts.items);
+      rest : with_parts (drop l.part-index l.rows) (map_of part_key name_cmp l.parts.items) ≡ with_parts l.rows (map_of part_key name_cmp l.fn.parts.items);
     }

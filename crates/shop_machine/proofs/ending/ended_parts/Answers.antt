@@ -1,0 +1,39 @@
+use Rattle.std.proofs.Common.{◌≡◌, ◌*◌, drop, map, sym, ap, subst, ◌∙◌, arith}
+use Rattle.cut_tree.specs.Stops.{outcome_of}
+use Rattle.std.specs.Prelude.{sum_by}
+use Rattle.shop_machine.specs.declared.records.Part.{Part}
+use Rattle.shop_machine.specs.Ending.{row_part, ended_reply}
+use Rattle.shop_machine.proofs.Inside.{all_inside, has_part, part_cells, few_cells}
+use Rattle.shop_machine.proofs.ending.ended_parts.Goals as goal
+
+pub cut_parts-requires-clause-across : goal.cut_parts-requires-clause-across
+cut_parts-requires-clause-across c =
+    λ k d within.
+    let plan = c.args.job.now.plan in
+    let row = all_inside plan.tree plan.w plan.h plan.kerf (outcome_of c.args.stop.now) c.args.rows.now c.requires.laid k d within in
+    let part = has_part c.args.job.now c.args.part.now c.requires.part in
+    (row.some_width, omega (arith, row.right, part.width, part.right))
+
+pub cut_parts-requires-clause-down : goal.cut_parts-requires-clause-down
+cut_parts-requires-clause-down c =
+    λ k d within.
+    let plan = c.args.job.now.plan in
+    let row = all_inside plan.tree plan.w plan.h plan.kerf (outcome_of c.args.stop.now) c.args.rows.now c.requires.laid k d within in
+    let part = has_part c.args.job.now c.args.part.now c.requires.part in
+    (row.some_height, omega (arith, row.bottom, part.height, part.bottom))
+
+pub ended_reply-reply-requires : goal.ended_reply-reply-requires
+ended_reply-reply-requires c =
+    let plan = c.args.job.now.plan in
+    let made : c.behind.result.now ≡ map (row_part c.args.part.now c.args.limits c.args.job.now.act) c.args.rows.now =
+    c.behind.ensures ∙ ap (drop 1) (c.as_slice.ensures ∙ c.in_ok-parts.ensures) in
+    let cells = ap (sum_by (λ (p : Part). p.size.w * p.size.h)) made ∙ part_cells c.args.part.now c.args.limits c.args.job.now.act plan.tree plan.w plan.h plan.kerf (outcome_of c.args.stop.now) c.args.rows.now c.requires.laid in
+    let part = has_part c.args.job.now c.args.part.now c.requires.part in
+    let few = few_cells plan.w plan.h (omega (arith, part.width, part.right)) (omega (arith, part.height, part.bottom)) in
+    omega (arith, cells, few)
+
+pub returns : goal.returns
+returns c =
+    let made : c.behind.result.now ≡ map (row_part c.args.part.now c.args.limits c.args.job.now.act) c.args.rows.now =
+    c.behind.ensures ∙ ap (drop 1) (c.as_slice.ensures ∙ c.in_ok-parts.ensures) in
+    record { are = c.in_ok-parts.ensures; told = c.ended_reply-reply.ensures ∙ ap (ended_reply c.args.stop.now c.args.job.now.act) made }

@@ -1,0 +1,204 @@
+ghost use Rattle.std.specs.Prelude.{◌≡◌, IfOk, All, map};
+ghost use Rattle.serde_json.specs.View.{view};
+ghost use Rattle.shop_machine.specs.declared.messages.Command.TheVariants.{Break};
+ghost use Rattle.shop_machine.specs.Messages.{IsNumber, IsHalt};
+ghost use Rattle.shop_rules.specs.Fields.{all_of, number_of, row};
+ghost use Rattle.shop_rules.specs.Forms as form;
+ghost use Rattle.shop_rules.specs.Forms.{message_data};
+
+use crate::ending::ended_cells;
+use crate::fields::{elements_at, flag_at, has_keys, number_at, number_of};
+use crate::words::wide;
+use cut_tree::{CutList, Halt, MOST_CUTS};
+use serde_json::{Value, json};
+use shop_machine::{Command, Reply};
+use std::alloc::{AllocError, Global};
+
+// The cuts that the values stand for, where each stands for one.
+fn read_cuts(alloc: Global, values: &[Value]) -> Result<Option<CutList>, AllocError>
+    ensures { IfOk result (λ cuts. cuts ≡ all_of number_of (map view values.now)) }
+{
+    let mut cuts = CutList::new(alloc);
+    for value in values {
+        let Some(cut) = number_of(value) else {
+            return Ok(None);
+        };
+        cuts.push(cut)?;
+    }
+    Ok(Some(cuts))
+}
+
+// The cuts at a key.
+fn cuts_at(alloc: Global, value: &Value, key: &str) -> Result<Option<CutList>, AllocError>
+    ensures { IfOk result (λ cuts. cuts ≡ form.cuts_at key.now (view value.now)) }
+{
+    match elements_at(value, key) {
+        Some(values) => read_cuts(alloc, values),
+        None => Ok(None),
+    }
+}
+
+// The cut that went wrong by its number, or `false` where none did.
+fn lost_cut(value: &Value, key: &str) -> Option<Option<u32>>
+    ensures { result ≡ form.lost_cut key.now (view value.now) }
+{
+    if let Some(cut) = number_at(value, key) {
+        return Some(Some(cut));
+    }
+    match flag_at(value, key) {
+        Some(false) => Some(None),
+        _ => None,
+    }
+}
+
+// How many first cuts were made, and whether the next one went wrong.
+fn first_cuts(value: &Value) -> Option<Halt>
+    ensures { result ≡ form.first_cuts (view value.now) }
+{
+    let cuts = number_at(value, "cuts")?;
+    let lost = flag_at(value, "lost")?;
+    Some(Halt::First { cuts, lost })
+}
+
+// The cuts that were made, and the one that went wrong.
+fn listed_cuts(alloc: Global, value: &Value) -> Result<Option<Halt>, AllocError>
+    ensures { IfOk result (λ halt. halt ≡ form.listed_cuts (view value.now)) }
+{
+    match cuts_at(alloc, value, "cuts")? {
+        Some(cuts) => match lost_cut(value, "lost") {
+            Some(lost) => Ok(Some(Halt::Listed { cuts, lost })),
+            None => Ok(None),
+        },
+        None => Ok(None),
+    }
+}
+
+// The command that the work on a job halted.
+pub(crate) fn break_command(alloc: Global, value: &Value) -> Result<Option<Command>, AllocError>
+    ensures { IfOk result (λ command. command ≡ row 6 form.break_command (view value.now)) }
+{
+    if !has_keys(value, 6) {
+        return Ok(None);
+    }
+    let Some(job) = number_at(value, "job") else {
+        return Ok(None);
+    };
+    if let Some(halt) = first_cuts(value) {
+        return Ok(Some(Command::Break { job, halt }));
+    }
+    match listed_cuts(alloc, value)? {
+        Some(halt) => Ok(Some(Command::Break { job, halt })),
+        None => Ok(None),
+    }
+}
+
+/// Whether a command lists at most 255 cuts.
+pub(crate) fn has_few_cuts(command: &Command) -> bool
+    ensures { result ≡ form.has_few_cuts command.now }
+{
+    match command {
+        Command::Break {
+            halt: Halt::Listed { cuts, .. },
+            ..
+        } => cuts.as_slice().len() <= MOST_CUTS as usize,
+        _ => true,
+    }
+}
+
+// Listed cuts as a list of numbers.
+fn list_value(alloc: Global, cuts: &[u32]) -> Result<Value, AllocError>
+    ensures { IfOk result (λ value. view value ≡ form.list_data cuts.now) }
+{
+    let mut values: Vec<Value> = Vec::new(alloc);
+    for cut in cuts {
+        values.push(Value::from(*cut))?;
+    }
+    Ok(Value::Array(values))
+}
+
+// The cuts that were made: their number, or a list.
+fn cuts_value(alloc: Global, halt: &Halt) -> Result<Value, AllocError>
+    ensures { IfOk result (λ value. view value ≡ form.cuts_data halt.now) }
+{
+    match halt {
+        Halt::First { cuts, .. } => Ok(Value::from(*cuts)),
+        Halt::Listed { cuts, .. } => list_value(alloc, cuts.as_slice()),
+    }
+}
+
+// Whether a cut went wrong, or which.
+fn lost_value(halt: &Halt) -> Value
+    ensures { view result ≡ form.lost_data halt.now }
+{
+    match halt {
+        Halt::First { lost, .. } => Value::from(*lost),
+        Halt::Listed { lost, .. } => match lost {
+            Some(cut) => Value::from(*cut),
+            None => Value::from(false),
+        },
+    }
+}
+
+// The object of a message that breaks a job off.
+pub(crate) fn break_value(
+    alloc: Global,
+    pair: (u64, u64),
+    job: u64,
+    halt: &Halt,
+) -> Result<Value, AllocError>
+    ensures { IfOk result (λ value. view value ≡ message_data (record { terminal = pair.0; number = pair.1; command = Break job halt.now })) }
+{
+    let cuts = cuts_value(alloc, halt)?;
+    let lost = lost_value(halt);
+    json!(in alloc; {
+        "cuts": cuts,
+        "do": "break",
+        "job": job,
+        "lost": lost,
+        "number": pair.1,
+        "terminal": pair.0
+    })
+}
+
+// Reads each cut, so that all are known to be in range.
+fn see_cuts(cuts: &[u32])
+    ensures { All IsNumber cuts.now }
+{
+    for cut in cuts {
+        let _cut = wide(*cut);
+    }
+}
+
+// Reads a halt, which so is known to be in range.
+pub(crate) fn see_halt(halt: &Halt)
+    ensures { IsHalt halt.now }
+{
+    match halt {
+        Halt::First { cuts, .. } => {
+            let _cuts = wide(*cuts);
+        }
+        Halt::Listed { cuts, lost } => {
+            see_cuts(cuts.as_slice());
+            if let Some(cut) = lost {
+                let _cut = wide(*cut);
+            }
+        }
+    }
+}
+
+// The reply to it.
+pub(crate) fn break_made(value: &Value) -> Option<Reply>
+    ensures { result ≡ row 6 form.break_made (view value.now) }
+{
+    if !has_keys(value, 6) {
+        return None;
+    }
+    let (job, kerf, pieces, rack, scrap) = ended_cells(value)?;
+    Some(Reply::Break {
+        job,
+        kerf,
+        pieces,
+        rack,
+        scrap,
+    })
+}
