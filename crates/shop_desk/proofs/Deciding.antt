@@ -8,6 +8,7 @@ use Rattle.shop_machine.specs.declared.records.Material.{Material}
 use Rattle.shop_machine.specs.declared.records.Part.{Part}
 use Rattle.shop_machine.specs.declared.recounts.FoundLeaf.{FoundLeaf}
 use Rattle.shop_machine.specs.declared.records.Job.{Job}
+use Rattle.shop_machine.specs.declared.records.Totals.{Totals}
 use Rattle.shop_machine.specs.declared.messages.OrderLine.{OrderLine}
 use Rattle.shop_machine.specs.declared.messages.Command.{Command}
 use Rattle.shop_machine.specs.declared.messages.Command.TheVariants.{AddOrder, Reserve}
@@ -15,12 +16,15 @@ use Rattle.shop_machine.specs.declared.changes.Change.{Change}
 use Rattle.shop_machine.specs.declared.refusals.Refusal.{Refusal}
 use Rattle.shop_machine.specs.declared.refusals.Refusal.TheVariants.{NoMemory, StoreFault}
 use Rattle.shop_machine.specs.Readings.{Reading, unread, plan_in, reading_of}
-use Rattle.shop_machine.specs.Content.{Content, material_at, part_at, job_at, has_order, demand_at, material_of, part_of_job}
+use Rattle.shop_machine.specs.Content.{Content, material_at, part_at, job_at, has_order, demand_at, material_of, part_of_job, totals_of, totals_for}
 use Rattle.shop_machine.specs.Decisions.{Decides}
 use Rattle.shop_machine.specs.Machine.{Reads, refusal_of, Makes}
 use Rattle.shop_machine.specs.Ending.{IsWork, job_refusal, end_refusal}
 use Rattle.shop_machine.specs.Reserving.{IsReservation, reserve_refusal}
 use Rattle.shop_machine.specs.Ordering.{order_refusal, order_change}
+use Rattle.shop_machine.specs.Turning.{turn_change}
+use Rattle.shop_machine.specs.declared.records.State.{State}
+use Rattle.shop_machine.specs.declared.messages.Reply.{Reply}
 use Rattle.shop_desk.specs.Decided.{IsJudged, AreJobRows}
 
 -- a decision over the content's own refusal, what the text stands for being read
@@ -35,36 +39,39 @@ module _ (m : Content) (command : Command) (read : Reading) (reads : Reads m com
       memory refusal e f = cc
 
 -- the rows of a job
-module _ (m : Content) (number : ℕ) (found : Option Job) (on : Option Part) (of : Option Material) (is_j : found ≡ job_at m number) (is_p : on ≡ part_of_job m found) (is_m : of ≡ material_of m on) where
-  same_end : (stop : Stop) → end_refusal m stop (job_at m number) ≡ job_refusal stop found on of (demand_at m)
+module _ (m : Content) (number : ℕ) (found : Option Job) (on : Option Part) (of : Option Material) (is_j : found ≡ job_at m number) (is_p : on ≡ part_of_job m found) (is_m : of ≡ material_of m on)
+    (totals : Totals) (is_t : totals ≡ totals_for m on) where
+  same_end : (stop : Stop) → end_refusal m stop (job_at m number) ≡ job_refusal stop found on of (demand_at m) totals
   same_end stop =
-      ap (end_refusal m stop) (sym is_j) ∙ ap (λ p. job_refusal stop found p (material_of m p) (demand_at m)) (sym is_p) ∙ ap (λ t. job_refusal stop found on t (demand_at m)) (sym is_m)
+      ap (end_refusal m stop) (sym is_j) ∙ ap (λ p. job_refusal stop found p (material_of m p) (demand_at m) (totals_for m p)) (sym is_p)
+      ∙ ap (λ t. job_refusal stop found on t (demand_at m) (totals_for m on)) (sym is_m) ∙ ap (job_refusal stop found on of (demand_at m)) (sym is_t)
 
-  work_by : (E : Job → Part → Material → Type 0) → MatchOption found ⊥ (λ j. MatchOption on ⊥ (λ p. MatchOption of ⊥ (λ t. E j p t)))
-      → (j : Job) × (part : Part) × (material : Material) × IsWork m number j part material × E j part material
-  work_by E it = by found on of is_j is_p is_m it
+  work_by : (E : Totals → Job → Part → Material → Type 0) → MatchOption found ⊥ (λ j. MatchOption on ⊥ (λ p. MatchOption of ⊥ (λ t. E totals j p t)))
+      → (j : Job) × (part : Part) × (material : Material) × IsWork m number j part material × E (totals_of m part.material) j part material
+  work_by E it = by found on of is_j is_p is_m is_t it
     where
-      by : (found : Option Job) (on : Option Part) (of : Option Material) → found ≡ job_at m number → on ≡ part_of_job m found → of ≡ material_of m on
-          → MatchOption found ⊥ (λ j. MatchOption on ⊥ (λ p. MatchOption of ⊥ (λ t. E j p t))) → (j : Job) × (part : Part) × (material : Material) × IsWork m number j part material × E j part material
-      by None on of a b d it = absurd it
-      by (Some j) None of a b d it = absurd it
-      by (Some j) (Some p) None a b d it = absurd it
-      by (Some j) (Some p) (Some t) a b d it = (j, p, t, record { found = sym a; on = sym b; of = sym d }, it)
+      by : (found : Option Job) (on : Option Part) (of : Option Material) → found ≡ job_at m number → on ≡ part_of_job m found → of ≡ material_of m on → totals ≡ totals_for m on
+          → MatchOption found ⊥ (λ j. MatchOption on ⊥ (λ p. MatchOption of ⊥ (λ t. E totals j p t)))
+          → (j : Job) × (part : Part) × (material : Material) × IsWork m number j part material × E (totals_of m part.material) j part material
+      by None on of a b d e it = absurd it
+      by (Some j) None of a b d e it = absurd it
+      by (Some j) (Some p) None a b d e it = absurd it
+      by (Some j) (Some p) (Some t) a b d e it = (j, p, t, record { found = sym a; on = sym b; of = sym d }, subst (λ (x : Totals). E x j p t) e it)
 
 -- the end of a job, by its rows
-module _ (m : Content) (number : ℕ) (found : Option Job) (on : Option Part) (of : Option Material) (leaves : List FoundLeaf) (rows : AreJobRows m number found on of leaves)
-    (stop : Stop) (command : Command) (reads : Reads m command unread) (same : refusal_of m command unread ≡ end_refusal m stop (job_at m number)) (E : Change → Job → Part → Material → Type 0)
-    (makes : (change : Change) → (j : Job) × (part : Part) × (material : Material) × IsWork m number j part material × E change j part material → Makes m command unread change) where
+module _ (m : Content) (number : ℕ) (found : Option Job) (on : Option Part) (of : Option Material) (totals : Totals) (leaves : List FoundLeaf) (rows : AreJobRows m number found on of totals leaves)
+    (stop : Stop) (command : Command) (reads : Reads m command unread) (same : refusal_of m command unread ≡ end_refusal m stop (job_at m number)) (E : Change → Totals → Job → Part → Material → Type 0)
+    (makes : (change : Change) → (j : Job) × (part : Part) × (material : Material) × IsWork m number j part material × E change (totals_of m part.material) j part material → Makes m command unread change) where
   abbrev Ended : Change → Type 0
-  Ended change = MatchOption found ⊥ (λ j. MatchOption on ⊥ (λ p. MatchOption of ⊥ (λ t. E change j p t)))
+  Ended change = MatchOption found ⊥ (λ j. MatchOption on ⊥ (λ p. MatchOption of ⊥ (λ t. E change totals j p t)))
 
-  refused : refusal_of m command unread ≡ job_refusal stop found on of (demand_at m)
-  refused = same ∙ same_end m number found on of rows.of_job rows.of_part rows.of_material stop
+  refused : refusal_of m command unread ≡ job_refusal stop found on of (demand_at m) totals
+  refused = same ∙ same_end m number found on of rows.of_job rows.of_part rows.of_material totals rows.of_totals stop
 
   ended : (change : Change) → Ended change → Makes m command unread change
-  ended change it = makes change (work_by m number found on of rows.of_job rows.of_part rows.of_material (E change) it)
+  ended change it = makes change (work_by m number found on of rows.of_job rows.of_part rows.of_material totals rows.of_totals (E change) it)
 
-  pub end_decided : (before after : ℕ) (result : Result Change Refusal) → Decides (job_refusal stop found on of (demand_at m)) Ended result → IsJudged m command before result after
+  pub end_decided : (before after : ℕ) (result : Result Change Refusal) → Decides (job_refusal stop found on of (demand_at m) totals) Ended result → IsJudged m command before result after
   end_decided before after = decided_by m command unread reads before after _ refused Ended ended
 
 -- the rows of a reservation
@@ -87,6 +94,20 @@ module _ (m : Content) (part : Name) (text : List ℕ) (row : Option Part) (mate
       by None o a b it = absurd it
       by (Some r) None a b it = absurd it
       by (Some r) (Some p) a b it = (r, p, sym a, b, subst (λ n. IsReservation r p (demand_at m) n change) is_act it)
+
+-- the row of a part that as a whole gets another state
+module _ (m : Content) (part : Name) (row : Option Part) (totals : Totals) (is_row : row ≡ part_at m part) (is_totals : totals ≡ totals_for m row) where
+  pub same_turn : (refusal : Option Part → Totals → Option Refusal) → refusal (part_at m part) (totals_for m (part_at m part)) ≡ refusal row totals
+  same_turn refusal = ap (λ r. refusal r (totals_for m r)) (sym is_row) ∙ ap (refusal row) (sym is_totals)
+
+  pub turn_by : (s : State) (answer : Name → Reply) (change : Change) → MatchOption row ⊥ (λ r. change ≡ turn_change s r totals (answer r.name))
+      → (r : Part) × (part_at m part ≡ Some r) × (change ≡ turn_change s r (totals_of m r.material) (answer r.name))
+  turn_by s answer change it = by row is_row is_totals it
+    where
+      by : (row : Option Part) → row ≡ part_at m part → totals ≡ totals_for m row → MatchOption row ⊥ (λ r. change ≡ turn_change s r totals (answer r.name))
+          → (r : Part) × (part_at m part ≡ Some r) × (change ≡ turn_change s r (totals_of m r.material) (answer r.name))
+      by None a e it = absurd it
+      by (Some r) a e it = (r, sym a, it ∙ ap (λ (t : Totals). turn_change s r t (answer r.name)) e)
 
 -- the lines of an order
 module _ (m : Content) (order : List ℕ) (lines found : List OrderLine) (used : Bool) (first : ℕ) (is_used : used ≡ has_order m order) (is_lines : found ≡ lines) (is_first : first ≡ m.last_demand + 1) where

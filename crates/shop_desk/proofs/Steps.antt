@@ -114,14 +114,16 @@ module _ (texts : Texts) where
       record {
         material = fits.material;
         parts = fits.parts;
-        known = fits.known;
         rising = fits.rising;
+        moved = fits.moved;
         job = fits.job;
         order = fits.order;
         demands = fits.demands;
         wanted = fits.wanted;
         once = fits.once;
         lines = fits.lines;
+        totals = fits.totals;
+        sums = fits.sums;
         act = fits.act;
         demand = fits.demand;
         kept = fits.kept;

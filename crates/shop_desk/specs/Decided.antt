@@ -3,13 +3,14 @@ use Rattle.std.specs.Prelude.{◌≡◌, ◌⊎◌, ℕ, List, Option, Some, Non
 use Rattle.shop_machine.specs.declared.records.Material.{Material}
 use Rattle.shop_machine.specs.declared.records.Part.{Part}
 use Rattle.shop_machine.specs.declared.records.Job.{Job}
+use Rattle.shop_machine.specs.declared.records.Totals.{Totals}
 use Rattle.shop_machine.specs.declared.recounts.FoundLeaf.{FoundLeaf}
 use Rattle.shop_machine.specs.declared.changes.Change.{Change}
 use Rattle.shop_machine.specs.declared.messages.Command.{Command}
 use Rattle.shop_machine.specs.declared.refusals.Refusal.{Refusal}
 use Rattle.shop_machine.specs.declared.refusals.Refusal.TheVariants.{StoreFault}
 use Rattle.shop_machine.specs.Readings.{Reading}
-use Rattle.shop_machine.specs.Content.{Content, job_at, demand_at, part_of_job, material_of}
+use Rattle.shop_machine.specs.Content.{Content, job_at, demand_at, part_of_job, material_of, totals_for}
 use Rattle.shop_machine.specs.Recounts.{AreDemandsFound}
 use Rattle.shop_machine.specs.Machine.{Reads, refusal_of, Makes, Refuses}
 use Rattle.shop_desk.specs.Faults.{StoreFailed, CountsDecision}
@@ -39,9 +40,11 @@ abbrev pub CountsOrDisagrees : Result Change Refusal → ℕ → ℕ → Type 0
 CountsOrDisagrees result before after =
     CountsDecision result before after ⊎ ((result ≡ Err StoreFault) × (after ≡ before))
 
--- a job, its part and its material in a content, as far as they are there, and leaves with the rows of their demands
-pub record AreJobRows (m : Content) (number : ℕ) (job : Option Job) (part : Option Part) (material : Option Material) (leaves : List FoundLeaf) : Type 0 where
+-- a job, its part, its material and that one's totals in a content, as far as they are there, and leaves with the rows of
+-- their demands
+pub record AreJobRows (m : Content) (number : ℕ) (job : Option Job) (part : Option Part) (material : Option Material) (totals : Totals) (leaves : List FoundLeaf) : Type 0 where
   pub of_job : job ≡ job_at m number
   pub of_part : part ≡ part_of_job m job
   pub of_material : material ≡ material_of m part
+  pub of_totals : totals ≡ totals_for m part
   pub demands : AreDemandsFound (demand_at m) leaves

@@ -10,12 +10,12 @@ ghost use Rattle.shop_machine.specs.declared.messages.Reply.TheVariants.{Refused
 ghost use Rattle.shop_machine.specs.declared.refusals.Refusal.TheVariants.{BadMessage};
 ghost use Rattle.shop_desk.specs.Decided.{IsJudged, CountsOrDisagrees, AreJobRows};
 
-use crate::found::{found_leaves, found_lines, material_for, part_for, plan_for};
+use crate::found::{found_leaves, found_lines, material_for, part_for, plan_for, totals_for};
 use cut_measure::{Kind, PartName};
 use cut_tree::{Halt, Plan};
 use shop_rules::{
     Change, Code, Command, FoundLeaf, Job, KeptMessage, LineList, Material, Part, Refusal, Reply,
-    Text, decide_break, decide_done, decide_give_back, decide_material, decide_order,
+    Text, Totals, decide_break, decide_done, decide_give_back, decide_material, decide_order,
     decide_receive, decide_release, decide_reserve, decide_scrap,
 };
 use shop_store::{Book, BookFault};
@@ -54,9 +54,9 @@ fn receive<B: Book>(
     ensures told { IfOk result (λ change. IsTrue (is_accepted change.reply)) }
 {
     let known = book.material(material)?;
-    let received = book.totals(material)?.received;
+    let totals = book.totals(material)?;
     let act = book.next_act()?;
-    decide_receive(alloc, known, received, act, material, batch, w, h, count)
+    decide_receive(alloc, known, totals, act, material, batch, w, h, count)
 }
 
 // Adds an order.
@@ -129,16 +129,18 @@ fn reserve<B: Book>(
     decide_reserve(alloc, row, material, plan, &leaves, act)
 }
 
-// A job, its part and its material, as far as they were found, and its plan's leaves with the rows of their demands.
+// A job, its part, its material and that one's totals, as far as they were found, and its plan's leaves with the rows of
+// their demands.
 struct JobRows {
     job: Option<Job>,
     part: Option<Part>,
     material: Option<Material>,
+    totals: Totals,
     leaves: Vec<FoundLeaf>,
 }
 
 fn job_rows<B: Book>(alloc: Global, book: &mut B, number: u32) -> Result<JobRows, BookFault>
-    ensures rows { Says B.Book book.old book.new (λ m. IfOk result (λ rows. AreJobRows m number rows.job rows.part rows.material rows.leaves.items)) }
+    ensures rows { Says B.Book book.old book.new (λ m. IfOk result (λ rows. AreJobRows m number rows.job rows.part rows.material rows.totals rows.leaves.items)) }
     ensures leaves { IfOk result (λ rows. IfSome rows.job (λ j. leaves_in rows.leaves.items ≡ plan_leaves j.plan)) }
     ensures numbered { IfOk result (λ rows. All IsNumbered rows.leaves.items) }
     ensures keeps { KeepsBook B.Book (CountsFailure result) book.old book.new }
@@ -146,11 +148,13 @@ fn job_rows<B: Book>(alloc: Global, book: &mut B, number: u32) -> Result<JobRows
     let job = book.job(alloc, number)?;
     let part = part_for(book, &job)?;
     let material = material_for(book, &part)?;
+    let totals = totals_for(book, &part)?;
     let leaves = job_leaves(alloc, book, &job)?;
     Ok(JobRows {
         job,
         part,
         material,
+        totals,
         leaves,
     })
 }
@@ -165,9 +169,10 @@ fn done<B: Book>(alloc: Global, book: &mut B, number: u32) -> Result<Change, Ref
         job,
         part,
         material,
+        totals,
         leaves,
     } = job_rows(alloc, book, number)?;
-    decide_done(alloc, job, part, material, &leaves)
+    decide_done(alloc, job, part, material, totals, &leaves)
 }
 
 // Breaks a job off.
@@ -185,9 +190,10 @@ fn break_off<B: Book>(
         job,
         part,
         material,
+        totals,
         leaves,
     } = job_rows(alloc, book, number)?;
-    decide_break(alloc, job, part, material, &leaves, halt)
+    decide_break(alloc, job, part, material, totals, &leaves, halt)
 }
 
 // Releases a job.
@@ -200,9 +206,10 @@ fn release<B: Book>(alloc: Global, book: &mut B, number: u32) -> Result<Change, 
         job,
         part,
         material,
+        totals,
         leaves,
     } = job_rows(alloc, book, number)?;
-    decide_release(alloc, job, part, material, &leaves)
+    decide_release(alloc, job, part, material, totals, &leaves)
 }
 
 // Makes a part scrap.
@@ -212,7 +219,8 @@ fn scrap<B: Book>(alloc: Global, book: &mut B, part: PartName) -> Result<Change,
     ensures told { IfOk result (λ change. IsTrue (is_accepted change.reply)) }
 {
     let row = book.part(part)?;
-    decide_scrap(alloc, row)
+    let totals = totals_for(book, &row)?;
+    decide_scrap(alloc, row, totals)
 }
 
 // Returns a unit to its supplier.
@@ -222,7 +230,8 @@ fn give_back<B: Book>(alloc: Global, book: &mut B, part: PartName) -> Result<Cha
     ensures told { IfOk result (λ change. IsTrue (is_accepted change.reply)) }
 {
     let row = book.part(part)?;
-    decide_give_back(alloc, row)
+    let totals = totals_for(book, &row)?;
+    decide_give_back(alloc, row, totals)
 }
 
 /// What is decided on a command, from the rows that it needs.
@@ -264,9 +273,11 @@ pub fn keeping_message(change: Change, message: KeptMessage) -> (Change, Reply)
     let Change {
         material,
         parts,
+        moved,
         job,
         order,
         demands,
+        totals,
         act,
         demand,
         kept: _,
@@ -275,9 +286,11 @@ pub fn keeping_message(change: Change, message: KeptMessage) -> (Change, Reply)
     let kept = Change {
         material,
         parts,
+        moved,
         job,
         order,
         demands,
+        totals,
         act,
         demand,
         kept: Some(message),

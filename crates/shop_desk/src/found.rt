@@ -4,7 +4,7 @@ ghost use Rattle.cut_tree.specs.Spelling.{IsSpelling};
 ghost use Rattle.cut_measure.specs.Names.{Name};
 ghost use Rattle.shop_machine.specs.declared.messages.Command.TheVariants.{Reserve};
 ghost use Rattle.shop_machine.specs.Readings.{reading_of};
-ghost use Rattle.shop_machine.specs.Content.{Content, material_at, part_at, demand_at, material_of, part_of_job};
+ghost use Rattle.shop_machine.specs.Content.{Content, material_at, part_at, demand_at, material_of, part_of_job, totals_for};
 ghost use Rattle.shop_machine.specs.Machine.{Reads};
 ghost use Rattle.shop_machine.specs.Recounts.{plan_leaves, AreDemandsFound, IsNumbered, leaves_in};
 ghost use Rattle.shop_machine.specs.Ordering.{AreMaterialsFound, lines_in};
@@ -12,7 +12,7 @@ ghost use Rattle.shop_store.specs.Failures.{CountsFailure};
 ghost use Rattle.shop_store.specs.Kept.{KeepsBook, Says};
 
 use cut_tree::{Cause, Leaf, Plan};
-use shop_rules::{Demand, FoundLeaf, FoundLine, Job, Material, OrderLine, Part};
+use shop_rules::{Demand, FoundLeaf, FoundLine, Job, Material, OrderLine, Part, Totals, no_totals};
 use shop_store::{Book, BookFault};
 use std::alloc::{AllocError, Global};
 
@@ -27,6 +27,17 @@ pub fn material_for<B: Book>(
     match part {
         Some(part) => book.material(part.material),
         None => Ok(None),
+    }
+}
+
+/// The totals of the material of a part that was found.
+pub fn totals_for<B: Book>(book: &mut B, part: &Option<Part>) -> Result<Totals, BookFault>
+    ensures row { Says B.Book book.old book.new (λ m. IfOk result (λ totals. totals ≡ totals_for m part.now)) }
+    ensures keeps { KeepsBook B.Book (CountsFailure result) book.old book.new }
+{
+    match part {
+        Some(part) => book.totals(part.material),
+        None => Ok(no_totals()),
     }
 }
 

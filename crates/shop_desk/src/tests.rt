@@ -2,8 +2,8 @@ ghost use Rattle.std.specs.Prelude.{◌≤◌};
 
 use super::*;
 use shop_rules::{
-    Change, Code, Command, Kind, Limits, Material, Message, Query, Refusal, Reply, decide_material,
-    decide_receive,
+    Change, Code, Command, Kind, Limits, Material, Message, Query, Refusal, Reply, Totals,
+    decide_material, decide_receive, no_totals,
 };
 use shop_store::{Book, MemBook};
 use std::alloc::Global;
@@ -138,7 +138,12 @@ fn received_told(
 ) -> u32
     requires { 1 ≤ act }
 {
-    match decide_receive(alloc, Some(row), received, act, steel, steel, 1, 1, count) {
+    let totals = Totals {
+        received,
+        stock: received,
+        ..no_totals()
+    };
+    match decide_receive(alloc, Some(row), totals, act, steel, steel, 1, 1, count) {
         Ok(change) => {
             let Change { reply, .. } = change;
             refused(&reply)

@@ -1,25 +1,33 @@
 -- A content after a material was added.
-use Rattle.std.proofs.Common.{◌≡◌, ℕ, inl, inr, List, refl, sym, subst, arith}
-use Rattle.std.specs.Prelude.{Option, Some, None, not, IsTrue}
+use Rattle.std.proofs.Common.{◌≡◌, ℕ, ◌*◌, inl, inr, List, Bool, true, false, refl, sym, ap, subst, ◌∙◌, arith}
+use Rattle.std.specs.Prelude.{Option, Some, None, not, IsTrue, ◌&&◌, if◌then◌else◌}
+use Rattle.std.specs.Ordering.{is_eq}
+use Rattle.std.specs.FinMap.{values}
 use Rattle.std.specs.declared.cmp.Ordering.TheVariants.{Less}
 use Rattle.std.proofs.lemmas.List.Elements.{All-nil}
 use Rattle.std.proofs.lemmas.Bool.{not-false}
 use Rattle.cut_measure.specs.declared.sizes.Kind.{Kind}
-use Rattle.cut_measure.specs.Names.{name_cmp}
+use Rattle.cut_measure.specs.Names.{Name, name_cmp}
 use Rattle.cut_measure.specs.Measures.{Rule, is_rule}
-use Rattle.cut_measure.specs.Codes.{is_code}
+use Rattle.cut_measure.specs.Codes.{is_code, code_cmp}
 use Rattle.shop_machine.specs.declared.records.Material.{Material}
 use Rattle.shop_machine.specs.declared.records.Part.{Part}
 use Rattle.shop_machine.specs.declared.records.Demand.{Demand}
+use Rattle.shop_machine.specs.declared.records.Totals.{Totals}
+use Rattle.shop_machine.specs.declared.records.Column.{Column}
+use Rattle.shop_machine.specs.declared.records.Column.TheVariants.{Received, Stock, Rack, Pieces, Kerf, Scrap, Returned}
 use Rattle.shop_machine.specs.declared.messages.Message.{Message}
 use Rattle.shop_machine.specs.declared.refusals.Refusal.TheVariants.{BadMaterial}
 use Rattle.shop_machine.specs.Messages.{Texts, pair_of, IsMade}
-use Rattle.shop_machine.specs.Content.{Content, material_at, kept_at, changed}
+use Rattle.shop_machine.specs.Content.{Content, material_at, part_at, kept_at, changed, cells_in, totals_of, no_totals}
+use Rattle.shop_machine.specs.Columns.{is_counted}
 use Rattle.shop_machine.specs.Adding.{material_refusal, material_change, is_other}
 use Rattle.shop_machine.specs.Machine.{keeping}
-use Rattle.shop_machine.specs.Soundness.{IsKnown, Fits, LinesDiffer}
-use Rattle.shop_machine.proofs.Basics.{codes_total, codes_same}
-use Rattle.shop_machine.proofs.Puts.{found_one, still_there}
+use Rattle.shop_machine.specs.Soundness.{IsKnown, Fits, with_totals}
+use Rattle.shop_machine.proofs.Basics.{codes_total, codes_same, names_total, names_same}
+use Rattle.shop_machine.proofs.Puts.{found_one, still_there, equal, not_both, some_known, sum_no_rows}
+use Rattle.shop_machine.proofs.AddedUp.{cells_as}
+use Rattle.shop_machine.proofs.Tallied.{same_totals}
 use Rattle.shop_machine.proofs.Allowed.{none_of}
 use Rattle.shop_machine.proofs.Grown.{IsStock, Grows, placed_more, job_more, demand_more, no_pairs}
 use Rattle.shop_machine.proofs.Agreeing.{NoFault, nothing, other}
@@ -62,34 +70,59 @@ module _ (texts : Texts) (message : Message) (m : Content) (code : List ℕ) (ki
             demand_more m (after None) grows (omega arith) number d old (record { few = old.counted.few; reserved = old.counted.reserved; made = old.counted.made });
       }
 
-  pub material_fits : (known : Option Material) → material_at m code ≡ known → kept_at m (pair_of message) ≡ None
+  -- no part is of a material that is unknown
+  none_of_it : IsStock m → material_at m code ≡ None → (column : Column) → cells_in column code (values m.parts) ≡ 0
+  none_of_it stock unknown column = sum_no_rows names_total names_same (cells_as column code) m.parts (λ name p is. by name p is (is_eq (code_cmp p.material code)) refl)
+    where
+      by : (name : Name) (p : Part) → part_at m name ≡ Some p → (b : Bool) → is_eq (code_cmp p.material code) ≡ b → cells_as column code p ≡ 0
+      by name p is true e =
+          let there = some_known (material_at m p.material) (stock.parts name p is).known in
+          absurd (not_both (material_at m code) there.0 unknown (ap (material_at m) (sym (codes_same p.material code (equal (code_cmp p.material code) e))) ∙ there.1))
+      by name p is false e = ap (λ b. if b && is_counted column p then p.size.w * p.size.h else 0) e
+
+  none_yet : IsStock m → material_at m code ≡ None → (c : List ℕ) → totals_of m c ≡ with_totals (Some (record { material = code; totals = no_totals })) c (totals_of m c)
+  none_yet stock unknown c = by (is_eq (code_cmp code c)) refl
+    where
+      by : (b : Bool) → is_eq (code_cmp code c) ≡ b → totals_of m c ≡ (if is_eq (code_cmp code c) then no_totals else totals_of m c)
+      by true e =
+          let none = none_of_it stock unknown in
+          ap (totals_of m) (sym (codes_same code c (equal (code_cmp code c) e)))
+          ∙ same_totals (totals_of m code) no_totals (none Received) (none Stock) (none Rack) (none Pieces) (none Kerf) (none Scrap) (none Returned)
+          ∙ sym (ap (λ b. if b then no_totals else totals_of m c) e)
+      by false e = sym (ap (λ b. if b then no_totals else totals_of m c) e)
+
+  pub material_fits : IsStock m → (known : Option Material) → material_at m code ≡ known → kept_at m (pair_of message) ≡ None
       → Fits m (keeping texts message (material_change known code kind rule))
-  material_fits None is new = record {
+  material_fits stock None is new = record {
     material = is;
     parts = All-nil _;
-    known = All-nil _;
     rising = no_pairs (λ (a b : Part). name_cmp a.name b.name ≡ Less);
+    moved = tt;
     job = tt;
     order = tt;
     demands = All-nil _;
     wanted = All-nil _;
     once = no_pairs (λ (a b : Demand). a.number ≡ b.number → ⊥);
-    lines = no_pairs (LinesDiffer m);
+    lines = tt;
+    totals = refl;
+    sums = none_yet stock is;
     act = tt;
     demand = tt;
     kept = new;
   }
-  material_fits (Some row) is new = record {
+  material_fits stock (Some row) is new = record {
     material = tt;
     parts = All-nil _;
-    known = All-nil _;
     rising = no_pairs (λ (a b : Part). name_cmp a.name b.name ≡ Less);
+    moved = tt;
     job = tt;
     order = tt;
     demands = All-nil _;
     wanted = All-nil _;
     once = no_pairs (λ (a b : Demand). a.number ≡ b.number → ⊥);
-    lines = no_pairs (LinesDiffer m);
+    lines = tt;
+    totals = tt;
+    sums = λ c. refl;
     act = tt;
     demand = tt;
     kept = new;

@@ -13,6 +13,8 @@ use Rattle.shop_machine.specs.declared.records.Material.{Material}
 use Rattle.shop_machine.specs.declared.records.Job.{Job}
 use Rattle.shop_machine.specs.declared.records.Part.{Part}
 use Rattle.shop_machine.specs.declared.records.Demand.{Demand}
+use Rattle.shop_machine.specs.declared.records.Totals.{Totals}
+use Rattle.shop_machine.specs.Moving.{tally, moved_totals}
 use Rattle.shop_machine.specs.declared.refusals.Refusal.TheVariants.{StoreFault, BadCut, JobOver}
 use Rattle.shop_machine.specs.Columns.{is_waiting}
 use Rattle.shop_machine.specs.Decisions.{first_of, no_change}
@@ -22,41 +24,54 @@ use Rattle.shop_machine.specs.Recounts.{HasRow, CanBeMade, pieces_in}
 use Rattle.shop_machine.specs.Content.{in_state}
 
 -- a waiting job, by whether its rows are there
-pub job_test : (stop : Stop) (j : Job) (part : Part) (material : Material) (at : ℕ → Option Demand) (b : Bool) → is_waiting j.state ≡ true → can_end j.plan.tree stop ≡ true
-    → rests j (Some part) (Some material) at ≡ b → job_refusal stop (Some j) (Some part) (Some material) at ≡ first_of ((not b, StoreFault) ∷ [])
-job_test stop j part material at b waits can there =
-    ap (λ w. first_of ((not w, JobOver) ∷ (not (can_end j.plan.tree stop), BadCut) ∷ (not (rests j (Some part) (Some material) at), StoreFault) ∷ [])) waits
-    ∙ ap (λ c. first_of ((not c, BadCut) ∷ (not (rests j (Some part) (Some material) at), StoreFault) ∷ [])) can ∙ ap (λ r. first_of ((not r, StoreFault) ∷ [])) there
+pub job_test : (stop : Stop) (j : Job) (part : Part) (material : Material) (at : ℕ → Option Demand) (totals : Totals) (b : Bool) → is_waiting j.state ≡ true → can_end j.plan.tree stop ≡ true
+    → rests j (Some part) (Some material) at totals ≡ b → job_refusal stop (Some j) (Some part) (Some material) at totals ≡ first_of ((not b, StoreFault) ∷ [])
+job_test stop j part material at totals b waits can there =
+    ap (λ w. first_of ((not w, JobOver) ∷ (not (can_end j.plan.tree stop), BadCut) ∷ (not (rests j (Some part) (Some material) at totals), StoreFault) ∷ [])) waits
+    ∙ ap (λ c. first_of ((not c, BadCut) ∷ (not (rests j (Some part) (Some material) at totals), StoreFault) ∷ [])) can ∙ ap (λ r. first_of ((not r, StoreFault) ∷ [])) there
 
 -- what holds of a job with the rows on which it rested, of the rows that were found
-pub worked : (stop : Stop) (E : Job → Part → Rule → Type 0) (found : Option Job) (on : Option Part) (of : Option Material) (at : ℕ → Option Demand) (j : Job) (part : Part) (rule : Rule)
-    → found ≡ Some j → on ≡ Some part → IfSome of (λ m. m.limits ≡ rule) → job_refusal stop found on of at ≡ None → E j part rule
+pub worked : (stop : Stop) (E : Job → Part → Rule → Type 0) (found : Option Job) (on : Option Part) (of : Option Material) (at : ℕ → Option Demand) (totals : Totals) (j : Job) (part : Part) (rule : Rule)
+    → found ≡ Some j → on ≡ Some part → IfSome of (λ m. m.limits ≡ rule) → job_refusal stop found on of at totals ≡ None → E j part rule
     → MatchOption found ⊥ (λ j. MatchOption on ⊥ (λ p. MatchOption of ⊥ (λ m. E j p m.limits)))
-worked stop E found on None at j part rule is_j is_p is_m allowed it = absurd (not_allowed found on j part is_j is_p allowed)
+worked stop E found on None at totals j part rule is_j is_p is_m allowed it = absurd (not_allowed found on j part is_j is_p allowed)
   where
     by : (b c : Bool) → first_of ((b, JobOver) ∷ (c, BadCut) ∷ (true, StoreFault) ∷ []) ≡ None → ⊥
     by true c e = cc
     by false true e = cc
     by false false e = cc
 
-    not_allowed : (found : Option Job) (on : Option Part) (j : Job) (part : Part) → found ≡ Some j → on ≡ Some part → job_refusal stop found on None at ≡ None → ⊥
+    not_allowed : (found : Option Job) (on : Option Part) (j : Job) (part : Part) → found ≡ Some j → on ≡ Some part → job_refusal stop found on None at totals ≡ None → ⊥
     not_allowed found on j part is_j is_p allowed =
         by (not (is_waiting j.state)) (not (can_end j.plan.tree stop))
-        (subst (λ (o : Option Part). job_refusal stop (Some j) o None at ≡ None) is_p (subst (λ (o : Option Job). job_refusal stop o on None at ≡ None) is_j allowed))
-worked stop E found on (Some m) at j part rule is_j is_p is_m allowed it =
+        (subst (λ (o : Option Part). job_refusal stop (Some j) o None at totals ≡ None) is_p (subst (λ (o : Option Job). job_refusal stop o on None at totals ≡ None) is_j allowed))
+worked stop E found on (Some m) at totals j part rule is_j is_p is_m allowed it =
     subst (λ (o : Option Job). MatchOption o ⊥ (λ j. MatchOption on ⊥ (λ p. E j p m.limits))) (sym is_j)
     (subst (λ (o : Option Part). MatchOption o ⊥ (λ p. E j p m.limits)) (sym is_p) (subst (λ (r : Rule). E j part r) (sym is_m) it))
 
--- the change of a job that ended so, from its parts
-pub end_made : (stop : Stop) (j : Job) (part : Part) (rule : Rule) (laid : List Row) (rows : List Demand) (parts : List Part) (answer : Reply) (state : JobState) (base : Change) → base ≡ no_change answer
-    → state ≡ ended_state stop → parts ≡ in_state (Cut j.act) part ∷ map (row_part part rule j.act) laid → answer ≡ ended_reply stop j.act (map (row_part part rule j.act) laid)
-    → record base { parts = parts; job = Some (record j { state = state }); demands = rows } ≡ end_change stop j part rule laid rows
-end_made stop j part rule laid rows parts answer state base e s f g =
-    let all = in_state (Cut j.act) part ∷ map (row_part part rule j.act) laid in
-    ap (λ (state : JobState). record base { parts = parts; job = Some (record j { state = state }); demands = rows }) s
-    ∙ ap (λ (base : Change). record base { parts = parts; job = Some (record j { state = ended_state stop }); demands = rows }) e
-    ∙ ap (λ (parts : List Part). record (no_change answer) { parts = parts; job = Some (record j { state = ended_state stop }); demands = rows }) f
-    ∙ ap (λ (answer : Reply). record (no_change answer) { parts = all; job = Some (record j { state = ended_state stop }); demands = rows }) g
+-- the change of a job that ended so, from its parts and their cells
+pub end_made : (stop : Stop) (j : Job) (part : Part) (rule : Rule) (t : Totals) (laid : List Row) (rows : List Demand) (parts : List Part) (come moved : Totals) (answer : Reply) (state : JobState)
+    (base : Change) → base ≡ no_change answer → state ≡ ended_state stop → parts ≡ map (row_part part rule j.act) laid → come ≡ tally (map (row_part part rule j.act) laid)
+    → moved ≡ moved_totals part come t → answer ≡ ended_reply stop j.act come
+    → record base {
+      parts = parts;
+      moved = Some (in_state (Cut j.act) part);
+      job = Some (record j { state = state });
+      demands = rows;
+      totals = Some (record { material = part.material; totals = moved });
+    } ≡ end_change stop j part rule t laid rows
+end_made stop j part rule t laid rows parts come moved answer state base e s f c m g =
+    let made = map (row_part part rule j.act) laid in
+    let told : answer ≡ ended_reply stop j.act (tally made) = g ∙ ap (ended_reply stop j.act) c in
+    let sums : moved ≡ moved_totals part (tally made) t = m ∙ ap (λ (come : Totals). moved_totals part come t) c in
+    λ i.
+    record (((e ∙ ap no_change told) i)) {
+      parts = f i;
+      moved = Some (in_state (Cut j.act) part);
+      job = Some (record j { state = s i });
+      demands = rows;
+      totals = Some (record { material = part.material; totals = sums i });
+    }
 
 -- where no more is laid than all pieces, what is laid can be made
 pub room_laid : (laid : List Row) (tree : Tree) (leaves : List FoundLeaf) → ((d : ℕ) → pieces_in d laid ≤ count_of tree d) → All (HasRow CanBeMade tree) leaves

@@ -18,12 +18,13 @@ use Rattle.shop_machine.specs.declared.records.State.TheVariants.{Standing, Rese
 use Rattle.shop_machine.specs.declared.records.Job.{Job}
 use Rattle.shop_machine.specs.declared.records.JobState.TheVariants as job_state
 use Rattle.shop_machine.specs.declared.records.Demand.{Demand}
+use Rattle.shop_machine.specs.declared.records.Totals.{Totals}
 use Rattle.shop_machine.specs.declared.changes.Change.{Change}
 use Rattle.shop_machine.specs.declared.messages.Message.{Message}
 use Rattle.shop_machine.specs.declared.messages.Command.{Command}
 use Rattle.shop_machine.specs.declared.messages.Command.TheVariants.{Done, Break, Release}
 use Rattle.shop_machine.specs.Messages.{Texts}
-use Rattle.shop_machine.specs.Content.{Content, material_at, part_at, job_at, in_state, demand_at, with_parts}
+use Rattle.shop_machine.specs.Content.{Content, material_at, part_at, job_at, in_state, demand_at, with_parts, totals_of}
 use Rattle.shop_machine.specs.Ending.{release_change, row_part, ended_state, end_change, IsEnd, IsDone, IsBroken, IsRelease, end_refusal, IsWork}
 use Rattle.shop_machine.specs.Recounts.{AreRecounted, with_freed, with_laid, pieces_in}
 use Rattle.shop_machine.specs.Soundness.{IsSound, IsWaiting}
@@ -166,8 +167,8 @@ module _ (texts : Texts) (message : Message) (earlier : List Deed) (old : Conten
           (subst (λ w. IsLaid j.plan.tree w row.size.h material.limits.kerf outcome laid) (sym wide) is_laid)) in
           laid_few j.plan.tree j.plan.w j.plan.h j.plan.kerf outcome laid d plan.shaped plan.some_width plan.some_height in_plan
 
-      pub by_end : (stop : Stop) → AreRecounted (demand_at old) (with_laid laid) j.plan.tree rows → After texts message earlier old sound f done (end_change stop j row material.limits laid rows)
-      by_end stop recounted = record {
+      pub by_end : (stop : Stop) (t : Totals) → AreRecounted (demand_at old) (with_laid laid) j.plan.tree rows → After texts message earlier old sound f done (end_change stop j row material.limits t laid rows)
+      by_end stop t recounted = record {
         acts = (let e : old.last_act ≡ acts_of earlier = f.acts in omega arith);
         numbers = f.numbers;
         lines = lines_recounted (ordered_lines earlier) old.demands (with_laid laid) j.plan.tree rows recounted
@@ -210,7 +211,7 @@ module _ (texts : Texts) (message : Message) (earlier : List Deed) (old : Conten
   numbered number j found = (sound.jobs number j found).numbered
 
   ended : (stop : Stop) (number : ℕ) (change : Change) (j : Job) (part : Part) (material : Material) → end_refusal old stop (job_at old number) ≡ None
-      → IsWork old number j part material → IsEnd stop j part material.limits (demand_at old) change → Next (Ends number (outcome_of stop)) change
+      → IsWork old number j part material → IsEnd stop j part material.limits (totals_of old part.material) (demand_at old) change → Next (Ends number (outcome_of stop)) change
   ended stop number change j part material allowed work made =
       let waits : IsWaiting old j = waiting stop number j work.found allowed in
       let is : j.act ≡ number = numbered number j work.found in
@@ -219,14 +220,14 @@ module _ (texts : Texts) (message : Message) (earlier : List Deed) (old : Conten
       (subst (Next (Ends j.act (outcome_of stop))) (sym made.is)
       (by_end texts message earlier old sound f j part material found waits work.on work.of (outcome_of stop) made.rows made.laid
       (on_part texts message earlier old sound f j part material found waits work.on work.of (outcome_of stop) made.laid made.is_laid)
-      stop made.recounted))
+      stop (totals_of old part.material) made.recounted))
 
   pub ends : (number : ℕ) (read : Reading) (change : Change) (j : Job) (part : Part) (material : Material) → end_refusal old stop.All (job_at old number) ≡ None
-      → IsWork old number j part material → IsDone j part material.limits (demand_at old) change → Then (Done number) read change
+      → IsWork old number j part material → IsDone j part material.limits (totals_of old part.material) (demand_at old) change → Then (Done number) read change
   ends number read change j part material allowed work made = ended stop.All number change j part material allowed work made
 
   pub breaks : (number : ℕ) (halt : Halt) (read : Reading) (change : Change) (j : Job) (part : Part) (material : Material) → end_refusal old (stop.After halt) (job_at old number) ≡ None
-      → IsWork old number j part material → IsBroken halt j part material.limits (demand_at old) change → Then (Break number halt) read change
+      → IsWork old number j part material → IsBroken halt j part material.limits (totals_of old part.material) (demand_at old) change → Then (Break number halt) read change
   breaks number halt read change j part material allowed work made = ended (stop.After halt) number change j part material allowed work made
 
   pub releases : (number : ℕ) (read : Reading) (change : Change) (j : Job) (part : Part) (material : Material) → end_refusal old stop.All (job_at old number) ≡ None

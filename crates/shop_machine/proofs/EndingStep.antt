@@ -32,6 +32,8 @@ use Rattle.shop_machine.specs.declared.records.Job.{Job}
 use Rattle.shop_machine.specs.declared.records.JobState.{JobState}
 use Rattle.shop_machine.specs.declared.records.JobState.TheVariants as job
 use Rattle.shop_machine.specs.declared.records.Demand.{Demand}
+use Rattle.shop_machine.specs.declared.records.Totals.{Totals}
+use Rattle.shop_machine.specs.declared.changes.MaterialTotals.{MaterialTotals}
 use Rattle.shop_machine.specs.declared.records.Column.TheVariants.{Received}
 use Rattle.shop_machine.specs.declared.messages.Message.{Message}
 use Rattle.shop_machine.specs.declared.messages.Reply.{Reply}
@@ -42,19 +44,21 @@ use Rattle.shop_machine.specs.declared.records.Column.TheVariants as column
 use Rattle.shop_machine.specs.Messages.{Texts, pair_of, IsMade, IsNumber, IsWide}
 use Rattle.shop_machine.specs.Same.{same_name}
 use Rattle.shop_machine.specs.Columns.{is_there, is_piece_for, is_waiting, state_of, is_reserved_for, is_counted}
-use Rattle.shop_machine.specs.Content.{Content, part_at, job_at, demand_at, kept_at, changed, in_state, material_of, part_of_job}
+use Rattle.shop_machine.specs.Content.{Content, part_at, job_at, demand_at, kept_at, changed, in_state, material_of, part_of_job, totals_of, totals_for}
 use Rattle.shop_machine.specs.Recounts.{AreRecounted, with_laid, with_freed, pieces_in, plan_leaves}
-use Rattle.shop_machine.specs.Ending.{IsWork, fate, row_part, ended_state, ended_reply, end_change, release_change, end_refusal, can_end, has_reserved, rests, job_refusal, cells_counted}
+use Rattle.shop_machine.specs.Ending.{IsWork, fate, row_part, ended_state, ended_reply, end_change, release_change, end_refusal, can_end, has_reserved, rests, job_refusal}
+use Rattle.shop_machine.specs.Moving.{cells_counted, tally, has_cells, moved_totals}
 use Rattle.shop_machine.specs.Machine.{keeping}
 use Rattle.shop_machine.specs.History.{IsIn}
-use Rattle.shop_machine.specs.Soundness.{IsPlaced, IsOnPart, IsWaiting, IsJob, IsCounted, JobFits, Fits, reserved_in}
-use Rattle.shop_machine.proofs.Basics.{in_map, same_some, map_in, earlier_act, earlier_node}
+use Rattle.shop_machine.specs.Soundness.{IsPlaced, IsOnPart, IsWaiting, IsJob, IsCounted, IsMovedJob, Fits, reserved_in}
+use Rattle.shop_machine.proofs.Basics.{in_map, same_some, map_in, earlier_node}
 use Rattle.shop_machine.proofs.Inside.{row_inside}
 use Rattle.shop_machine.proofs.Puts.{pairs_in, pairs_more, map_pairs, in_counted, sum_map, sum_as, sum_none, is_known, sum_over, some_known}
 use Rattle.shop_machine.proofs.AddedUp.{cells_as, cells_left, is_uncut}
 use Rattle.shop_machine.proofs.Moved.{LeavesOthers, no_laid, no_freed}
 use Rattle.shop_machine.proofs.Grown.{IsStock}
-use Rattle.shop_machine.proofs.PartStep.{IsPartStep, step_stock, step_fits, untouched, made_after}
+use Rattle.shop_machine.proofs.PartStep.{IsPartStep, step_stock, step_fits, untouched, made_after, less_apart}
+use Rattle.shop_machine.proofs.Tallied.{sums_stay, sums_move, held}
 use Rattle.shop_machine.proofs.ReservingStep.{left_as_before}
 use Rattle.shop_machine.proofs.Allowed.{all_true, leaf_counts, none_of}
 use Rattle.shop_machine.proofs.Agreeing.{NoFault, other, no_such}
@@ -151,11 +155,8 @@ module _ (m : Content) (stock : IsStock m) (number : ℕ) (j : Job) (part : Part
     abbrev ended : Job
     ended = record j { state = over }
 
-    pub job_fits : JobFits m ended
-    job_fits = record {
-      fits = subst (λ o. MatchOption o (IsOnPart m ended × (j.kerf ≡ j.plan.kerf)) (λ old. ended ≡ record old { state = over })) (sym job_here) refl;
-      part = is_known (part_at m j.part) part work.on;
-    }
+    pub job_fits : IsMovedJob m ended
+    job_fits = record { before = j; found = job_here; is = refl; part = is_known (part_at m j.part) part work.on }
 
     -- the pieces of the job are no longer reserved
     reserved_less : (d : ℕ)
@@ -204,7 +205,7 @@ module _ (m : Content) (stock : IsStock m) (number : ℕ) (j : Job) (part : Part
     stands = stands m stock number j part material work waits;
     plain = λ number. refl;
     new = λ x i. absurd i;
-    rising = (λ y i. absurd i, tt);
+    rising = tt;
     placed = λ x i. absurd i;
     named = λ x i. absurd i;
     more = omega arith;
@@ -222,23 +223,25 @@ module _ (m : Content) (stock : IsStock m) (number : ℕ) (j : Job) (part : Part
       let few = old.few in
       let was = old.reserved in
       let less = reserved_less m stock number j part material work waits job.Released refl d in
-      let same = made_after m stock part state.Standing [] None released release_step with_freed j.plan.tree (no_freed m.demands j.plan.tree) freed_keeps rows recounted texts message (reply.Release j.act) d in
+      let same = made_after m stock part state.Standing [] None released release_step with_freed j.plan.tree (no_freed m.demands j.plan.tree) freed_keeps rows recounted None texts message (reply.Release j.act) d in
       let made = old.made in
       record { few = omega (arith, few); reserved = omega (arith, was, less); made = omega (arith, made, same) }
 
   pub release_stock : IsStock after_release
   release_stock =
-      step_stock m stock part state.Standing [] None released release_step with_freed j.plan.tree (no_freed m.demands j.plan.tree) freed_keeps rows recounted texts message (reply.Release j.act)
+      step_stock m stock part state.Standing [] None released release_step with_freed j.plan.tree (no_freed m.demands j.plan.tree) freed_keeps rows recounted None texts message (reply.Release j.act)
       (job_over m stock number j part material work waits job.Released refl after_release refl)
       (λ n other is apart w.
-      untouched m stock part state.Standing [] None released release_step with_freed j.plan.tree (no_freed m.demands j.plan.tree) freed_keeps rows recounted texts message (reply.Release j.act)
+      untouched m stock part state.Standing [] None released release_step with_freed j.plan.tree (no_freed m.demands j.plan.tree) freed_keeps rows recounted None texts message (reply.Release j.act)
       other w (not_other m stock number j part material work waits n other is apart) (λ x i e. i))
       released_counts
 
   pub release_fits : kept_at m (pair_of message) ≡ None → Fits m (keeping texts message (release_change j part rows))
   release_fits =
-      step_fits m stock part state.Standing [] None released release_step with_freed j.plan.tree (no_freed m.demands j.plan.tree) freed_keeps rows recounted texts message (reply.Release j.act)
-      (job_fits m stock number j part material work waits job.Released refl) released_counts
+      step_fits m stock part state.Standing [] None released release_step with_freed j.plan.tree (no_freed m.demands j.plan.tree) freed_keeps rows recounted None texts message (reply.Release j.act)
+      (job_fits m stock number j part material work waits job.Released refl) tt
+      (sums_stay m.parts part state.Standing [] (here m stock number j part material work waits) (λ x i. absurd i) tt (stands m stock number j part material work waits) refl (λ code c. refl))
+      released_counts
 
 -- ---- the work on a job ended
 
@@ -339,14 +342,9 @@ module _ (m : Content) (stock : IsStock m) (number : ℕ) (j : Job) (part : Part
     stands = stands m stock number j part material work waits;
     plain = λ number. refl;
     new = λ x i. let r = made_of x i in subst (λ (p : Part). part_at m p.name ≡ None) (sym r.2) ((waiting m stock number j part material work waits).none_yet r.0.node);
-    rising = (
-      λ x i. let r = made_of x i in
-          subst (λ (p : Part). name_cmp part.name p.name ≡ Less) (sym r.2)
-          (earlier_act part.name (record { act = j.act; node = r.0.node }) (older m stock number j part material work waits)),
-      map_pairs (λ (a b : Part). name_cmp a.name b.name ≡ Less) (row_part part material.limits j.act) laid
-          (pairs_more (λ (r s : Row). r.node < s.node) _ (λ r s less. earlier_node (record { act = j.act; node = r.node }) (record { act = j.act; node = s.node }) refl less) laid
-          (pairs_in (λ (r s : Row). r.node < s.node) laid is_laid.rising)),
-    );
+    rising = map_pairs (λ (a b : Part). name_cmp a.name b.name ≡ Less) (row_part part material.limits j.act) laid
+        (pairs_more (λ (r s : Row). r.node < s.node) _ (λ r s less. earlier_node (record { act = j.act; node = r.node }) (record { act = j.act; node = s.node }) refl less) laid
+        (pairs_in (λ (r s : Row). r.node < s.node) laid is_laid.rising));
     placed = λ x i. let r = made_of x i in subst (λ (p : Part). IsPlaced m p.name p) (sym r.2) (row_placed r.0 r.1);
     named = λ x i.
         let r = made_of x i in
@@ -387,10 +385,13 @@ module _ (m : Content) (stock : IsStock m) (number : ℕ) (j : Job) (part : Part
     over = record j { state = ended_state stop }
 
     abbrev after_end : Content
-    after_end = changed m (keeping texts message (end_change stop j part material.limits laid rows))
+    after_end = changed m (keeping texts message (end_change stop j part material.limits (totals_of m part.material) laid rows))
 
     abbrev answer : Reply
-    answer = ended_reply stop j.act made
+    answer = ended_reply stop j.act (tally made)
+
+    abbrev told_totals : Option MaterialTotals
+    told_totals = Some (record { material = part.material; totals = moved_totals part (tally made) (totals_of m part.material) })
 
     is_over : is_waiting (ended_state stop) ≡ false
     is_over = no_wait stop
@@ -407,7 +408,7 @@ module _ (m : Content) (stock : IsStock m) (number : ℕ) (j : Job) (part : Part
         let few = old.few in
         let was = old.reserved in
         let less = reserved_less m stock number j part material work waits (ended_state stop) is_over d in
-        let more = made_after m stock part (state.Cut j.act) made None over end_step (with_laid laid) j.plan.tree others_left laid_keeps rows recounted texts message answer d in
+        let more = made_after m stock part (state.Cut j.act) made None over end_step (with_laid laid) j.plan.tree others_left laid_keeps rows recounted told_totals texts message answer d in
         let pieces = pieces_made d in
         let of = old.made in
         let room = enough m stock number j part material work waits d before is in
@@ -417,22 +418,27 @@ module _ (m : Content) (stock : IsStock m) (number : ℕ) (j : Job) (part : Part
 
     pub end_stock : IsStock after_end
     end_stock =
-        step_stock m stock part (state.Cut j.act) made None over end_step (with_laid laid) j.plan.tree others_left laid_keeps rows recounted texts message answer
+        step_stock m stock part (state.Cut j.act) made None over end_step (with_laid laid) j.plan.tree others_left laid_keeps rows recounted told_totals texts message answer
         (job_over m stock number j part material work waits (ended_state stop) is_over after_end refl)
         (λ n other is apart w.
-        untouched m stock part (state.Cut j.act) made None over end_step (with_laid laid) j.plan.tree others_left laid_keeps rows recounted texts message answer
+        untouched m stock part (state.Cut j.act) made None over end_step (with_laid laid) j.plan.tree others_left laid_keeps rows recounted told_totals texts message answer
         other w (not_other m stock number j part material work waits n other is apart)
         (λ x i e. other_act m stock number j part material work waits n other is apart (sym (ap (λ (p : Part). p.name.act) (made_of x i).2) ∙ e)))
         end_counts
 
-    pub end_fits : kept_at m (pair_of message) ≡ None → Fits m (keeping texts message (end_change stop j part material.limits laid rows))
+    pub end_fits : kept_at m (pair_of message) ≡ None → Fits m (keeping texts message (end_change stop j part material.limits (totals_of m part.material) laid rows))
     end_fits =
-        step_fits m stock part (state.Cut j.act) made None over end_step (with_laid laid) j.plan.tree others_left laid_keeps rows recounted texts message answer
-        (job_fits m stock number j part material work waits (ended_state stop) is_over) end_counts
+        step_fits m stock part (state.Cut j.act) made None over end_step (with_laid laid) j.plan.tree others_left laid_keeps rows recounted told_totals texts message answer
+        (job_fits m stock number j part material work waits (ended_state stop) is_over) (placed m stock number j part material work waits).known
+        (sums_move m.parts part (state.Cut j.act) made end_step.there end_step.new
+        (pairs_more (λ (a b : Part). name_cmp a.name b.name ≡ Less) (λ (a b : Part). a.name ≡ b.name → ⊥) (λ a b. less_apart a.name b.name) made end_step.rising)
+        (λ x i. ap (λ (p : Part). p.material) (made_of x i).2) received_none (tally made)
+        (record { stock = omega arith; rack = omega arith; pieces = omega arith; kerf = omega arith; scrap = omega arith; returned = omega arith }))
+        end_counts
 
 -- ---- what is told of a job whose work ended
 
-reply_made : (stop : Stop) (number : ℕ) (parts : List Part) → IsNumber number → ((column : Column) → IsWide (cells_counted column parts)) → IsMade (ended_reply stop number parts)
+reply_made : (stop : Stop) (number : ℕ) (parts : List Part) → IsNumber number → ((column : Column) → IsWide (cells_counted column parts)) → IsMade (ended_reply stop number (tally parts))
 reply_made stop.All number parts small few = (small, few column.Kerf, few column.Pieces, few column.Rack, few column.Scrap)
 reply_made (stop.After halt) number parts small few = (small, few column.Kerf, few column.Pieces, few column.Rack, few column.Scrap)
 
@@ -456,7 +462,7 @@ module _ (m : Content) (stock : IsStock m) (number : ℕ) (j : Job) (part : Part
       by true n = omega arith
       by false n = omega arith
 
-  pub end_told : IsMade (ended_reply stop j.act parts)
+  pub end_told : IsMade (ended_reply stop j.act (tally parts))
   end_told =
       let le = so_far m stock number j part material work waits in
       let last = stock.in_range.last in
@@ -464,14 +470,14 @@ module _ (m : Content) (stock : IsStock m) (number : ℕ) (j : Job) (part : Part
 
 -- ---- a waiting job rests on its rows
 
-job_agrees : (stop : Stop) (found : Option Job) (part : Option Part) (material : Option Material) (at : ℕ → Option Demand)
-    → ((j : Job) → found ≡ Some j → is_waiting j.state ≡ true → rests j part material at ≡ true) → NoFault (job_refusal stop found part material at)
-job_agrees stop None part material at h = λ e. cc
-job_agrees stop (Some j) part material at h = by (is_waiting j.state) refl
+job_agrees : (stop : Stop) (found : Option Job) (part : Option Part) (material : Option Material) (at : ℕ → Option Demand) (totals : Totals)
+    → ((j : Job) → found ≡ Some j → is_waiting j.state ≡ true → rests j part material at totals ≡ true) → NoFault (job_refusal stop found part material at totals)
+job_agrees stop None part material at totals h = λ e. cc
+job_agrees stop (Some j) part material at totals h = by (is_waiting j.state) refl
   where
     by : (b : Bool) → is_waiting j.state ≡ b
-        → NoFault (if not b then Some JobOver else (if not (can_end j.plan.tree stop) then Some BadCut else (if not (rests j part material at) then Some StoreFault else None)))
-    by true e = other (not (can_end j.plan.tree stop)) _ _ (λ f. cc) (no_such (rests j part material at) (h j refl e))
+        → NoFault (if not b then Some JobOver else (if not (can_end j.plan.tree stop) then Some BadCut else (if not (rests j part material at totals) then Some StoreFault else None)))
+    by true e = other (not (can_end j.plan.tree stop)) _ _ (λ f. cc) (no_such (rests j part material at totals) (h j refl e))
     by false e = λ f. cc
 
 module _ (m : Content) (stock : IsStock m) where
@@ -487,7 +493,7 @@ module _ (m : Content) (stock : IsStock m) where
 
   -- a waiting job rests on its rows
   waiting_rests : (number : ℕ) (j : Job) → job_at m number ≡ Some j → is_waiting j.state ≡ true
-      → rests j (part_at m j.part) (material_of m (part_at m j.part)) (demand_at m) ≡ true
+      → rests j (part_at m j.part) (material_of m (part_at m j.part)) (demand_at m) (totals_for m (part_at m j.part)) ≡ true
   waiting_rests number j found waits =
       let is_job = stock.jobs number j found in
       let w = is_job.waits waits in
@@ -495,9 +501,9 @@ module _ (m : Content) (stock : IsStock m) where
       let material = w.on.material in
       let work : IsWork m number j row material = record { found = found; on = w.on.found; of = w.on.known } in
       let old = placed m stock number j row material work waits in
-      subst (λ o. rests j o (material_of m o) (demand_at m) ≡ true) (sym w.on.found)
-      (subst (λ o. rests j (Some row) o (demand_at m) ≡ true) (sym w.on.known)
-      (ap (λ b. b && list_all (λ leaf. has_reserved (count_of j.plan.tree leaf.demand) (demand_at m leaf.demand)) (plan_leaves j.plan))
+      subst (λ o. rests j o (material_of m o) (demand_at m) (totals_for m o) ≡ true) (sym w.on.found)
+      (subst (λ o. rests j (Some row) o (demand_at m) (totals_of m row.material) ≡ true) (sym w.on.known)
+      (ap (λ b. b && has_cells row (totals_of m row.material) && list_all (λ leaf. has_reserved (count_of j.plan.tree leaf.demand) (demand_at m leaf.demand)) (plan_leaves j.plan))
       (seven (nat_le 1 j.act) (nat_le j.act MOST_NUMBERS) (is_reserved_for j.act row.state) (row.size.w == j.plan.w) (row.size.h == j.plan.h) (nat_le (row.x + row.size.w) MOST_WIDTH) (nat_le (row.y + row.size.h) MOST_HEIGHT)
       (le-leb 1 j.act (subst (λ n. 1 ≤ n) (sym is_job.numbered) is_job.least))
       (le-leb j.act MOST_NUMBERS (omega (arith, is_job.so_far, is_job.numbered, stock.in_range.last)))
@@ -506,6 +512,7 @@ module _ (m : Content) (stock : IsStock m) where
       (eq-eqb row.size.h j.plan.h (sym (height m stock number j row material work waits)))
       (le-leb (row.x + row.size.w) MOST_WIDTH old.right)
       (le-leb (row.y + row.size.h) MOST_HEIGHT old.bottom))
+      ∙ ap (λ b. b && list_all (λ leaf. has_reserved (count_of j.plan.tree leaf.demand) (demand_at m leaf.demand)) (plan_leaves j.plan)) (held m stock row (here m stock number j row material work waits))
       ∙ all_true (λ (leaf : Leaf). has_reserved (count_of j.plan.tree leaf.demand) (demand_at m leaf.demand)) (plan_leaves j.plan)
       (λ leaf i.
       let there = some_known (demand_at m leaf.demand) (w.demands leaf.demand (leaf_counts j.plan leaf i)) in
@@ -516,5 +523,6 @@ module _ (m : Content) (stock : IsStock m) where
   pub end_agrees : (stop : Stop) (number : ℕ) → NoFault (end_refusal m stop (job_at m number))
   end_agrees stop number =
       job_agrees stop (job_at m number) (part_of_job m (job_at m number)) (material_of m (part_of_job m (job_at m number))) (demand_at m)
+      (totals_for m (part_of_job m (job_at m number)))
       (λ j found waits.
-      subst (λ o. rests j (part_of_job m o) (material_of m (part_of_job m o)) (demand_at m) ≡ true) (sym found) (waiting_rests number j found waits))
+      subst (λ o. rests j (part_of_job m o) (material_of m (part_of_job m o)) (demand_at m) (totals_for m (part_of_job m o)) ≡ true) (sym found) (waiting_rests number j found waits))

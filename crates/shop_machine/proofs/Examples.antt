@@ -15,11 +15,12 @@ use Rattle.shop_machine.specs.declared.messages.Command.TheVariants.{AddMaterial
 use Rattle.shop_machine.specs.declared.messages.OrderLine.{OrderLine}
 use Rattle.shop_machine.specs.declared.records.Column.TheVariants as column
 use Rattle.shop_machine.specs.Readings.{unread, Plan}
-use Rattle.shop_machine.specs.Receiving.{receive_refusal}
+use Rattle.shop_machine.specs.Receiving.{receive_refusal, received_totals}
 use Rattle.shop_machine.specs.Adding.{material_refusal}
 use Rattle.shop_machine.specs.History.{Entry, deeds_of, Owner, acts_of, owner_of, cells_of_column, ordered_lines, nth_line, IsAccountOf}
 use Rattle.shop_machine.specs.Messages.{Texts}
-use Rattle.shop_machine.specs.Content.{Content, demand_at}
+use Rattle.shop_machine.specs.Content.{Content, demand_at, no_totals}
+use Rattle.shop_machine.specs.declared.records.Totals.{Totals}
 use Rattle.shop_machine.specs.Soundness.{reserved_in, made_in}
 
 steel : Material
@@ -28,45 +29,49 @@ steel = record { code = codes "STEEL"; kind = Bar; limits = record { kerf = 3; m
 glass : Material
 glass = record { code = codes "GLASS"; kind = Sheet; limits = record { kerf = 1; min_long = 5; min_short = 4 } }
 
+-- the totals of units that all stand
+abbrev had : ℕ → Totals
+had n = received_totals n no_totals
+
 -- sizes and counts at their limits
-bar_in_range : receive_refusal (Some steel) 0 1 200000 1 1 ≡ None
+bar_in_range : receive_refusal (Some steel) (had 0) 1 200000 1 1 ≡ None
 unfolding steel
 bar_in_range = refl
 
-bar_too_long : receive_refusal (Some steel) 0 1 200001 1 1 ≡ Some BadSize
+bar_too_long : receive_refusal (Some steel) (had 0) 1 200001 1 1 ≡ Some BadSize
 unfolding steel
 bar_too_long = refl
 
-sheet_in_range : receive_refusal (Some glass) 0 1 1 60000 100 ≡ None
+sheet_in_range : receive_refusal (Some glass) (had 0) 1 1 60000 100 ≡ None
 unfolding glass
 sheet_in_range = refl
 
-sheet_too_high : receive_refusal (Some glass) 0 1 1 60001 1 ≡ Some BadSize
+sheet_too_high : receive_refusal (Some glass) (had 0) 1 1 60001 1 ≡ Some BadSize
 unfolding glass
 sheet_too_high = refl
 
-too_many : receive_refusal (Some steel) 0 1 100 1 101 ≡ Some BadCount
+too_many : receive_refusal (Some steel) (had 0) 1 100 1 101 ≡ Some BadCount
 unfolding steel
 too_many = refl
 
-none_counted : receive_refusal (Some steel) 0 1 100 1 0 ≡ Some BadCount
+none_counted : receive_refusal (Some steel) (had 0) 1 100 1 0 ≡ Some BadCount
 unfolding steel
 none_counted = refl
 
 -- the last cell of a material, and the last act number
-last_cell : receive_refusal (Some steel) 999999999999999 1 1 1 1 ≡ None
+last_cell : receive_refusal (Some steel) (had 999999999999999) 1 1 1 1 ≡ None
 unfolding steel
 last_cell = refl
 
-one_cell_over : receive_refusal (Some steel) 999999999999999 1 1 1 2 ≡ Some TooMuch
+one_cell_over : receive_refusal (Some steel) (had 999999999999999) 1 1 1 2 ≡ Some TooMuch
 unfolding steel
 one_cell_over = refl
 
-numbers_spent : receive_refusal (Some steel) 0 2147483648 1 1 1 ≡ Some NumbersSpent
+numbers_spent : receive_refusal (Some steel) (had 0) 2147483648 1 1 1 ≡ Some NumbersSpent
 unfolding steel
 numbers_spent = refl
 
-unknown : receive_refusal None 0 1 100 1 1 ≡ Some NoMaterial
+unknown : receive_refusal None (had 0) 1 100 1 1 ≡ Some NoMaterial
 unknown = refl
 
 -- the order of the refusals

@@ -10,6 +10,7 @@ pub mod Agreeing
 pub mod AddedUp
 pub mod Moved
 pub mod Grown
+pub mod Tallied
 pub mod PartStep
 pub mod RecountedRows
 -- laid rectangles and cells

@@ -117,7 +117,7 @@ module _ (m : FinMap name_cmp Part) (part : Part) (s : State) (made : List Part)
   apart_of : (x : Part) → IsIn x made → x.name ≡ part.name → ⊥
   apart_of x i e = not_both (get m x.name) part (new x i) (ap (λ n. get m n) e ∙ there)
 
-  sum_moved : (f : Part → ℕ) → sum_by f (values moved) + f part ≡ sum_by f (values m) + f (in_state s part) + sum_by f made
+  pub sum_moved : (f : Part → ℕ) → sum_by f (values moved) + f part ≡ sum_by f (values m) + f (in_state s part) + sum_by f made
   sum_moved f =
       let over = sum_over names_total names_same f m part.name part (in_state s part) there in
       let more = sum_parts f made (insert m part.name (in_state s part)) apart

@@ -1,6 +1,6 @@
 -- A content after an order was added.
 use Rattle.std.proofs.Common.{◌≡◌, ℕ, zero, suc, ◌+◌, ◌≤◌, ◌<◌, ◌⊎◌, inl, inr, List, [], ◌∷◌, length, Bool, true, false, refl, sym, ap, subst, ◌∙◌, arith}
-use Rattle.std.specs.Prelude.{Option, Some, None, IsSome, MatchOption, if◌then◌else◌, nat_le, nat_lt, ◌&&◌, not}
+use Rattle.std.specs.Prelude.{Option, Some, None, IsSome, if◌then◌else◌, nat_le, nat_lt, ◌&&◌, not}
 use Rattle.std.specs.declared.cmp.Ordering.TheVariants.{Less}
 use Rattle.std.specs.Cmp.{nat_cmp_total}
 use Rattle.std.specs.FinMap.{nat_cmp-IsAntisymmetric}
@@ -23,10 +23,10 @@ use Rattle.shop_machine.specs.Content.{Content, material_at, has_order, demand_a
 use Rattle.shop_machine.specs.Ordering.{new_demand, new_demands, order_change, order_refusal, line_refusal, lines_refusal, is_good_line}
 use Rattle.shop_machine.specs.Machine.{keeping}
 use Rattle.shop_machine.specs.History.{IsIn}
-use Rattle.shop_machine.specs.Soundness.{IsDemand, DemandFits, LinesDiffer, Fits, reserved_in, made_in}
+use Rattle.shop_machine.specs.Soundness.{IsDemand, IsNewDemand, Fits, reserved_in, made_in}
 use Rattle.shop_machine.specs.Decisions.{first_of}
 use Rattle.shop_machine.proofs.Basics.{names_total, names_same, same_some, none_at, demand_cases}
-use Rattle.shop_machine.proofs.Puts.{Pairwise, all_from, pairs_from, pairs_more, not_both, is_known, some_known, sum_no_rows}
+use Rattle.shop_machine.proofs.Puts.{Pairwise, all_from, pairs_from, not_both, is_known, some_known, sum_no_rows}
 use Rattle.shop_machine.proofs.Allowed.{none_of, or_none}
 use Rattle.shop_machine.proofs.Grown.{IsStock, Grows, placed_more, job_more, demand_more, no_pairs}
 use Rattle.shop_machine.proofs.Agreeing.{NoFault, either, nothing, other}
@@ -246,13 +246,12 @@ module _ (m : Content) (stock : IsStock m) (order : List ℕ) (lines : List Orde
             ];
       }
 
-  row_fits : (x : Demand) → IsNew order first lines x → DemandFits m (keeping texts message (order_change order lines first)) x
+  row_fits : (x : Demand) → IsNew order first lines x → IsNewDemand m order x
   row_fits x r =
       let least = r.least in
       let same : x.number ≡ r.number = ap (λ (d : Demand). d.number) r.is in
       let later : m.last_demand < x.number = omega (arith, least, same) in
-      subst (λ o. MatchOption o ((m.last_demand < x.number) × (Some order ≡ Some x.order)) (λ old. x ≡ record old { reserved = x.reserved; made = x.made }))
-      (sym (none_later x.number later)) (later, ap (λ (d : Demand). Some d.order) (sym r.is))
+      record { new = none_later x.number later; later = later; of = ap (λ (d : Demand). d.order) r.is }
 
   pub order_fits : kept_at m (pair_of message) ≡ None → Fits m (keeping texts message (order_change order lines first))
   order_fits new =
@@ -261,17 +260,18 @@ module _ (m : Content) (stock : IsStock m) (order : List ℕ) (lines : List Orde
       record {
         material = tt;
         parts = All-nil _;
-        known = All-nil _;
         rising = no_pairs (λ (a b : Part). name_cmp a.name b.name ≡ Less);
+        moved = tt;
         job = tt;
         order = ordered.unused;
-        demands = all_from (DemandFits m (keeping texts message (order_change order lines first))) rows (λ x i. row_fits x (new_in order first lines x i));
+        demands = all_from (IsNewDemand m order) rows (λ x i. row_fits x (new_in order first lines x i));
         wanted = all_from (λ (d : Demand). IsSome (material_at m d.material) × (d.reserved + d.made ≤ d.wanted)) rows
             (λ x i. let r = new_in order first lines x i in
             subst (λ (d : Demand). IsSome (material_at m d.material) × (d.reserved + d.made ≤ d.wanted)) (sym r.is) (ordered.known r.line r.there, omega arith));
         once = pairs_from (λ (a b : Demand). a.number ≡ b.number → ⊥) rows (new_apart order first lines);
-        lines = pairs_from (LinesDiffer m) rows
-            (pairs_more (λ (a b : Demand). a.line ≡ b.line → ⊥) (LinesDiffer m) (λ a b differ new other. differ) rows (lines_apart order first lines ordered.rising));
+        lines = pairs_from (λ (a b : Demand). a.line ≡ b.line → ⊥) rows (lines_apart order first lines ordered.rising);
+        totals = tt;
+        sums = λ c. refl;
         act = tt;
         demand = (omega (arith, some), omega (arith, some, numbers));
         kept = new;

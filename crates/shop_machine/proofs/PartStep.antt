@@ -1,6 +1,6 @@
 -- A content after a part got another state, with new parts beside it, a job, and recounted demands.
 use Rattle.std.proofs.Common.{◌≡◌, ℕ, ◌+◌, ◌≤◌, ◌<◌, inl, inr, List, ◌∷◌, get_or, true, false, refl, sym, ap, subst, ◌∙◌, arith}
-use Rattle.std.specs.Prelude.{Option, Some, None, IsSome, IfSome, MatchOption, ⊤, sum_by, count_by}
+use Rattle.std.specs.Prelude.{Option, Some, None, IsSome, IfSome, MatchOption, sum_by, count_by}
 use Rattle.std.specs.declared.cmp.Ordering.TheVariants.{Less, Equal}
 use Rattle.std.specs.Cmp.{nat_cmp_total, tied_itself}
 use Rattle.std.specs.FinMap.{values, nat_cmp-IsAntisymmetric}
@@ -14,15 +14,16 @@ use Rattle.shop_machine.specs.declared.records.Job.{Job}
 use Rattle.shop_machine.specs.declared.records.Demand.{Demand}
 use Rattle.shop_machine.specs.declared.records.Column.TheVariants.{Received}
 use Rattle.shop_machine.specs.declared.changes.Change.{Change}
+use Rattle.shop_machine.specs.declared.changes.MaterialTotals.{MaterialTotals}
 use Rattle.shop_machine.specs.declared.messages.Message.{Message}
 use Rattle.shop_machine.specs.declared.messages.Reply.{Reply}
 use Rattle.shop_machine.specs.Messages.{Texts, pair_of}
 use Rattle.shop_machine.specs.Columns.{is_there, is_piece_for}
-use Rattle.shop_machine.specs.Content.{Content, material_at, part_at, job_at, demand_at, kept_at, changed, with_number, in_state}
+use Rattle.shop_machine.specs.Content.{Content, material_at, part_at, job_at, demand_at, kept_at, changed, with_number, in_state, totals_of}
 use Rattle.shop_machine.specs.Recounts.{AreRecounted}
 use Rattle.shop_machine.specs.Machine.{keeping}
 use Rattle.shop_machine.specs.History.{IsIn}
-use Rattle.shop_machine.specs.Soundness.{IsPlaced, IsWaiting, IsJob, IsDemand, IsCounted, PartFits, JobFits, DemandFits, Fits}
+use Rattle.shop_machine.specs.Soundness.{IsPlaced, IsWaiting, IsJob, IsDemand, IsCounted, IsNewPart, IsNewJob, IsMovedJob, IsMovedDemand, TotalsFit, with_totals, Fits}
 use Rattle.shop_machine.proofs.Basics.{at_in, names_total, same_some}
 use Rattle.shop_machine.proofs.Puts.{Pairwise, all_from, pairs_from, pairs_more, not_both, found_one}
 use Rattle.shop_machine.proofs.AddedUp.{cells_as, cells_left, is_uncut}
@@ -47,7 +48,7 @@ standing_uncut state.Kerf e = refl
 standing_uncut state.Scrap e = refl
 standing_uncut state.Returned e = refl
 
-less_apart : (a b : Name) → name_cmp a b ≡ Less → a ≡ b → ⊥
+pub less_apart : (a b : Name) → name_cmp a b ≡ Less → a ≡ b → ⊥
 less_apart a b less e =
     let equal : name_cmp a b ≡ Equal = ap (λ n. name_cmp a n) (sym e) ∙ tied_itself names_total a in
     let same : Less ≡ Equal = sym less ∙ equal in cc
@@ -58,7 +59,7 @@ pub record IsPartStep (m : Content) (row : Part) (s : State) (made : List Part) 
   pub stands : is_there row.state ≡ true
   pub plain : (number : ℕ) → is_piece_for number s ≡ false
   pub new : (x : Part) → IsIn x made → part_at m x.name ≡ None
-  pub rising : Pairwise (λ (a b : Part). name_cmp a.name b.name ≡ Less) (in_state s row ∷ made)
+  pub rising : Pairwise (λ (a b : Part). name_cmp a.name b.name ≡ Less) made
   pub placed : (x : Part) → IsIn x made → IsPlaced m x.name x
   pub named : (x : Part) → IsIn x made → x.name.act ≤ with_number act m.last_act
   pub more : m.last_act ≤ with_number act m.last_act
@@ -73,14 +74,16 @@ few_numbers (Some a) last few h = h.1
 module _ (m : Content) (stock : IsStock m) (row : Part) (s : State) (made : List Part) (act : Option ℕ) (job : Job) (step : IsPartStep m row s made act)
     (recount : ℕ → Demand → Demand) (tree : Tree) (none : LeavesOthers m.demands recount tree)
     (keeps : (n : ℕ) (d : Demand) → recount n d ≡ record d { reserved = (recount n d).reserved; made = (recount n d).made })
-    (rows : List Demand) (recounted : AreRecounted (demand_at m) recount tree rows) (texts : Texts) (message : Message) (answer : Reply) where
+    (rows : List Demand) (recounted : AreRecounted (demand_at m) recount tree rows) (totals : Option MaterialTotals) (texts : Texts) (message : Message) (answer : Reply) where
   abbrev step_change : Change
   step_change = record {
     material = None;
-    parts = in_state s row ∷ made;
+    parts = made;
+    moved = Some (in_state s row);
     job = Some job;
     order = None;
     demands = rows;
+    totals = totals;
     act = act;
     demand = None;
     kept = None;
@@ -91,7 +94,7 @@ module _ (m : Content) (stock : IsStock m) (row : Part) (s : State) (made : List
   after = changed m (keeping texts message step_change)
 
   apart : Pairwise (λ (a b : Part). a.name ≡ b.name → ⊥) made
-  apart = pairs_more (λ (a b : Part). name_cmp a.name b.name ≡ Less) (λ (a b : Part). a.name ≡ b.name → ⊥) (λ a b. less_apart a.name b.name) made step.rising.1
+  apart = pairs_more (λ (a b : Part). name_cmp a.name b.name ≡ Less) (λ (a b : Part). a.name ≡ b.name → ⊥) (λ a b. less_apart a.name b.name) made step.rising
 
   pub grows : Grows m after
   grows = record { materials = λ code x is. is; demands = demand_there m.demands recount tree rows recounted none; acts = step.more }
@@ -188,30 +191,18 @@ module _ (m : Content) (stock : IsStock m) (row : Part) (s : State) (made : List
       demands = λ number d is. demand_after number d (recount_of m.demands recount tree rows recounted none number d is);
     }
 
-  module _ (job_fits : JobFits m job) (counts : (number : ℕ) (before : Demand) → demand_at m number ≡ Some before → IsCounted after number (recount (count_of tree number) before)) where
-    abbrev full : Change
-    full = keeping texts message step_change
-
-    row_fits : PartFits m (in_state s row)
-    row_fits = subst (λ o. MatchOption o ⊤ (λ old. in_state s row ≡ in_state s old)) (sym step.there) refl
-
-    new_fits : (x : Part) → IsIn x made → PartFits m x
-    new_fits x i = subst (λ o. MatchOption o ⊤ (λ old. x ≡ in_state x.state old)) (sym (step.new x i)) tt
-
-    part_fits : (x : Part) → IsIn x (in_state s row ∷ made) → PartFits m x
-    part_fits x (inl e) = subst (PartFits m) (sym e) row_fits
-    part_fits x (inr i) = new_fits x i
-
-    part_known : (x : Part) → IsIn x (in_state s row ∷ made) → IsSome (material_at m x.material)
-    part_known x (inl e) = subst (λ (p : Part). IsSome (material_at m p.material)) (sym e) (stock.parts row.name row step.there).known
-    part_known x (inr i) = (step.placed x i).known
-
-    demand_fits : (x : Demand) → IsRecount m.demands recount tree rows recounted none x.number x → DemandFits m full x
-    demand_fits x r =
+  module _ (job_fits : MatchOption act (IsMovedJob m job) (λ a. IsNewJob m a job)) (totals_fit : TotalsFit m None totals)
+      (sums : (code : List ℕ) → totals_of after code ≡ with_totals totals code (totals_of m code))
+      (counts : (number : ℕ) (before : Demand) → demand_at m number ≡ Some before → IsCounted after number (recount (count_of tree number) before)) where
+    demand_moved : (x : Demand) → IsRecount m.demands recount tree rows recounted none x.number x → IsMovedDemand m x
+    demand_moved x r =
         let c = count_of tree x.number in
         let is : x ≡ record r.before { reserved = (recount c r.before).reserved; made = (recount c r.before).made } = r.now ∙ keeps c r.before in
-        subst (λ o. MatchOption o ((m.last_demand < x.number) × (None ≡ Some x.order)) (λ old. x ≡ record old { reserved = x.reserved; made = x.made })) (sym r.was)
-        (is ∙ (λ i. record r.before { reserved = (sym (ap (λ (d : Demand). d.reserved) r.now)) i; made = (sym (ap (λ (d : Demand). d.made) r.now)) i }))
+        record {
+          before = r.before;
+          found = r.was;
+          is = is ∙ (λ i. record r.before { reserved = (sym (ap (λ (d : Demand). d.reserved) r.now)) i; made = (sym (ap (λ (d : Demand). d.made) r.now)) i });
+        }
 
     demand_wanted : (x : Demand) → IsRecount m.demands recount tree rows recounted none x.number x → IsSome (material_at m x.material) × (x.reserved + x.made ≤ x.wanted)
     demand_wanted x r =
@@ -221,22 +212,21 @@ module _ (m : Content) (stock : IsStock m) (row : Part) (s : State) (made : List
           subst (λ (d : Demand). d.reserved + d.made ≤ d.wanted) (sym r.now) (counts x.number r.before r.was).few,
         )
 
-    pub step_fits : kept_at m (pair_of message) ≡ None → Fits m full
+    pub step_fits : kept_at m (pair_of message) ≡ None → Fits m (keeping texts message step_change)
     step_fits new = record {
       material = tt;
-      parts = all_from (PartFits m) (in_state s row ∷ made) part_fits;
-      known = all_from (λ (part : Part). IsSome (material_at m part.material)) (in_state s row ∷ made) part_known;
-      rising = pairs_from (λ (a b : Part). name_cmp a.name b.name ≡ Less) (in_state s row ∷ made) step.rising;
+      parts = all_from (IsNewPart m) made (λ x i. record { new = step.new x i; known = (step.placed x i).known });
+      rising = pairs_from (λ (a b : Part). name_cmp a.name b.name ≡ Less) made step.rising;
+      moved = record { before = row; found = step.there; is = refl; known = (stock.parts row.name row step.there).known };
       job = job_fits;
       order = tt;
-      demands = all_from (DemandFits m full) rows (λ x i. demand_fits x (row_recount m.demands recount tree rows recounted none x x.number i refl));
+      demands = all_from (IsMovedDemand m) rows (λ x i. demand_moved x (row_recount m.demands recount tree rows recounted none x x.number i refl));
       wanted = all_from (λ (d : Demand). IsSome (material_at m d.material) × (d.reserved + d.made ≤ d.wanted)) rows
           (λ x i. demand_wanted x (row_recount m.demands recount tree rows recounted none x x.number i refl));
       once = recounted.once;
-      lines = λ i j d before within new other same.
-          let x = get_or rows i d in
-          let r = row_recount m.demands recount tree rows recounted none x x.number (at_in rows i d (omega (arith, before, within))) refl in
-          absurd (not_both (demand_at m x.number) r.before new r.was);
+      lines = tt;
+      totals = totals_fit;
+      sums = sums;
       act = step.numbers;
       demand = tt;
       kept = new;

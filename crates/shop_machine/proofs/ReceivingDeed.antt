@@ -9,7 +9,7 @@ use Rattle.shop_machine.specs.declared.records.State.TheVariants.{Standing}
 use Rattle.shop_machine.specs.declared.changes.Change.{Change}
 use Rattle.shop_machine.specs.declared.messages.Message.{Message}
 use Rattle.shop_machine.specs.Messages.{Texts}
-use Rattle.shop_machine.specs.Content.{Content}
+use Rattle.shop_machine.specs.Content.{Content, totals_of}
 use Rattle.shop_machine.specs.Receiving.{receive_change, unit_part}
 use Rattle.shop_machine.specs.Soundness.{IsSound}
 use Rattle.shop_machine.specs.History.{Deed, Receives, ReceivedUnit, acts_of, units_of, owner_by, owner_of, HasOwner}
@@ -42,7 +42,7 @@ module _ (texts : Texts) (message : Message) (earlier : List Deed) (old : Conten
     abbrev new_parts : FinMap name_cmp Part
     new_parts = after_receipt old.parts material batch size (acts_of earlier + 1) count older
 
-    by_units : Next (Receives material batch size count) (receive_change material batch size (acts_of earlier + 1) count)
+    by_units : Next (Receives material batch size count) (receive_change material batch size (acts_of earlier + 1) count (totals_of old material))
     by_units = record {
       acts = refl;
       numbers = f.numbers;
@@ -96,5 +96,5 @@ module _ (texts : Texts) (message : Message) (earlier : List Deed) (old : Conten
           ];
     }
 
-    pub by_receipt : Next (Receives material batch size count) (receive_change material batch size (old.last_act + 1) count)
-    by_receipt = subst (λ n. Next (Receives material batch size count) (receive_change material batch size (n + 1) count)) (sym f.acts) by_units
+    pub by_receipt : Next (Receives material batch size count) (receive_change material batch size (old.last_act + 1) count (totals_of old material))
+    by_receipt = subst (λ n. Next (Receives material batch size count) (receive_change material batch size (n + 1) count (totals_of old material))) (sym f.acts) by_units

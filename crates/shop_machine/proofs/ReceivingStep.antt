@@ -1,13 +1,13 @@
 -- A content after units were received.
 use Rattle.std.proofs.Common.{◌≡◌, ℕ, zero, suc, ◌+◌, ◌*◌, ◌≤◌, ◌<◌, inl, inr, List, [], ◌∷◌, ◌++◌, length, Bool, true, false, refl, sym, ap, subst, ◌∙◌, arith}
-use Rattle.std.specs.Prelude.{Some, None, IsSome, MatchOption, ⊤, ◌⊎◌, sum_by, ◌&&◌, ◌==◌, if◌then◌else◌, Option, nat_le, nat_lt, not}
+use Rattle.std.specs.Prelude.{Some, None, IsSome, ◌⊎◌, sum_by, ◌&&◌, ◌==◌, if◌then◌else◌, Option, nat_le, nat_lt, not}
 use Rattle.std.specs.declared.cmp.Ordering.TheVariants.{Less}
 use Rattle.std.specs.Ordering.{is_eq}
 use Rattle.std.specs.FinMap.{values}
 use Rattle.std.proofs.lemmas.List.{length-map}
 use Rattle.std.proofs.lemmas.List.Sums.{sum_by-cons}
 use Rattle.std.proofs.lemmas.List.Elements.{All-nil}
-use Rattle.std.proofs.lemmas.Bool.{eq-eqb, and_parts, not-false, leb-true, ltb-false}
+use Rattle.std.proofs.lemmas.Bool.{eq-eqb, and_parts, not-false, leb-true, le-leb, ltb-false}
 use Rattle.cut_measure.proofs.Cells.{length-below}
 use Rattle.cut_measure.specs.Codes.{code_cmp}
 use Rattle.cut_measure.specs.Names.{Name, name_cmp}
@@ -18,43 +18,46 @@ use Rattle.shop_machine.specs.declared.receiving.TheConstants.{MOST_RECEIVED, MO
 use Rattle.shop_machine.specs.declared.records.Material.{Material}
 use Rattle.shop_machine.specs.declared.records.Part.{Part}
 use Rattle.shop_machine.specs.declared.records.Demand.{Demand}
-use Rattle.shop_machine.specs.declared.records.Column.TheVariants.{Received}
+use Rattle.shop_machine.specs.declared.records.Column.{Column}
+use Rattle.shop_machine.specs.declared.records.Column.TheVariants.{Received, Stock, Rack, Pieces, Kerf, Scrap, Returned}
+use Rattle.shop_machine.specs.declared.records.Totals.{Totals}
 use Rattle.shop_machine.specs.declared.messages.Message.{Message}
-use Rattle.shop_machine.specs.declared.refusals.Refusal.TheVariants.{BadSize, BadCount, TooMuch, NumbersSpent}
+use Rattle.shop_machine.specs.declared.refusals.Refusal.TheVariants.{BadSize, BadCount, TooMuch, NumbersSpent, StoreFault}
 use Rattle.shop_machine.specs.declared.messages.Command.TheVariants.{Receive}
 use Rattle.shop_machine.specs.Messages.{Texts, pair_of}
 use Rattle.shop_machine.specs.Same.{same_name}
-use Rattle.shop_machine.specs.Columns.{is_piece_for}
-use Rattle.shop_machine.specs.Content.{Content, material_at, part_at, kept_at, changed, cells_in, totals_in, totals_of, AddsUp, in_state}
-use Rattle.shop_machine.specs.Receiving.{unit_part, unit_parts, receive_change, receive_refusal}
+use Rattle.shop_machine.specs.Columns.{is_piece_for, is_counted}
+use Rattle.shop_machine.specs.Content.{Content, material_at, part_at, kept_at, changed, cells_in, totals_in, totals_of, AddsUp}
+use Rattle.shop_machine.specs.Receiving.{unit_part, unit_parts, receive_change, receive_refusal, received_totals}
 use Rattle.shop_machine.specs.Machine.{keeping, refusal_of}
 use Rattle.shop_machine.specs.History.{IsIn}
-use Rattle.shop_machine.specs.Soundness.{IsPlaced, PartFits, LinesDiffer, Fits, made_in}
+use Rattle.shop_machine.specs.Soundness.{IsPlaced, IsNewPart, Fits, made_in, with_totals}
 use Rattle.shop_machine.specs.Readings.{Reading}
 use Rattle.shop_machine.proofs.Basics.{in_map, in_append, codes_same, same_some, put_cases, earlier_node}
 use Rattle.shop_machine.proofs.Puts.{Pairwise, all_from, pairs_from, pairs_more, map_pairs, sum_as, is_known, equal, put_other, sum_parts}
 use Rattle.shop_machine.proofs.Allowed.{none_of, IsSized, sized, flat}
 use Rattle.shop_machine.proofs.AddedUp.{cells_as, cells_left, adds_up, adds_up_so}
 use Rattle.shop_machine.proofs.Grown.{IsStock, Grows, placed_more, job_more, none_later, demand_more, no_pairs}
-use Rattle.shop_machine.proofs.Agreeing.{NoFault, nothing, other}
+use Rattle.shop_machine.proofs.Tallied.{own, same_totals, same_sums}
+use Rattle.shop_machine.proofs.Agreeing.{NoFault, nothing, other, no_such}
 
 -- ---- what is known of a receipt that isn't refused
 
-pub record IsReceipt (known : Option Material) (received act w h count : ℕ) : Type 0 where
+pub record IsReceipt (known : Option Material) (totals : Totals) (act w h count : ℕ) : Type 0 where
   pub material : Material
   pub is_known : known ≡ Some material
   pub size : IsSized w h
   pub one_high : material.kind ≡ Bar → h ≡ 1
   pub few : count ≤ MOST_UNITS
-  pub room : received + w * h * count ≤ MOST_RECEIVED
+  pub room : totals.received + w * h * count ≤ MOST_RECEIVED
   pub number : act ≤ MOST_NUMBERS
 
-pub receipt_of : (known : Option Material) (received act w h count : ℕ) → receive_refusal known received act w h count ≡ None → IsReceipt known received act w h count
-receipt_of None received act w h count e = cc
-receipt_of (Some m) received act w h count e =
+pub receipt_of : (known : Option Material) (totals : Totals) (act w h count : ℕ) → receive_refusal known totals act w h count ≡ None → IsReceipt known totals act w h count
+receipt_of None totals act w h count e = cc
+receipt_of (Some m) totals act w h count e =
     let size = none_of (not (is_size m.kind w h)) BadSize _ e in
     let number = none_of (not (nat_le 1 count && nat_le count MOST_UNITS)) BadCount _ size.1 in
-    let room = none_of (nat_lt MOST_RECEIVED (received + w * h * count)) TooMuch _ number.1 in
+    let room = none_of (nat_lt MOST_RECEIVED (totals.received + w * h * count)) TooMuch _ number.1 in
     let last = none_of (nat_lt MOST_NUMBERS act) NumbersSpent _ room.1 in
     record {
       material = m;
@@ -62,13 +65,13 @@ receipt_of (Some m) received act w h count e =
       size = sized m.kind w h (not-false (is_size m.kind w h) size.0);
       one_high = flat m.kind w h (not-false (is_size m.kind w h) size.0);
       few = leb-true count MOST_UNITS (and_parts (nat_le 1 count) (nat_le count MOST_UNITS) (not-false (nat_le 1 count && nat_le count MOST_UNITS) number.0)).1;
-      room = ltb-false MOST_RECEIVED (received + w * h * count) room.0;
+      room = ltb-false MOST_RECEIVED (totals.received + w * h * count) room.0;
       number = ltb-false MOST_NUMBERS act last.0;
     }
 
 pub receipt : (m : Content) (material batch : List ℕ) (w h count : ℕ) (read : Reading) → refusal_of m (Receive material batch w h count) read ≡ None
-    → IsReceipt (material_at m material) (totals_of m material).received (m.last_act + 1) w h count
-receipt m material batch w h count read allowed = receipt_of (material_at m material) (totals_of m material).received (m.last_act + 1) w h count allowed
+    → IsReceipt (material_at m material) (totals_of m material) (m.last_act + 1) w h count
+receipt m material batch w h count read allowed = receipt_of (material_at m material) (totals_of m material) (m.last_act + 1) w h count allowed
 
 -- ---- numbers below n
 
@@ -101,7 +104,7 @@ same_self : (name : Name) → same_name name name ≡ true
 same_self name = ap (λ b. b && (name.node == name.node)) (eq-eqb name.act name.act refl) ∙ eq-eqb name.node name.node refl
 
 module _ (m : Content) (stock : IsStock m) (material batch : List ℕ) (w h count : ℕ)
-    (receipt : IsReceipt (material_at m material) (totals_of m material).received (m.last_act + 1) w h count) (texts : Texts) (message : Message) where
+    (receipt : IsReceipt (material_at m material) (totals_of m material) (m.last_act + 1) w h count) (texts : Texts) (message : Message) where
   abbrev size : Extent
   size = record { w = w; h = h }
 
@@ -112,7 +115,7 @@ module _ (m : Content) (stock : IsStock m) (material batch : List ℕ) (w h coun
   units = unit_parts material batch size act count
 
   abbrev after : Content
-  after = changed m (keeping texts message (receive_change material batch size act count))
+  after = changed m (keeping texts message (receive_change material batch size act count (totals_of m material)))
 
   -- a unit's number, and the unit
   unit_in : (x : Part) → IsIn x units → (i : ℕ) × (x ≡ unit_part material batch size act i)
@@ -264,32 +267,93 @@ module _ (m : Content) (stock : IsStock m) (material batch : List ℕ) (w h coun
         (record { few = old.counted.few; reserved = old.counted.reserved; made = old.counted.made ∙ sym (made_after number) });
   }
 
-  pub receive_fits : kept_at m (pair_of message) ≡ None → Fits m (keeping texts message (receive_change material batch size act count))
+  -- whether a unit is counted in a column
+  abbrev of_units : Column → Bool
+  of_units Received = true
+  of_units Stock = true
+  of_units Rack = false
+  of_units Pieces = false
+  of_units Kerf = false
+  of_units Scrap = false
+  of_units Returned = false
+
+  unit_counted : (c : Column) (i : ℕ) → is_counted c (unit_part material batch size act i) ≡ of_units c
+  unit_counted Received i = same_self (record { act = act; node = i })
+  unit_counted Stock i = same_self (record { act = act; node = i })
+  unit_counted Rack i = ap not (same_self (record { act = act; node = i }))
+  unit_counted Pieces i = refl
+  unit_counted Kerf i = refl
+  unit_counted Scrap i = refl
+  unit_counted Returned i = refl
+
+  column_after : (c : Column) (code : List ℕ) (b : Bool) → is_eq (code_cmp material code) ≡ b
+      → cells_in c code (values after.parts) ≡ cells_in c code (values m.parts) + count * (if b && of_units c then w * h else 0)
+  column_after c code b e =
+      let sum = sum_after (cells_as c code) in
+      let units = sum_units (cells_as c code) (if b && of_units c then w * h else 0)
+      (λ i. ap (λ t. if t && is_counted c (unit_part material batch size act i) then w * h else 0) e ∙ ap (λ t. if b && t then w * h else 0) (unit_counted c i)) in
+      sum ∙ ap (λ n. cells_in c code (values m.parts) + n) units
+
+  stays : (c : Column) (code : List ℕ) → is_eq (code_cmp material code) ≡ false → cells_in c code (values after.parts) ≡ cells_in c code (values m.parts)
+  stays c code e = let sum = column_after c code false e in omega (arith, sum)
+
+  gains : (c : Column) → of_units c ≡ true → cells_in c material (values after.parts) ≡ cells_in c material (values m.parts) + w * h * count
+  gains c e =
+      more (cells_in c material (values after.parts)) (cells_in c material (values m.parts)) (w * h) count
+      (column_after c material true (own material) ∙ ap (λ b. cells_in c material (values m.parts) + count * (if b then w * h else 0)) e)
+    where
+      more : (n r q c : ℕ) → n ≡ r + c * q → n ≡ r + q * c
+      more n r q c a = omega (arith, a)
+
+  keeps : (c : Column) → of_units c ≡ false → cells_in c material (values after.parts) ≡ cells_in c material (values m.parts)
+  keeps c e =
+      let sum = column_after c material true (own material) ∙ ap (λ b. cells_in c material (values m.parts) + count * (if b then w * h else 0)) e in
+      omega (arith, sum)
+
+  sums_after : (code : List ℕ)
+      → totals_of after code ≡ with_totals (Some (record { material = material; totals = received_totals (w * h * count) (totals_of m material) })) code (totals_of m code)
+  sums_after code = by (is_eq (code_cmp material code)) refl
+    where
+      by : (b : Bool) → is_eq (code_cmp material code) ≡ b
+          → totals_of after code ≡ (if is_eq (code_cmp material code) then received_totals (w * h * count) (totals_of m material) else totals_of m code)
+      by true e =
+          ap (totals_of after) (sym (codes_same material code (equal (code_cmp material code) e)))
+          ∙ same_totals (totals_of after material) (received_totals (w * h * count) (totals_of m material)) (gains Received refl) (gains Stock refl) (keeps Rack refl) (keeps Pieces refl)
+          (keeps Kerf refl) (keeps Scrap refl) (keeps Returned refl)
+          ∙ sym (ap (λ b. if b then received_totals (w * h * count) (totals_of m material) else totals_of m code) e)
+      by false e =
+          same_sums code (values after.parts) (values m.parts) (λ c. stays c code e)
+          ∙ sym (ap (λ b. if b then received_totals (w * h * count) (totals_of m material) else totals_of m code) e)
+
+  pub receive_fits : kept_at m (pair_of message) ≡ None → Fits m (keeping texts message (receive_change material batch size act count (totals_of m material)))
   receive_fits new = record {
     material = tt;
-    parts = all_from (PartFits m) units (λ x i. part_new x (unit_new x i));
-    known = all_from (λ (part : Part). IsSome (material_at m part.material)) units
-        (λ x i. subst (λ (p : Part). IsSome (material_at m p.material)) (sym (unit_in x i).1) (is_known (material_at m material) receipt.material receipt.is_known));
+    parts = all_from (IsNewPart m) units
+        (λ x i. record {
+          new = unit_new x i;
+          known = subst (λ (p : Part). IsSome (material_at m p.material)) (sym (unit_in x i).1) (is_known (material_at m material) receipt.material receipt.is_known);
+        });
     rising = pairs_from (λ (a b : Part). name_cmp a.name b.name ≡ Less) units units_rise;
+    moved = tt;
     job = tt;
     order = tt;
     demands = All-nil _;
     wanted = All-nil _;
     once = no_pairs (λ (a b : Demand). a.number ≡ b.number → ⊥);
-    lines = no_pairs (LinesDiffer m);
+    lines = tt;
+    totals = is_known (material_at m material) receipt.material receipt.is_known;
+    sums = sums_after;
     act = (omega arith, receipt.number);
     demand = tt;
     kept = new;
   }
-    where
-      part_new : (x : Part) → part_at m x.name ≡ None → PartFits m x
-      part_new x e = subst (λ o. MatchOption o ⊤ (λ old. x ≡ in_state x.state old)) (sym e) tt
 
 -- ---- its refusals
 
-pub receive_agrees : (known : Option Material) (received act w h count : ℕ) → NoFault (receive_refusal known received act w h count)
-receive_agrees None received act w h count = λ e. cc
-receive_agrees (Some m) received act w h count =
+pub receive_agrees : (known : Option Material) (totals : Totals) (act w h count : ℕ) → totals.stock ≤ totals.received → NoFault (receive_refusal known totals act w h count)
+receive_agrees None totals act w h count le = λ e. cc
+receive_agrees (Some m) totals act w h count le =
     other (not (is_size m.kind w h)) _ _ (λ e. cc)
     (other (not (nat_le 1 count && nat_le count MOST_UNITS)) _ _ (λ e. cc)
-    (other (nat_lt MOST_RECEIVED (received + w * h * count)) _ _ (λ e. cc) (other (nat_lt MOST_NUMBERS act) _ _ (λ e. cc) nothing)))
+    (other (nat_lt MOST_RECEIVED (totals.received + w * h * count)) _ _ (λ e. cc)
+    (other (nat_lt MOST_NUMBERS act) _ _ (λ e. cc) (no_such (nat_le totals.stock totals.received) (le-leb totals.stock totals.received le)))))

@@ -1,6 +1,6 @@
 -- A content after a part was reserved.
 use Rattle.std.proofs.Common.{◌≡◌, ℕ, zero, suc, ◌+◌, ◌*◌, ◌≤◌, ◌<◌, ◌⊎◌, inl, inr, List, [], ◌∷◌, ◌++◌, true, false, refl, sym, ap, subst, ◌∙◌, arith, length}
-use Rattle.std.specs.Prelude.{Some, None, MatchOption, ◌&&◌, if◌then◌else◌, Option, IsSome, is_some, nat_lt, ◌==◌, not}
+use Rattle.std.specs.Prelude.{Some, None, ◌&&◌, if◌then◌else◌, Option, IsSome, is_some, nat_lt, ◌==◌, not}
 use Rattle.std.specs.Ordering.{is_eq}
 use Rattle.std.specs.Cmp.{nat_cmp_total}
 use Rattle.std.specs.FinMap.{nat_cmp-IsAntisymmetric}
@@ -42,6 +42,7 @@ use Rattle.shop_machine.proofs.Allowed.{narrow, free_stands, none_of, or_none, a
 use Rattle.shop_machine.proofs.AddedUp.{cells_left, is_uncut}
 use Rattle.shop_machine.proofs.Moved.{demand_there, found_moved, no_reserved}
 use Rattle.shop_machine.proofs.Grown.{IsStock, none_later}
+use Rattle.shop_machine.proofs.Tallied.{sums_stay}
 use Rattle.shop_machine.proofs.PartStep.{IsPartStep, standing_uncut, step_stock, step_fits, untouched, made_after}
 use Rattle.shop_machine.proofs.Agreeing.{NoFault, either, nothing, other, no_such}
 
@@ -164,7 +165,7 @@ module _ (m : Content) (stock : IsStock m) (name : Name) (text : List ℕ) (row 
     stands = ap is_there (free_stands row.state fitting.free);
     plain = λ number. refl;
     new = λ x i. absurd i;
-    rising = (λ y i. absurd i, tt);
+    rising = tt;
     placed = λ x i. absurd i;
     named = λ x i. absurd i;
     more = omega arith;
@@ -185,7 +186,7 @@ module _ (m : Content) (stock : IsStock m) (name : Name) (text : List ℕ) (row 
 
   made_same : (number : ℕ) → made_in number after ≡ made_in number m
   made_same number =
-      let sum = made_after m stock row (state.Reserved act) [] (Some act) new_job step with_reserved plan.tree (no_reserved m.demands plan.tree) keeps rows recounted texts message (reply.Reserve (cut_count plan.tree) act) number in
+      let sum = made_after m stock row (state.Reserved act) [] (Some act) new_job step with_reserved plan.tree (no_reserved m.demands plan.tree) keeps rows recounted None texts message (reply.Reserve (cut_count plan.tree) act) number in
       sum ∙ omega arith
 
   few_after : (number : ℕ) (before : Demand) → demand_at m number ≡ Some before → (c : ℕ) → count_of plan.tree number ≡ c → before.reserved + c + before.made ≤ before.wanted
@@ -270,17 +271,18 @@ module _ (m : Content) (stock : IsStock m) (name : Name) (text : List ℕ) (row 
 
   pub reserve_stock : IsStock after
   reserve_stock =
-      step_stock m stock row (state.Reserved act) [] (Some act) new_job step with_reserved plan.tree (no_reserved m.demands plan.tree) keeps rows recounted texts message (reply.Reserve (cut_count plan.tree) act)
+      step_stock m stock row (state.Reserved act) [] (Some act) new_job step with_reserved plan.tree (no_reserved m.demands plan.tree) keeps rows recounted None texts message (reply.Reserve (cut_count plan.tree) act)
       job_after
       (λ number j is other w.
-      untouched m stock row (state.Reserved act) [] (Some act) new_job step with_reserved plan.tree (no_reserved m.demands plan.tree) keeps rows recounted texts message (reply.Reserve (cut_count plan.tree) act)
+      untouched m stock row (state.Reserved act) [] (Some act) new_job step with_reserved plan.tree (no_reserved m.demands plan.tree) keeps rows recounted None texts message (reply.Reserve (cut_count plan.tree) act)
       j w (free_unreserved row.state j.act fitting.free) (λ x i e. i))
       counts
 
   pub reserve_fits : kept_at m (pair_of message) ≡ None → Fits m (keeping texts message (reserve_change row plan act rows))
   reserve_fits =
-      step_fits m stock row (state.Reserved act) [] (Some act) new_job step with_reserved plan.tree (no_reserved m.demands plan.tree) keeps rows recounted texts message (reply.Reserve (cut_count plan.tree) act)
-      (record { fits = subst (λ o. MatchOption o (IsOnPart m new_job × (plan.kerf ≡ plan.kerf)) (λ old. new_job ≡ record old { state = job.Waiting })) (sym no_job) (on_part, refl); part = is_known (part_at m row.name) row here })
+      step_fits m stock row (state.Reserved act) [] (Some act) new_job step with_reserved plan.tree (no_reserved m.demands plan.tree) keeps rows recounted None texts message (reply.Reserve (cut_count plan.tree) act)
+      (record { numbered = refl; new = no_job; on = on_part; kerf = refl }) tt
+      (sums_stay m.parts row (state.Reserved act) [] here (λ x i. absurd i) tt (ap is_there (free_stands row.state fitting.free)) refl (λ code c. refl))
       counts
 
 -- ---- its refusals

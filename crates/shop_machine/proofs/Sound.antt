@@ -19,7 +19,7 @@ use Rattle.shop_machine.specs.declared.kept_texts.Pair.{Pair}
 use Rattle.shop_machine.specs.declared.kept_texts.Kept.{Kept}
 use Rattle.shop_machine.specs.Messages.{Texts, IsMessage, IsMade, pair_of, IsCommand}
 use Rattle.shop_machine.specs.Readings.{Reading, plan_in}
-use Rattle.shop_machine.specs.Content.{Content, fresh, pair_cmp, material_at, totals_in, AddsUp, has_order, kept_at, changed, part_at, demand_at, material_of}
+use Rattle.shop_machine.specs.Content.{Content, fresh, pair_cmp, material_at, totals_in, AddsUp, has_order, kept_at, changed, part_at, demand_at, material_of, totals_of, totals_for}
 use Rattle.shop_machine.specs.Machine.{Reads, refusal_of, Makes, keeping}
 use Rattle.shop_machine.specs.History.{Entry, Gives}
 use Rattle.shop_machine.specs.Soundness.{IsSound, Fits, IsKept}
@@ -28,7 +28,7 @@ use Rattle.shop_machine.proofs.OrderingStep.{order_of, order_stock, order_fits, 
 use Rattle.shop_machine.proofs.EndingStep.{job_waits, end_stock, end_fits, release_stock, release_fits, so_far, end_told, end_agrees}
 use Rattle.shop_machine.proofs.ReceivingStep.{receive_stock, receive_fits, receipt, receive_agrees}
 use Rattle.shop_machine.proofs.ReservingStep.{reserve_stock, reserve_fits, reading, fitting, reserve_agrees}
-use Rattle.shop_machine.proofs.TurningStep.{scrap_stands, returned_stands, turn_stock, turn_fits, scrap_agrees, return_agrees}
+use Rattle.shop_machine.proofs.TurningStep.{scrap_stands, returned_stands, turn_stock, turn_fits, scrap_agrees, return_agrees, held_for}
 use Rattle.shop_machine.proofs.Grown.{IsStock, stock_of}
 use Rattle.shop_machine.proofs.AddingStep.{material_stock, material_fits, material_agrees, made_material}
 
@@ -37,7 +37,7 @@ use Rattle.shop_machine.proofs.AddingStep.{material_stock, material_fits, materi
 fits_by : (texts : Texts) (message : Message) (m : Content) (stock : IsStock m) (command : Command) (read : Reading) (change : Change) → Reads m command read
     → refusal_of m command read ≡ None → Makes m command read change → kept_at m (pair_of message) ≡ None → Fits m (keeping texts message change)
 fits_by texts message m stock (AddMaterial material kind kerf min_long min_short) read change reads allowed makes new =
-    subst (λ (c : Change). Fits m (keeping texts message c)) (sym makes) (material_fits texts message m material kind _ (material_at m material) refl new)
+    subst (λ (c : Change). Fits m (keeping texts message c)) (sym makes) (material_fits texts message m material kind _ stock (material_at m material) refl new)
 fits_by texts message m stock (Receive material batch w h count) read change reads allowed makes new =
     subst (λ (c : Change). Fits m (keeping texts message c)) (sym makes)
     (receive_fits m stock material batch w h count (receipt m material batch w h count read allowed) texts message new)
@@ -61,10 +61,10 @@ fits_by texts message m stock (Release number) read change reads allowed makes n
     (release_fits m stock number makes.0 makes.1 makes.2 makes.3 (job_waits m stop.All number makes.0 makes.3.found allowed) makes.4.rows makes.4.recounted texts message new)
 fits_by texts message m stock (Scrap part) read change reads allowed makes new =
     subst (λ (c : Change). Fits m (keeping texts message c)) (sym makes.2)
-    (turn_fits m stock part makes.0 makes.1 (scrap_stands (part_at m part) makes.0 makes.1 allowed) state.Scrap refl (λ number. refl) texts message (reply.Scrap makes.0.name) new)
+    (turn_fits m stock part makes.0 makes.1 (scrap_stands (part_at m part) makes.0 (totals_for m (part_at m part)) makes.1 allowed) state.Scrap refl (λ number. refl) texts message (reply.Scrap makes.0.name) new)
 fits_by texts message m stock (GiveBack part) read change reads allowed makes new =
     subst (λ (c : Change). Fits m (keeping texts message c)) (sym makes.2)
-    (turn_fits m stock part makes.0 makes.1 (returned_stands (part_at m part) makes.0 makes.1 allowed) state.Returned refl (λ number. refl) texts message (reply.GiveBack makes.0.name) new)
+    (turn_fits m stock part makes.0 makes.1 (returned_stands (part_at m part) makes.0 (totals_for m (part_at m part)) makes.1 allowed) state.Returned refl (λ number. refl) texts message (reply.GiveBack makes.0.name) new)
 
 stock_by : (texts : Texts) (message : Message) (m : Content) (stock : IsStock m) (command : Command) (read : Reading) (change : Change) → Reads m command read
     → refusal_of m command read ≡ None → Makes m command read change → IsStock (changed m (keeping texts message change))
@@ -93,10 +93,10 @@ stock_by texts message m stock (Release number) read change reads allowed makes 
     (release_stock m stock number makes.0 makes.1 makes.2 makes.3 (job_waits m stop.All number makes.0 makes.3.found allowed) makes.4.rows makes.4.recounted texts message)
 stock_by texts message m stock (Scrap part) read change reads allowed makes =
     subst (λ (c : Change). IsStock (changed m (keeping texts message c))) (sym makes.2)
-    (turn_stock m stock part makes.0 makes.1 (scrap_stands (part_at m part) makes.0 makes.1 allowed) state.Scrap refl (λ number. refl) texts message (reply.Scrap makes.0.name))
+    (turn_stock m stock part makes.0 makes.1 (scrap_stands (part_at m part) makes.0 (totals_for m (part_at m part)) makes.1 allowed) state.Scrap refl (λ number. refl) texts message (reply.Scrap makes.0.name))
 stock_by texts message m stock (GiveBack part) read change reads allowed makes =
     subst (λ (c : Change). IsStock (changed m (keeping texts message c))) (sym makes.2)
-    (turn_stock m stock part makes.0 makes.1 (returned_stands (part_at m part) makes.0 makes.1 allowed) state.Returned refl (λ number. refl) texts message (reply.GiveBack makes.0.name))
+    (turn_stock m stock part makes.0 makes.1 (returned_stands (part_at m part) makes.0 (totals_for m (part_at m part)) makes.1 allowed) state.Returned refl (λ number. refl) texts message (reply.GiveBack makes.0.name))
 
 -- the reply to what is accepted is one that an accepted message can get
 told_by : (m : Content) (stock : IsStock m) (command : Command) (read : Reading) (change : Change) → Reads m command read → refusal_of m command read ≡ None
@@ -134,7 +134,9 @@ told_by m stock (GiveBack part) read change reads allowed makes is =
 
 agrees_by : (m : Content) (stock : IsStock m) (command : Command) (read : Reading) → refusal_of m command read ≢ Some StoreFault
 agrees_by m stock (AddMaterial material kind kerf min_long min_short) read = material_agrees (material_at m material) kind _
-agrees_by m stock (Receive material batch w h count) read = receive_agrees (material_at m material) _ _ w h count
+agrees_by m stock (Receive material batch w h count) read =
+    let all = stock.in_range.adds_up material in
+    receive_agrees (material_at m material) (totals_of m material) _ w h count (omega (arith, all))
 agrees_by m stock (AddOrder order lines) read = order_agrees _ (material_at m) lines _
 agrees_by m stock (Reserve part text) read =
     reserve_agrees (part_at m part) (material_of m (part_at m part)) (plan_in read) (demand_at m) (m.last_act + 1)
@@ -142,8 +144,8 @@ agrees_by m stock (Reserve part text) read =
 agrees_by m stock (Done number) read = end_agrees m stock stop.All number
 agrees_by m stock (Break number halt) read = end_agrees m stock (stop.After halt) number
 agrees_by m stock (Release number) read = end_agrees m stock stop.All number
-agrees_by m stock (Scrap part) read = scrap_agrees (part_at m part)
-agrees_by m stock (GiveBack part) read = return_agrees (part_at m part)
+agrees_by m stock (Scrap part) read = scrap_agrees (part_at m part) (totals_for m (part_at m part)) (held_for m stock part)
+agrees_by m stock (GiveBack part) read = return_agrees (part_at m part) (totals_for m (part_at m part)) (held_for m stock part)
 
 -- ---- what is kept
 

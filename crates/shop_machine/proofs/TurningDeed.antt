@@ -14,7 +14,7 @@ use Rattle.shop_machine.specs.declared.messages.Reply.{Reply}
 use Rattle.shop_machine.specs.declared.messages.Reply.TheVariants as reply
 use Rattle.shop_machine.specs.Messages.{Texts}
 use Rattle.shop_machine.specs.Readings.{Reading}
-use Rattle.shop_machine.specs.Content.{Content, part_at}
+use Rattle.shop_machine.specs.Content.{Content, part_at, totals_of, totals_for}
 use Rattle.shop_machine.specs.Turning.{scrap_refusal, return_refusal, turn_change}
 use Rattle.shop_machine.specs.Soundness.{IsSound}
 use Rattle.shop_machine.specs.History.{Deed, deed, Turns, turned_owner, acts_of, owner_of, is_cut, standing_as}
@@ -26,7 +26,7 @@ use Rattle.shop_machine.proofs.TurningStep.{scrap_stands, returned_stands}
 module _ (texts : Texts) (message : Message) (earlier : List Deed) (old : Content) (sound : IsSound texts old) (f : Follows earlier old) where
   -- a standing part as a whole gets a state that stays
   by_turn : (s : State) (row : Part) (answer : Reply) → is_cut s ≡ false → standing_as s ≡ s → part_at old row.name ≡ Some row → row.state ≡ Standing
-      → After texts message earlier old sound f (Turns row.name s) (turn_change s row answer)
+      → After texts message earlier old sound f (Turns row.name s) (turn_change s row (totals_of old row.material) answer)
   by_turn s row answer whole stays kept stands = record {
     acts = (let e : old.last_act ≡ acts_of earlier = f.acts in omega arith);
     numbers = f.numbers;
@@ -45,18 +45,18 @@ module _ (texts : Texts) (message : Message) (earlier : List Deed) (old : Conten
   abbrev Then : Command → Reading → Change → Type 0
   Then command read change = After texts message earlier old sound f (deed command read) change
 
-  pub scraps : (part : Name) (read : Reading) (change : Change) (row : Part) → scrap_refusal (part_at old part) ≡ None → part_at old part ≡ Some row
-      → change ≡ turn_change state.Scrap row (reply.Scrap row.name) → Then (Scrap part) read change
+  pub scraps : (part : Name) (read : Reading) (change : Change) (row : Part) → scrap_refusal (part_at old part) (totals_for old (part_at old part)) ≡ None → part_at old part ≡ Some row
+      → change ≡ turn_change state.Scrap row (totals_of old row.material) (reply.Scrap row.name) → Then (Scrap part) read change
   scraps part read change row allowed found is =
       let same : row.name ≡ part = named texts message earlier old sound f part row found in
       subst (λ n. Then (Scrap n) read change) same
       (subst (Then (Scrap row.name) read) (sym is)
-      (by_turn state.Scrap row (reply.Scrap row.name) refl refl (ap (part_at old) same ∙ found) (scrap_stands (part_at old part) row found allowed)))
+      (by_turn state.Scrap row (reply.Scrap row.name) refl refl (ap (part_at old) same ∙ found) (scrap_stands (part_at old part) row (totals_for old (part_at old part)) found allowed)))
 
-  pub gives_back : (part : Name) (read : Reading) (change : Change) (row : Part) → return_refusal (part_at old part) ≡ None → part_at old part ≡ Some row
-      → change ≡ turn_change state.Returned row (reply.GiveBack row.name) → Then (GiveBack part) read change
+  pub gives_back : (part : Name) (read : Reading) (change : Change) (row : Part) → return_refusal (part_at old part) (totals_for old (part_at old part)) ≡ None → part_at old part ≡ Some row
+      → change ≡ turn_change state.Returned row (totals_of old row.material) (reply.GiveBack row.name) → Then (GiveBack part) read change
   gives_back part read change row allowed found is =
       let same : row.name ≡ part = named texts message earlier old sound f part row found in
       subst (λ n. Then (GiveBack n) read change) same
       (subst (Then (GiveBack row.name) read) (sym is)
-      (by_turn state.Returned row (reply.GiveBack row.name) refl refl (ap (part_at old) same ∙ found) (returned_stands (part_at old part) row found allowed)))
+      (by_turn state.Returned row (reply.GiveBack row.name) refl refl (ap (part_at old) same ∙ found) (returned_stands (part_at old part) row (totals_for old (part_at old part)) found allowed)))

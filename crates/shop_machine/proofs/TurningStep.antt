@@ -1,6 +1,6 @@
 -- A content after a standing part as a whole got another state.
 use Rattle.std.proofs.Common.{◌≡◌, ℕ, ◌+◌, List, [], ◌∷◌, inl, inr, true, false, refl, sym, ap, subst, ◌∙◌, arith}
-use Rattle.std.specs.Prelude.{Option, Some, None, IsSome, MatchOption, ⊤, not}
+use Rattle.std.specs.Prelude.{Option, Some, None, IsSome, not}
 use Rattle.std.specs.declared.cmp.Ordering.TheVariants.{Less}
 use Rattle.std.proofs.lemmas.List.Elements.{All-nil}
 use Rattle.std.proofs.lemmas.Bool.{not-false}
@@ -10,49 +10,59 @@ use Rattle.shop_machine.specs.declared.records.State.{State}
 use Rattle.shop_machine.specs.declared.records.State.TheVariants.{Standing, Reserved}
 use Rattle.shop_machine.specs.declared.records.Job.{Job}
 use Rattle.shop_machine.specs.declared.records.Demand.{Demand}
+use Rattle.shop_machine.specs.declared.records.Totals.{Totals}
 use Rattle.shop_machine.specs.declared.messages.Message.{Message}
 use Rattle.shop_machine.specs.declared.messages.Reply.{Reply}
 use Rattle.shop_machine.specs.declared.refusals.Refusal.TheVariants.{NotStanding}
 use Rattle.shop_machine.specs.Messages.{Texts, pair_of}
 use Rattle.shop_machine.specs.Columns.{is_whole, is_there, is_free, is_piece_for}
-use Rattle.shop_machine.specs.Content.{Content, material_at, part_at, kept_at, changed, in_state}
+use Rattle.shop_machine.specs.Content.{Content, material_at, part_at, kept_at, changed, in_state, totals_of, totals_for}
+use Rattle.shop_machine.specs.Moving.{has_cells, tally}
 use Rattle.shop_machine.specs.Turning.{scrap_refusal, return_refusal, turn_change}
 use Rattle.shop_machine.specs.Machine.{keeping}
 use Rattle.shop_machine.specs.History.{IsIn}
-use Rattle.shop_machine.specs.Soundness.{IsPlaced, IsWaiting, PartFits, Fits, LinesDiffer, made_in}
+use Rattle.shop_machine.specs.Soundness.{IsPlaced, IsWaiting, IsNewPart, Fits, made_in}
 use Rattle.shop_machine.proofs.Basics.{same_some}
 use Rattle.shop_machine.proofs.Puts.{all_from, pairs_from, not_both}
 use Rattle.shop_machine.proofs.AddedUp.{is_uncut}
 use Rattle.shop_machine.proofs.Moved.{found_moved, other_moved, received_moved, adds_up_moved, made_moved}
-use Rattle.shop_machine.proofs.Agreeing.{NoFault, other, nothing}
+use Rattle.shop_machine.proofs.Agreeing.{NoFault, other, no_such}
 use Rattle.shop_machine.proofs.Allowed.{none_of, free_stands}
 use Rattle.shop_machine.proofs.Grown.{IsStock, Grows, Untouched, placed_more, job_more, demand_more, no_pairs}
+use Rattle.shop_machine.proofs.Tallied.{sums_move, held}
 use Rattle.shop_machine.proofs.ReservingStep.{left_as_before}
 
 -- a part that may become scrap stands
-pub scrap_stands : (found : Option Part) (row : Part) → found ≡ Some row → scrap_refusal found ≡ None → row.state ≡ Standing
-scrap_stands found row is allowed =
-    let free = none_of (not (is_free row.state)) NotStanding None (subst (λ o. scrap_refusal o ≡ None) is allowed) in
+pub scrap_stands : (found : Option Part) (row : Part) (totals : Totals) → found ≡ Some row → scrap_refusal found totals ≡ None → row.state ≡ Standing
+scrap_stands found row totals is allowed =
+    let free = none_of (not (is_free row.state)) NotStanding _ (subst (λ o. scrap_refusal o totals ≡ None) is allowed) in
     free_stands row.state (not-false (is_free row.state) free.0)
 
 -- so does a unit that may be given back
-pub returned_stands : (found : Option Part) (row : Part) → found ≡ Some row → return_refusal found ≡ None → row.state ≡ Standing
-returned_stands found row is allowed =
-    let free = none_of (not (is_free row.state)) NotStanding _ (subst (λ o. return_refusal o ≡ None) is allowed) in
+pub returned_stands : (found : Option Part) (row : Part) (totals : Totals) → found ≡ Some row → return_refusal found totals ≡ None → row.state ≡ Standing
+returned_stands found row totals is allowed =
+    let free = none_of (not (is_free row.state)) NotStanding _ (subst (λ o. return_refusal o totals ≡ None) is allowed) in
     free_stands row.state (not-false (is_free row.state) free.0)
 
-pub scrap_agrees : (part : Option Part) → NoFault (scrap_refusal part)
-scrap_agrees None = λ e. cc
-scrap_agrees (Some part) = other (not (is_free part.state)) _ _ (λ e. cc) nothing
+pub scrap_agrees : (part : Option Part) (totals : Totals) → ((p : Part) → part ≡ Some p → has_cells p totals ≡ true) → NoFault (scrap_refusal part totals)
+scrap_agrees None totals h = λ e. cc
+scrap_agrees (Some part) totals h = other (not (is_free part.state)) _ _ (λ e. cc) (no_such (has_cells part totals) (h part refl))
 
-pub return_agrees : (part : Option Part) → NoFault (return_refusal part)
-return_agrees None = λ e. cc
-return_agrees (Some part) = other (not (is_free part.state)) _ _ (λ e. cc) (other (not (is_whole part)) _ _ (λ e. cc) nothing)
+pub return_agrees : (part : Option Part) (totals : Totals) → ((p : Part) → part ≡ Some p → has_cells p totals ≡ true) → NoFault (return_refusal part totals)
+return_agrees None totals h = λ e. cc
+return_agrees (Some part) totals h =
+    other (not (is_free part.state)) _ _ (λ e. cc) (other (not (is_whole part)) _ _ (λ e. cc) (no_such (has_cells part totals) (h part refl)))
+
+-- the totals of a part that is found hold it
+pub held_for : (m : Content) (stock : IsStock m) (name : Name) (p : Part) → part_at m name ≡ Some p → has_cells p (totals_for m (part_at m name)) ≡ true
+held_for m stock name p there =
+    subst (λ o. has_cells p (totals_for m o) ≡ true) (sym there)
+    (held m stock p (ap (λ n. part_at m n) (stock.parts name p there).named ∙ there))
 
 module _ (m : Content) (stock : IsStock m) (name : Name) (row : Part) (found : part_at m name ≡ Some row) (stands : row.state ≡ Standing)
     (s : State) (uncut : is_uncut s ≡ true) (plain : (number : ℕ) → is_piece_for number s ≡ false) (texts : Texts) (message : Message) (answer : Reply) where
   abbrev after : Content
-  after = changed m (keeping texts message (turn_change s row answer))
+  after = changed m (keeping texts message (turn_change s row (totals_of m row.material) answer))
 
   there : part_at m row.name ≡ Some row
   there = ap (λ n. part_at m n) (stock.parts name row found).named ∙ found
@@ -131,29 +141,21 @@ module _ (m : Content) (stock : IsStock m) (name : Name) (row : Part) (found : p
         (record { few = old.counted.few; reserved = old.counted.reserved; made = old.counted.made ∙ sym (made_same number) });
   }
 
-  row_fits : PartFits m (in_state s row)
-  row_fits = subst (λ o. MatchOption o ⊤ (λ old. in_state s row ≡ in_state s old)) (sym there) refl
-
-  fits_in : (x : Part) → IsIn x (in_state s row ∷ []) → PartFits m x
-  fits_in x (inl e) = subst (PartFits m) (sym e) row_fits
-  fits_in x (inr i) = absurd i
-
-  known_in : (x : Part) → IsIn x (in_state s row ∷ []) → IsSome (material_at m x.material)
-  known_in x (inl e) = subst (λ (p : Part). IsSome (material_at m p.material)) (sym e) (stock.parts row.name row there).known
-  known_in x (inr i) = absurd i
-
-  pub turn_fits : kept_at m (pair_of message) ≡ None → Fits m (keeping texts message (turn_change s row answer))
+  pub turn_fits : kept_at m (pair_of message) ≡ None → Fits m (keeping texts message (turn_change s row (totals_of m row.material) answer))
   turn_fits new = record {
     material = tt;
-    parts = all_from (PartFits m) (in_state s row ∷ []) fits_in;
-    known = all_from (λ (part : Part). IsSome (material_at m part.material)) (in_state s row ∷ []) known_in;
-    rising = pairs_from (λ (a b : Part). name_cmp a.name b.name ≡ Less) (in_state s row ∷ []) (λ y i. absurd i, tt);
+    parts = All-nil _;
+    rising = no_pairs (λ (a b : Part). name_cmp a.name b.name ≡ Less);
+    moved = record { before = row; found = there; is = refl; known = (stock.parts row.name row there).known };
     job = tt;
     order = tt;
     demands = All-nil _;
     wanted = All-nil _;
     once = no_pairs (λ (a b : Demand). a.number ≡ b.number → ⊥);
-    lines = no_pairs (LinesDiffer m);
+    lines = tt;
+    totals = (stock.parts row.name row there).known;
+    sums = sums_move m.parts row s [] there none_new tt (λ x i. absurd i) (λ code. refl) (tally (in_state s row ∷ []))
+        (record { stock = omega arith; rack = omega arith; pieces = omega arith; kerf = omega arith; scrap = omega arith; returned = omega arith });
     act = tt;
     demand = tt;
     kept = new;

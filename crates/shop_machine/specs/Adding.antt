@@ -8,6 +8,7 @@ use Rattle.shop_machine.specs.declared.refusals.Refusal.{Refusal}
 use Rattle.shop_machine.specs.declared.refusals.Refusal.TheVariants.{MaterialExists, BadMaterial}
 use Rattle.shop_machine.specs.declared.messages.Reply.TheVariants as reply
 use Rattle.shop_machine.specs.Same.{same_kind}
+use Rattle.shop_machine.specs.Content.{no_totals}
 use Rattle.shop_machine.specs.Decisions.{first_of, no_change}
 
 abbrev pub same_rule : Rule → Rule → Bool
@@ -22,8 +23,11 @@ abbrev pub material_refusal : Option Material → Kind → Rule → Option Refus
 material_refusal known kind rule =
     first_of ((not (is_rule kind rule.kerf rule.min_long rule.min_short), BadMaterial) ∷ (is_other known kind rule, MaterialExists) ∷ [])
 
--- a new material is put, and one that is known with equal values stays
+-- a new material is put, with a row of zeros, and one that is known with equal values stays
 abbrev pub material_change : Option Material → List ℕ → Kind → Rule → Change
 material_change None code kind rule =
-    record (no_change (reply.AddMaterial code)) { material = Some (record { code = code; kind = kind; limits = rule }) }
+    record (no_change (reply.AddMaterial code)) {
+      material = Some (record { code = code; kind = kind; limits = rule });
+      totals = Some (record { material = code; totals = no_totals });
+    }
 material_change (Some m) code kind rule = no_change (reply.AddMaterial code)

@@ -107,6 +107,15 @@ totals_in code parts =
 abbrev pub totals_of : Content → List ℕ → Totals
 totals_of content code = totals_in code (map.values content.parts)
 
+-- nothing was received yet
+abbrev pub no_totals : Totals
+no_totals = record { received = 0; stock = 0; rack = 0; pieces = 0; kerf = 0; scrap = 0; returned = 0 }
+
+-- the totals of a found part's material
+abbrev pub totals_for : Content → Option Part → Totals
+totals_for content None = no_totals
+totals_for content (Some part) = totals_of content part.material
+
 -- every cell that was received stands in stock or on the rack, or is a piece's, the saw's, scrap or returned
 abbrev pub AddsUp : Totals → Type 0
 AddsUp t = t.received ≡ t.stock + t.rack + t.pieces + t.kerf + t.scrap + t.returned
@@ -136,6 +145,11 @@ abbrev pub with_parts : List Part → map.FinMap name_cmp Part → map.FinMap na
 with_parts [] parts = parts
 with_parts (part ∷ more) parts = with_parts more (map.insert parts part.name part)
 
+-- a part that moves is put in its row's place
+abbrev pub with_moved : Option Part → map.FinMap name_cmp Part → map.FinMap name_cmp Part
+with_moved None parts = parts
+with_moved (Some part) parts = map.insert parts part.name part
+
 abbrev pub with_job : Option Job → map.FinMap nat_cmp Job → map.FinMap nat_cmp Job
 with_job None jobs = jobs
 with_job (Some job) jobs = map.insert jobs job.act job
@@ -162,7 +176,7 @@ abbrev pub changed : Content → Change → Content
 changed content change =
     record {
       materials = with_material change.material content.materials;
-      parts = with_parts change.parts content.parts;
+      parts = with_parts change.parts (with_moved change.moved content.parts);
       jobs = with_job change.job content.jobs;
       orders = with_order change.order content.orders;
       demands = with_demands change.demands content.demands;

@@ -19,4 +19,16 @@ Decides first makes (Err refusal) = refusal ≢ NoMemory → first ≡ Some refu
 -- a change of nothing, with this reply
 abbrev pub no_change : Reply → Change
 no_change answer =
-    record { material = None; parts = []; job = None; order = None; demands = []; act = None; demand = None; kept = None; reply = answer }
+    record {
+      material = None;
+      parts = [];
+      moved = None;
+      job = None;
+      order = None;
+      demands = [];
+      totals = None;
+      act = None;
+      demand = None;
+      kept = None;
+      reply = answer;
+    }

@@ -21,15 +21,15 @@ use Rattle.shop_machine.specs.declared.records.Job.{Job}
 use Rattle.shop_machine.specs.declared.records.JobState.{JobState}
 use Rattle.shop_machine.specs.declared.records.JobState.TheVariants as job
 use Rattle.shop_machine.specs.declared.records.Demand.{Demand}
-use Rattle.shop_machine.specs.declared.records.Column.{Column}
-use Rattle.shop_machine.specs.declared.records.Column.TheVariants as column
+use Rattle.shop_machine.specs.declared.records.Totals.{Totals}
 use Rattle.shop_machine.specs.declared.changes.Change.{Change}
 use Rattle.shop_machine.specs.declared.refusals.Refusal.{Refusal}
 use Rattle.shop_machine.specs.declared.refusals.Refusal.TheVariants.{NoJob, JobOver, BadCut, StoreFault}
 use Rattle.shop_machine.specs.declared.messages.Reply.{Reply}
 use Rattle.shop_machine.specs.declared.messages.Reply.TheVariants as reply
-use Rattle.shop_machine.specs.Columns.{is_counted, is_reserved_for, is_waiting}
-use Rattle.shop_machine.specs.Content.{Content, material_at, part_at, job_at, demand_at, material_of, part_of_job, in_state}
+use Rattle.shop_machine.specs.Columns.{is_reserved_for, is_waiting}
+use Rattle.shop_machine.specs.Content.{Content, material_at, part_at, job_at, demand_at, material_of, part_of_job, in_state, totals_for}
+use Rattle.shop_machine.specs.Moving.{tally, has_cells, moved_totals}
 use Rattle.shop_machine.specs.Decisions.{first_of, no_change}
 use Rattle.shop_machine.specs.Recounts.{plan_leaves, AreRecounted, with_laid, with_freed}
 
@@ -44,13 +44,17 @@ is_part_of j part =
     nat_le 1 j.act && nat_le j.act MOST_NUMBERS && is_reserved_for j.act part.state && part.size.w == j.plan.w && part.size.h == j.plan.h
     && nat_le (part.x + part.size.w) MOST_WIDTH && nat_le (part.y + part.size.h) MOST_HEIGHT
 
--- The rows on which a waiting job rests are there: its part, the part's material, and its pieces' demands. So they are in
--- each content that a history gives.
-abbrev pub rests : Job → Option Part → Option Material → (ℕ → Option Demand) → Bool
-rests j None material at = false
-rests j (Some part) None at = false
-rests j (Some part) (Some material) at =
-    is_part_of j part && list_all (λ leaf. has_reserved (count_of j.plan.tree leaf.demand) (at leaf.demand)) (plan_leaves j.plan)
+-- the part is the job's, and its material's totals hold it
+abbrev pub is_held : Job → Part → Totals → Bool
+is_held j part totals = is_part_of j part && has_cells part totals
+
+-- The rows on which a waiting job rests are there: its part, the part's material with totals that hold the part, and its
+-- pieces' demands. So they are in each content that a history gives.
+abbrev pub rests : Job → Option Part → Option Material → (ℕ → Option Demand) → Totals → Bool
+rests j None material at totals = false
+rests j (Some part) None at totals = false
+rests j (Some part) (Some material) at totals =
+    is_held j part totals && list_all (λ leaf. has_reserved (count_of j.plan.tree leaf.demand) (at leaf.demand)) (plan_leaves j.plan)
 
 -- a cut was made, or one went wrong
 abbrev pub has_begun : Halt → Bool
@@ -63,13 +67,15 @@ can_end tree stop.All = true
 can_end tree (stop.After halt) = allows tree halt && has_begun halt
 
 -- why a job can't end so, if it can't; a job that is released ends as one whose cuts were all made
-abbrev pub job_refusal : Stop → Option Job → Option Part → Option Material → (ℕ → Option Demand) → Option Refusal
-job_refusal stop None part material at = Some NoJob
-job_refusal stop (Some j) part material at =
-    first_of ((not (is_waiting j.state), JobOver) ∷ (not (can_end j.plan.tree stop), BadCut) ∷ (not (rests j part material at), StoreFault) ∷ [])
+abbrev pub job_refusal : Stop → Option Job → Option Part → Option Material → (ℕ → Option Demand) → Totals → Option Refusal
+job_refusal stop None part material at totals = Some NoJob
+job_refusal stop (Some j) part material at totals =
+    first_of ((not (is_waiting j.state), JobOver) ∷ (not (can_end j.plan.tree stop), BadCut) ∷ (not (rests j part material at totals), StoreFault) ∷ [])
 
 abbrev pub end_refusal : Content → Stop → Option Job → Option Refusal
-end_refusal old stop found = job_refusal stop found (part_of_job old found) (material_of old (part_of_job old found)) (demand_at old)
+end_refusal old stop found =
+    let part = part_of_job old found in
+    job_refusal stop found part (material_of old part) (demand_at old) (totals_for old part)
 
 -- a job with the rows on which it rests
 pub record IsWork (old : Content) (number : ℕ) (j : Job) (part : Part) (material : Material) : Type 0 where
@@ -100,51 +106,48 @@ row_part part rule act row =
       state = fate rule row.owner size;
     }
 
--- the cells of parts that a column counts
-abbrev pub cells_counted : Column → List Part → ℕ
-cells_counted column parts = sum_by (λ part. if is_counted column part then part.size.w * part.size.h else 0) parts
-
 -- the job is done where all cuts were made, else broken
 abbrev pub ended_state : Stop → JobState
 ended_state stop.All = job.Done
 ended_state (stop.After halt) = job.Broken
 
-abbrev pub ended_reply : Stop → ℕ → List Part → Reply
-ended_reply stop.All number parts =
-    reply.Done number (cells_counted column.Kerf parts) (cells_counted column.Pieces parts) (cells_counted column.Rack parts) (cells_counted column.Scrap parts)
-ended_reply (stop.After halt) number parts =
-    reply.Break number (cells_counted column.Kerf parts) (cells_counted column.Pieces parts) (cells_counted column.Rack parts) (cells_counted column.Scrap parts)
+-- the cells of the new parts, column by column, are told
+abbrev pub ended_reply : Stop → ℕ → Totals → Reply
+ended_reply stop.All number come = reply.Done number come.kerf come.pieces come.rack come.scrap
+ended_reply (stop.After halt) number come = reply.Break number come.kerf come.pieces come.rack come.scrap
 
-abbrev pub end_change : Stop → Job → Part → Rule → List Row → List Demand → Change
-end_change stop j part rule laid rows =
+abbrev pub end_change : Stop → Job → Part → Rule → Totals → List Row → List Demand → Change
+end_change stop j part rule totals laid rows =
     let made = map (row_part part rule j.act) laid in
-    record (no_change (ended_reply stop j.act made)) {
-      parts = in_state (Cut j.act) part ∷ made;
+    record (no_change (ended_reply stop j.act (tally made))) {
+      parts = made;
+      moved = Some (in_state (Cut j.act) part);
       job = Some (record j { state = ended_state stop });
       demands = rows;
+      totals = Some (record { material = part.material; totals = moved_totals part (tally made) totals });
     }
 
 -- The work on the plan ended so: its part falls into what was laid, none of its pieces is reserved any more, and those that
 -- were laid are made.
-pub record IsEnd (stop : Stop) (j : Job) (part : Part) (rule : Rule) (at : ℕ → Option Demand) (change : Change) : Type 0 where
+pub record IsEnd (stop : Stop) (j : Job) (part : Part) (rule : Rule) (totals : Totals) (at : ℕ → Option Demand) (change : Change) : Type 0 where
   pub laid : List Row
   pub is_laid : IsLaid j.plan.tree j.plan.w j.plan.h j.plan.kerf (outcome_of stop) laid
   pub rows : List Demand
   pub recounted : AreRecounted at (with_laid laid) j.plan.tree rows
-  pub is : change ≡ end_change stop j part rule laid rows
+  pub is : change ≡ end_change stop j part rule totals laid rows
 
 -- all cuts of the plan were made
-abbrev pub IsDone : Job → Part → Rule → (ℕ → Option Demand) → Change → Type 0
+abbrev pub IsDone : Job → Part → Rule → Totals → (ℕ → Option Demand) → Change → Type 0
 IsDone = IsEnd stop.All
 
 -- the work on the plan halted
-abbrev pub IsBroken : Halt → Job → Part → Rule → (ℕ → Option Demand) → Change → Type 0
+abbrev pub IsBroken : Halt → Job → Part → Rule → Totals → (ℕ → Option Demand) → Change → Type 0
 IsBroken halt = IsEnd (stop.After halt)
 
 abbrev pub release_change : Job → Part → List Demand → Change
 release_change j part rows =
     record (no_change (reply.Release j.act)) {
-      parts = in_state Standing part ∷ [];
+      moved = Some (in_state Standing part);
       job = Some (record j { state = job.Released });
       demands = rows;
     }
@@ -154,8 +157,3 @@ pub record IsRelease (j : Job) (part : Part) (at : ℕ → Option Demand) (chang
   pub rows : List Demand
   pub recounted : AreRecounted at with_freed j.plan.tree rows
   pub is : change ≡ release_change j part rows
-
--- the parts of a job that ended so, the cut one first, and what is told of them
-pub record AreEnded (stop : Stop) (j : Job) (part : Part) (rule : Rule) (laid : List Row) (parts : List Part) (answer : Reply) : Type 0 where
-  pub are : parts ≡ in_state (Cut j.act) part ∷ map (row_part part rule j.act) laid
-  pub told : answer ≡ ended_reply stop j.act (map (row_part part rule j.act) laid)

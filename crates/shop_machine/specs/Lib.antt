@@ -10,6 +10,7 @@ pub mod Adding
 pub mod Receiving
 pub mod Ordering
 pub mod Reserving
+pub mod Moving
 pub mod Ending
 pub mod Turning
 pub mod Machine

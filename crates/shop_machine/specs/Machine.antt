@@ -22,7 +22,7 @@ use Rattle.shop_machine.specs.declared.messages.Reply.TheVariants as reply
 use Rattle.shop_machine.specs.Columns.{state_word, state_of}
 use Rattle.shop_machine.specs.Messages.{Texts, IsMade, refusal_in, pair_of}
 use Rattle.shop_machine.specs.Readings.{Reading, unread, Plan, plan_in}
-use Rattle.shop_machine.specs.Content.{Content, material_at, part_at, job_at, has_order, demand_at, kept_at, totals_of, changed, material_of}
+use Rattle.shop_machine.specs.Content.{Content, material_at, part_at, job_at, has_order, demand_at, kept_at, totals_of, totals_for, changed, material_of}
 use Rattle.shop_machine.specs.Adding.{material_refusal, material_change}
 use Rattle.shop_machine.specs.Receiving.{receive_refusal, receive_change}
 use Rattle.shop_machine.specs.Ordering.{order_refusal, order_change}
@@ -50,7 +50,7 @@ abbrev pub refusal_of : Content → Command → Reading → Option Refusal
 refusal_of old (AddMaterial material kind kerf min_long min_short) read =
     material_refusal (material_at old material) kind (record { kerf = kerf; min_long = min_long; min_short = min_short })
 refusal_of old (Receive material batch w h count) read =
-    receive_refusal (material_at old material) (totals_of old material).received (old.last_act + 1) w h count
+    receive_refusal (material_at old material) (totals_of old material) (old.last_act + 1) w h count
 refusal_of old (AddOrder order lines) read =
     order_refusal (has_order old order) (material_at old) lines (old.last_demand + 1)
 refusal_of old (Reserve part text) read =
@@ -58,32 +58,32 @@ refusal_of old (Reserve part text) read =
 refusal_of old (Done number) read = end_refusal old stop.All (job_at old number)
 refusal_of old (Break number halt) read = end_refusal old (stop.After halt) (job_at old number)
 refusal_of old (Release number) read = end_refusal old stop.All (job_at old number)
-refusal_of old (Scrap part) read = scrap_refusal (part_at old part)
-refusal_of old (GiveBack part) read = return_refusal (part_at old part)
+refusal_of old (Scrap part) read = scrap_refusal (part_at old part) (totals_for old (part_at old part))
+refusal_of old (GiveBack part) read = return_refusal (part_at old part) (totals_for old (part_at old part))
 
 -- what a command changes where it is accepted, what its text stands for being read
 abbrev pub Makes : Content → Command → Reading → Change → Type 0
 Makes old (AddMaterial material kind kerf min_long min_short) read change =
     change ≡ material_change (material_at old material) material kind (record { kerf = kerf; min_long = min_long; min_short = min_short })
 Makes old (Receive material batch w h count) read change =
-    change ≡ receive_change material batch (record { w = w; h = h }) (old.last_act + 1) count
+    change ≡ receive_change material batch (record { w = w; h = h }) (old.last_act + 1) count (totals_of old material)
 Makes old (AddOrder order lines) read change = change ≡ order_change order lines (old.last_demand + 1)
 Makes old (Reserve part text) read change =
     (row : Part) × (plan : Pattern) × (part_at old part ≡ Some row) × (read ≡ Plan plan)
     × IsReservation row plan (demand_at old) (old.last_act + 1) change
 Makes old (Done number) read change =
     (j : Job) × (part : Part) × (material : Material) × IsWork old number j part material
-    × IsDone j part material.limits (demand_at old) change
+    × IsDone j part material.limits (totals_of old part.material) (demand_at old) change
 Makes old (Break number halt) read change =
     (j : Job) × (part : Part) × (material : Material) × IsWork old number j part material
-    × IsBroken halt j part material.limits (demand_at old) change
+    × IsBroken halt j part material.limits (totals_of old part.material) (demand_at old) change
 Makes old (Release number) read change =
     (j : Job) × (part : Part) × (material : Material) × IsWork old number j part material
     × IsRelease j part (demand_at old) change
 Makes old (Scrap part) read change =
-    (row : Part) × (part_at old part ≡ Some row) × (change ≡ turn_change state.Scrap row (reply.Scrap row.name))
+    (row : Part) × (part_at old part ≡ Some row) × (change ≡ turn_change state.Scrap row (totals_of old row.material) (reply.Scrap row.name))
 Makes old (GiveBack part) read change =
-    (row : Part) × (part_at old part ≡ Some row) × (change ≡ turn_change state.Returned row (reply.GiveBack row.name))
+    (row : Part) × (part_at old part ≡ Some row) × (change ≡ turn_change state.Returned row (totals_of old row.material) (reply.GiveBack row.name))
 
 -- ---- steps and runs
 

@@ -5,19 +5,22 @@ use Rattle.cut_measure.specs.Measures.{Extent, is_size, below}
 use Rattle.shop_machine.specs.declared.receiving.TheConstants.{MOST_RECEIVED, MOST_UNITS}
 use Rattle.shop_machine.specs.declared.records.Material.{Material}
 use Rattle.shop_machine.specs.declared.records.Part.{Part}
+use Rattle.shop_machine.specs.declared.records.Totals.{Totals}
 use Rattle.shop_machine.specs.declared.records.State.TheVariants.{Standing}
 use Rattle.shop_machine.specs.declared.changes.Change.{Change}
 use Rattle.shop_machine.specs.declared.refusals.Refusal.{Refusal}
-use Rattle.shop_machine.specs.declared.refusals.Refusal.TheVariants.{NoMaterial, BadSize, BadCount, TooMuch, NumbersSpent}
+use Rattle.shop_machine.specs.declared.refusals.Refusal.TheVariants.{NoMaterial, BadSize, BadCount, TooMuch, NumbersSpent, StoreFault}
 use Rattle.shop_machine.specs.declared.messages.Reply.TheVariants as reply
 use Rattle.shop_machine.specs.Decisions.{first_of, no_change}
 
--- of a receipt: its material's row, what was received of it, and the number that the act would have
-abbrev pub receive_refusal : Option Material → ℕ → ℕ → ℕ → ℕ → ℕ → Option Refusal
-receive_refusal None received act w h count = Some NoMaterial
-receive_refusal (Some m) received act w h count =
+-- Of a receipt: its material's row, the material's totals, and the number that the act would have. What is in stock was
+-- received, in each content that a history gives.
+abbrev pub receive_refusal : Option Material → Totals → ℕ → ℕ → ℕ → ℕ → Option Refusal
+receive_refusal None totals act w h count = Some NoMaterial
+receive_refusal (Some m) totals act w h count =
     first_of ((not (is_size m.kind w h), BadSize) ∷ (not (nat_le 1 count && nat_le count MOST_UNITS), BadCount)
-    ∷ (nat_lt MOST_RECEIVED (received + w * h * count), TooMuch) ∷ (nat_lt MOST_NUMBERS act, NumbersSpent) ∷ [])
+    ∷ (nat_lt MOST_RECEIVED (totals.received + w * h * count), TooMuch) ∷ (nat_lt MOST_NUMBERS act, NumbersSpent)
+    ∷ (not (nat_le totals.stock totals.received), StoreFault) ∷ [])
 
 -- the unit of this index: it stands, and is its own root
 abbrev pub unit_part : List ℕ → List ℕ → Extent → ℕ → ℕ → Part
@@ -36,6 +39,14 @@ unit_part material batch size act i =
 abbrev pub unit_parts : List ℕ → List ℕ → Extent → ℕ → ℕ → List Part
 unit_parts material batch size act count = map (unit_part material batch size act) (below count)
 
-abbrev pub receive_change : List ℕ → List ℕ → Extent → ℕ → ℕ → Change
-receive_change material batch size act count =
-    record (no_change (reply.Receive act count)) { parts = unit_parts material batch size act count; act = Some act }
+-- all cells of the units were received, and are in stock
+abbrev pub received_totals : ℕ → Totals → Totals
+received_totals cells t = record t { received = t.received + cells; stock = t.stock + cells }
+
+abbrev pub receive_change : List ℕ → List ℕ → Extent → ℕ → ℕ → Totals → Change
+receive_change material batch size act count totals =
+    record (no_change (reply.Receive act count)) {
+      parts = unit_parts material batch size act count;
+      totals = Some (record { material = material; totals = received_totals (size.w * size.h * count) totals });
+      act = Some act;
+    }

@@ -80,7 +80,7 @@ reserve_refusal (Some part) material read at act =
 abbrev pub reserve_change : Part → Pattern → ℕ → List Demand → Change
 reserve_change part plan act rows =
     record (no_change (reply.Reserve (cut_count plan.tree) act)) {
-      parts = in_state (Reserved act) part ∷ [];
+      moved = Some (in_state (Reserved act) part);
       job = Some (record { act = act; part = part.name; kerf = plan.kerf; plan = plan; state = job.Waiting });
       demands = rows;
       act = Some act;

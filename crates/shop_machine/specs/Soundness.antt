@@ -1,5 +1,5 @@
 -- What holds of every content that a history gives, and what a change has to fit so that each book can make it.
-use Rattle.std.specs.Prelude.{◌≡◌, ◌≢◌, ℕ, ◌+◌, ◌<◌, ◌≤◌, List, All, AllPairs, IsSome, IfSome, Some, None, MatchOption, true, false, ⊤, if◌then◌else◌, sum_by, count_by}
+use Rattle.std.specs.Prelude.{◌≡◌, ◌≢◌, ℕ, ◌+◌, ◌<◌, ◌≤◌, List, All, AllPairs, IsSome, IfSome, Option, Some, None, MatchOption, true, false, if◌then◌else◌, sum_by, count_by}
 use Rattle.std.specs.declared.cmp.Ordering.TheVariants.{Less}
 use Rattle.std.specs.FinMap as map
 use Rattle.cut_measure.specs.declared.ranges.TheConstants.{MOST_WIDTH, MOST_HEIGHT, MOST_NUMBERS}
@@ -19,9 +19,12 @@ use Rattle.shop_machine.specs.declared.kept_texts.Kept.{Kept}
 use Rattle.shop_machine.specs.declared.messages.Message.{Message}
 use Rattle.shop_machine.specs.declared.messages.Reply.{Reply}
 use Rattle.shop_machine.specs.declared.changes.Change.{Change}
+use Rattle.shop_machine.specs.declared.changes.MaterialTotals.{MaterialTotals}
+use Rattle.shop_machine.specs.declared.records.Totals.{Totals}
 use Rattle.shop_machine.specs.Columns.{is_piece_for, is_waiting}
 use Rattle.shop_machine.specs.Messages.{Texts, IsMessage, pair_of}
-use Rattle.shop_machine.specs.Content.{Content, material_at, part_at, job_at, has_order, demand_at, kept_at, totals_of, AddsUp, in_state}
+use Rattle.shop_machine.specs.Content.{Content, material_at, part_at, job_at, has_order, demand_at, kept_at, totals_of, AddsUp, in_state, changed}
+use Rattle.shop_machine.specs.Same.{same_code}
 use Rattle.shop_machine.specs.Machine.{KeepsReply}
 
 -- Each part is named after an act so far, the numbers aren't spent, and of each material no more was received than may be,
@@ -119,41 +122,72 @@ pub record IsSound (texts : Texts) (content : Content) : Type 0 where
   pub demands : (number : ℕ) (demand : Demand) → demand_at content number ≡ Some demand → IsDemand content number demand
   pub kept : (pair : Pair) (row : Kept) → kept_at content pair ≡ Some row → IsKept texts pair row
 
--- a part is new, or is there in another state
-abbrev pub PartFits : Content → Part → Type 0
-PartFits content part = MatchOption (part_at content part.name) ⊤ (λ old. part ≡ in_state part.state old)
+-- a new part is of a known material, and no part has its name yet
+pub record IsNewPart (content : Content) (part : Part) : Type 0 where
+  pub new : part_at content part.name ≡ None
+  pub known : IsSome (material_at content part.material)
 
--- a job is new, with its part's sides and its material's kerf, or is there in another state; its part is there
-pub record JobFits (content : Content) (job : Job) : Type 0 where
-  pub fits : MatchOption (job_at content job.act) (IsOnPart content job × (job.kerf ≡ job.plan.kerf)) (λ old. job ≡ record old { state = job.state })
+-- a part that moves is there, in another state
+pub record IsMovedPart (content : Content) (part : Part) : Type 0 where
+  pub before : Part
+  pub found : part_at content part.name ≡ Some before
+  pub is : part ≡ in_state part.state before
+  pub known : IsSome (material_at content part.material)
+
+-- a new job has the act's number, its part's sides and its material's kerf, and its part is there
+pub record IsNewJob (content : Content) (act : ℕ) (job : Job) : Type 0 where
+  pub numbered : job.act ≡ act
+  pub new : job_at content job.act ≡ None
+  pub on : IsOnPart content job
+  pub kerf : job.kerf ≡ job.plan.kerf
+
+-- a job that moves is there, in another state, and so is its part
+pub record IsMovedJob (content : Content) (job : Job) : Type 0 where
+  pub before : Job
+  pub found : job_at content job.act ≡ Some before
+  pub is : job ≡ record before { state = job.state }
   pub part : IsSome (part_at content job.part)
 
--- a demand of the change's order has a new number, or is there with other counts
-abbrev pub DemandFits : Content → Change → Demand → Type 0
-DemandFits content change demand =
-    MatchOption (demand_at content demand.number)
-    ((content.last_demand < demand.number) × (change.order ≡ Some demand.order))
-    (λ old. demand ≡ record old { reserved = demand.reserved; made = demand.made })
+-- a new demand is of the order, and has a new number
+pub record IsNewDemand (content : Content) (order : List ℕ) (demand : Demand) : Type 0 where
+  pub new : demand_at content demand.number ≡ None
+  pub later : content.last_demand < demand.number
+  pub of : demand.order ≡ order
 
--- two new demands are not of one line
-abbrev pub LinesDiffer : Content → Demand → Demand → Type 0
-LinesDiffer content a b = demand_at content a.number ≡ None → demand_at content b.number ≡ None → a.line ≢ b.line
+-- a demand that moves is there, with other counts
+pub record IsMovedDemand (content : Content) (demand : Demand) : Type 0 where
+  pub before : Demand
+  pub found : demand_at content demand.number ≡ Some before
+  pub is : demand ≡ record before { reserved = demand.reserved; made = demand.made }
 
--- The change's rows are new, or replace rows of which they keep all that never changes: a material of a new code; parts of
--- known materials whose names rise; a job; an order of a new code; demands of known materials, each once, of which no more
--- is reserved and made than wanted, the new ones of different lines; numbers above the last ones; and a message of a new
--- pair.
+-- a new material comes with its totals, and other totals are of a material that is there
+abbrev pub TotalsFit : Content → Option Material → Option MaterialTotals → Type 0
+TotalsFit content None totals = IfSome totals (λ row. IsSome (material_at content row.material))
+TotalsFit content (Some material) totals = MatchOption totals ⊥ (λ row. row.material ≡ material.code)
+
+-- the totals of a material, where a row of totals is put
+abbrev pub with_totals : Option MaterialTotals → List ℕ → Totals → Totals
+with_totals None code before = before
+with_totals (Some row) code before = if same_code row.material code then row.totals else before
+
+-- Each row of the change is new, or is there and keeps all that never changes: a material of a new code; new parts whose
+-- names rise; a part that moves; a job, new with an act and else one that moves; an order of a new code; demands of known
+-- materials, each once, of which no more is reserved and made than wanted, with an order its own, of different lines, and
+-- else ones that move; totals, such that each material has the sums of its parts after the change; numbers above the last
+-- ones; and a message of a new pair.
 pub record Fits (content : Content) (change : Change) : Type 0 where
   pub material : IfSome change.material (λ row. material_at content row.code ≡ None)
-  pub parts : All (PartFits content) change.parts
-  pub known : All (λ part. IsSome (material_at content part.material)) change.parts
+  pub parts : All (IsNewPart content) change.parts
   pub rising : AllPairs (λ a b. name_cmp a.name b.name ≡ Less) change.parts
-  pub job : IfSome change.job (JobFits content)
+  pub moved : IfSome change.moved (IsMovedPart content)
+  pub job : IfSome change.job (λ job. MatchOption change.act (IsMovedJob content job) (λ act. IsNewJob content act job))
   pub order : IfSome change.order (λ code. has_order content code ≡ false)
-  pub demands : All (DemandFits content change) change.demands
+  pub demands : MatchOption change.order (All (IsMovedDemand content) change.demands) (λ code. All (IsNewDemand content code) change.demands)
   pub wanted : All (λ demand. IsSome (material_at content demand.material) × (demand.reserved + demand.made ≤ demand.wanted)) change.demands
   pub once : AllPairs (λ a b. a.number ≢ b.number) change.demands
-  pub lines : AllPairs (LinesDiffer content) change.demands
+  pub lines : IfSome change.order (λ code. AllPairs (λ a b. a.line ≢ b.line) change.demands)
+  pub totals : TotalsFit content change.material change.totals
+  pub sums : (code : List ℕ) → totals_of (changed content change) code ≡ with_totals change.totals code (totals_of content code)
   pub act : IfSome change.act (λ act. (content.last_act < act) × (act ≤ MOST_NUMBERS))
   pub demand : IfSome change.demand (λ demand. (content.last_demand < demand) × (demand ≤ MOST_NUMBERS))
   pub kept : IfSome change.kept (λ row. kept_at content row.pair ≡ None)

@@ -4,9 +4,10 @@ ghost use Rattle.shop_machine.specs.Messages.{is_accepted};
 ghost use Rattle.shop_machine.specs.Decisions.{Decides};
 ghost use Rattle.shop_machine.specs.Adding.{material_refusal, material_change};
 
-use crate::changes::Change;
+use crate::changes::{Change, MaterialTotals};
 use crate::decisions::no_change;
 use crate::messages::Reply;
+use crate::moving::no_totals;
 use crate::records::Material;
 use crate::refusals::Refusal;
 use cut_measure::{Code, Kind, Limits};
@@ -29,17 +30,21 @@ pub fn decide_material(
     let Some(limits) = Limits::new(kind, kerf, min_long, min_short) else {
         return Err(Refusal::BadMaterial);
     };
-    let put = match known {
-        None => Some(Material {
-            code: material,
-            kind,
-            limits,
+    let same = no_change(alloc, Reply::AddMaterial { material });
+    match known {
+        None => Ok(Change {
+            material: Some(Material {
+                code: material,
+                kind,
+                limits,
+            }),
+            totals: Some(MaterialTotals {
+                material,
+                totals: no_totals(),
+            }),
+            ..same
         }),
-        Some(m) if m.kind == kind && m.limits == limits => None,
-        Some(_) => return Err(Refusal::MaterialExists),
-    };
-    Ok(Change {
-        material: put,
-        ..no_change(alloc, Reply::AddMaterial { material })
-    })
+        Some(m) if m.kind == kind && m.limits == limits => Ok(same),
+        Some(_) => Err(Refusal::MaterialExists),
+    }
 }

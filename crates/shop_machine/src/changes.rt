@@ -1,6 +1,6 @@
 use crate::kept_texts::KeptMessage;
 use crate::messages::Reply;
-use crate::records::{Demand, Job, Material, Part};
+use crate::records::{Demand, Job, Material, Part, Totals};
 use cut_measure::{Code, RowList};
 
 /// Rows of parts, in order.
@@ -9,19 +9,31 @@ pub type PartList = RowList<Part>;
 /// Rows of demands, in order.
 pub type DemandList = RowList<Demand>;
 
-/// What an accepted command changes, and its reply.
+/// The totals of a material.
+#[derive(Clone, Copy, Debug, PartialEq)]
+pub struct MaterialTotals {
+    pub material: Code,
+    pub totals: Totals,
+}
+
+/// What an accepted command changes, and its reply. Each row is either new or one that is there and moves, and the change
+/// says which.
 #[derive(Drop)]
 pub struct Change {
-    /// A material to put.
+    /// A new material.
     pub material: Option<Material>,
-    /// Parts to put.
+    /// New parts, by rising names.
     pub parts: PartList,
-    /// A job to put.
+    /// A part that is there, in another state.
+    pub moved: Option<Part>,
+    /// A job: a new one where an act is numbered, else one that is there, in another state.
     pub job: Option<Job>,
     /// An order's code that is used from now on.
     pub order: Option<Code>,
-    /// Demands to put.
+    /// Demands: the new ones of the order, or, without an order, ones that are there, with other counts.
     pub demands: DemandList,
+    /// The totals of the material whose totals change: a new row where the material is new, else one that is there.
+    pub totals: Option<MaterialTotals>,
     /// The last act number from now on, where an act was numbered.
     pub act: Option<u32>,
     /// The last demand number from now on, where demands were numbered.

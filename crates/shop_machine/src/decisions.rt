@@ -12,9 +12,11 @@ pub fn no_change(alloc: Global, reply: Reply) -> Change
     Change {
         material: None,
         parts: PartList::new(alloc),
+        moved: None,
         job: None,
         order: None,
         demands: DemandList::new(alloc),
+        totals: None,
         act: None,
         demand: None,
         kept: None,

@@ -12,13 +12,15 @@ ghost use Rattle.shop_machine.specs.declared.records.State.TheVariants.{Cut};
 ghost use Rattle.shop_machine.specs.Messages.{is_accepted};
 ghost use Rattle.shop_machine.specs.Decisions.{Decides};
 ghost use Rattle.shop_machine.specs.Recounts.{plan_leaves, AreDemandsFound, AreRecounted, leaves_in, HasRoom, HasRow, CanBeMade, IsNumbered, pieces_in, with_laid};
-ghost use Rattle.shop_machine.specs.Ending.{has_reserved, IsEnd, IsDone, IsBroken, IsRelease, cells_counted, ended_reply, ended_state, fate, has_begun, can_end, is_part_of, job_refusal, rests, row_part, AreEnded};
+ghost use Rattle.shop_machine.specs.Ending.{has_reserved, IsEnd, IsDone, IsBroken, IsRelease, ended_reply, ended_state, fate, has_begun, can_end, is_part_of, is_held, job_refusal, rests, row_part};
+ghost use Rattle.shop_machine.specs.Moving.{has_cells, tally, AreFew};
 ghost use Rattle.shop_machine.specs.Content.{in_state};
 
-use crate::changes::{Change, DemandList, PartList};
+use crate::changes::{Change, DemandList, MaterialTotals, PartList};
 use crate::decisions::no_change;
 use crate::messages::Reply;
-use crate::records::{Column, Demand, Job, JobState, Material, Part, State};
+use crate::moving::{has_cells, moved_totals, tally};
+use crate::records::{Demand, Job, JobState, Material, Part, State, Totals};
 use crate::recounts::{FoundLeaf, Recount, recounted_rows, wide};
 use crate::refusals::Refusal;
 use cut_measure::{Kind, Limits, MOST_HEIGHT, MOST_NUMBERS, MOST_WIDTH, PartName, Size};
@@ -65,7 +67,7 @@ fn row_part(part: &Part, limits: Limits, act: u32, row: &Row) -> Part
     }
 }
 
-// The parts that the laid rows of a job become, behind its own part.
+// The parts that the laid rows of a job on a part become.
 fn cut_parts(
     alloc: Global,
     part: &Part,
@@ -76,31 +78,13 @@ fn cut_parts(
     requires act { (1 ≤ act) × (act ≤ MOST_NUMBERS) }
     requires across { All (λ row. (1 ≤ row.w) × (part.now.x + row.x + row.w ≤ MOST_WIDTH)) rows.now }
     requires down { All (λ row. (1 ≤ row.h) × (part.now.y + row.y + row.h ≤ MOST_HEIGHT)) rows.now }
-    ensures { IfOk result (λ parts. parts ≡ in_state (Cut act) part.now ∷ map (row_part part.now limits act) rows.now) }
+    ensures { IfOk result (λ parts. parts ≡ map (row_part part.now limits act) rows.now) }
 {
     let mut parts = PartList::new(alloc);
-    parts.push(Part {
-        state: State::Cut(act),
-        ..*part
-    })?;
     for row in rows {
         parts.push(row_part(part, limits, act, row))?;
     }
     Ok(parts)
-}
-
-// The cells of parts that a column counts.
-fn cells_counted(column: Column, parts: &[Part]) -> u64
-    requires { sum_by (λ part. part.size.w * part.size.h) parts.now < 2 ^ 64 }
-    ensures { result ≡ cells_counted column parts.now }
-{
-    let mut cells = 0;
-    for part in parts {
-        if part.counts_in(column) {
-            cells += part.size.cells();
-        }
-    }
-    cells
 }
 
 // Whether of each leaf's demand all pieces of the plan are reserved.
@@ -147,15 +131,24 @@ fn is_part_of(job: &Job, part: &Part) -> bool
         && wide(part.y) + wide(h) <= wide(MOST_HEIGHT)
 }
 
+fn is_held(job: &Job, part: &Part, totals: &Totals) -> bool
+    ensures test { result ≡ is_held job.now part.now totals.now }
+    ensures part { IsTrue result → IsTrue (is_part_of job.now part.now) }
+    ensures cells { IsTrue result → IsTrue (has_cells part.now totals.now) }
+{
+    is_part_of(job, part) && has_cells(part, totals)
+}
+
 // Whether the rows on which a waiting job rests are there.
-fn rests(job: &Job, part: &Part, leaves: &[FoundLeaf]) -> bool
+fn rests(job: &Job, part: &Part, totals: &Totals, leaves: &[FoundLeaf]) -> bool
     requires numbered { All IsNumbered leaves.now }
     requires leaves { leaves_in leaves.now ≡ plan_leaves job.now.plan }
-    ensures test { (at : ℕ → Option DemandOf) → (material : MaterialOf) → AreDemandsFound at leaves.now → result ≡ rests job.now (Some part.now) (Some material) at }
+    ensures test { (at : ℕ → Option DemandOf) → (material : MaterialOf) → AreDemandsFound at leaves.now → result ≡ rests job.now (Some part.now) (Some material) at totals.now }
     ensures part { IsTrue result → IsTrue (is_part_of job.now part.now) }
+    ensures cells { IsTrue result → IsTrue (has_cells part.now totals.now) }
     ensures rows { IsTrue result → All (HasRow CanBeMade job.now.plan.tree) leaves.now }
 {
-    is_part_of(job, part) && are_reserved(&job.plan, leaves)
+    is_held(job, part, totals) && are_reserved(&job.plan, leaves)
 }
 
 // Whether a cut was made, or one went wrong.
@@ -191,15 +184,17 @@ fn work_of(
     job: Option<Job>,
     part: Option<Part>,
     material: Option<Material>,
+    totals: &Totals,
     leaves: &[FoundLeaf],
     stop: &Stop,
 ) -> Result<Work, Refusal>
     requires numbered { All IsNumbered leaves.now }
     requires leaves { IfSome job (λ j. leaves_in leaves.now ≡ plan_leaves j.plan) }
-    ensures allowed { IfOk result (λ _. (at : ℕ → Option DemandOf) → AreDemandsFound at leaves.now → job_refusal stop.now job part material at ≡ None) }
-    ensures refused { IfErr result (λ refusal. (at : ℕ → Option DemandOf) → AreDemandsFound at leaves.now → job_refusal stop.now job part material at ≡ Some refusal) }
+    ensures allowed { IfOk result (λ _. (at : ℕ → Option DemandOf) → AreDemandsFound at leaves.now → job_refusal stop.now job part material at totals.now ≡ None) }
+    ensures refused { IfErr result (λ refusal. (at : ℕ → Option DemandOf) → AreDemandsFound at leaves.now → job_refusal stop.now job part material at totals.now ≡ Some refusal) }
     ensures work { IfOk result (λ work. (job ≡ Some work.job) × (part ≡ Some work.part) × IfSome material (λ m. m.limits ≡ work.limits)) }
     ensures part { IfOk result (λ work. IsTrue (is_part_of work.job work.part)) }
+    ensures cells { IfOk result (λ work. IsTrue (has_cells work.part totals.now)) }
     ensures stop { IfOk result (λ work. IsStopOf work.job.plan.tree stop.now) }
     ensures rows { IfOk result (λ work. All (HasRow CanBeMade work.job.plan.tree) leaves.now) }
 {
@@ -218,7 +213,7 @@ fn work_of(
     let Some(material) = material else {
         return Err(Refusal::StoreFault);
     };
-    if !rests(&job, &part, leaves) {
+    if !rests(&job, &part, totals, leaves) {
         return Err(Refusal::StoreFault);
     }
     Ok(Work {
@@ -239,14 +234,16 @@ fn ended_state(stop: &Stop) -> JobState
 }
 
 // What is told of a job that ended so: the cells of its new parts.
-fn ended_reply(stop: &Stop, job: u32, parts: &[Part]) -> Reply
-    requires { sum_by (λ part. part.size.w * part.size.h) parts.now < 2 ^ 64 }
-    ensures { result ≡ ended_reply stop.now job parts.now }
+fn ended_reply(stop: &Stop, job: u32, come: &Totals) -> Reply
+    ensures { result ≡ ended_reply stop.now job come.now }
 {
-    let kerf = cells_counted(Column::Kerf, parts);
-    let pieces = cells_counted(Column::Pieces, parts);
-    let rack = cells_counted(Column::Rack, parts);
-    let scrap = cells_counted(Column::Scrap, parts);
+    let Totals {
+        kerf,
+        pieces,
+        rack,
+        scrap,
+        ..
+    } = *come;
     match stop {
         Stop::All => Reply::Done {
             job,
@@ -276,7 +273,7 @@ fn laid_rows(alloc: Global, plan: &Plan, stop: &Stop) -> Result<Vec<Row>, AllocE
     Ok(rows)
 }
 
-// The parts of a job that ended so, the cut one first, and what is told of them.
+// The new parts of a job that ended so, and their cells, column by column.
 fn ended_parts(
     alloc: Global,
     job: &Job,
@@ -284,24 +281,17 @@ fn ended_parts(
     limits: Limits,
     stop: &Stop,
     rows: &[Row],
-) -> Result<(PartList, Reply), AllocError>
+) -> Result<(PartList, Totals), AllocError>
     requires part { IsTrue (is_part_of job.now part.now) }
     requires laid { IsLaid job.now.plan.tree job.now.plan.w job.now.plan.h job.now.plan.kerf (outcome_of stop.now) rows.now }
-    ensures { IfOk result (λ made. AreEnded stop.now job.now part.now limits rows.now made.0 made.1) }
+    ensures parts { IfOk result (λ made. made.0 ≡ map (row_part part.now limits job.now.act) rows.now) }
+    ensures cells { IfOk result (λ made. made.1 ≡ tally (map (row_part part.now limits job.now.act) rows.now)) }
+    ensures few { IfOk result (λ made. AreFew (part.now.size.w * part.now.size.h) made.1) }
 {
+    let _stop = stop;
     let parts = cut_parts(alloc, part, limits, job.act, rows)?;
-    let reply = ended_reply(stop, job.act, behind(parts.as_slice()));
-    Ok((parts, reply))
-}
-
-// The parts behind the first one.
-fn behind(parts: &[Part]) -> &[Part]
-    ensures { result.now ≡ drop 1 parts.now }
-{
-    match parts {
-        [] => parts,
-        [_, more @ ..] => more,
-    }
+    let come = tally(parts.as_slice());
+    Ok((parts, come))
 }
 
 // The rows of a plan's demands once its pieces aren't reserved any more, and those that were laid are made.
@@ -320,26 +310,42 @@ fn laid_demands(
 }
 
 // The change of a job whose work ended so.
-fn end(alloc: Global, work: Work, leaves: &[FoundLeaf], stop: &Stop) -> Result<Change, AllocError>
+fn end(
+    alloc: Global,
+    work: Work,
+    totals: &Totals,
+    leaves: &[FoundLeaf],
+    stop: &Stop,
+) -> Result<Change, AllocError>
     requires leaves { leaves_in leaves.now ≡ plan_leaves work.job.plan }
     requires part { IsTrue (is_part_of work.job work.part) }
+    requires cells { IsTrue (has_cells work.part totals.now) }
     requires stop { IsStopOf work.job.plan.tree stop.now }
     requires rows { All (HasRow CanBeMade work.job.plan.tree) leaves.now }
-    ensures change { IfOk result (λ change. (at : ℕ → Option DemandOf) → AreDemandsFound at leaves.now → IsEnd stop.now work.job work.part work.limits at change) }
+    ensures change { IfOk result (λ change. (at : ℕ → Option DemandOf) → AreDemandsFound at leaves.now → IsEnd stop.now work.job work.part work.limits totals.now at change) }
     ensures told { IfOk result (λ change. IsTrue (is_accepted change.reply)) }
 {
     let Work { job, part, limits } = work;
     let rows = laid_rows(alloc, &job.plan, stop)?;
     let laid: &[Row] = &rows;
     let demands = laid_demands(alloc, &job.plan, laid, leaves)?;
-    let (parts, reply) = ended_parts(alloc, &job, &part, limits, stop, laid)?;
+    let (parts, come) = ended_parts(alloc, &job, &part, limits, stop, laid)?;
+    let reply = ended_reply(stop, job.act, &come);
     Ok(Change {
         parts,
+        moved: Some(Part {
+            state: State::Cut(job.act),
+            ..part
+        }),
         job: Some(Job {
             state: ended_state(stop),
             ..job
         }),
         demands,
+        totals: Some(MaterialTotals {
+            material: part.material,
+            totals: moved_totals(&part, &come, totals),
+        }),
         ..no_change(alloc, reply)
     })
 }
@@ -357,14 +363,12 @@ fn release(alloc: Global, work: Work, leaves: &[FoundLeaf]) -> Result<Change, Al
         limits: _,
     } = work;
     let demands = recounted_rows(alloc, Recount::Freed, &job.plan, leaves)?;
-    let mut parts = PartList::new(alloc);
-    parts.push(Part {
-        state: State::Standing,
-        ..part
-    })?;
     let reply = Reply::Release { job: job.act };
     Ok(Change {
-        parts,
+        moved: Some(Part {
+            state: State::Standing,
+            ..part
+        }),
         job: Some(Job {
             state: JobState::Released,
             ..job
@@ -380,37 +384,39 @@ fn decide_end(
     job: Option<Job>,
     part: Option<Part>,
     material: Option<Material>,
+    totals: &Totals,
     leaves: &[FoundLeaf],
     stop: &Stop,
 ) -> Result<Change, Refusal>
     requires numbered { All IsNumbered leaves.now }
     requires leaves { IfSome job (λ j. leaves_in leaves.now ≡ plan_leaves j.plan) }
     ensures decision { (at : ℕ → Option DemandOf) → AreDemandsFound at leaves.now →
-        Decides (job_refusal stop.now job part material at) (λ change. MatchOption job ⊥ (λ j. MatchOption part ⊥ (λ p. MatchOption material ⊥ (λ m. IsEnd stop.now j p m.limits at change)))) result }
+        Decides (job_refusal stop.now job part material at totals.now) (λ change. MatchOption job ⊥ (λ j. MatchOption part ⊥ (λ p. MatchOption material ⊥ (λ m. IsEnd stop.now j p m.limits totals.now at change)))) result }
     ensures told { IfOk result (λ change. IsTrue (is_accepted change.reply)) }
 {
-    let work = work_of(job, part, material, leaves, stop)?;
-    let change = end(alloc, work, leaves, stop)?;
+    let work = work_of(job, part, material, totals, leaves, stop)?;
+    let change = end(alloc, work, totals, leaves, stop)?;
     Ok(change)
 }
 
-/// Finishes a job, from its row, the rows of its part and the part's material, and its plan's leaves with the rows of
-/// their demands.
+/// Finishes a job, from its row, the rows of its part and the part's material, the material's totals, and its plan's
+/// leaves with the rows of their demands.
 pub fn decide_done(
     alloc: Global,
     job: Option<Job>,
     part: Option<Part>,
     material: Option<Material>,
+    totals: Totals,
     leaves: &[FoundLeaf],
 ) -> Result<Change, Refusal>
     requires numbered { All IsNumbered leaves.now }
     requires leaves { IfSome job (λ j. leaves_in leaves.now ≡ plan_leaves j.plan) }
     ensures decision { (at : ℕ → Option DemandOf) → AreDemandsFound at leaves.now →
-        Decides (job_refusal AllCuts job part material at) (λ change. MatchOption job ⊥ (λ j. MatchOption part ⊥ (λ p. MatchOption material ⊥ (λ m. IsDone j p m.limits at change)))) result }
+        Decides (job_refusal AllCuts job part material at totals) (λ change. MatchOption job ⊥ (λ j. MatchOption part ⊥ (λ p. MatchOption material ⊥ (λ m. IsDone j p m.limits totals at change)))) result }
     ensures told { IfOk result (λ change. IsTrue (is_accepted change.reply)) }
 {
     let stop = Stop::All;
-    let change = decide_end(alloc, job, part, material, leaves, &stop)?;
+    let change = decide_end(alloc, job, part, material, &totals, leaves, &stop)?;
     Ok(change)
 }
 
@@ -420,17 +426,18 @@ pub fn decide_break(
     job: Option<Job>,
     part: Option<Part>,
     material: Option<Material>,
+    totals: Totals,
     leaves: &[FoundLeaf],
     halt: &Halt,
 ) -> Result<Change, Refusal>
     requires numbered { All IsNumbered leaves.now }
     requires leaves { IfSome job (λ j. leaves_in leaves.now ≡ plan_leaves j.plan) }
     ensures decision { (at : ℕ → Option DemandOf) → AreDemandsFound at leaves.now →
-        Decides (job_refusal (After halt.now) job part material at) (λ change. MatchOption job ⊥ (λ j. MatchOption part ⊥ (λ p. MatchOption material ⊥ (λ m. IsBroken halt.now j p m.limits at change)))) result }
+        Decides (job_refusal (After halt.now) job part material at totals) (λ change. MatchOption job ⊥ (λ j. MatchOption part ⊥ (λ p. MatchOption material ⊥ (λ m. IsBroken halt.now j p m.limits totals at change)))) result }
     ensures told { IfOk result (λ change. IsTrue (is_accepted change.reply)) }
 {
     let stop = Stop::After(halt.copy(alloc)?);
-    let change = decide_end(alloc, job, part, material, leaves, &stop)?;
+    let change = decide_end(alloc, job, part, material, &totals, leaves, &stop)?;
     Ok(change)
 }
 
@@ -440,16 +447,17 @@ pub fn decide_release(
     job: Option<Job>,
     part: Option<Part>,
     material: Option<Material>,
+    totals: Totals,
     leaves: &[FoundLeaf],
 ) -> Result<Change, Refusal>
     requires numbered { All IsNumbered leaves.now }
     requires leaves { IfSome job (λ j. leaves_in leaves.now ≡ plan_leaves j.plan) }
     ensures decision { (at : ℕ → Option DemandOf) → AreDemandsFound at leaves.now →
-        Decides (job_refusal AllCuts job part material at) (λ change. MatchOption job ⊥ (λ j. MatchOption part ⊥ (λ p. MatchOption material ⊥ (λ _. IsRelease j p at change)))) result }
+        Decides (job_refusal AllCuts job part material at totals) (λ change. MatchOption job ⊥ (λ j. MatchOption part ⊥ (λ p. MatchOption material ⊥ (λ _. IsRelease j p at change)))) result }
     ensures told { IfOk result (λ change. IsTrue (is_accepted change.reply)) }
 {
     let stop = Stop::All;
-    let work = work_of(job, part, material, leaves, &stop)?;
+    let work = work_of(job, part, material, &totals, leaves, &stop)?;
     let change = release(alloc, work, leaves)?;
     Ok(change)
 }

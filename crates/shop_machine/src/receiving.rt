@@ -4,10 +4,10 @@ ghost use Rattle.shop_machine.specs.Messages.{is_accepted};
 ghost use Rattle.shop_machine.specs.Decisions.{Decides};
 ghost use Rattle.shop_machine.specs.Receiving.{receive_refusal, receive_change, unit_parts};
 
-use crate::changes::{Change, PartList};
+use crate::changes::{Change, MaterialTotals, PartList};
 use crate::decisions::no_change;
 use crate::messages::Reply;
-use crate::records::{Material, Part, State};
+use crate::records::{Material, Part, State, Totals};
 use crate::refusals::Refusal;
 use cut_measure::{Code, MOST_NUMBERS, PartName, Size};
 use std::alloc::{AllocError, Global};
@@ -48,11 +48,11 @@ fn received_parts(
     Ok(rows)
 }
 
-/// Receives units of one size, from the row of their material, what was received of it, and the next act's number.
+/// Receives units of one size, from the row of their material, its totals, and the next act's number.
 pub fn decide_receive(
     alloc: Global,
     known: Option<Material>,
-    received: u64,
+    totals: Totals,
     act: u32,
     material: Code,
     batch: Code,
@@ -61,8 +61,8 @@ pub fn decide_receive(
     count: u32,
 ) -> Result<Change, Refusal>
     requires { 1 ≤ act }
-    ensures decision { Decides (receive_refusal known received act w h count)
-        (λ change. change ≡ receive_change material batch (record { w = w; h = h }) act count) result }
+    ensures decision { Decides (receive_refusal known totals act w h count)
+        (λ change. change ≡ receive_change material batch (record { w = w; h = h }) act count totals) result }
     ensures told { IfOk result (λ change. IsTrue (is_accepted change.reply)) }
 {
     let Some(known) = known else {
@@ -74,17 +74,29 @@ pub fn decide_receive(
     if count < 1 || count > MOST_UNITS {
         return Err(Refusal::BadCount);
     }
-    if received > MOST_RECEIVED || size.cells() * u64::from(count) > MOST_RECEIVED - received {
+    let cells = size.cells() * u64::from(count);
+    if totals.received > MOST_RECEIVED || cells > MOST_RECEIVED - totals.received {
         return Err(Refusal::TooMuch);
     }
     if act > MOST_NUMBERS {
         return Err(Refusal::NumbersSpent);
+    }
+    if totals.stock > totals.received {
+        return Err(Refusal::StoreFault);
     }
     let Ok(parts) = received_parts(alloc, material, batch, size, act, count) else {
         return Err(Refusal::NoMemory);
     };
     Ok(Change {
         parts,
+        totals: Some(MaterialTotals {
+            material,
+            totals: Totals {
+                received: totals.received + cells,
+                stock: totals.stock + cells,
+                ..totals
+            },
+        }),
         act: Some(act),
         ..no_change(alloc, Reply::Receive { act, count })
     })

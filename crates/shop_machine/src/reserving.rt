@@ -8,7 +8,7 @@ ghost use Rattle.shop_machine.specs.Decisions.{Decides};
 ghost use Rattle.shop_machine.specs.Recounts.{plan_leaves, AreDemandsFound, leaves_in, HasRoom, HasRow, IsNumbered};
 ghost use Rattle.shop_machine.specs.Reserving.{IsReservation, fits_demand, is_over, leaf_refusal, leaves_refusal, plan_refusal, reserve_refusal};
 
-use crate::changes::{Change, PartList};
+use crate::changes::Change;
 use crate::decisions::no_change;
 use crate::messages::Reply;
 use crate::records::{Demand, Job, JobState, Material, Part, State};
@@ -103,11 +103,6 @@ fn reservation(
     ensures told { IfOk result (λ change. IsTrue (is_accepted change.reply)) }
 {
     let demands = recounted_rows(alloc, Recount::Reserved, &plan, leaves)?;
-    let mut parts = PartList::new(alloc);
-    parts.push(Part {
-        state: State::Reserved(act),
-        ..part
-    })?;
     let cuts = plan.cuts();
     let job = Job {
         act,
@@ -117,7 +112,10 @@ fn reservation(
         state: JobState::Waiting,
     };
     Ok(Change {
-        parts,
+        moved: Some(Part {
+            state: State::Reserved(act),
+            ..part
+        }),
         job: Some(job),
         demands,
         act: Some(act),

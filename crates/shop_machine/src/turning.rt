@@ -3,30 +3,37 @@ ghost use Rattle.shop_machine.specs.declared.messages.Reply.TheVariants as reply
 ghost use Rattle.shop_machine.specs.declared.records.State.TheVariants as state;
 ghost use Rattle.shop_machine.specs.Messages.{is_accepted};
 ghost use Rattle.shop_machine.specs.Decisions.{Decides};
+ghost use Rattle.shop_machine.specs.Moving.{has_cells};
 ghost use Rattle.shop_machine.specs.Turning.{scrap_refusal, return_refusal, turn_change};
 
-use crate::changes::{Change, PartList};
+use crate::changes::{Change, MaterialTotals};
 use crate::decisions::no_change;
 use crate::messages::Reply;
-use crate::records::{Part, State};
+use crate::moving::{has_cells, moved_totals, tally_one};
+use crate::records::{Part, State, Totals};
 use crate::refusals::Refusal;
-use std::alloc::{AllocError, Global};
+use std::alloc::Global;
 
 // The change of a part that as a whole gets another state.
-fn turned(alloc: Global, part: Part, state: State, reply: Reply) -> Result<Change, AllocError>
-    ensures { IfOk result (λ change. change ≡ turn_change state part reply) }
+fn turned(alloc: Global, part: Part, state: State, totals: &Totals, reply: Reply) -> Change
+    requires { IsTrue (has_cells part totals.now) }
+    ensures { result ≡ turn_change state part totals.now reply }
 {
-    let mut parts = PartList::new(alloc);
-    parts.push(Part { state, ..part })?;
-    Ok(Change {
-        parts,
+    let moved = Part { state, ..part };
+    let come = tally_one(&moved);
+    Change {
+        moved: Some(moved),
+        totals: Some(MaterialTotals {
+            material: part.material,
+            totals: moved_totals(&part, &come, totals),
+        }),
         ..no_change(alloc, reply)
-    })
+    }
 }
 
-/// Makes a standing part scrap, from its row.
-pub fn decide_scrap(alloc: Global, part: Option<Part>) -> Result<Change, Refusal>
-    ensures decision { Decides (scrap_refusal part) (λ change. MatchOption part ⊥ (λ row. change ≡ turn_change state.Scrap row (reply.Scrap row.name))) result }
+/// Makes a standing part scrap, from its row and the totals of its material.
+pub fn decide_scrap(alloc: Global, part: Option<Part>, totals: Totals) -> Result<Change, Refusal>
+    ensures decision { Decides (scrap_refusal part totals) (λ change. MatchOption part ⊥ (λ row. change ≡ turn_change state.Scrap row totals (reply.Scrap row.name))) result }
     ensures told { IfOk result (λ change. IsTrue (is_accepted change.reply)) }
 {
     let Some(part) = part else {
@@ -35,14 +42,20 @@ pub fn decide_scrap(alloc: Global, part: Option<Part>) -> Result<Change, Refusal
     if !part.state.is_free() {
         return Err(Refusal::NotStanding);
     }
+    if !has_cells(&part, &totals) {
+        return Err(Refusal::StoreFault);
+    }
     let reply = Reply::Scrap { part: part.name };
-    let change = turned(alloc, part, State::Scrap, reply)?;
-    Ok(change)
+    Ok(turned(alloc, part, State::Scrap, &totals, reply))
 }
 
-/// Returns a standing unit to its supplier, from its row.
-pub fn decide_give_back(alloc: Global, part: Option<Part>) -> Result<Change, Refusal>
-    ensures decision { Decides (return_refusal part) (λ change. MatchOption part ⊥ (λ row. change ≡ turn_change state.Returned row (reply.GiveBack row.name))) result }
+/// Returns a standing unit to its supplier, from its row and the totals of its material.
+pub fn decide_give_back(
+    alloc: Global,
+    part: Option<Part>,
+    totals: Totals,
+) -> Result<Change, Refusal>
+    ensures decision { Decides (return_refusal part totals) (λ change. MatchOption part ⊥ (λ row. change ≡ turn_change state.Returned row totals (reply.GiveBack row.name))) result }
     ensures told { IfOk result (λ change. IsTrue (is_accepted change.reply)) }
 {
     let Some(part) = part else {
@@ -54,7 +67,9 @@ pub fn decide_give_back(alloc: Global, part: Option<Part>) -> Result<Change, Ref
     if !part.is_whole() {
         return Err(Refusal::NotWhole);
     }
+    if !has_cells(&part, &totals) {
+        return Err(Refusal::StoreFault);
+    }
     let reply = Reply::GiveBack { part: part.name };
-    let change = turned(alloc, part, State::Returned, reply)?;
-    Ok(change)
+    Ok(turned(alloc, part, State::Returned, &totals, reply))
 }

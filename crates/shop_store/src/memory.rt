@@ -2,7 +2,7 @@ ghost use Rattle.std.specs.Prelude.{◌≡◌, ◌≢◌, ◌+◌, ◌<◌, ◌�
 ghost use Rattle.cut_measure.specs.Codes.{code_cmp};
 ghost use Rattle.cut_measure.specs.Names.{name_cmp};
 ghost use Rattle.std.specs.Ordering.{nat_cmp};
-ghost use Rattle.shop_machine.specs.Content.{Content, material_at, part_at, job_at, has_order, demand_at, kept_at, totals_of, parts_of as listed_parts, changed, is_listed, with_parts, with_material, with_job, with_order, with_demands, pair_cmp};
+ghost use Rattle.shop_machine.specs.Content.{Content, material_at, part_at, job_at, has_order, demand_at, kept_at, totals_of, parts_of as listed_parts, changed, is_listed, with_parts, with_moved, with_material, with_job, with_order, with_demands, pair_cmp};
 ghost use Rattle.shop_machine.specs.Soundness.{IsInRange};
 ghost use Rattle.shop_store.specs.Memory.{material_key, part_key, job_key, order_key, put_kept};
 ghost use Rattle.std.specs.FinMap.{find as find_entry};
@@ -201,6 +201,29 @@ fn put_parts(parts: &mut Vec<Part>, totals: &mut Vec<Sums>, rows: &[Part])
 {
     for part in rows {
         put_part(parts, totals, *part);
+    }
+}
+
+// Puts a part that moves, if there is one.
+fn put_moved(parts: &mut Vec<Part>, totals: &mut Vec<Sums>, row: Option<Part>)
+    requires parts { IsTrue (rise part_key name_cmp parts.old.items) }
+    requires totals { IsTrue (rise sums_key code_cmp totals.old.items) }
+    requires small { IsTrue (all_small parts.old.items) }
+    requires sums { AreSumsOf parts.old.items totals.old.items }
+    requires parts_room { vec_len parts.old < vec_capacity parts.old }
+    requires totals_room { vec_len totals.old < vec_capacity totals.old }
+    ensures put { map_of part_key name_cmp parts.new.items ≡ with_moved row (map_of part_key name_cmp parts.old.items) }
+    ensures parts { IsTrue (rise part_key name_cmp parts.new.items) }
+    ensures totals { IsTrue (rise sums_key code_cmp totals.new.items) }
+    ensures small { IsTrue (all_small parts.new.items) }
+    ensures sums { AreSumsOf parts.new.items totals.new.items }
+    ensures parts_len { vec_len parts.new ≤ vec_len parts.old + 1 }
+    ensures totals_len { vec_len totals.new ≤ vec_len totals.old + 1 }
+    ensures parts_capacity { vec_capacity parts.old ≤ vec_capacity parts.new }
+    ensures totals_capacity { vec_capacity totals.old ≤ vec_capacity totals.new }
+{
+    if let Some(row) = row {
+        put_part(parts, totals, row);
     }
 }
 
@@ -474,9 +497,11 @@ impl Book for MemBook {
         let Change {
             material,
             parts,
+            moved,
             job,
             order,
             demands,
+            totals: _,
             act,
             demand,
             kept,
@@ -488,7 +513,7 @@ impl Book for MemBook {
             &mut self.materials,
             &mut self.parts,
             &mut self.totals,
-            rows.len(),
+            rows.len() + 1,
         )?;
         reserve_orders(
             &mut self.jobs,
@@ -498,6 +523,7 @@ impl Book for MemBook {
         )?;
         keep(&mut self.kept, kept)?;
         put_some(&mut self.materials, material);
+        put_moved(&mut self.parts, &mut self.totals, moved);
         put_parts(&mut self.parts, &mut self.totals, rows);
         put_some(&mut self.jobs, job);
         put_some(&mut self.orders, order);

@@ -56,9 +56,11 @@ fn nothing(alloc: Global, reply: Reply) -> Change {
     Change {
         material: None,
         parts: PartList::new(alloc),
+        moved: None,
         job: None,
         order: None,
         demands: DemandList::new(alloc),
+        totals: None,
         act: None,
         demand: None,
         kept: None,

@@ -8,6 +8,6 @@ use Rattle.shop_machine.proofs.ending.decide_break.Goals as goal
 pub returns-clause-decision : goal.returns-clause-decision
 returns-clause-decision c =
     λ at found.
-    subst (λ (halt : Halt). (job_refusal (After halt) c.args.job c.args.part c.args.material at ≡ None)
-    × MatchOption c.args.job ⊥ (λ j. MatchOption c.args.part ⊥ (λ p. MatchOption c.args.material ⊥ (λ m. IsBroken halt j p m.limits at c.in_ok-change.change))))
+    subst (λ (halt : Halt). (job_refusal (After halt) c.args.job c.args.part c.args.material at c.args.totals ≡ None)
+    × MatchOption c.args.job ⊥ (λ j. MatchOption c.args.part ⊥ (λ p. MatchOption c.args.material ⊥ (λ m. IsBroken halt j p m.limits c.args.totals at c.in_ok-change.change))))
     c.in_ok-copy.ensures (c.in_ok-change.ensures.decision at found)

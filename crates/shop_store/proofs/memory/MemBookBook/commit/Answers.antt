@@ -8,7 +8,7 @@ use Rattle.cut_measure.specs.Codes.{code_cmp}
 use Rattle.cut_measure.specs.Names.{name_cmp}
 use Rattle.shop_machine.specs.declared.records.Part.{Part}
 use Rattle.shop_machine.specs.declared.records.Demand.{Demand}
-use Rattle.shop_machine.specs.Content.{pair_cmp, with_material, with_parts, with_job, with_order, with_demands, with_kept, with_number, changed}
+use Rattle.shop_machine.specs.Content.{pair_cmp, with_material, with_parts, with_moved, with_job, with_order, with_demands, with_kept, with_number, changed}
 use Rattle.shop_store.specs.Rows.{entries_of, put_each, map_of}
 use Rattle.shop_store.specs.Memory.{material_key, part_key, job_key, demand_key, orders_in}
 use Rattle.shop_store.proofs.Held.{map_after, material_after, job_after, demands_after, kept_after, kept_sorted, number_after}
@@ -37,9 +37,10 @@ returns-clause-ok c =
     map_after material_key code_cmp nat_list_cmp_total (option_to_list change.material) old.materials.items c.reserve.new.materials.items c.put_some.new.rows.items
     c.self.invariant.materials c.reserve.ensures.materials c.put_some.ensures.put
     ∙ material_after change.material (map_of material_key code_cmp old.materials.items) in
-    let parts : map_of part_key name_cmp c.put_parts.new.parts.items ≡ with_parts change.parts (map_of part_key name_cmp old.parts.items) =
-    c.put_parts.ensures.put ∙ ap (λ (rows : List Part). with_parts rows (map_of part_key name_cmp c.reserve.new.parts.items)) c.as_slice-rows.ensures
-    ∙ ap (λ (rows : List Part). with_parts change.parts (map_of part_key name_cmp rows)) c.reserve.ensures.parts in
+    let parts : map_of part_key name_cmp c.put_parts.new.parts.items ≡ with_parts change.parts (with_moved change.moved (map_of part_key name_cmp old.parts.items)) =
+    c.put_parts.ensures.put ∙ ap (λ (rows : List Part). with_parts rows (map_of part_key name_cmp c.put_moved.new.parts.items)) c.as_slice-rows.ensures
+    ∙ ap (with_parts change.parts) c.put_moved.ensures.put
+    ∙ ap (λ (rows : List Part). with_parts change.parts (with_moved change.moved (map_of part_key name_cmp rows))) c.reserve.ensures.parts in
     let jobs : map_of job_key nat_cmp c.put_some-2.new.rows.items ≡ with_job change.job (map_of job_key nat_cmp old.jobs.items) =
     map_after job_key nat_cmp nat_cmp_total (option_to_list change.job) old.jobs.items c.reserve_orders.new.jobs.items c.put_some-2.new.rows.items
     c.self.invariant.jobs c.reserve_orders.ensures.jobs c.put_some-2.ensures.put

@@ -1,0 +1,106 @@
+ghost use Rattle.std.specs.Prelude.{◌≡◌, ◌*◌, ◌<◌, ◌≤◌, ◌^◌, ◌+◌, ◌-◌, ◌∷◌, [], sum_by, IsTrue};
+ghost use Rattle.shop_machine.specs.Content.{no_totals};
+ghost use Rattle.shop_machine.specs.Moving.{cells_counted, tally, can_move, has_cells, moved_totals, AreFew};
+
+use crate::records::{Column, Part, Totals};
+
+/// The totals of a material of which nothing was received yet.
+pub fn no_totals() -> Totals
+    ensures { result ≡ no_totals }
+{
+    Totals {
+        received: 0,
+        stock: 0,
+        rack: 0,
+        pieces: 0,
+        kerf: 0,
+        scrap: 0,
+        returned: 0,
+    }
+}
+
+// The cells of parts that a column counts.
+fn cells_counted(column: Column, parts: &[Part]) -> u64
+    requires { sum_by (λ part. part.size.w * part.size.h) parts.now < 2 ^ 64 }
+    ensures { result ≡ cells_counted column parts.now }
+{
+    let mut cells = 0;
+    for part in parts {
+        if part.counts_in(column) {
+            cells += part.size.cells();
+        }
+    }
+    cells
+}
+
+/// The cells of parts, column by column.
+pub fn tally(parts: &[Part]) -> Totals
+    requires { sum_by (λ part. part.size.w * part.size.h) parts.now < 2 ^ 64 }
+    ensures { result ≡ tally parts.now }
+{
+    Totals {
+        received: cells_counted(Column::Received, parts),
+        stock: cells_counted(Column::Stock, parts),
+        rack: cells_counted(Column::Rack, parts),
+        pieces: cells_counted(Column::Pieces, parts),
+        kerf: cells_counted(Column::Kerf, parts),
+        scrap: cells_counted(Column::Scrap, parts),
+        returned: cells_counted(Column::Returned, parts),
+    }
+}
+
+/// The cells of one part, column by column.
+pub fn tally_one(part: &Part) -> Totals
+    ensures { result ≡ tally (part.now ∷ []) }
+{
+    let _cells = part.size.cells();
+    tally(&[*part])
+}
+
+fn can_move(gone: u64, most: u64, total: u64) -> bool
+    ensures { result ≡ can_move gone most total }
+{
+    gone <= total && most <= u64::MAX - total
+}
+
+/// Whether the totals of a part's material hold the part, and have room for as many cells more.
+pub fn has_cells(part: &Part, totals: &Totals) -> bool
+    ensures { result ≡ has_cells part.now totals.now }
+{
+    let gone = tally_one(part);
+    let most = part.size.cells();
+    can_move(gone.stock, most, totals.stock)
+        && can_move(gone.rack, most, totals.rack)
+        && can_move(gone.pieces, most, totals.pieces)
+        && can_move(gone.kerf, most, totals.kerf)
+        && can_move(gone.scrap, most, totals.scrap)
+        && can_move(gone.returned, most, totals.returned)
+}
+
+// A total when cells go and others come.
+fn moved_total(gone: u64, come: u64, total: u64, most: u64) -> u64
+    requires holds { IsTrue (can_move gone most total) }
+    requires few { come ≤ most }
+    ensures { result ≡ total - gone + come }
+{
+    total - gone + come
+}
+
+/// The totals when a part becomes other parts, of which these are the cells, column by column.
+pub fn moved_totals(part: &Part, come: &Totals, totals: &Totals) -> Totals
+    requires holds { IsTrue (has_cells part.now totals.now) }
+    requires few { AreFew (part.now.size.w * part.now.size.h) come.now }
+    ensures { result ≡ moved_totals part.now come.now totals.now }
+{
+    let gone = tally_one(part);
+    let most = part.size.cells();
+    Totals {
+        received: totals.received,
+        stock: moved_total(gone.stock, come.stock, totals.stock, most),
+        rack: moved_total(gone.rack, come.rack, totals.rack, most),
+        pieces: moved_total(gone.pieces, come.pieces, totals.pieces, most),
+        kerf: moved_total(gone.kerf, come.kerf, totals.kerf, most),
+        scrap: moved_total(gone.scrap, come.scrap, totals.scrap, most),
+        returned: moved_total(gone.returned, come.returned, totals.returned, most),
+    }
+}
