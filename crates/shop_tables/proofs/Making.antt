@@ -1,0 +1,110 @@
+-- What one statement of a batch makes.
+use Rattle.std.proofs.Common.{◌≡◌, ◌⊎◌, inl, inr, ℕ, suc, Bool, true, false, List, [], ◌∷◌, ◌++◌, take, drop, Some, None, Ok, Err, Result, IsTrue, sym, ap, subst, subst₂, ◌∙◌, append-nil}
+use Rattle.std.specs.List.{AllByRecursion}
+use Rattle.std.proofs.lemmas.Bool.{cases_Bool}
+use Rattle.sqlite_value.specs.Order.{Row}
+use Rattle.sqlite_trees.specs.declared.store.Store.{Ghosts}
+use Rattle.sqlite.specs.Tree.{Trees}
+use Rattle.sqlite.specs.Table.{Table}
+use Rattle.sqlite.specs.Schema.{Schema}
+use Rattle.sqlite.specs.Command.{Command}
+use Rattle.sqlite.specs.Command.TheVariants.{CreateTable}
+use Rattle.sqlite.specs.Compile.{table_defined_by}
+use Rattle.sqlite.specs.Change.{created, next_tree, KeepsRows}
+use Rattle.sqlite.specs.Does.{Tally, lacks_sequence}
+use Rattle.sqlite.specs.Effect.{Database}
+use Rattle.sqlite.specs.Listing.{understood}
+use Rattle.sqlite.specs.Clock.{timed}
+use Rattle.sqlite.specs.State.{State, Runs, ExecutesIn, shows_rows, text_of}
+use Rattle.sqlite.specs.Held.{Held, state}
+use Rattle.sqlite.specs.Batch.{RunInTurn, first_len}
+use Rattle.sqlite.proofs.Callers.{IsPlain, command_of, statement_of}
+
+went : {B E R : Type 0} {b : B} {Stops : E → Type 0} → ((stop : E) × Stops stop × (Ok b ≡ Err stop)) ⊎ R → R
+went (inl stopped) = absurd (let e = stopped.2 in cc)
+went (inr on) = on
+
+same_value : {B E : Type 0} {a b : B} → ◌≡◌ {A = Result B E} (Ok a) (Ok b) → a ≡ b
+same_value e = cc
+
+-- the same as `runs_as`, also in a batch
+module _ (in_batch : Bool) (sql : List ℕ) (params : Row) (old new : State) (schema : Schema) (has : old.now.schema ≡ schema) (command : Command) (is : command_of (understood schema sql) ≡ command)
+    (plain : IsPlain (understood schema sql)) where
+  pub runs_in : (count : ℕ) → ExecutesIn in_batch sql params old new (Ok count) → Runs old new None command (statement_of sql (understood schema sql)) params count
+  unfolding ExecutesIn
+  runs_in count h =
+      let known = sym h.1.is ∙ ap (λ s. understood s sql) has in
+      let bare = subst IsPlain (sym known) plain in
+      let ran : Runs old new h.0.returning h.0.command (text_of sql h.0) (timed params h.0.formats h.1.now) count = elim (cases_Bool (shows_rows in_batch h.0)) [
+        | inl shows ↦ absurd (let e = (rw shows at h.2).0 in cc)
+        | inr runs ↦ rw runs at h.2
+      ] in
+      subst₂ (λ k t. Runs old new None k t params count) (ap command_of known ∙ is) (ap (statement_of sql) known) (rw (bare.0, bare.1, append-nil params) at ran)
+
+-- what the check computes of a text under a schema
+pub record MakesAs (schema : Schema) (text : List ℕ) (table : Table) : Type 0 where
+  pub command : command_of (understood schema text) ≡ CreateTable
+  pub defines : table_defined_by (statement_of text (understood schema text)) ≡ Ok table
+  pub plain : IsPlain (understood schema text)
+  pub counts : lacks_sequence (created schema table) ≡ false
+
+pub record Made (schema : Schema) (table : Table) (old new : Database) : Type 0 where
+  pub schema_is : new.schema ≡ created schema table
+  pub empty : new.trees (next_tree schema) ≡ []
+  pub others : KeepsRows schema.tables old.trees new.trees
+
+pub makes : (in_batch : Bool) (schema : Schema) (text : List ℕ) (table : Table) (old new : State) (count : ℕ) → MakesAs schema text table → old.now.schema ≡ schema → ExecutesIn in_batch text [] old new (Ok count) → Made schema table old.now new.now
+makes in_batch schema text table old new count facts has h =
+    let w = runs_in in_batch text [] old new schema has CreateTable facts.command facts.plain count h in
+    let all = went w.changed in
+    let first = went all.1 in
+    let made = first.1 in
+    let same : made.table ≡ table = same_value (sym made.defined ∙ facts.defines) in
+    let after : first.0.schema ≡ created schema table = made.is ∙ (λ i. created (has i) (same i)) in
+    let plain : lacks_sequence first.0.schema ≡ false = ap lacks_sequence after ∙ facts.counts in
+    let now : new.now ≡ first.0 = ap (λ (p : Tally × Database). p.1) (same_value all.2) ∙ same_value (rw plain at first.2) in
+    record {
+      schema_is = ap (λ (d : Database). d.schema) now ∙ after;
+      empty = ap (λ (d : Database). d.trees (next_tree schema)) now ∙ subst (λ s. first.0.trees (next_tree s) ≡ []) has made.empty;
+      others = subst (λ (d : Database). KeepsRows schema.tables old.now.trees d.trees) (sym now) (subst (λ (s : Schema). KeepsRows s.tables old.now.trees first.0.trees) has made.others);
+    }
+
+-- the database has this schema, and no row
+pub record Blank (schema : Schema) (s : State) : Type 0 where
+  pub schema_is : s.now.schema ≡ schema
+  pub none : AllByRecursion (λ t. s.now.trees t.tree ≡ []) schema.tables
+
+none_behind : (trees : Trees) (ts : List Table) (t : Table) → AllByRecursion (λ u. trees u.tree ≡ []) ts → trees t.tree ≡ [] → AllByRecursion (λ u. trees u.tree ≡ []) (ts ++ t ∷ [])
+none_behind trees [] t h one = (one, tt)
+none_behind trees (u ∷ ts) t h one = (h.0, none_behind trees ts t h.1 one)
+
+still_none : (old new : Trees) (ts : List Table) → KeepsRows ts old new → AllByRecursion (λ u. old u.tree ≡ []) ts → AllByRecursion (λ u. new u.tree ≡ []) ts
+still_none old new [] same h = tt
+still_none old new (t ∷ ts) same h = (same.0 ∙ h.0, still_none old new ts same.1 h.1)
+
+-- one table more
+pub blank_then : (schema : Schema) (text : List ℕ) (table : Table) (old new : State) (count : ℕ) → MakesAs schema text table → Blank schema old → ExecutesIn true text [] old new (Ok count) → Blank (created schema table) new
+blank_then schema text table old new count facts blank h =
+    let made = makes true schema text table old new count facts blank.schema_is h in
+    record { schema_is = made.schema_is; none = none_behind new.now.trees schema.tables (record table { tree = next_tree schema }) (still_none old.now.trees new.now.trees schema.tables made.others blank.none) made.empty }
+
+module _ {S : Type 0} (g : Ghosts S) where
+  abbrev pub IsBatch : ℕ → List ℕ → Held S → Held S → Type 0
+  IsBatch most text old new = RunInTurn g (Some 0) most text old new (Ok tt)
+
+  pub record Next (most : ℕ) (text rest : List ℕ) (old new : Held S) : Type 0 where
+    pub mid : Held S
+    pub count : ℕ
+    pub runs : ExecutesIn true text [] (state g old) (state g mid) (Ok count)
+    pub inside : IsTrue mid.in_transaction
+    pub later : IsBatch most rest mid new
+
+  pub next : (most b : ℕ) (more first rest : List ℕ) (old new : Held S) → take (first_len (b ∷ more)) (b ∷ more) ≡ first → drop (first_len (b ∷ more)) (b ∷ more) ≡ rest → IsBatch (suc most) (b ∷ more) old new → Next most first rest old new
+  next most b more first rest old new front back (inl h) = absurd (let e = h.1 in cc)
+  next most b more first rest old new front back (inr h) = record {
+    mid = h.0;
+    count = h.1;
+    runs = subst (λ t. ExecutesIn true t [] (state g old) (state g h.0) (Ok h.1)) front h.2.runs;
+    inside = h.4.0;
+    later = subst (λ t. IsBatch most t h.0 new) back h.3;
+  }

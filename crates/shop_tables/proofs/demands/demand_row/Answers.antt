@@ -1,0 +1,20 @@
+use Rattle.std.proofs.Common.{◌≡◌, pos, [], ◌∷◌}
+use Rattle.sqlite.specs.Held.{state}
+use Rattle.sqlite_value.specs.declared.value.Value.TheVariants.{Int}
+use Rattle.shop_machine.specs.Content.{demand_at}
+use Rattle.shop_machine.specs.declared.records.Demand.{Demand}
+use Rattle.shop_tables.specs.Rows.{demand_columns}
+use Rattle.shop_tables.proofs.Texts.{get_demand_text, get_demand_selects}
+use Rattle.shop_tables.proofs.Reading.{row_given}
+use Rattle.shop_tables.proofs.Finding.{finds_demand}
+use Rattle.shop_tables.proofs.demands.demand_row.Goals as goal
+
+pub returns-clause-row : goal.returns-clause-row
+returns-clause-row g c clean b was =
+    let old = state g.S.Store c.args.conn.now in
+    let new = state g.S.Store c.row_by_number.new.conn in
+    row_given get_demand_text (Int (pos c.args.number) ∷ []) old new get_demand_selects c.row_by_number.ensures.leaves (λ (demand : Demand). demand.number ≡ c.args.number) demand_columns (demand_at b.content c.args.number) b c.row_by_number.result clean was
+    (λ rows has. finds_demand old new rows b has c.args.number) (λ has. has.keyed.demands c.args.number) (c.row_by_number.ensures.row clean)
+
+pub returns-clause-leaves : goal.returns-clause-leaves
+returns-clause-leaves g c = c.row_by_number.ensures.leaves get_demand_selects

@@ -1,0 +1,14 @@
+use Rattle.std.proofs.Common.{◌≡◌}
+use Rattle.shop_machine.specs.Content.{demand_at}
+use Rattle.shop_machine.specs.declared.records.Demand.{Demand}
+use Rattle.shop_tables.specs.Rows.{demand_columns}
+use Rattle.shop_tables.proofs.Reading.{read_as, none_as}
+use Rattle.shop_tables.proofs.demands.find_demand.Goals as goal
+
+pub returns-in_default-clause-row : goal.returns-in_default-clause-row
+returns-in_default-clause-row g c clean b was = none_as (λ (demand : Demand). demand.number ≡ c.args.number) demand_columns (demand_at b.content c.args.number) (rw c.in_default.is at (c.in_ok-row.ensures.row clean b was))
+
+pub returns-clause-row : goal.returns-clause-row
+returns-clause-row g c clean b was =
+    read_as (λ (demand : Demand). demand.number ≡ c.args.number) demand_columns (demand_at b.content c.args.number) c.in-Some.row c.in_ok-demand.demand (rw c.in-Some.is at (c.in_ok-row.ensures.row clean b was))
+    c.in_ok-demand.ensures.row

@@ -1,0 +1,13 @@
+use Rattle.shop_machine.specs.Content.{kept_at}
+use Rattle.shop_machine.specs.declared.kept_texts.Kept.{Kept}
+use Rattle.shop_tables.specs.Rows.{kept_columns}
+use Rattle.shop_tables.proofs.Reading.{read_as, none_as}
+use Rattle.shop_tables.proofs.kept_messages.find_kept.Goals as goal
+
+pub returns-in_default-clause-row : goal.returns-in_default-clause-row
+returns-in_default-clause-row g c clean b was = none_as (λ (kept : Kept). Unit {0}) kept_columns (kept_at b.content c.args.pair) (rw c.in_default.is at (c.in_ok-row.ensures.row clean b was))
+
+pub returns-clause-row : goal.returns-clause-row
+returns-clause-row g c clean b was =
+    read_as (λ (kept : Kept). Unit {0}) kept_columns (kept_at b.content c.args.pair) c.in-Some.row c.in_ok-kept.kept (rw c.in-Some.is at (c.in_ok-row.ensures.row clean b was))
+    (λ y _. c.in_ok-kept.ensures y)

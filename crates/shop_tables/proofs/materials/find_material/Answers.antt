@@ -1,0 +1,14 @@
+use Rattle.std.proofs.Common.{◌≡◌}
+use Rattle.shop_machine.specs.Content.{material_at}
+use Rattle.shop_machine.specs.declared.records.Material.{Material}
+use Rattle.shop_tables.specs.Rows.{material_columns}
+use Rattle.shop_tables.proofs.Reading.{read_as, none_as}
+use Rattle.shop_tables.proofs.materials.find_material.Goals as goal
+
+pub returns-in_default-clause-row : goal.returns-in_default-clause-row
+returns-in_default-clause-row g c clean b was = none_as (λ (material : Material). material.code ≡ c.args.code) material_columns (material_at b.content c.args.code) (rw c.in_default.is at (c.in_ok-row.ensures.row clean b was))
+
+pub returns-clause-row : goal.returns-clause-row
+returns-clause-row g c clean b was =
+    read_as (λ (material : Material). material.code ≡ c.args.code) material_columns (material_at b.content c.args.code) c.in-Some.row c.in_ok-material.material (rw c.in-Some.is at (c.in_ok-row.ensures.row clean b was))
+    c.in_ok-material.ensures

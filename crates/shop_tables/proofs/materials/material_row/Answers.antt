@@ -1,0 +1,20 @@
+use Rattle.std.proofs.Common.{◌≡◌, [], ◌∷◌}
+use Rattle.sqlite.specs.Held.{state}
+use Rattle.sqlite_value.specs.declared.value.Value.TheVariants.{Text}
+use Rattle.shop_machine.specs.Content.{material_at}
+use Rattle.shop_machine.specs.declared.records.Material.{Material}
+use Rattle.shop_tables.specs.Rows.{material_columns}
+use Rattle.shop_tables.proofs.Texts.{get_material_text, get_material_selects}
+use Rattle.shop_tables.proofs.Reading.{row_given}
+use Rattle.shop_tables.proofs.Finding.{finds_material}
+use Rattle.shop_tables.proofs.materials.material_row.Goals as goal
+
+pub returns-clause-row : goal.returns-clause-row
+returns-clause-row g c clean b was =
+    let old = state g.S.Store c.args.conn.now in
+    let new = state g.S.Store c.row_by_text.new.conn in
+    row_given get_material_text (Text c.args.code ∷ []) old new get_material_selects c.row_by_text.ensures.leaves (λ (material : Material). material.code ≡ c.args.code) material_columns (material_at b.content c.args.code) b c.row_by_text.result clean was
+    (λ rows has. finds_material old new rows b has c.args.code) (λ has. has.keyed.materials c.args.code) (rw c.as_str.ensures.value at (c.row_by_text.ensures.row clean))
+
+pub returns-clause-leaves : goal.returns-clause-leaves
+returns-clause-leaves g c = c.row_by_text.ensures.leaves get_material_selects

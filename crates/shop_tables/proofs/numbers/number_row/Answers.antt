@@ -1,0 +1,22 @@
+use Rattle.std.proofs.Common.{pos, Some, [], ◌∷◌, arith}
+use Rattle.std.proofs.lemmas.Result.{IfOk-weaker}
+use Rattle.sqlite.specs.State.{HasCleanDisk}
+use Rattle.sqlite.specs.Held.{state}
+use Rattle.sqlite_value.specs.declared.value.Value.TheVariants.{Int, Text}
+use Rattle.shop_tables.proofs.Texts.{get_meta_text, get_meta_selects}
+use Rattle.shop_tables.proofs.Reading.{held_row}
+use Rattle.shop_tables.proofs.Finding.{finds_number}
+use Rattle.shop_tables.proofs.numbers.number_row.Goals as goal
+
+pub returns-clause-row : goal.returns-clause-row
+returns-clause-row g c clean b was n once =
+    let old = state g.S.Store c.args.conn.now in
+    let new = state g.S.Store c.row_by_text.new.conn in
+    let left = c.row_by_text.ensures.leaves get_meta_selects in
+    let before : HasCleanDisk old = omega (arith, left.survives.clean) in
+    IfOk-weaker c.row_by_text.result _ _
+    (λ row given. held_row get_meta_text (Text c.args.word.now ∷ []) old new b row (Some (Int (pos n) ∷ [])) before was given (λ rows has. finds_number old new rows b has c.args.word.now n once))
+    (c.row_by_text.ensures.row clean)
+
+pub returns-clause-leaves : goal.returns-clause-leaves
+returns-clause-leaves g c = c.row_by_text.ensures.leaves get_meta_selects

@@ -1,0 +1,14 @@
+use Rattle.std.proofs.Common.{◌≡◌}
+use Rattle.shop_machine.specs.Content.{part_at}
+use Rattle.shop_machine.specs.declared.records.Part.{Part}
+use Rattle.shop_tables.specs.Rows.{part_columns}
+use Rattle.shop_tables.proofs.Reading.{read_as, none_as}
+use Rattle.shop_tables.proofs.parts.find_part.Goals as goal
+
+pub returns-in_default-clause-row : goal.returns-in_default-clause-row
+returns-in_default-clause-row g c clean b was = none_as (λ (part : Part). part.name ≡ c.args.name) part_columns (part_at b.content c.args.name) (rw c.in_default.is at (c.in_ok-row.ensures.row clean b was))
+
+pub returns-clause-row : goal.returns-clause-row
+returns-clause-row g c clean b was =
+    read_as (λ (part : Part). part.name ≡ c.args.name) part_columns (part_at b.content c.args.name) c.in-Some.row c.in_ok-part.part (rw c.in-Some.is at (c.in_ok-row.ensures.row clean b was))
+    c.in_ok-part.ensures

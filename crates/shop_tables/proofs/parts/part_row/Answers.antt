@@ -1,0 +1,21 @@
+use Rattle.std.proofs.Common.{◌≡◌, pos, [], ◌∷◌}
+use Rattle.sqlite.specs.Held.{state}
+use Rattle.sqlite_value.specs.declared.value.Value.TheVariants.{Int}
+use Rattle.shop_machine.specs.Content.{part_at}
+use Rattle.shop_machine.specs.declared.records.Part.{Part}
+use Rattle.shop_tables.specs.Rows.{part_columns}
+use Rattle.shop_tables.proofs.Texts.{get_part_text, get_part_selects}
+use Rattle.shop_tables.proofs.Reading.{row_given}
+use Rattle.shop_tables.proofs.Finding.{finds_part}
+use Rattle.shop_tables.proofs.parts.part_row.Goals as goal
+
+pub returns-clause-row : goal.returns-clause-row
+returns-clause-row g c clean b was =
+    let old = state g.S.Store c.args.conn.now in
+    let new = state g.S.Store c.row_by_two.new.conn in
+    let k = c.args.name in
+    row_given get_part_text (Int (pos k.act) ∷ Int (pos k.node) ∷ []) old new get_part_selects c.row_by_two.ensures.leaves (λ (part : Part). part.name ≡ k) part_columns (part_at b.content k) b c.row_by_two.result clean was
+    (λ rows has. finds_part old new rows b has k) (λ has. has.keyed.parts k) (rw (c.act.ensures.value, c.node.ensures) at (c.row_by_two.ensures.row clean))
+
+pub returns-clause-leaves : goal.returns-clause-leaves
+returns-clause-leaves g c = c.row_by_two.ensures.leaves get_part_selects

@@ -1,0 +1,13 @@
+use Rattle.std.specs.FinMap.{get}
+use Rattle.shop_machine.specs.declared.records.Totals.{Totals}
+use Rattle.shop_tables.specs.Rows.{totals_columns}
+use Rattle.shop_tables.proofs.Reading.{read_as, none_as}
+use Rattle.shop_tables.proofs.sums.find_totals.Goals as goal
+
+pub returns-in_default-clause-row : goal.returns-in_default-clause-row
+returns-in_default-clause-row g c clean b was = none_as (λ (totals : Totals). Unit {0}) totals_columns (get b.totals c.args.material) (rw c.in_default.is at (c.in_ok-row.ensures.row clean b was))
+
+pub returns-clause-row : goal.returns-clause-row
+returns-clause-row g c clean b was =
+    read_as (λ (totals : Totals). Unit {0}) totals_columns (get b.totals c.args.material) c.in-Some.row c.in_ok-totals.totals (rw c.in-Some.is at (c.in_ok-row.ensures.row clean b was))
+    (λ y _. c.in_ok-totals.ensures y)

@@ -1,0 +1,151 @@
+ghost use Rattle.std.specs.Prelude.{◌≡◌, false, IfOk};
+ghost use Rattle.std.specs.FinMap.{get};
+ghost use Rattle.sqlite.specs.Held.{state};
+ghost use Rattle.sqlite_value.specs.declared.value.Value.TheVariants.{Int};
+ghost use Rattle.shop_machine.specs.declared.records.Totals.{Totals as TotalsRecord};
+ghost use Rattle.shop_tables.specs.Rows.{totals_columns};
+ghost use Rattle.shop_tables.specs.Shown.{Leaves, Says, IsRowOf};
+ghost use Rattle.std.specs.Prelude.{pos, Some, None, OnOk};
+ghost use Rattle.shop_tables.specs.Changes.{with_totals};
+ghost use Rattle.shop_tables.specs.Shown.{Books, Makes, Ran, Within};
+
+use crate::TableFault;
+use crate::columns::{count_in, counted};
+use crate::rows::row_by_text;
+use crate::running::run;
+use cut_measure::Code;
+use shop_machine::Totals;
+use sqlite::types::Value;
+use sqlite::{Alter, Connection, Error, Row, Transaction, params};
+
+fn read_totals(row: &Row) -> Result<Totals, TableFault>
+    ensures { (totals : TotalsRecord) → row.now ≡ totals_columns totals → IfOk result (λ read. read ≡ totals) }
+{
+    Ok(Totals {
+        received: count_in(row, 0)?,
+        stock: count_in(row, 1)?,
+        rack: count_in(row, 2)?,
+        pieces: count_in(row, 3)?,
+        kerf: count_in(row, 4)?,
+        scrap: count_in(row, 5)?,
+        returned: count_in(row, 6)?,
+    })
+}
+
+fn totals_row<S: Alter>(conn: &mut Connection<S>, material: Code) -> Result<Option<Row>, Error>
+    ensures row { Says (state S.Store conn.old) (state S.Store conn.new) (λ books. IfOk result (IsRowOf (λ (totals : TotalsRecord). Unit {0}) totals_columns (get books.totals material))) }
+    ensures leaves { Leaves (state S.Store conn.old) (state S.Store conn.new) }
+    ensures mode { conn.old.in_transaction ≡ false → conn.new.in_transaction ≡ false }
+{
+    row_by_text(
+        conn,
+        "SELECT received, stock, rack, pieces, kerf, scrap, returned FROM totals2 WHERE material = ?1",
+        material.as_str(),
+    )
+}
+
+/// The totals of a material.
+pub fn find_totals<S: Alter>(
+    conn: &mut Connection<S>,
+    material: Code,
+) -> Result<Option<Totals>, TableFault>
+    ensures row { Says (state S.Store conn.old) (state S.Store conn.new) (λ books. IfOk result (λ row. row ≡ get books.totals material)) }
+    ensures leaves { Leaves (state S.Store conn.old) (state S.Store conn.new) }
+    ensures mode { conn.old.in_transaction ≡ false → conn.new.in_transaction ≡ false }
+{
+    let Some(row) = totals_row(conn, material)? else {
+        return Ok(None);
+    };
+    let totals = read_totals(&row)?;
+    Ok(Some(totals))
+}
+
+// Totals as columns have them.
+#[derive(Drop)]
+struct Counts {
+    received: Value,
+    stock: Value,
+    rack: Value,
+    pieces: Value,
+    kerf: Value,
+    scrap: Value,
+    returned: Value,
+}
+
+fn counts_of(totals: &Totals) -> Result<Counts, TableFault>
+    ensures { IfOk result (λ counts. counts ≡ record {
+      received = Int (pos totals.now.received);
+      stock = Int (pos totals.now.stock);
+      rack = Int (pos totals.now.rack);
+      pieces = Int (pos totals.now.pieces);
+      kerf = Int (pos totals.now.kerf);
+      scrap = Int (pos totals.now.scrap);
+      returned = Int (pos totals.now.returned);
+    }) }
+{
+    Ok(Counts {
+        received: counted(totals.received)?,
+        stock: counted(totals.stock)?,
+        rack: counted(totals.rack)?,
+        pieces: counted(totals.pieces)?,
+        kerf: counted(totals.kerf)?,
+        scrap: counted(totals.scrap)?,
+        returned: counted(totals.returned)?,
+    })
+}
+
+/// Puts the totals of a new material, each below 9223372036854775808.
+pub fn put_totals<S: Alter>(
+    tx: &mut Transaction<'_, S>,
+    material: Code,
+    totals: &Totals,
+) -> Result<(), TableFault>
+    ensures same_reference { tx.new.conn.ghost_name ≡ tx.old.conn.ghost_name }
+    ensures ran { OnOk result (Ran (state S.Store tx.old.conn.now) (state S.Store tx.new.conn.now)) }
+    ensures put { (b : Books) → get b.totals material ≡ None → OnOk result (Makes (state S.Store tx.old.conn.now) (state S.Store tx.new.conn.now) b (with_totals material totals.now b)) }
+    ensures within { Within (state S.Store tx.old.conn.now) (state S.Store tx.new.conn.now) }
+{
+    let counts = counts_of(totals)?;
+    run(
+        tx,
+        "INSERT INTO totals2 (material, received, stock, rack, pieces, kerf, scrap, returned) VALUES (?1, ?2, ?3, ?4, ?5, ?6, ?7, ?8)",
+        params![
+            material.as_str(),
+            &counts.received,
+            &counts.stock,
+            &counts.rack,
+            &counts.pieces,
+            &counts.kerf,
+            &counts.scrap,
+            &counts.returned
+        ],
+    )
+}
+
+/// Gives a material that has totals these, each below 9223372036854775808.
+pub fn set_totals<S: Alter>(
+    tx: &mut Transaction<'_, S>,
+    material: Code,
+    totals: &Totals,
+) -> Result<(), TableFault>
+    ensures same_reference { tx.new.conn.ghost_name ≡ tx.old.conn.ghost_name }
+    ensures ran { OnOk result (Ran (state S.Store tx.old.conn.now) (state S.Store tx.new.conn.now)) }
+    ensures put { (b : Books) → (was : TotalsRecord) → get b.totals material ≡ Some was → OnOk result (Makes (state S.Store tx.old.conn.now) (state S.Store tx.new.conn.now) b (with_totals material totals.now b)) }
+    ensures within { Within (state S.Store tx.old.conn.now) (state S.Store tx.new.conn.now) }
+{
+    let counts = counts_of(totals)?;
+    run(
+        tx,
+        "UPDATE totals2 SET received = ?2, stock = ?3, rack = ?4, pieces = ?5, kerf = ?6, scrap = ?7, returned = ?8 WHERE material = ?1",
+        params![
+            material.as_str(),
+            &counts.received,
+            &counts.stock,
+            &counts.rack,
+            &counts.pieces,
+            &counts.kerf,
+            &counts.scrap,
+            &counts.returned
+        ],
+    )
+}
