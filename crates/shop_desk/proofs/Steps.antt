@@ -11,7 +11,7 @@ use Rattle.shop_machine.specs.declared.messages.Message.{Message}
 use Rattle.shop_machine.specs.declared.refusals.Refusal.{Refusal}
 use Rattle.shop_machine.specs.declared.refusals.Refusal.TheVariants.{NoMemory, StoreFault, NumberReused}
 use Rattle.shop_machine.specs.declared.messages.Reply.{Reply}
-use Rattle.shop_machine.specs.declared.messages.Reply.TheVariants.{AddMaterial, Receive, AddOrder, Reserve, Done, Break, Release, Scrap, GiveBack, Totals, Trace, Demand, Refused}
+use Rattle.shop_machine.specs.declared.messages.Reply.TheVariants.{AddMaterial, Receive, AddOrder, Reserve, Done, Break, Release, Scrap, GiveBack, Totals, Rack, Trace, Demand, Refused}
 use Rattle.shop_machine.specs.Messages.{Texts, IsMessage, IsMade, refusal_in, is_accepted, pair_of}
 use Rattle.shop_machine.specs.Readings.{Reading}
 use Rattle.shop_machine.specs.Content.{Content, kept_at, changed}
@@ -68,6 +68,7 @@ module _ (texts : Texts) where
   none_made (Scrap part) made = refl
   none_made (GiveBack part) made = refl
   none_made (Totals material received stock rack pieces kerf scrap returned) made = absurd made
+  none_made (Rack material parts) made = absurd made
   none_made (Trace batch h of part root state w x y) made = absurd made
   none_made (Demand demand line made' material order reserved wanted) made = absurd made
   none_made (Refused refusal) made = absurd made

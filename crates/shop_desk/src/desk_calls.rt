@@ -5,7 +5,7 @@ ghost use Rattle.shop_machine.specs.Machine.{Answers, StepAgain};
 ghost use Rattle.shop_machine.specs.Soundness.{IsSound, IsKept};
 ghost use Rattle.shop_machine.specs.declared.kept_texts.Pair.{Pair as PairOf};
 ghost use Rattle.shop_machine.specs.declared.messages.Message.{Message as MessageOf};
-ghost use Rattle.shop_machine.specs.declared.messages.Query.TheVariants.{Totals, Trace, Demand};
+ghost use Rattle.shop_machine.specs.declared.messages.Query.TheVariants.{Totals, Rack, Trace, Demand};
 ghost use Rattle.shop_machine.specs.declared.messages.Reply.TheVariants.{Refused};
 ghost use Rattle.shop_machine.specs.declared.refusals.Refusal.TheVariants.{StoreFault};
 ghost use Rattle.shop_rules.specs.Forms.{json_texts};
@@ -14,10 +14,11 @@ ghost use Rattle.shop_desk.specs.Faults.{CountsReply, CountsOrContradicts, Count
 ghost use Rattle.shop_desk.specs.Handled.{IsHandled, HasRun};
 
 use crate::decided::{decide, keeping_message};
+use crate::racks::RackTaker;
 use cut_measure::PartName;
 use shop_rules::{
-    Code, Kept, KeptMessage, Message, Pair, Query, Refusal, Reply, Text, kept_reply, message_text,
-    reply_text,
+    Code, Kept, KeptMessage, Message, Pair, Query, RackList, Refusal, Reply, Text, kept_reply,
+    message_text, reply_text,
 };
 use shop_store::Book;
 use std::alloc::{AllocError, Global};
@@ -122,6 +123,30 @@ fn totals<B: Book>(book: &mut B, material: Code) -> Reply
     }
 }
 
+// A material's parts on the rack.
+fn rack<B: Book>(alloc: Global, book: &mut B, material: Code) -> Reply
+    ensures answer { Says B.Book book.old book.new (λ m. Answers m (Rack material) result) }
+    ensures keeps { KeepsBook B.Book (CountsReply result) book.old book.new }
+{
+    match book.material(material) {
+        Err(fault) => Reply::Refused(Refusal::from(fault)),
+        Ok(None) => Reply::Refused(Refusal::NoMaterial),
+        Ok(Some(_)) => {
+            let mut taker = RackTaker {
+                parts: RackList::new(alloc),
+            };
+            match book.visit_parts(material, &mut taker) {
+                Err(fault) => Reply::Refused(Refusal::from(fault)),
+                Ok(false) => Reply::Refused(Refusal::NoMemory),
+                Ok(true) => Reply::Rack {
+                    material,
+                    parts: taker.parts,
+                },
+            }
+        }
+    }
+}
+
 // What became of a part.
 fn trace<B: Book>(book: &mut B, part: PartName) -> Reply
     ensures answer { Says B.Book book.old book.new (λ m. Answers m (Trace part) result) }
@@ -165,13 +190,14 @@ fn demand<B: Book>(book: &mut B, number: u32) -> Reply
 }
 
 /// Answers a query, and changes nothing.
-pub fn ask<B: Book>(_alloc: Global, book: &mut B, query: &Query) -> Reply
+pub fn ask<B: Book>(alloc: Global, book: &mut B, query: &Query) -> Reply
     ensures answer { Says B.Book book.old book.new (λ m. Answers m query.now result) }
     ensures keeps { KeepsBook B.Book (CountsReply result) book.old book.new }
     ensures store_fault { result ≡ Refused StoreFault → StoreFailed (B.failed book.old) (B.failed book.new) }
 {
     match query {
         Query::Totals { material } => totals(book, *material),
+        Query::Rack { material } => rack(alloc, book, *material),
         Query::Trace { part } => trace(book, *part),
         Query::Demand { demand: number } => demand(book, *number),
     }

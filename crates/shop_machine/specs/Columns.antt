@@ -5,6 +5,7 @@ use Rattle.shop_machine.specs.declared.records.Column.{Column}
 use Rattle.shop_machine.specs.declared.records.Column.TheVariants.{Received, Stock, Rack, Pieces, Kerf, Scrap, Returned}
 use Rattle.shop_machine.specs.declared.records.State.{State}
 use Rattle.shop_machine.specs.declared.records.State.TheVariants as state
+use Rattle.shop_machine.specs.declared.records.RackRow.{RackRow}
 use Rattle.shop_machine.specs.declared.records.StateWord.{StateWord}
 use Rattle.shop_machine.specs.declared.records.StateWord.TheVariants as word
 use Rattle.shop_machine.specs.declared.records.JobState.{JobState}
@@ -125,3 +126,7 @@ state_of (state.Piece demand) = demand
 state_of state.Kerf = 0
 state_of state.Scrap = 0
 state_of state.Returned = 0
+
+-- how a part on the rack is told
+abbrev pub rack_row : Part → RackRow
+rack_row part = record { h = part.size.h; part = part.name; state = state_word part.state; w = part.size.w }

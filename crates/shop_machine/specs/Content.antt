@@ -1,5 +1,5 @@
 -- What a book contains, as finite maps, and what a change makes of it.
-use Rattle.std.specs.Prelude.{filter, ◌≡◌, ℕ, ◌+◌, ◌*◌, ◌&&◌, List, [], ◌∷◌, Bool, if◌then◌else◌, Option, Some, None, option_and_then, sum_by}
+use Rattle.std.specs.Prelude.{filter, map as map_list, not, ◌≡◌, ℕ, ◌+◌, ◌*◌, ◌&&◌, List, [], ◌∷◌, Bool, if◌then◌else◌, Option, Some, None, option_and_then, sum_by}
 use Rattle.std.specs.declared.cmp.Ordering.{Ordering}
 use Rattle.std.specs.Ordering.{nat_cmp, is_eq, ordering_then}
 use Rattle.std.specs.FinMap as map
@@ -9,6 +9,7 @@ use Rattle.cut_measure.specs.Names.{Name, name_cmp}
 use Rattle.shop_machine.specs.declared.records.Material.{Material}
 use Rattle.shop_machine.specs.declared.records.Part.{Part}
 use Rattle.shop_machine.specs.declared.records.State.{State}
+use Rattle.shop_machine.specs.declared.records.RackRow.{RackRow}
 use Rattle.shop_machine.specs.declared.records.Job.{Job}
 use Rattle.shop_machine.specs.declared.records.Demand.{Demand}
 use Rattle.shop_machine.specs.declared.records.Totals.{Totals}
@@ -18,7 +19,7 @@ use Rattle.shop_machine.specs.declared.kept_texts.Pair.{Pair}
 use Rattle.shop_machine.specs.declared.kept_texts.Kept.{Kept}
 use Rattle.shop_machine.specs.declared.kept_texts.KeptMessage.{KeptMessage}
 use Rattle.shop_machine.specs.declared.changes.Change.{Change}
-use Rattle.shop_machine.specs.Columns.{is_counted, is_there}
+use Rattle.shop_machine.specs.Columns.{is_counted, is_there, is_whole, rack_row}
 
 -- by terminal, and then by number
 abbrev pub pair_cmp : Pair → Pair → Ordering
@@ -129,6 +130,10 @@ is_listed code part = is_eq (code_cmp part.material code) && is_there part.state
 -- the parts of a material that stand, by rising act and then node
 abbrev pub parts_of : Content → List ℕ → List Part
 parts_of content code = filter (is_listed code) (map.values content.parts)
+
+-- those of the parts that have a job's name, as they are told
+abbrev pub rack_rows : List Part → List RackRow
+rack_rows parts = map_list rack_row (filter (λ part. not (is_whole part)) parts)
 
 -- ---- changes
 

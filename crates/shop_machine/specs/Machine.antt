@@ -22,7 +22,7 @@ use Rattle.shop_machine.specs.declared.messages.Reply.TheVariants as reply
 use Rattle.shop_machine.specs.Columns.{state_word, state_of}
 use Rattle.shop_machine.specs.Messages.{Texts, IsMade, refusal_in, pair_of}
 use Rattle.shop_machine.specs.Readings.{Reading, unread, Plan, plan_in}
-use Rattle.shop_machine.specs.Content.{Content, material_at, part_at, job_at, has_order, demand_at, kept_at, totals_of, totals_for, changed, material_of}
+use Rattle.shop_machine.specs.Content.{Content, material_at, part_at, job_at, has_order, demand_at, kept_at, totals_of, totals_for, parts_of, rack_rows, changed, material_of}
 use Rattle.shop_machine.specs.Adding.{material_refusal, material_change}
 use Rattle.shop_machine.specs.Receiving.{receive_refusal, receive_change}
 use Rattle.shop_machine.specs.Ordering.{order_refusal, order_change}
@@ -150,6 +150,10 @@ abbrev pub told_totals : Option Material → List ℕ → Totals → Reply
 told_totals None material t = reply.Refused NoMaterial
 told_totals (Some m) material t = reply.Totals material t.received t.stock t.rack t.pieces t.kerf t.scrap t.returned
 
+abbrev pub told_rack : Option Material → List ℕ → List Part → Reply
+told_rack None material parts = reply.Refused NoMaterial
+told_rack (Some m) material parts = reply.Rack material (rack_rows parts)
+
 abbrev pub told_part : Option Part → Reply
 told_part None = reply.Refused NoPart
 told_part (Some part) =
@@ -161,6 +165,7 @@ told_demand (Some d) = reply.Demand d.number d.line d.made d.material d.order d.
 
 abbrev pub answer_of : Content → Query → Reply
 answer_of content (query.Totals material) = told_totals (material_at content material) material (totals_of content material)
+answer_of content (query.Rack material) = told_rack (material_at content material) material (parts_of content material)
 answer_of content (query.Trace part) = told_part (part_at content part)
 answer_of content (query.Demand demand) = told_demand (demand_at content demand)
 

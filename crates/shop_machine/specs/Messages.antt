@@ -68,6 +68,7 @@ IsMade (reply.Release job) = IsNumber job
 IsMade (reply.Scrap part) = IsName part
 IsMade (reply.GiveBack part) = IsName part
 IsMade (reply.Totals material received stock rack pieces kerf scrap returned) = ⊥
+IsMade (reply.Rack material parts) = ⊥
 IsMade (reply.Trace batch h of part root state w x y) = ⊥
 IsMade (reply.Demand demand line made material order reserved wanted) = ⊥
 IsMade (reply.Refused refusal) = ⊥

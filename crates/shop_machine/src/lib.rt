@@ -23,11 +23,13 @@ pub use cut_measure::RowList;
 pub use ending::{decide_break, decide_done, decide_release};
 pub use kept_texts::{Kept, KeptMessage, Pair, Text};
 pub use laws::{accepted_changes_fit, histories_have_accounts};
-pub use messages::{Command, LineList, Message, OrderLine, Query, Reply};
+pub use messages::{Command, LineList, Message, OrderLine, Query, RackList, Reply};
 pub use moving::no_totals;
 pub use ordering::{FoundLine, decide_order};
 pub use receiving::decide_receive;
-pub use records::{Column, Demand, Job, JobState, Material, Part, State, StateWord, Totals};
+pub use records::{
+    Column, Demand, Job, JobState, Material, Part, RackRow, State, StateWord, Totals,
+};
 pub use recounts::FoundLeaf;
 pub use refusals::Refusal;
 pub use reserving::decide_reserve;

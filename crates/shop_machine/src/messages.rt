@@ -1,5 +1,5 @@
 use crate::kept_texts::Text;
-use crate::records::StateWord;
+use crate::records::{RackRow, StateWord};
 use crate::refusals::Refusal;
 use cut_measure::{Code, Kind, PartName, RowList};
 use cut_tree::Halt;
@@ -21,6 +21,9 @@ pub struct OrderLine {
 
 /// Lines of an order, in order.
 pub type LineList = RowList<OrderLine>;
+
+/// Parts on the rack, in order.
+pub type RackList = RowList<RackRow>;
 
 /// What a terminal wants done. Numbers are as they came: the shop judges their ranges.
 #[derive(Debug, Drop)]
@@ -81,6 +84,7 @@ pub struct Message {
 #[derive(Debug, Drop)]
 pub enum Query {
     Totals { material: Code },
+    Rack { material: Code },
     Trace { part: PartName },
     Demand { demand: u32 },
 }
@@ -140,6 +144,11 @@ pub enum Reply {
         kerf: u64,
         scrap: u64,
         returned: u64,
+    },
+    /// A material's parts that stand, reserved or not, with a job's name: by rising act and then node.
+    Rack {
+        material: Code,
+        parts: RackList,
     },
     /// A part by its place in the received unit; `of` is the job of a reserved or a cut part, the demand of a piece,
     /// else 0.

@@ -179,6 +179,15 @@ pub struct Demand {
     pub made: u32,
 }
 
+/// A part on the rack, as it is told.
+#[derive(Clone, Copy, Debug, PartialEq)]
+pub struct RackRow {
+    pub h: u32,
+    pub part: PartName,
+    pub state: StateWord,
+    pub w: u32,
+}
+
 /// What is told of a material, in cells.
 #[derive(Clone, Copy, Debug, PartialEq, Eq)]
 pub struct Totals {
@@ -205,7 +214,7 @@ pub enum Column {
 
 impl Part {
     ghost use Rattle.std.specs.Prelude.{◌≡◌};
-    ghost use Rattle.shop_machine.specs.Columns.{is_whole, is_counted};
+    ghost use Rattle.shop_machine.specs.Columns.{is_whole, is_counted, rack_row};
     ghost use Rattle.shop_machine.specs.Content.{is_listed};
 
     /// Whether it is a part of the material that stands, reserved or not.
@@ -221,6 +230,18 @@ impl Part {
         ensures { result ≡ is_whole self.now }
     {
         self.name.act() == self.root.act() && self.name.node() == self.root.node()
+    }
+
+    /// How it is told of the rack.
+    pub fn rack_row(&self) -> RackRow
+        ensures { result ≡ rack_row self.now }
+    {
+        RackRow {
+            h: self.size.h(),
+            part: self.name,
+            state: self.state.word(),
+            w: self.size.w(),
+        }
     }
 
     /// Whether its cells are counted in a column.

@@ -1,5 +1,5 @@
 -- What is printed is read back.
-use Rattle.std.proofs.Common.{◌≡◌, ℕ, suc, ◌<◌, ◌≤◌, ◌^◌, List, [], append-nil, All, Bool, true, false, Option, Some, None, refl, sym, ap, ◌∙◌, arith, le-leb, codes}
+use Rattle.std.proofs.Common.{◌≡◌, ℕ, suc, ◌<◌, ◌≤◌, ◌^◌, List, [], ◌∷◌, map, append-nil, All, Bool, true, false, Option, Some, None, refl, sym, ap, ◌∙◌, arith, le-leb, codes}
 use Rattle.std.specs.Prelude.{◌||◌, max, option_map, option_and_then, if◌then◌else◌, is_some}
 use Rattle.cut_measure.specs.declared.sizes.Kind.{Kind}
 use Rattle.cut_measure.specs.Names.{Name, name_text}
@@ -12,6 +12,7 @@ use Rattle.shop_machine.specs.declared.messages.Command.TheVariants.{AddMaterial
 use Rattle.shop_machine.specs.declared.messages.Message.{Message}
 use Rattle.shop_machine.specs.declared.messages.OrderLine.{OrderLine}
 use Rattle.shop_machine.specs.declared.messages.Query.{Query}
+use Rattle.shop_machine.specs.declared.records.RackRow.{RackRow}
 use Rattle.shop_machine.specs.declared.messages.Reply.{Reply}
 use Rattle.shop_machine.specs.declared.messages.Reply.TheVariants as reply
 use Rattle.shop_machine.specs.Messages.{IsMessage, IsCommand, IsHalt, IsMade, IsNumber, IsWide}
@@ -25,11 +26,12 @@ use Rattle.json.specs.Tree.{HasNumbers, depth, json_tokens}
 use Rattle.serde_json.specs.Data.{Data, boolean, number, string, unsigned}
 use Rattle.serde_json.specs.Find.{get, as_bool, as_number, as_str, as_u64}
 use Rattle.serde_json.specs.Read.{read, of_json, max_depth}
-use Rattle.serde_json.specs.Written.{compact_text, outline, has_float}
+use Rattle.serde_json.specs.View.{items_of}
+use Rattle.serde_json.specs.Written.{compact_text, outline, has_float, items_have_float}
 use Rattle.serde_json.proofs.Numbers.{number_of-decimal}
 use Rattle.json.specs.Token.{Token}
 use Rattle.serde_json.proofs.Texts.{print-outline}
-use Rattle.shop_rules.specs.Forms.{message_of, sent_head, sent_of, from_one, command_of, material_command, receive_command, order_command, reserve_command, query_of, asked_of, reply_of, made_of, order_made, reserve_made, ended_cells, first_cuts, listed_cuts, lost_cut, none_lost, list_data, break_command, has_few_cuts, lines_data, message_data, reply_data, json_texts, kept_reply_of}
+use Rattle.shop_rules.specs.Forms.{message_of, sent_head, sent_of, from_one, command_of, material_command, receive_command, order_command, reserve_command, query_of, asked_of, reply_of, made_of, order_made, reserve_made, ended_cells, first_cuts, listed_cuts, lost_cut, none_lost, list_data, break_command, has_few_cuts, lines_data, rack_row_data, message_data, reply_data, json_texts, kept_reply_of}
 use Rattle.shop_rules.specs.Fields.{kind_text, small, number_at, flag_at}
 use Rattle.shop_rules.proofs.FieldFacts.{number_there, wide_there, flag_there, code_there, kind_there, name_there, text_there}
 use Rattle.shop_rules.proofs.Cuts.{cuts_there, cuts_numbers, cuts_shallow, cuts_json, cuts_no_float}
@@ -178,6 +180,7 @@ reply_back (reply.Release job) h = ap (option_map reply.Release) (number_there (
 reply_back (reply.Scrap part) h = ap (option_map reply.Scrap) (name_there (codes "part") (reply_data (reply.Scrap part)) part refl h)
 reply_back (reply.GiveBack part) h = ap (option_map reply.GiveBack) (name_there (codes "part") (reply_data (reply.GiveBack part)) part refl h)
 reply_back (reply.Totals material received stock rack pieces kerf scrap returned) h = absurd h
+reply_back (reply.Rack material parts) h = absurd h
 reply_back (reply.Trace batch h of part root state w x y) made = absurd made
 reply_back (reply.Demand demand line made material order reserved wanted) h = absurd h
 reply_back (reply.Refused refusal) h = absurd h
@@ -196,6 +199,26 @@ no_float_by terminal n (Break job (Listed cuts (Some cut))) = ap (λ (b : Bool).
 no_float_by terminal n (Release job) = refl
 no_float_by terminal n (Scrap part) = refl
 no_float_by terminal n (GiveBack part) = refl
+
+rack_no_float : (parts : List RackRow) → items_have_float (items_of (map rack_row_data parts)) ≡ false
+rack_no_float [] = refl
+rack_no_float (row ∷ parts) = rack_no_float parts
+
+pub reply_no_float : (answer : Reply) → has_float (reply_data answer) ≡ false
+reply_no_float (reply.AddMaterial material) = refl
+reply_no_float (reply.Receive act count) = refl
+reply_no_float (reply.AddOrder count first order) = refl
+reply_no_float (reply.Reserve cuts job) = refl
+reply_no_float (reply.Done job kerf pieces rack scrap) = refl
+reply_no_float (reply.Break job kerf pieces rack scrap) = refl
+reply_no_float (reply.Release job) = refl
+reply_no_float (reply.Scrap part) = refl
+reply_no_float (reply.GiveBack part) = refl
+reply_no_float (reply.Totals material received stock rack pieces kerf scrap returned) = refl
+reply_no_float (reply.Rack material parts) = ap (λ (b : Bool). b || false) (rack_no_float parts)
+reply_no_float (reply.Trace batch h of part root state w x y) = refl
+reply_no_float (reply.Demand demand line made material order reserved wanted) = refl
+reply_no_float (reply.Refused refusal) = refl
 
 pub message_no_float : (message : Message) → has_float (message_data message) ≡ false
 message_no_float message = no_float_by message.terminal message.number message.command
@@ -313,6 +336,7 @@ reply_text_read (reply.Release job) h =
 reply_text_read (reply.Scrap part) h = read-compact (reply_data (reply.Scrap part)) (tt, (tt, tt)) (omega arith) refl
 reply_text_read (reply.GiveBack part) h = read-compact (reply_data (reply.GiveBack part)) (tt, (tt, tt)) (omega arith) refl
 reply_text_read (reply.Totals material received stock rack pieces kerf scrap returned) h = absurd h
+reply_text_read (reply.Rack material parts) h = absurd h
 reply_text_read (reply.Trace batch h of part root state w x y) made = absurd made
 reply_text_read (reply.Demand demand line made material order reserved wanted) h = absurd h
 reply_text_read (reply.Refused refusal) h = absurd h

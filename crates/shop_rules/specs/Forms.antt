@@ -11,6 +11,7 @@ use Rattle.shop_machine.specs.declared.messages.Command.TheVariants.{AddMaterial
 use Rattle.shop_machine.specs.declared.messages.Message.{Message}
 use Rattle.shop_machine.specs.declared.messages.OrderLine.{OrderLine}
 use Rattle.shop_machine.specs.declared.messages.Query.{Query}
+use Rattle.shop_machine.specs.declared.records.RackRow.{RackRow}
 use Rattle.shop_machine.specs.declared.messages.Query.TheVariants as query
 use Rattle.shop_machine.specs.declared.messages.Reply.{Reply}
 use Rattle.shop_machine.specs.declared.messages.Reply.TheVariants as reply
@@ -250,6 +251,22 @@ totals_told material received stock rack pieces kerf scrap returned =
     (number_member (codes "pieces") pieces (number_member (codes "rack") rack (number_member (codes "received") received
     (number_member (codes "returned") returned (number_member (codes "scrap") scrap (number_member (codes "stock") stock no_members)))))))))
 
+abbrev pub rack_query : Data → Option Query
+rack_query d = option_map query.Rack (code_at (codes "material") d)
+
+-- a part on the rack as an object, its keys in byte order
+abbrev pub rack_row_data : RackRow → Data
+rack_row_data r =
+    object (number_member (codes "h") r.h (text_member (codes "part") (name_text r.part) (text_member (codes "state") (state_text r.state)
+    (number_member (codes "w") r.w no_members))))
+
+abbrev pub rack_data : List RackRow → Data
+rack_data parts = array (items_of (map rack_row_data parts))
+
+abbrev pub rack_told : List ℕ → List RackRow → Data
+rack_told material parts =
+    object (text_member (codes "material") material (text_member (codes "ok") (codes "rack") (member (codes "parts") (rack_data parts) no_members)))
+
 abbrev pub trace_query : Data → Option Query
 trace_query d = option_map query.Trace (name_at (codes "part") d)
 
@@ -272,8 +289,9 @@ demand_told demand line made material order reserved wanted =
 abbrev pub asked_of : List ℕ → Data → Option Query
 asked_of word d =
     if bytes_eq word (codes "totals") then row 2 totals_query d
+    else (if bytes_eq word (codes "rack") then row 2 rack_query d
     else (if bytes_eq word (codes "trace") then row 2 trace_query d
-    else (if bytes_eq word (codes "demand") then row 2 demand_query d else None))
+    else (if bytes_eq word (codes "demand") then row 2 demand_query d else None)))
 
 abbrev pub query_of : Data → Option Query
 query_of d = option_and_then (λ word. asked_of word d) (word_at (codes "ask") (codes "do") d)
@@ -363,6 +381,7 @@ reply_data (reply.Release job) = release_told job
 reply_data (reply.Scrap part) = scrap_told part
 reply_data (reply.GiveBack part) = return_told part
 reply_data (reply.Totals material received stock rack pieces kerf scrap returned) = totals_told material received stock rack pieces kerf scrap returned
+reply_data (reply.Rack material parts) = rack_told material parts
 reply_data (reply.Trace batch h of part root state w x y) = trace_data batch (name_text part) (name_text root) (state_text state) h of w x y
 reply_data (reply.Demand demand line made material order reserved wanted) = demand_told demand line made material order reserved wanted
 reply_data (reply.Refused refusal) =

@@ -5,10 +5,10 @@ ghost use Rattle.shop_rules.specs.Forms as form;
 ghost use Rattle.shop_rules.specs.Forms.{reply_data, trace_data};
 
 use crate::fields::{code_at, has_keys, name_at, number_at, word_at};
-use crate::words::{part_text, state_word};
+use crate::words::{part_text, state_word, wide};
 use cut_measure::PartName;
 use serde_json::{Value, json};
-use shop_machine::{Query, StateWord};
+use shop_machine::{Query, RackRow, StateWord};
 use std::alloc::{AllocError, Global};
 
 // The query for a material's cells.
@@ -44,6 +44,49 @@ pub(crate) fn totals_reply(
         "scrap": scrap,
         "stock": stock
     })
+}
+
+// The query for a material's parts on the rack.
+fn rack_query(value: &Value) -> Option<Query>
+    ensures { result ≡ form.rack_query (view value.now) }
+{
+    let material = code_at(value, "material")?;
+    Some(Query::Rack { material })
+}
+
+// A part on the rack as an object.
+fn rack_row_value(alloc: Global, row: &RackRow) -> Result<Value, AllocError>
+    ensures { IfOk result (λ value. view value ≡ form.rack_row_data row.now) }
+{
+    let h = wide(row.h);
+    let w = wide(row.w);
+    let part = part_text(alloc, &row.part)?;
+    let state = state_word(row.state);
+    let value = json!(in alloc; {"h": h, "part": part.as_str(), "state": state, "w": w})?;
+    Ok(value)
+}
+
+// The parts on the rack as a list of objects.
+fn rack_value(alloc: Global, parts: &[RackRow]) -> Result<Value, AllocError>
+    ensures { IfOk result (λ value. view value ≡ form.rack_data parts.now) }
+{
+    let mut values: Vec<Value> = Vec::new(alloc);
+    for row in parts {
+        values.push(rack_row_value(alloc, row)?)?;
+    }
+    Ok(Value::Array(values))
+}
+
+// The object of the reply to it.
+pub(crate) fn rack_reply(
+    alloc: Global,
+    material: &str,
+    parts: &[RackRow],
+) -> Result<Value, AllocError>
+    ensures { IfOk result (λ value. view value ≡ reply_data (reply.Rack material.now parts.now)) }
+{
+    let parts = rack_value(alloc, parts)?;
+    json!(in alloc; {"material": material, "ok": "rack", "parts": parts})
 }
 
 // The query for a part.
@@ -164,6 +207,8 @@ pub(crate) fn asked(value: &Value) -> Option<Query>
     }
     if word == "totals" {
         totals_query(value)
+    } else if word == "rack" {
+        rack_query(value)
     } else if word == "trace" {
         trace_query(value)
     } else if word == "demand" {

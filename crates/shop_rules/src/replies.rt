@@ -8,7 +8,7 @@ ghost use Rattle.shop_rules.specs.Forms as form;
 ghost use Rattle.shop_rules.specs.Forms.{reply_data, json_texts};
 
 use crate::adding::{material_made, material_reply};
-use crate::asking::{Counts, Place, demand_reply, totals_reply, trace_reply};
+use crate::asking::{Counts, Place, demand_reply, rack_reply, totals_reply, trace_reply};
 use crate::breaking::break_made;
 use crate::ending::{done_made, ended_reply, release_made, release_reply};
 use crate::fields::text_at;
@@ -122,6 +122,9 @@ pub fn reply_value(alloc: Global, reply: &Reply) -> Result<Value, AllocError>
             *scrap,
             *returned,
         ),
+        Reply::Rack { material, parts } => {
+            rack_reply(alloc, material.as_str(), parts.as_slice())
+        }
         Reply::Trace {
             batch,
             h,
@@ -171,7 +174,7 @@ pub fn reply_value(alloc: Global, reply: &Reply) -> Result<Value, AllocError>
     }
 }
 
-#[tactic(auto, unfolding(crate::specs::Forms::json_texts))]
+#[tactic(auto, using(crate::proofs::Back::reply_no_float), unfolding(crate::specs::Forms::json_texts))]
 /// The text of a reply: compact, with its keys in byte order.
 pub fn reply_text(alloc: Global, reply: &Reply) -> Result<Text, AllocError>
     ensures { IfOk result (λ text. text ≡ json_texts.of_reply reply.now) }

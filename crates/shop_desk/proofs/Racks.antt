@@ -1,0 +1,24 @@
+-- Parts that are taken in turn.
+use Rattle.std.proofs.Common.{◌≡◌, List, [], ◌∷◌, ◌++◌, map, not, Bool, true, false, refl, sym, ap, ◌∙◌, append-nil}
+use Rattle.std.specs.Prelude.{filter}
+use Rattle.std.proofs.lemmas.List.{append_assoc}
+use Rattle.shop_machine.specs.declared.records.Part.{Part}
+use Rattle.shop_machine.specs.declared.records.RackRow.{RackRow}
+use Rattle.shop_machine.specs.Content.{rack_rows}
+use Rattle.shop_machine.specs.Columns.{is_whole, rack_row}
+use Rattle.shop_store.specs.Visits.{GoesOn}
+use Rattle.shop_desk.specs.declared.racks.RackTaker.{RackTaker}
+use Rattle.shop_desk.specs.Racks.{TakesRack}
+
+one_more : (part : Part) (parts : List Part) → rack_rows (part ∷ []) ++ rack_rows parts ≡ rack_rows (part ∷ parts)
+one_more part parts = by (is_whole part) refl
+  where
+    by : (b : Bool) → is_whole part ≡ b → rack_rows (part ∷ []) ++ rack_rows parts ≡ rack_rows (part ∷ parts)
+    by true e = rw e refl
+    by false e = rw e refl
+
+pub taken : (parts : List Part) (old new : RackTaker) → GoesOn TakesRack parts old new → new.parts ≡ old.parts ++ rack_rows parts
+taken [] old new is = ap (λ (t : RackTaker). t.parts) (sym is) ∙ sym (append-nil old.parts)
+taken (part ∷ parts) old new goes =
+    taken parts goes.0 new goes.2 ∙ ap (λ rows. rows ++ rack_rows parts) goes.1 ∙ append_assoc old.parts (rack_rows (part ∷ [])) (rack_rows parts)
+    ∙ ap (λ rows. old.parts ++ rows) (one_more part parts)

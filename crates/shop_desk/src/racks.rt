@@ -1,0 +1,18 @@
+ghost use Rattle.shop_desk.specs.Racks.{TakesRack};
+
+use shop_rules::{Part, RackList};
+use shop_store::PartVisitor;
+
+// Takes the parts with a job's name, as they are told. It stops where memory is wanting.
+#[derive(Drop)]
+pub struct RackTaker {
+    pub parts: RackList,
+}
+
+impl PartVisitor for RackTaker {
+    ghost looks = { TakesRack };
+
+    fn part(&mut self, part: &Part) -> bool {
+        part.is_whole() || self.parts.push(part.rack_row()).is_ok()
+    }
+}
