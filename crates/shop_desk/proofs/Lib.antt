@@ -3,4 +3,4 @@ pub mod Steps
 pub mod Deciding
 pub mod Blame
 pub mod Accounts
-pub mod Racks
+pub mod TakenParts

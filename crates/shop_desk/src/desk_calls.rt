@@ -1,13 +1,13 @@
 ghost use Rattle.std.specs.Prelude.{◌≡◌, ◌≢◌, IfOk, OnErr, None, true, false};
-ghost use Rattle.shop_machine.specs.Content.{Content, kept_at};
+ghost use Rattle.shop_machine.specs.Content.{Content, kept_at, parts_of, rack_rows};
 ghost use Rattle.shop_machine.specs.Messages.{IsMessage, pair_of};
 ghost use Rattle.shop_machine.specs.Machine.{Answers, StepAgain};
 ghost use Rattle.shop_machine.specs.Soundness.{IsSound, IsKept};
 ghost use Rattle.shop_machine.specs.declared.kept_texts.Pair.{Pair as PairOf};
 ghost use Rattle.shop_machine.specs.declared.messages.Message.{Message as MessageOf};
 ghost use Rattle.shop_machine.specs.declared.messages.Query.TheVariants.{Totals, Rack, Trace, Demand};
-ghost use Rattle.shop_machine.specs.declared.messages.Reply.TheVariants.{Refused};
-ghost use Rattle.shop_machine.specs.declared.refusals.Refusal.TheVariants.{StoreFault};
+ghost use Rattle.shop_machine.specs.declared.messages.Reply.TheVariants.{Refused, Rack as RackParts};
+ghost use Rattle.shop_machine.specs.declared.refusals.Refusal.TheVariants.{NoMemory, StoreFault};
 ghost use Rattle.shop_rules.specs.Forms.{json_texts};
 ghost use Rattle.shop_store.specs.Kept.{KeepsBook, Says};
 ghost use Rattle.shop_desk.specs.Faults.{CountsReply, CountsOrContradicts, CountsUp, StoreFailed};
@@ -123,6 +123,24 @@ fn totals<B: Book>(book: &mut B, material: Code) -> Reply
     }
 }
 
+// The parts on the rack of a material that is there.
+fn known_rack<B: Book>(alloc: Global, book: &mut B, material: Code) -> Reply
+    ensures answer { Says B.Book book.old book.new (λ m. result ≢ Refused NoMemory → result ≢ Refused StoreFault → result ≡ RackParts material (rack_rows (parts_of m material))) }
+    ensures keeps { KeepsBook B.Book (CountsReply result) book.old book.new }
+{
+    let mut taker = RackTaker {
+        parts: RackList::new(alloc),
+    };
+    match book.visit_parts(material, &mut taker) {
+        Err(fault) => Reply::Refused(Refusal::from(fault)),
+        Ok(false) => Reply::Refused(Refusal::NoMemory),
+        Ok(true) => Reply::Rack {
+            material,
+            parts: taker.parts,
+        },
+    }
+}
+
 // A material's parts on the rack.
 fn rack<B: Book>(alloc: Global, book: &mut B, material: Code) -> Reply
     ensures answer { Says B.Book book.old book.new (λ m. Answers m (Rack material) result) }
@@ -130,20 +148,10 @@ fn rack<B: Book>(alloc: Global, book: &mut B, material: Code) -> Reply
 {
     match book.material(material) {
         Err(fault) => Reply::Refused(Refusal::from(fault)),
-        Ok(None) => Reply::Refused(Refusal::NoMaterial),
-        Ok(Some(_)) => {
-            let mut taker = RackTaker {
-                parts: RackList::new(alloc),
-            };
-            match book.visit_parts(material, &mut taker) {
-                Err(fault) => Reply::Refused(Refusal::from(fault)),
-                Ok(false) => Reply::Refused(Refusal::NoMemory),
-                Ok(true) => Reply::Rack {
-                    material,
-                    parts: taker.parts,
-                },
-            }
-        }
+        Ok(found) => match found {
+            Some(_) => known_rack(alloc, book, material),
+            None => Reply::Refused(Refusal::NoMaterial),
+        },
     }
 }
 

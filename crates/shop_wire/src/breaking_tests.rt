@@ -263,6 +263,34 @@ const NO_CUT: (&str, &str) = (
 "#,
 );
 
+// The rack has what stands with a job's name, reserved or not, and no whole sheet.
+const RACKED: (&str, &str) = (
+    r#"{"ask":"rack","material":"GLASS"}
+{"cuts":1,"do":"break","job":2,"lost":false,"number":5,"terminal":1}
+{"ask":"rack","material":"GLASS"}
+{"do":"reserve","number":6,"part":"2/4","terminal":1,"tree":"y3 p3 r"}
+{"ask":"rack","material":"GLASS"}
+{"do":"done","job":3,"number":7,"terminal":1}
+{"do":"scrap","number":8,"part":"2/1","terminal":1}
+{"ask":"rack","material":"GLASS"}
+{"ask":"rack","material":"STEEL"}
+{"ask":"rack","material":"GLASS","part":"2/1"}
+{"ask":"rack"}
+"#,
+    r#"{"material":"GLASS","ok":"rack","parts":[]}
+{"job":2,"kerf":8,"ok":"break","pieces":0,"rack":72,"scrap":0}
+{"material":"GLASS","ok":"rack","parts":[{"h":8,"part":"2/1","state":"standing","w":4},{"h":8,"part":"2/4","state":"standing","w":5}]}
+{"cuts":1,"job":3,"ok":"reserve"}
+{"material":"GLASS","ok":"rack","parts":[{"h":8,"part":"2/1","state":"standing","w":4},{"h":8,"part":"2/4","state":"reserved","w":5}]}
+{"job":3,"kerf":5,"ok":"done","pieces":15,"rack":20,"scrap":0}
+{"ok":"scrap","part":"2/1"}
+{"material":"GLASS","ok":"rack","parts":[{"h":4,"part":"3/2","state":"standing","w":5}]}
+{"name":"NoMaterial","refused":20}
+{"name":"BadMessage","refused":10}
+{"name":"BadMessage","refused":10}
+"#,
+);
+
 // What is answered to lines that follow others.
 fn answered(alloc: Global, first: &str, lines: &[u8]) -> Result<Vec<u8>, Fail> {
     let mut book = MemBook::new(alloc);
@@ -273,7 +301,7 @@ fn answered(alloc: Global, first: &str, lines: &[u8]) -> Result<Vec<u8>, Fail> {
 
 #[test]
 fn jobs_are_broken_off(rt: HostRuntime) -> Result<(), Fail> {
-    for (lines, replies) in [BROKEN, LOST, LOST_AT_ONCE] {
+    for (lines, replies) in [BROKEN, LOST, LOST_AT_ONCE, RACKED] {
         let written = answered(rt.alloc(), TWO_CUTS, lines.as_bytes())?;
         assert_eq!(rt; written.as_slice(), replies.as_bytes());
     }

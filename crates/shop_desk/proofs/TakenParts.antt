@@ -1,12 +1,12 @@
 -- Parts that are taken in turn.
-use Rattle.std.proofs.Common.{◌≡◌, List, [], ◌∷◌, ◌++◌, map, not, Bool, true, false, refl, sym, ap, ◌∙◌, append-nil}
+use Rattle.std.proofs.Common.{◌≡◌, List, [], ◌∷◌, ◌++◌, map, not, Bool, true, false, Ok, refl, sym, ap, subst, ◌∙◌, append-nil}
 use Rattle.std.specs.Prelude.{filter}
 use Rattle.std.proofs.lemmas.List.{append_assoc}
 use Rattle.shop_machine.specs.declared.records.Part.{Part}
 use Rattle.shop_machine.specs.declared.records.RackRow.{RackRow}
 use Rattle.shop_machine.specs.Content.{rack_rows}
 use Rattle.shop_machine.specs.Columns.{is_whole, rack_row}
-use Rattle.shop_store.specs.Visits.{GoesOn}
+use Rattle.shop_store.specs.Visits.{GoesOn, HasSeen, IsVisit}
 use Rattle.shop_desk.specs.declared.racks.RackTaker.{RackTaker}
 use Rattle.shop_desk.specs.Racks.{TakesRack}
 
@@ -22,3 +22,12 @@ taken [] old new is = ap (λ (t : RackTaker). t.parts) (sym is) ∙ sym (append-
 taken (part ∷ parts) old new goes =
     taken parts goes.0 new goes.2 ∙ ap (λ rows. rows ++ rack_rows parts) goes.1 ∙ append_assoc old.parts (rack_rows (part ∷ [])) (rack_rows parts)
     ∙ ap (λ rows. old.parts ++ rows) (one_more part parts)
+
+-- a visit that came to the end of a list took it all
+pub rack_taken : (list : List Part) (says : (List Part → Type 0) → Type 0) (told : Bool) (old new : RackTaker) → told ≡ true → ((what : List Part → Type 0) → says what → what list)
+    → IsVisit TakesRack says old (Ok told) new → old.parts ≡ [] → new.parts ≡ rack_rows list
+rack_taken list says told old new went reads visit empty =
+    let goes : GoesOn TakesRack visit.parts old new = subst (λ b. HasSeen TakesRack visit.parts b old new) (sym visit.answer ∙ went) visit.visitor in
+    let begins = reads _ visit.begins in
+    let whole : list ≡ visit.parts = begins.1 ∙ ap (λ rest. visit.parts ++ rest) (begins.2 went) ∙ append-nil visit.parts in
+    taken visit.parts old new goes ∙ ap (λ rows. rows ++ rack_rows visit.parts) empty ∙ ap rack_rows (sym whole)
