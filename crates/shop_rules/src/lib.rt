@@ -25,7 +25,8 @@ pub use replies::{kept_reply, read_reply, reply_text, reply_value};
 pub use shop_machine::{
     Change, Column, Command, Demand, DemandList, FoundLeaf, FoundLine, Job, JobState, Kept,
     KeptMessage, LineList, Material, MaterialTotals, Message, OrderLine, Pair, Part, PartList,
-    Query, RackList, RackRow, Refusal, Reply, RowList, State, StateWord, Text, Totals, accepted_changes_fit,
-    decide_break, decide_done, decide_give_back, decide_material, decide_order, decide_receive,
-    decide_release, decide_reserve, decide_scrap, histories_have_accounts, no_totals,
+    Query, RackList, RackRow, Refusal, Reply, RowList, State, StateWord, Text, Totals,
+    accepted_changes_fit, decide_break, decide_done, decide_give_back, decide_material,
+    decide_order, decide_receive, decide_release, decide_reserve, decide_scrap,
+    histories_have_accounts, no_totals,
 };
