@@ -157,6 +157,29 @@ fn reaches_sums(rt: HostRuntime) -> Result<(), Fail> {
     Ok(())
 }
 
+// Worths on both sides of what cells of 32 bits hold: pieces of 1 that fill a bar, with their sum.
+#[test]
+fn plans_bars_of_any_worth(rt: HostRuntime) -> Result<(), Fail> {
+    let planned = [
+        (5, 0, 858993458, 5, 4294967290),
+        (5, 0, 858993459, 5, 4294967295),
+        (255, 0, 16843008, 255, 4294967040),
+        (255, 0, 16843009, 255, 4294967295),
+        (9, 1, 858993458, 10, 4294967290),
+        (9, 1, 858993460, 10, 4294967300),
+    ];
+    for (w, kerf, worth, sum, best) in planned {
+        if kerf <= 200 {
+            let wants = [want(1, 1, 1, 255, worth)?];
+            let (found, _) = bar(&rt, w, kerf, &wants)??;
+            assert_eq!(rt; found, best, "{worth}");
+            let (_, worths) = reached_worths(&rt, w, kerf, &wants, &[sum])??;
+            assert_eq!(rt; worths.as_slice(), [Some(best)].as_slice(), "{worth}");
+        }
+    }
+    Ok(())
+}
+
 // The best worth of a bar by a table over every room.
 fn table_worth(alloc: Global, size: Size, kerf: u32, wants: &[Want]) -> Result<u64, AllocError>
     requires kerf { kerf ≤ 200 }

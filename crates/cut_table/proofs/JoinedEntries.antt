@@ -277,7 +277,7 @@ other_way a b first (inr e) = inl e
 abbrev pub none : Entry
 none = record { room = 0; worth = 0 }
 
-pub low_at : (whole : ℕ) (base : List Entry) (i : ℕ) → HaveWorthsBoundedByRoom whole (Contains base) → i < length base
+pub low_at : (whole : ℕ) (base : List Entry) (i : ℕ) → HaveWorthsBoundedByRoom (2 ^ 30) whole (Contains base) → i < length base
     → ((get_or base i none).room ≤ whole) × ((get_or base i none).worth ≤ (get_or base i none).room * 2 ^ 30)
 low_at whole base i low lt = low (get_or base i none) (Contains-get_or base i none lt)
 
@@ -362,7 +362,7 @@ module _ (step gain whole : ℕ) (base : List Entry) (moved : ℕ) (offered offe
     | inr same ↦ omega (arith, fits, ap (λ (e : Entry). e.room) same)
   ]
 
-pub up_to_short : (whole : ℕ) (base joined : List Entry) → HaveWorthsBoundedByRoom whole (Contains base) → AreUpTo base joined → (e : Entry) → Contains joined e → e.room ≤ whole
+pub up_to_short : (whole : ℕ) (base joined : List Entry) → HaveWorthsBoundedByRoom (2 ^ 30) whole (Contains base) → AreUpTo base joined → (e : Entry) → Contains joined e → e.room ≤ whole
 up_to_short whole base joined low up e has =
     let b = up e has in
     let l = low b.0 b.1 in

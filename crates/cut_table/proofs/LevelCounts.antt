@@ -1,5 +1,5 @@
 -- From an entry back to counts.
-use Rattle.std.proofs.Common.{◌≡◌, ℕ, ◌+◌, ◌-◌, ◌*◌, ◌<◌, ◌≤◌, ◌++◌, List, [], ◌∷◌, length, drop, get_or, sym, refl, ap, ◌∙◌, subst, inl, inr, false, eqb, arith, Ok, Err, eq-eqb, append_assoc, append-nil}
+use Rattle.std.proofs.Common.{◌≡◌, ℕ, ◌+◌, ◌-◌, ◌*◌, ◌<◌, ◌≤◌, ◌++◌, List, [], ◌∷◌, length, drop, get_or, sym, refl, ap, ◌∙◌, subst, inl, inr, false, eqb, arith, Ok, Err, eq-eqb, append_assoc, append-nil, map}
 use Rattle.std.specs.Prelude.{Contains, IsTrue, ◌↔◌}
 use Rattle.std.specs.List.Sorted.{IsSearchInRange, IsBinarySearchResult, IsNonDecreasingBy}
 use Rattle.std.specs.Ordering.{nat_cmp, ordering_index}
@@ -12,13 +12,13 @@ use Rattle.std.proofs.lemmas.Bool.Decides.{nat_tests}
 use Rattle.std.proofs.lemmas.Bool.{cases_lt, false≢true, eqb-true}
 use Rattle.cut_table.specs.declared.wants.Want.{Want}
 use Rattle.cut_table.specs.declared.reach.Entry.{Entry}
-use Rattle.cut_table.specs.Counts.{AreCounts, room_taken, worth_of_counts, HasBoundedWorthAndLeft, HaveBoundedWorthsAndLefts, HaveLength, AreBestCounts}
+use Rattle.cut_table.specs.Counts.{AreCounts, room_taken, worth_of_counts, HaveLength, AreBestCounts}
 use Rattle.cut_table.specs.declared.level.Level.{Level}
-use Rattle.cut_table.specs.Reached.{AreRising, AreOwn, AreReached, AreOffered, IsMoved, IsGreatestAt, IsBestEntry, IsLedTo, AreCountsOf}
+use Rattle.cut_table.specs.Reached.{AreRising, AreOwn, AreReached, AreOffered, IsMoved, IsGreatestAt, IsBestEntry, IsLedTo, AreCountsOf, StayBelow, ArePricedBelow}
 use Rattle.cut_table.specs.declared.level.Level.TheVariants.{Listed, Tabled}
 use Rattle.cut_table.specs.Levels.{Has, IsLevel, IsCopyOf, AreLevels, IsOfFirst}
 use Rattle.cut_table.proofs.JoinedEntries.{none, same_entry, one_worth}
-use Rattle.cut_table.proofs.WantEntries.{reached_none, reached_want}
+use Rattle.cut_table.proofs.WantEntries.{reached_none, reached_want, reached_low}
 use Rattle.cut_table.proofs.RaisedCells.{cells_own}
 use Rattle.cut_table.proofs.LeafSums.{Contains-cases}
 
@@ -91,22 +91,22 @@ pub moved_one : (step gain count : ℕ) (from e : Entry) → IsMoved step gain c
     → IsMoved step gain (count + 1) (record { room = from.room - step; worth = from.worth - gain }) e
 moved_one step gain count from e m room worth = record { room = omega (arith, m.room); worth = omega (arith, m.worth) }
 
-pub first_level : (k whole : ℕ) (xs : List Want) (levels : List Level) → AreLevels k whole xs levels → (d : Level)
-    → (0 < length levels) × IsLevel whole (get_or levels 0 d) × AreReached k xs whole (Has (get_or levels 0 d))
-first_level k whole xs [] h d = absurd h
-first_level k whole [] (level ∷ levels) h d = (omega arith, h.0, h.1)
-first_level k whole (x ∷ xs) (level ∷ levels) h d = (omega arith, h.0, h.1)
+pub first_level : {T : Type 0} (value : T → ℕ) (k whole : ℕ) (xs : List Want) (levels : List (Level T)) → AreLevels value k whole xs levels → (d : Level T)
+    → (0 < length levels) × IsLevel whole (get_or levels 0 d) × AreReached k xs whole (Has value (get_or levels 0 d))
+first_level value k whole xs [] h d = absurd h
+first_level value k whole [] (level ∷ levels) h d = (omega arith, h.0, h.1)
+first_level value k whole (x ∷ xs) (level ∷ levels) h d = (omega arith, h.0, h.1)
 
-pub one_level : (k whole i : ℕ) (xs : List Want) (level : Level) → length xs ≤ i → IsLevel whole level × AreReached k [] whole (Has level) → AreLevels k whole (drop i xs) (level ∷ [])
-one_level k whole i xs level past r = rw (drop_all i xs past) r
+pub one_level : {T : Type 0} (value : T → ℕ) (k whole i : ℕ) (xs : List Want) (level : Level T) → length xs ≤ i → IsLevel whole level × AreReached k [] whole (Has value level) → AreLevels value k whole (drop i xs) (level ∷ [])
+one_level value k whole i xs level past r = rw (drop_all i xs past) r
 
-pub levels_more : (k whole i j : ℕ) (xs : List Want) (d : Want) (level : Level) (levels : List Level) (v : Level) → i < length xs → i + 1 ≡ j
-    → AreLevels k whole (drop j xs) levels → IsLevel whole level
-    → AreOffered ((get_or xs i d).size.w + k) (get_or xs i d).worth (get_or xs i d).left whole (Has (get_or levels 0 v)) (Has level)
-    → AreLevels k whole (drop i xs) (level ∷ levels)
-levels_more k whole i j xs d level levels v lt next h is o =
+pub levels_more : {T : Type 0} (value : T → ℕ) (k whole i j : ℕ) (xs : List Want) (d : Want) (level : Level T) (levels : List (Level T)) (v : Level T) → i < length xs → i + 1 ≡ j
+    → AreLevels value k whole (drop j xs) levels → IsLevel whole level
+    → AreOffered ((get_or xs i d).size.w + k) (get_or xs i d).worth (get_or xs i d).left whole (Has value (get_or levels 0 v)) (Has value level)
+    → AreLevels value k whole (drop i xs) (level ∷ levels)
+levels_more value k whole i j xs d level levels v lt next h is o =
     let parts : drop i xs ≡ get_or xs i d ∷ drop j xs = drop_more xs i d lt ∙ ap (λ n. get_or xs i d ∷ drop n xs) next in
-    rw parts (is, reached_want k whole (get_or xs i d) (drop j xs) (Has (get_or levels 0 v)) (Has level) (first_level k whole (drop j xs) levels h v).2 o, h)
+    rw parts (is, reached_want k whole (get_or xs i d) (drop j xs) (Has value (get_or levels 0 v)) (Has value level) (first_level value k whole (drop j xs) levels h v).2 o, h)
 
 -- the entries of a want's level are led to from those of the next
 module _ (k whole : ℕ) (x : Want) (xs : List Want) (base entries : Entry → Type 0) (r : AreReached k xs whole base) (s : AreReached k (x ∷ xs) whole entries) (e : Entry) (has : entries e) where
@@ -130,38 +130,38 @@ module _ (k whole : ℕ) (x : Want) (xs : List Want) (base entries : Entry → T
               (a, is.0, b.0, b.1, record { room = omega (arith, takes, room); worth = omega (arith, value, least, worth, all) })
 
 -- the levels at a want
-pub record LevelsAt (k whole i : ℕ) (xs : List Want) (d : Want) (levels : List Level) (v : Level) (left : Entry) : Type 0 where
+pub record LevelsAt {T : Type 0} (value : T → ℕ) (k whole i : ℕ) (xs : List Want) (d : Want) (levels : List (Level T)) (v : Level T) (left : Entry) : Type 0 where
   pub there : i + 1 < length levels
   pub level : IsLevel whole (get_or levels (i + 1) v)
-  pub led : IsLedTo ((get_or xs i d).size.w + k) (get_or xs i d).worth (get_or xs i d).left (Has (get_or levels (i + 1) v)) left
-  pub rest : AreLevels k whole (drop (i + 1) xs) (drop (i + 1) levels)
-  pub first : (e : Entry) → Has (get_or levels (i + 1) v) e → IsOfFirst (drop (i + 1) levels) e
+  pub led : IsLedTo ((get_or xs i d).size.w + k) (get_or xs i d).worth (get_or xs i d).left (Has value (get_or levels (i + 1) v)) left
+  pub rest : AreLevels value k whole (drop (i + 1) xs) (drop (i + 1) levels)
+  pub first : (e : Entry) → Has value (get_or levels (i + 1) v) e → IsOfFirst value (drop (i + 1) levels) e
 
-pub levels_at : (k whole i : ℕ) (xs : List Want) (d : Want) (levels : List Level) (v : Level) (left : Entry) → i < length xs
-    → AreLevels k whole (drop i xs) (drop i levels) → IsOfFirst (drop i levels) left → LevelsAt k whole i xs d levels v left
-levels_at k whole i xs d levels v left lt h has =
+pub levels_at : {T : Type 0} (value : T → ℕ) (k whole i : ℕ) (xs : List Want) (d : Want) (levels : List (Level T)) (v : Level T) (left : Entry) → i < length xs
+    → AreLevels value k whole (drop i xs) (drop i levels) → IsOfFirst value (drop i levels) left → LevelsAt value k whole i xs d levels v left
+levels_at value k whole i xs d levels v left lt h has =
     elim (cases_lt i (length levels)) [
-      | inr past ↦ absurd (subst (λ ls. IsOfFirst ls left) (drop_all i levels past) has)
+      | inr past ↦ absurd (subst (λ ls. IsOfFirst value ls left) (drop_all i levels past) has)
       | inl here ↦
-          let a = subst (λ ys. AreLevels k whole ys (drop i levels)) (drop_more xs i d lt) h in
-          let b = subst (λ ls. AreLevels k whole (get_or xs i d ∷ drop (i + 1) xs) ls) (drop_more levels i v here) a in
-          let there = subst (λ ls. IsOfFirst ls left) (drop_more levels i v here) has in
+          let a = subst (λ ys. AreLevels value k whole ys (drop i levels)) (drop_more xs i d lt) h in
+          let b = subst (λ ls. AreLevels value k whole (get_or xs i d ∷ drop (i + 1) xs) ls) (drop_more levels i v here) a in
+          let there = subst (λ ls. IsOfFirst value ls left) (drop_more levels i v here) has in
           elim (cases_lt (i + 1) (length levels)) [
-            | inr past ↦ absurd (none_at (drop (i + 1) xs) (subst (λ ls. AreLevels k whole (drop (i + 1) xs) ls) (drop_all (i + 1) levels past) b.2))
+            | inr past ↦ absurd (none_at (drop (i + 1) xs) (subst (λ ls. AreLevels value k whole (drop (i + 1) xs) ls) (drop_all (i + 1) levels past) b.2))
             | inl next ↦
-                let c = subst (λ ls. AreLevels k whole (drop (i + 1) xs) ls) (drop_more levels (i + 1) v next) b.2 in
-                let r = first_level k whole (drop (i + 1) xs) (get_or levels (i + 1) v ∷ drop (i + 1 + 1) levels) c v in
+                let c = subst (λ ls. AreLevels value k whole (drop (i + 1) xs) ls) (drop_more levels (i + 1) v next) b.2 in
+                let r = first_level value k whole (drop (i + 1) xs) (get_or levels (i + 1) v ∷ drop (i + 1 + 1) levels) c v in
                 record {
                   there = next;
                   level = r.1;
-                  led = reached_led k whole (get_or xs i d) (drop (i + 1) xs) (Has (get_or levels (i + 1) v)) (Has (get_or levels i v)) r.2 b.1 left there;
+                  led = reached_led k whole (get_or xs i d) (drop (i + 1) xs) (Has value (get_or levels (i + 1) v)) (Has value (get_or levels i v)) r.2 b.1 left there;
                   rest = b.2;
-                  first = λ e there'. subst (λ ls. IsOfFirst ls e) (sym (drop_more levels (i + 1) v next)) there';
+                  first = λ e there'. subst (λ ls. IsOfFirst value ls e) (sym (drop_more levels (i + 1) v next)) there';
                 }
           ]
     ]
   where
-    none_at : (ys : List Want) → AreLevels k whole ys [] → ⊥
+    none_at : (ys : List Want) → AreLevels value k whole ys [] → ⊥
     none_at ys h = h
 
 pub counts_pushed : (k i n : ℕ) (xs : List Want) (d : Want) (counts pushed : List ℕ) (entry left from : Entry) → i < length xs → n ≤ (get_or xs i d).left
@@ -179,14 +179,14 @@ counts_pushed k i n xs d counts pushed entry left from lt few moved items done n
     let e : counts ++ (n ∷ ns) ≡ pushed ++ ns = sym (append_assoc counts (n ∷ []) ns) ∙ ap (λ l. l ++ ns) (sym items) in
     subst (λ l. AreCountsOf k xs entry l) e (done (n ∷ ns) whole')
 
-pub counts_done : (k whole i : ℕ) (xs : List Want) (levels : List Level) (counts : List ℕ) (entry left : Entry) → length xs ≤ i → AreLevels k whole (drop i xs) (drop i levels)
-    → IsOfFirst (drop i levels) left → ((ns : List ℕ) → AreCountsOf k (drop i xs) left ns → AreCountsOf k xs entry (counts ++ ns)) → AreCountsOf k xs entry counts
-counts_done k whole i xs levels counts entry left past h has done =
-    let c = zero_left (drop i levels) (subst (λ ys. AreLevels k whole ys (drop i levels)) (drop_all i xs past) h) has in
+pub counts_done : {T : Type 0} (value : T → ℕ) (k whole i : ℕ) (xs : List Want) (levels : List (Level T)) (counts : List ℕ) (entry left : Entry) → length xs ≤ i → AreLevels value k whole (drop i xs) (drop i levels)
+    → IsOfFirst value (drop i levels) left → ((ns : List ℕ) → AreCountsOf k (drop i xs) left ns → AreCountsOf k xs entry (counts ++ ns)) → AreCountsOf k xs entry counts
+counts_done value k whole i xs levels counts entry left past h has done =
+    let c = zero_left (drop i levels) (subst (λ ys. AreLevels value k whole ys (drop i levels)) (drop_all i xs past) h) has in
     let b = subst (λ ys. AreCountsOf k ys left []) (sym (drop_all i xs past)) c in
     subst (λ l. AreCountsOf k xs entry l) (append-nil counts) (done [] b)
   where
-    zero_left : (ls : List Level) → AreLevels k whole [] ls → IsOfFirst ls left → AreCountsOf k [] left []
+    zero_left : (ls : List (Level _)) → AreLevels value k whole [] ls → IsOfFirst value ls left → AreCountsOf k [] left []
     zero_left [] h has = absurd h
     zero_left (level ∷ ls) h has =
         let g = (h.1.only left has).1 in
@@ -219,9 +219,6 @@ some_entry k whole xs entries r = let e = r.each (zeros xs) (few xs) (omega (ari
     nothing [] = refl
     nothing (x ∷ xs) = omega (arith, nothing xs)
 
-pub modest_at : (xs : List Want) (i : ℕ) (d : Want) → HaveBoundedWorthsAndLefts xs → i < length xs → HasBoundedWorthAndLeft (get_or xs i d)
-modest_at xs i d m lt = m (get_or xs i d) (Contains-get_or xs i d lt)
-
 pub length_more : (xs : List Want) (i j : ℕ) (d : Want) → i < length xs → i + 1 ≡ j → 1 ≤ (get_or xs i d).size.w → HaveLength (drop j xs) → HaveLength (drop i xs)
 length_more xs i j d lt next some have =
     let parts : drop i xs ≡ get_or xs i d ∷ drop j xs = drop_more xs i d lt ∙ ap (λ n. get_or xs i d ∷ drop n xs) next in
@@ -232,30 +229,38 @@ length_more xs i j d lt next some have =
     ]
     )
 
-pub modest_rest : (xs : List Want) (i : ℕ) → HaveBoundedWorthsAndLefts xs → HaveBoundedWorthsAndLefts (drop i xs)
-modest_rest xs i m x (j, lt, is) = m x (i + j, grind (arith, common_steps), sym (get_or-drop i xs j x) ∙ is)
+-- what the wants behind the first i reach, and the want before them
+pub stays_below : (limit k whole i j : ℕ) (xs : List Want) (d : Want) (has : Entry → Type 0) → ArePricedBelow limit k whole xs → i < length xs → AreReached k (drop j xs) whole has
+    → StayBelow limit whole has ((get_or xs i d).size.w + k) (get_or xs i d).worth
+stays_below limit k whole i j xs d has p lt r = record {
+  price = p.price;
+  modest = p.modest;
+  low = reached_low p.price k whole (drop j xs) has r (λ x (n, more, is). p.each x (j + n, grind (arith, common_steps), sym (get_or-drop j xs n x) ∙ is));
+  gains = p.each (get_or xs i d) (Contains-get_or xs i d lt);
+  below = p.below;
+}
 
 pub length_none : (xs : List Want) (i : ℕ) → length xs ≤ i → HaveLength (drop i xs)
 length_none xs i past = rw (drop_all i xs past) (λ x (j, lt, is). absurd (omega arith))
 
-pub level_there : (k whole i : ℕ) (xs : List Want) (levels : List Level) → i < length xs → AreLevels k whole (drop i xs) (drop i levels) → i + 1 < length levels
-level_there k whole i xs [] lt h = absurd (none_at i (drop i xs) h)
+pub level_there : {T : Type 0} (value : T → ℕ) (k whole i : ℕ) (xs : List Want) (levels : List (Level T)) → i < length xs → AreLevels value k whole (drop i xs) (drop i levels) → i + 1 < length levels
+level_there value k whole i xs [] lt h = absurd (none_at i (drop i xs) h)
   where
-    none_at : (i : ℕ) (ys : List Want) → AreLevels k whole ys (drop i []) → ⊥
-    none_at i ys h = subst (λ ls. AreLevels k whole ys ls) (drop_all i [] (omega arith)) h
-level_there k whole i [] (v ∷ vs) lt h = absurd (omega arith)
-level_there k whole i (x ∷ xs) (v ∷ vs) lt h = elim (cases_lt (i + 1) (length (v ∷ vs))) [
+    none_at : (i : ℕ) (ys : List Want) → AreLevels value k whole ys (drop i []) → ⊥
+    none_at i ys h = subst (λ ls. AreLevels value k whole ys ls) (drop_all i [] (omega arith)) h
+level_there value k whole i [] (v ∷ vs) lt h = absurd (omega arith)
+level_there value k whole i (x ∷ xs) (v ∷ vs) lt h = elim (cases_lt (i + 1) (length (v ∷ vs))) [
   | inl next ↦ next
   | inr past ↦ elim (cases_lt i (length (v ∷ vs))) [
-    | inr gone ↦ absurd (none (drop i (x ∷ xs)) (subst (λ ls. AreLevels k whole (drop i (x ∷ xs)) ls) (drop_all i (v ∷ vs) gone) h))
+    | inr gone ↦ absurd (none (drop i (x ∷ xs)) (subst (λ ls. AreLevels value k whole (drop i (x ∷ xs)) ls) (drop_all i (v ∷ vs) gone) h))
     | inl here ↦
-        let a = subst (λ ys. AreLevels k whole ys (drop i (v ∷ vs))) (drop_more (x ∷ xs) i x lt) h in
-        let b = subst (λ ls. AreLevels k whole (get_or (x ∷ xs) i x ∷ drop (i + 1) (x ∷ xs)) ls) (drop_more (v ∷ vs) i v here) a in
-        absurd (none (drop (i + 1) (x ∷ xs)) (subst (λ ls. AreLevels k whole (drop (i + 1) (x ∷ xs)) ls) (drop_all (i + 1) (v ∷ vs) past) b.2))
+        let a = subst (λ ys. AreLevels value k whole ys (drop i (v ∷ vs))) (drop_more (x ∷ xs) i x lt) h in
+        let b = subst (λ ls. AreLevels value k whole (get_or (x ∷ xs) i x ∷ drop (i + 1) (x ∷ xs)) ls) (drop_more (v ∷ vs) i v here) a in
+        absurd (none (drop (i + 1) (x ∷ xs)) (subst (λ ls. AreLevels value k whole (drop (i + 1) (x ∷ xs)) ls) (drop_all (i + 1) (v ∷ vs) past) b.2))
   ]
 ]
   where
-    none : (ys : List Want) → AreLevels k whole ys [] → ⊥
+    none : (ys : List Want) → AreLevels value k whole ys [] → ⊥
     none ys h = h
 
 pub reached_all : (k whole i : ℕ) (xs : List Want) (entries : Entry → Type 0) → length xs ≤ i → AreReached k [] whole entries → AreReached k (drop i xs) whole entries
@@ -274,21 +279,21 @@ reached_same k whole xs has others r same = record {
   each = λ counts is fits. let e = r.each counts is fits in (e.0, (same e.0).0 e.1, e.2);
 }
 
-pub copied_level : (whole : ℕ) (old new : Level) → IsCopyOf old new → IsLevel whole old → IsLevel whole new
+pub copied_level : {T : Type 0} (whole : ℕ) (old new : Level T) → IsCopyOf old new → IsLevel whole old → IsLevel whole new
 copied_level whole (Listed old) (Listed new) copy is = rw copy is
 copied_level whole (Listed old) (Tabled new) copy is = absurd copy
 copied_level whole (Tabled old) (Listed new) copy is = absurd copy
 copied_level whole (Tabled old) (Tabled new) copy is = rw copy is
 
-pub copied_same : (old new : Level) → IsCopyOf old new → (e : Entry) → Has old e ↔ Has new e
-copied_same (Listed old) (Listed new) copy e = rw copy (λ h. h, λ h. h)
-copied_same (Listed old) (Tabled new) copy e = absurd copy
-copied_same (Tabled old) (Listed new) copy e = absurd copy
-copied_same (Tabled old) (Tabled new) copy e = rw copy (λ h. h, λ h. h)
+pub copied_same : {T : Type 0} (value : T → ℕ) (old new : Level T) → IsCopyOf old new → (e : Entry) → Has value old e ↔ Has value new e
+copied_same value (Listed old) (Listed new) copy e = rw copy (λ h. h, λ h. h)
+copied_same value (Listed old) (Tabled new) copy e = absurd copy
+copied_same value (Tabled old) (Listed new) copy e = absurd copy
+copied_same value (Tabled old) (Tabled new) copy e = rw copy (λ h. h, λ h. h)
 
-pub level_own : (whole : ℕ) (level : Level) → IsLevel whole level → AreOwn (Has level)
-level_own whole (Listed entries) is = one_worth entries.items is
-level_own whole (Tabled cells) is = cells_own cells.items
+pub level_own : {T : Type 0} (value : T → ℕ) (whole : ℕ) (level : Level T) → IsLevel whole level → AreOwn (Has value level)
+level_own value whole (Listed entries) is = one_worth entries.items is
+level_own value whole (Tabled cells) is = cells_own (map value cells.items)
 
 -- what no counts reach
 pub none_reached : (k whole : ℕ) → AreRising (none ∷ []) × AreReached k [] whole (Contains (none ∷ []))
@@ -301,3 +306,8 @@ none_reached k whole = (
     zero e i z at =
         let here : none ≡ e = subst (λ i. get_or (none ∷ []) i e ≡ e) z at in
         (omega (arith, ap (λ (e : Entry). e.room) here), omega (arith, ap (λ (e : Entry). e.worth) here))
+
+pub none_below : (limit : ℕ) → 1 < limit → (e : Entry) → Contains (none ∷ []) e → e.worth + 1 < limit
+none_below limit one e has =
+    let value = ((none_reached 0 0).1.only e has).1.value in
+    omega (arith, value, one)

@@ -2,7 +2,7 @@
 use Rattle.std.proofs.Common.{◌≡◌, ◌≢◌, ℕ, ◌+◌, ◌-◌, ◌*◌, ◌<◌, ◌≤◌, List, length, length-append, get_or, map, take, drop, ◌++◌, min, max, refl, sym, ap, ◌∙◌, inl, inr, arith}
 use Rattle.std.proofs.lemmas.Bool.{cases_lt, cases_eq}
 use Rattle.std.specs.Prelude.{slice_set}
-use Rattle.std.proofs.lemmas.List.{get_or-map, length-map, map-set}
+use Rattle.std.proofs.lemmas.List.{get_or-map, length-map, length-set, map-set}
 use Rattle.std.proofs.lemmas.List.{map-append, drop-map, take-map, get_or-take, get_or_append_left, get_or-append_right, get_or-drop}
 use Rattle.std.proofs.lemmas.Grind.{get_or_after_one}
 use Rattle.cut_table.specs.Table.{IsBelow, IsOfferedFrom}
@@ -75,6 +75,9 @@ module _ {T : Type 0} (f : T → ℕ) where
 
   pub value_others : (xs : List T) (i k : ℕ) (x : T) → k ≢ i → get_or (map f (slice_set xs i x)) k 0 ≡ get_or (map f xs) k 0
   value_others xs i k x ne = ap (λ ys. get_or ys k 0) (map-set f xs i x) ∙ set_other (map f xs) i (f x) k ne
+
+  pub set_length : (xs : List T) (i : ℕ) (x : T) → length (map f (slice_set xs i x)) ≡ length (map f xs)
+  set_length xs i x = same_length (slice_set xs i x) ∙ length-set xs i x ∙ sym (same_length xs)
 
   -- a row raised place by place
   pub raised_more : (old row : List T) (sums : ℕ → ℕ) (p : ℕ) (x : T) → p < length row

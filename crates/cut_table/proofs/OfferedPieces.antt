@@ -7,8 +7,8 @@ use Rattle.std.proofs.lemmas.Nat.{mul-le}
 use Rattle.cut_table.specs.declared.reach.Entry.{Entry}
 use Rattle.cut_table.specs.Reached.{AreOwn, AreOffered, HaveWorthsBoundedByRoom, IsMoved, IsLedTo}
 
-pub offered_none : (step gain whole : ℕ) (base : Entry → Type 0) → AreOwn base → HaveWorthsBoundedByRoom whole base → AreOffered step gain 0 whole base base
-offered_none step gain whole base own low = record {
+pub offered_none : (price step gain whole : ℕ) (base : Entry → Type 0) → AreOwn base → HaveWorthsBoundedByRoom price whole base → AreOffered step gain 0 whole base base
+offered_none price step gain whole base own low = record {
   own = own;
   short = λ e has. (low e has).0;
   only = λ e has. (0, omega arith, e, has, record { room = omega arith; worth = omega arith });
@@ -102,16 +102,33 @@ offered_same step gain n whole base base' offered offered' o same same' = record
   most = λ b has times few fits. let e = o.most b ((same b).1 has) times few fits in (e.0, (same' e.0).0 e.1, e.2, e.3);
 }
 
-low_moved : (step gain times room worth : ℕ) → gain ≤ step * 2 ^ 30 → worth ≤ room * 2 ^ 30 → worth + times * gain ≤ (room + times * step) * 2 ^ 30
-low_moved step gain times room worth small low = omega (arith, mul-le times gain times (step * 2 ^ 30) (le_refl times) small)
+low_moved : (price step gain times room worth : ℕ) → gain ≤ step * price → worth ≤ room * price → worth + times * gain ≤ (room + times * step) * price
+low_moved price step gain times room worth small low = omega (arith, mul-le times gain times (step * price) (le_refl times) small)
 
-pub offered_low : (step gain n whole : ℕ) (base entries : Entry → Type 0) → AreOffered step gain n whole base entries → HaveWorthsBoundedByRoom whole base → gain ≤ step * 2 ^ 30 → HaveWorthsBoundedByRoom whole entries
-offered_low step gain n whole base entries o low small e has = (o.short e has, from (o.only e has))
+pub offered_low : (price step gain n whole : ℕ) (base entries : Entry → Type 0) → AreOffered step gain n whole base entries → HaveWorthsBoundedByRoom price whole base → gain ≤ step * price
+    → HaveWorthsBoundedByRoom price whole entries
+offered_low price step gain n whole base entries o low small e has = (o.short e has, from (o.only e has))
   where
-    from : IsLedTo step gain n base e → e.worth ≤ e.room * 2 ^ 30
+    from : IsLedTo step gain n base e → e.worth ≤ e.room * price
     from (times, few, b, there, moved) =
         let l = low b there in
-        omega (arith, moved.room, moved.worth, low_moved step gain times b.room b.worth small l.1)
+        omega (arith, ap (λ n. n * price) moved.room, moved.worth, low_moved price step gain times b.room b.worth small l.1)
+
+-- what keeps to a price keeps to a higher one
+pub low_wider : (price higher whole : ℕ) (has : Entry → Type 0) → price ≤ higher → HaveWorthsBoundedByRoom price whole has → HaveWorthsBoundedByRoom higher whole has
+low_wider price higher whole has le low e there =
+    let l = low e there in
+    (l.0, omega (arith, l.1, mul-le e.room price e.room higher (le_refl e.room) le))
+
+-- so does what a piece gains
+pub gain_wider : (price higher step gain : ℕ) → price ≤ higher → gain ≤ step * price → gain ≤ step * higher
+gain_wider price higher step gain le gains = omega (arith, gains, mul-le step price step higher (le_refl step) le)
+
+-- one more than a worth within the whole stays below the limit
+pub entry_below : (limit price whole : ℕ) (has : Entry → Type 0) → HaveWorthsBoundedByRoom price whole has → whole * price + 1 < limit → (e : Entry) → has e → e.worth + 1 < limit
+entry_below limit price whole has low below e there =
+    let l = low e there in
+    omega (arith, l.1, below, mul-le e.room price whole price l.0 (le_refl price))
 
 -- no more fit the whole
 pub fit_within : (step times whole : ℕ) → 1 ≤ step → times * step ≤ whole → times ≤ whole / step

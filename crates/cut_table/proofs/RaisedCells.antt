@@ -1,21 +1,23 @@
 -- What the cells of a table lead to.
-use Rattle.std.proofs.Common.{◌≡◌, ◌≢◌, ℕ, zero, suc, ◌+◌, ◌-◌, ◌*◌, ◌/◌, ◌^◌, ◌<◌, ◌≤◌, List, length, take, get_or, max, sym, refl, ap, ◌∙◌, ◌⊎◌, subst, inl, inr, arith}
-use Rattle.std.specs.Prelude.{Contains, slice_set, ◌↔◌, ◌++◌, [], ◌∷◌}
+use Rattle.std.proofs.Common.{◌≡◌, ◌≢◌, ℕ, zero, suc, ◌+◌, ◌-◌, ◌*◌, ◌/◌, ◌<◌, ◌≤◌, List, length, map, take, get_or, max, sym, refl, ap, ◌∙◌, ◌⊎◌, subst, inl, inr, arith}
+use Rattle.std.specs.Prelude.{All, Contains, slice_set, ◌↔◌, ◌++◌, [], ◌∷◌}
 use Rattle.std.proofs.lemmas.List.Elements.{Contains-push, Contains-push_cases, Contains-append_left}
-use Rattle.std.proofs.lemmas.Bool.{cases_lt}
+use Rattle.std.proofs.lemmas.Bool.{cases_lt, cases_eq}
 use Rattle.std.proofs.lemmas.Bool.Decides.{eqb_tells}
-use Rattle.std.proofs.lemmas.List.{get_or_past}
+use Rattle.std.proofs.lemmas.List.{get_or_past, map-set}
+use Rattle.std.proofs.lemmas.Nat.{mul-le}
+use Rattle.cut_table.proofs.NumberRows.{same_length, value_at, value_set}
 use Rattle.std.proofs.Math.Seq.{take-append_seam}
-use Rattle.std.proofs.Math.Nat.{le-max_left, le-max_right, max-eq_left, max-eq_right}
+use Rattle.std.proofs.Math.Nat.{le_refl, le-max_left, le-max_right, max-eq_left, max-eq_right}
 use Rattle.cut_table.specs.declared.reach.Entry.{Entry}
-use Rattle.cut_table.specs.Reached.{AreOwn, AreOffered, HaveWorthsBoundedByRoom, AreRising, IsMoved}
-use Rattle.cut_table.specs.Levels.{HasCell, IsRaised, gained}
+use Rattle.cut_table.specs.Reached.{AreOwn, AreOffered, HaveWorthsBoundedByRoom, AreRising, IsMoved, StayBelow}
+use Rattle.cut_table.specs.Levels.{AreCellsBelow, HasCell, IsRaised, gained}
 use Rattle.cut_table.proofs.JoinedRows.{set_here, set_other}
 use Rattle.cut_table.proofs.JoinedEntries.{same_entry, rising_push}
 use Rattle.cut_table.proofs.OfferedPieces.{fit_within}
 
 -- a list whose whole length was written
-pub written : (n : ℕ) (new rest : List ℕ) → length new ≡ n → take n (new ++ rest) ≡ new
+pub written : {T : Type 0} (n : ℕ) (new rest : List T) → length new ≡ n → take n (new ++ rest) ≡ new
 written n new rest len = ap (λ m. take m (new ++ rest)) (sym len) ∙ take-append_seam new rest
 
 -- a cell that isn't 0 lies within the whole
@@ -136,10 +138,10 @@ module _ (step gain whole : ℕ) (old new : List ℕ) (some : 1 ≤ step) (len :
   }
 
 -- a worth in a cell is low where the entries' are
-pub cell_low : (cells : List ℕ) (whole c : ℕ) → HaveWorthsBoundedByRoom whole (HasCell cells) → get_or cells c 0 ≤ c * 2 ^ 30 + 1
-cell_low cells whole c low = go (get_or cells c 0) refl
+pub cell_low : (price : ℕ) (cells : List ℕ) (whole c : ℕ) → HaveWorthsBoundedByRoom price whole (HasCell cells) → get_or cells c 0 ≤ c * price + 1
+cell_low price cells whole c low = go (get_or cells c 0) refl
   where
-    go : (v : ℕ) → get_or cells c 0 ≡ v → get_or cells c 0 ≤ c * 2 ^ 30 + 1
+    go : (v : ℕ) → get_or cells c 0 ≡ v → get_or cells c 0 ≤ c * price + 1
     go zero e = omega (arith, e)
     go (suc v) e = omega (arith, e, (low (record { room = c; worth = v }) (omega (arith, e))).1)
 
@@ -205,3 +207,118 @@ listed_skip cells i entries l is = (
     λ has. let h = (l.1 e).1 has in (h.0, omega (arith, h.1)),
   ),
 )
+
+pub gained_none : (gain v : ℕ) → v ≡ 0 → gained gain v ≡ 0
+gained_none gain zero none = refl
+gained_none gain (suc v) none = absurd (omega (arith, none))
+
+pub gained_some : (gain v : ℕ) → 1 ≤ v → gained gain v ≡ v + gain
+gained_some gain zero some = absurd (omega (arith, some))
+gained_some gain (suc v) some = refl
+
+pub gained_low : (price step gain from at v : ℕ) → from + step ≡ at → v ≤ from * price + 1 → gain ≤ step * price → gained gain v ≤ at * price + 1
+gained_low price step gain from at zero sum low gains = omega arith
+gained_low price step gain from at (suc v) sum low gains = omega (arith, low, gains, ap (λ n. n * price) sum)
+
+-- a cell has room for a gain
+pub cell_fits : (limit step gain at : ℕ) (cells : List ℕ) → AreCellsBelow limit cells step gain → step ≤ at → at < length cells → get_or cells (at - step) 0 + gain < limit
+cell_fits limit step gain at cells b ge lt =
+    let sum : at - step + step ≡ at = omega arith in
+    omega (arith, b.low (at - step), b.gains, b.below at lt, ap (λ n. n * b.price) sum)
+
+module _ (step gain : ℕ) (old ys zs : List ℕ) (some : 1 ≤ step) where
+  -- one cell more was raised from the last on
+  pub raised_down : (n i : ℕ) → n ≡ i + 1 → step ≤ i → get_or zs i 0 ≡ max (get_or ys i 0) (gained gain (get_or ys (i - step) 0)) → ((k : ℕ) → k ≢ i → get_or zs k 0 ≡ get_or ys k 0)
+      → ((k : ℕ) → k < n → get_or ys k 0 ≡ get_or old k 0) × ((k : ℕ) → k < step → get_or ys k 0 ≡ get_or old k 0)
+      × ((k : ℕ) → step ≤ k → n ≤ k → k < length old → get_or ys k 0 ≡ max (get_or old k 0) (gained gain (get_or old (k - step) 0)))
+      → ((k : ℕ) → k < i → get_or zs k 0 ≡ get_or old k 0) × ((k : ℕ) → k < step → get_or zs k 0 ≡ get_or old k 0)
+      × ((k : ℕ) → step ≤ k → i ≤ k → k < length old → get_or zs k 0 ≡ max (get_or old k 0) (gained gain (get_or old (k - step) 0)))
+  raised_down n i next ge at others before = (
+    λ k lt. let ne : k ≢ i = omega arith in others k ne ∙ before.0 k (omega arith),
+    λ k lt. let ne : k ≢ i = omega arith in others k ne ∙ before.1 k lt,
+    λ k le from inside. elim (cases_eq k i) [
+      | inl e ↦ subst (λ j. get_or zs j 0 ≡ max (get_or old j 0) (gained gain (get_or old (j - step) 0))) (sym e)
+          (at ∙ ap (λ n. max n (gained gain (get_or ys (i - step) 0))) (before.0 i (omega arith)) ∙ ap (λ n. max (get_or old i 0) (gained gain n)) (before.0 (i - step) (omega arith)))
+      | inr ne ↦ others k ne ∙ before.2 k le (omega arith) inside
+    ],
+  )
+
+  -- one cell more was raised from the first on
+  pub raised_up : (limit i : ℕ) → step ≤ i → length zs ≡ length ys → get_or zs i 0 ≡ max (get_or ys i 0) (gained gain (get_or ys (i - step) 0)) → ((k : ℕ) → k ≢ i → get_or zs k 0 ≡ get_or ys k 0)
+      → ((k : ℕ) → i ≤ k → get_or ys k 0 ≡ get_or old k 0) × ((k : ℕ) → k < step → get_or ys k 0 ≡ get_or old k 0) × AreCellsBelow limit ys step gain
+      × ((k : ℕ) → step ≤ k → k < i → get_or ys k 0 ≡ max (get_or old k 0) (gained gain (get_or ys (k - step) 0)))
+      → ((k : ℕ) → i + 1 ≤ k → get_or zs k 0 ≡ get_or old k 0) × ((k : ℕ) → k < step → get_or zs k 0 ≡ get_or old k 0) × AreCellsBelow limit zs step gain
+      × ((k : ℕ) → step ≤ k → k < i + 1 → get_or zs k 0 ≡ max (get_or old k 0) (gained gain (get_or zs (k - step) 0)))
+  raised_up limit i ge len at others before = (
+    λ k le. let ne : k ≢ i = omega arith in others k ne ∙ before.0 k (omega arith),
+    λ k lt. let ne : k ≢ i = omega arith in others k ne ∙ before.1 k lt,
+    record {
+      price = before.2.price;
+      low = λ k. elim (cases_eq k i) [
+        | inl e ↦ omega (arith, ap (λ j. get_or zs j 0) e, here, ap (λ j. j * before.2.price) e)
+        | inr ne ↦ omega (arith, others k ne, before.2.low k)
+      ];
+      gains = before.2.gains;
+      below = λ k lt. before.2.below k (omega (arith, len));
+    },
+    λ k le lt. elim (cases_eq k i) [
+      | inl e ↦ subst (λ j. get_or zs j 0 ≡ max (get_or old j 0) (gained gain (get_or zs (j - step) 0))) (sym e)
+          (at ∙ ap (λ n. max n (gained gain (get_or ys (i - step) 0))) (before.0 i (omega arith))
+          ∙ ap (λ n. max (get_or old i 0) (gained gain n)) (let ne : i - step ≢ i = omega arith in sym (others (i - step) ne)))
+      | inr ne ↦ let other : k - step ≢ i = omega arith in
+          others k ne ∙ before.3 k le (omega arith) ∙ ap (λ n. max (get_or old k 0) (gained gain n)) (sym (others (k - step) other))
+    ],
+  )
+    where
+      here : get_or zs i 0 ≤ i * before.2.price + 1
+      here =
+          let sum : i - step + step ≡ i = omega arith in
+          let offered = gained_low before.2.price step gain (i - step) i (get_or ys (i - step) 0) sum (before.2.low (i - step)) before.2.gains in
+          elim (max_one (get_or ys i 0) (gained gain (get_or ys (i - step) 0)) (get_or zs i 0) at) [
+            | inl e ↦ omega (arith, e, before.2.low i)
+            | inr e ↦ omega (arith, e, offered)
+          ]
+
+-- a table of nothing but zeros has no entry
+pub zeros_none : (cells : List ℕ) (e : Entry) → All (λ v. v ≡ 0) cells → HasCell cells e → ⊥
+zeros_none cells e zeros has = elim (cases_lt e.room (length cells)) [
+  | inl lt ↦ absurd (omega (arith, has, zeros e.room 0 lt))
+  | inr past ↦ absurd (omega (arith, has, get_or_past cells e.room 0 past))
+]
+
+-- cells that keep to a price
+pub cells_below : (limit whole step gain : ℕ) (cells : List ℕ) → length cells ≡ whole + 1 → StayBelow limit whole (HasCell cells) step gain → AreCellsBelow limit cells step gain
+cells_below limit whole step gain cells len b = record {
+  price = b.price;
+  low = λ c. cell_low b.price cells whole c b.low;
+  gains = b.gains;
+  below = λ c lt. omega (arith, b.below, mul-le c b.price whole b.price (omega (arith, len)) (le_refl b.price));
+}
+
+module _ {T : Type 0} (f : T → ℕ) where
+  pub offered_at : (row : List T) (i from step gain : ℕ) (x cell source : T) → i < length row → from ≡ i - step → cell ≡ get_or row i cell → source ≡ get_or row from source
+      → f x ≡ max (f cell) (gained gain (f source)) → get_or (map f (slice_set row i x)) i 0 ≡ max (get_or (map f row) i 0) (gained gain (get_or (map f row) (i - step) 0))
+  offered_at row i from step gain x cell source lt e cell_is source_is is =
+      value_set f row i i (f x) x lt refl refl ∙ is ∙ ap (λ n. max n (gained gain (f source))) (value_at f row i cell lt cell_is)
+      ∙ ap (λ n. max (get_or (map f row) i 0) (gained gain n)) (value_at f row from source (omega arith) source_is ∙ ap (λ j. get_or (map f row) j 0) e)
+
+  pub number_put : (cells : List T) (here e : Entry) (x : T) → here.room < length cells → f x ≡ here.worth + 1
+      → HasCell (map f (slice_set cells here.room x)) e ↔ ((e ≡ here) ⊎ ((e.room ≢ here.room) × HasCell (map f cells) e))
+  number_put cells here e x lt is =
+      subst (λ ys. HasCell ys e ↔ ((e ≡ here) ⊎ ((e.room ≢ here.room) × HasCell (map f cells) e)))
+      (sym (map-set f cells here.room x ∙ ap (λ v. slice_set (map f cells) here.room v) is)) (cell_put (map f cells) here e (omega (arith, same_length f cells)))
+
+pub cell_within : (cells : List ℕ) (e : Entry) → HasCell cells e → e.room < length cells
+cell_within cells e has = elim (cases_lt e.room (length cells)) [
+  | inl lt ↦ lt
+  | inr past ↦ absurd (omega (arith, has, get_or_past cells e.room 0 past))
+]
+
+pub best_more : (cells : List ℕ) (i best next : ℕ) → ((k : ℕ) → k < i → get_or cells k 0 ≤ get_or cells best 0) → get_or cells best 0 ≤ get_or cells next 0 → get_or cells i 0 ≤ get_or cells next 0
+    → (k : ℕ) → k < i + 1 → get_or cells k 0 ≤ get_or cells next 0
+best_more cells i best next before kept here k lt = elim (cases_lt k i) [
+  | inl less ↦ omega (arith, before k less, kept)
+  | inr ge ↦
+      let e : k ≡ i = omega arith in
+      omega (arith, here, ap (λ j. get_or cells j 0) e)
+]

@@ -1,10 +1,11 @@
 -- What the entries of wants are, want by want.
-use Rattle.std.proofs.Common.{◌≡◌, ℕ, ◌+◌, ◌*◌, ◌^◌, ◌≤◌, List, [], ◌∷◌, sym, refl, arith}
+use Rattle.std.proofs.Common.{◌≡◌, ℕ, ◌+◌, ◌*◌, ◌≤◌, List, [], ◌∷◌, sym, refl, ap, arith}
 use Rattle.std.proofs.lemmas.Nat.{mul-le}
 use Rattle.std.proofs.Math.Nat.{le_refl}
 use Rattle.cut_table.specs.declared.wants.Want.{Want}
 use Rattle.cut_table.specs.declared.reach.Entry.{Entry}
-use Rattle.cut_table.specs.Counts.{AreCounts, room_taken, worth_of_counts, HaveBoundedWorthsAndLefts, HaveLength}
+use Rattle.std.specs.Prelude.{Contains}
+use Rattle.cut_table.specs.Counts.{AreCounts, room_taken, worth_of_counts}
 use Rattle.cut_table.specs.Reached.{AreReached, AreOffered, HaveWorthsBoundedByRoom, IsLedTo, IsGreatestAt}
 use Rattle.cut_table.proofs.LeafSums.{Contains-head, Contains-tail}
 
@@ -56,21 +57,20 @@ module _ (k whole : ℕ) (x : Want) (xs : List Want) (base entries : Entry → T
           let e = led a os is.0 is.1 fits in
           (e.0, e.1, e.2)
 
--- a worth of at most 2^30 for each unit of room
-value_low : (k : ℕ) (xs : List Want) (ns : List ℕ) → HaveLength xs → HaveBoundedWorthsAndLefts xs → worth_of_counts xs ns ≤ room_taken k xs ns * 2 ^ 30
-value_low k [] ns some modest = omega arith
-value_low k (x ∷ xs) [] some modest = omega arith
-value_low k (x ∷ xs) (a ∷ ns) some modest =
-    let rest = value_low k xs ns (λ y has. some y (Contains-tail x xs y has)) (λ y has. modest y (Contains-tail x xs y has)) in
-    let one = some x (Contains-head x xs) in
-    let small = (modest x (Contains-head x xs)).worth in
-    let here = mul-le x.worth a ((x.size.w + k) * 2 ^ 30) a (omega (arith, one, small)) (le_refl a) in
+-- a worth of at most the price for each unit of room
+value_low : (price k : ℕ) (xs : List Want) (ns : List ℕ) → ((x : Want) → Contains xs x → x.worth ≤ (x.size.w + k) * price) → worth_of_counts xs ns ≤ room_taken k xs ns * price
+value_low price k [] ns each = omega arith
+value_low price k (x ∷ xs) [] each = omega arith
+value_low price k (x ∷ xs) (a ∷ ns) each =
+    let rest = value_low price k xs ns (λ y has. each y (Contains-tail x xs y has)) in
+    let here = mul-le x.worth a ((x.size.w + k) * price) a (each x (Contains-head x xs)) (le_refl a) in
     omega (arith, rest, here)
 
-pub reached_low : (k whole : ℕ) (xs : List Want) (entries : Entry → Type 0) → AreReached k xs whole entries → HaveLength xs → HaveBoundedWorthsAndLefts xs → HaveWorthsBoundedByRoom whole entries
-reached_low k whole xs entries r some modest e has =
+pub reached_low : (price k whole : ℕ) (xs : List Want) (entries : Entry → Type 0) → AreReached k xs whole entries → ((x : Want) → Contains xs x → x.worth ≤ (x.size.w + k) * price)
+    → HaveWorthsBoundedByRoom price whole entries
+reached_low price k whole xs entries r each e has =
     let o = r.only e has in
-    let low = value_low k xs o.1.counts some modest in
+    let low = value_low price k xs o.1.counts each in
     let takes = o.1.takes in
     let value = o.1.value in
-    (o.0, omega (arith, low, takes, value))
+    (o.0, omega (arith, low, ap (λ n. n * price) takes, value))

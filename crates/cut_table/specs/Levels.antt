@@ -1,47 +1,54 @@
 -- Levels: what counts of some wants reach, as a list of entries or as a cell for each room.
-use Rattle.std.specs.Prelude.{◌≡◌, ℕ, ◌+◌, ◌-◌, ◌<◌, ◌≤◌, ◌⊎◌, zero, suc, max, List, [], ◌∷◌, length, slice_index, slice_index_or, Contains}
+use Rattle.std.specs.Prelude.{◌≡◌, ℕ, ◌+◌, ◌-◌, ◌*◌, ◌<◌, ◌≤◌, ◌⊎◌, zero, suc, max, map, List, [], ◌∷◌, length, slice_index, slice_index_or, Contains}
 use Rattle.cut_table.specs.declared.wants.Want.{Want}
 use Rattle.cut_table.specs.declared.reach.Entry.{Entry}
 use Rattle.cut_table.specs.declared.level.Level.{Level}
 use Rattle.cut_table.specs.declared.level.Level.TheVariants.{Listed, Tabled}
 use Rattle.cut_table.specs.Reached.{AreReached, AreRising, IsLedTo}
 
--- the cell of the entry's room is one more than its worth
+-- the cell of the entry's room, among cells with these numbers, is one more than its worth
 abbrev pub HasCell : List ℕ → Entry → Type 0
 HasCell cells e = slice_index cells e.room ≡ e.worth + 1
 
--- the entries of a level
-abbrev pub Has : Level → Entry → Type 0
-Has (Listed entries) e = Contains entries.items e
-Has (Tabled cells) e = HasCell cells.items e
+-- the entries of a level whose cells have these values
+abbrev pub Has : {T : Type 0} → (T → ℕ) → Level T → Entry → Type 0
+Has value (Listed entries) e = Contains entries.items e
+Has value (Tabled cells) e = HasCell (map value cells.items) e
 
 -- entries in order, or a cell for each room within the whole
-abbrev pub IsLevel : ℕ → Level → Type 0
+abbrev pub IsLevel : {T : Type 0} → ℕ → Level T → Type 0
 IsLevel whole (Listed entries) = AreRising entries.items
 IsLevel whole (Tabled cells) = length cells.items ≡ whole + 1
 
 -- the same entries or cells
-abbrev pub IsCopyOf : Level → Level → Type 0
+abbrev pub IsCopyOf : {T : Type 0} → Level T → Level T → Type 0
 IsCopyOf (Listed old) (Listed new) = new.items ≡ old.items
 IsCopyOf (Listed old) (Tabled new) = ⊥
 IsCopyOf (Tabled old) (Listed new) = ⊥
 IsCopyOf (Tabled old) (Tabled new) = new.items ≡ old.items
 
 -- what the wants reach, and what those behind each want do
-abbrev pub AreLevels : ℕ → ℕ → List Want → List Level → Type 0
-AreLevels k whole wants [] = ⊥
-AreLevels k whole [] (level ∷ levels) = IsLevel whole level × AreReached k [] whole (Has level)
-AreLevels k whole (x ∷ xs) (level ∷ levels) = IsLevel whole level × AreReached k (x ∷ xs) whole (Has level) × AreLevels k whole xs levels
+abbrev pub AreLevels : {T : Type 0} → (T → ℕ) → ℕ → ℕ → List Want → List (Level T) → Type 0
+AreLevels value k whole wants [] = ⊥
+AreLevels value k whole [] (level ∷ levels) = IsLevel whole level × AreReached k [] whole (Has value level)
+AreLevels value k whole (x ∷ xs) (level ∷ levels) = IsLevel whole level × AreReached k (x ∷ xs) whole (Has value level) × AreLevels value k whole xs levels
 
 -- an entry of the first level
-abbrev pub IsOfFirst : List Level → Entry → Type 0
-IsOfFirst [] e = ⊥
-IsOfFirst (level ∷ levels) e = Has level e
+abbrev pub IsOfFirst : {T : Type 0} → (T → ℕ) → List (Level T) → Entry → Type 0
+IsOfFirst value [] e = ⊥
+IsOfFirst value (level ∷ levels) e = Has value level e
 
 -- a cell with a gain: nothing from 0
 abbrev pub gained : ℕ → ℕ → ℕ
 gained gain zero = 0
 gained gain (suc v) = suc v + gain
+
+-- a price for each unit of room that the cells and a gain keep to, at which all the cells stay below the limit
+pub record AreCellsBelow (limit : ℕ) (cells : List ℕ) (step gain : ℕ) : Type 0 where
+  pub price : ℕ
+  pub low : (c : ℕ) → slice_index cells c ≤ c * price + 1
+  pub gains : gain ≤ step * price
+  pub below : (c : ℕ) → c < length cells → c * price + 1 < limit
 
 -- each room of at least a step is offered what `from` has a step before it
 pub record IsRaised (step gain : ℕ) (from old new : List ℕ) : Type 0 where

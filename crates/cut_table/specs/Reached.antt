@@ -1,5 +1,5 @@
 -- The rooms of a bar that counts of pieces take, and the greatest worth of each.
-use Rattle.std.specs.Prelude.{◌≡◌, ◌↔◌, ℕ, ◌+◌, ◌*◌, ◌^◌, ◌<◌, ◌≤◌, List, length, slice_index_or, Option, Some, IsSome}
+use Rattle.std.specs.Prelude.{◌≡◌, ◌↔◌, ℕ, ◌+◌, ◌*◌, ◌^◌, ◌<◌, ◌≤◌, List, length, slice_index_or, Contains, Option, Some, IsSome}
 use Rattle.cut_table.specs.declared.wants.Want.{Want}
 use Rattle.cut_table.specs.declared.reach.Entry.{Entry}
 use Rattle.cut_table.specs.Counts.{AreCounts, room_taken, worth_of_counts}
@@ -47,9 +47,24 @@ pub record AreOffered (step gain n whole : ℕ) (base offered : Entry → Type 0
   pub most : (b : Entry) → base b → (times : ℕ) → times ≤ n → b.room + times * step ≤ whole
       → (e : Entry) × offered e × (e.room ≡ b.room + times * step) × (b.worth + times * gain ≤ e.worth)
 
--- each room is within the whole, with a worth of at most 2^30 for each unit of it
-abbrev pub HaveWorthsBoundedByRoom : ℕ → (Entry → Type 0) → Type 0
-HaveWorthsBoundedByRoom whole has = (e : Entry) → has e → (e.room ≤ whole) × (e.worth ≤ e.room * 2 ^ 30)
+-- each room is within the whole, with a worth of at most the price for each unit of it
+abbrev pub HaveWorthsBoundedByRoom : ℕ → ℕ → (Entry → Type 0) → Type 0
+HaveWorthsBoundedByRoom price whole has = (e : Entry) → has e → (e.room ≤ whole) × (e.worth ≤ e.room * price)
+
+-- a price for each unit of room that the entries and a piece keep to, at which one more than the whole's worth stays below the limit
+pub record StayBelow (limit whole : ℕ) (has : Entry → Type 0) (step gain : ℕ) : Type 0 where
+  pub price : ℕ
+  pub modest : price ≤ 2 ^ 30
+  pub low : HaveWorthsBoundedByRoom price whole has
+  pub gains : gain ≤ step * price
+  pub below : whole * price + 1 < limit
+
+-- the same of wants, of which each piece takes its length and a kerf
+pub record ArePricedBelow (limit k whole : ℕ) (wants : List Want) : Type 0 where
+  pub price : ℕ
+  pub modest : price ≤ 2 ^ 30
+  pub each : (x : Want) → Contains wants x → x.worth ≤ (x.size.w + k) * price
+  pub below : whole * price + 1 < limit
 
 -- no entry is worth more
 pub record IsBestEntry (has : Entry → Type 0) (best : Entry) : Type 0 where

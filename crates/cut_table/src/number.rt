@@ -1,4 +1,4 @@
-// The numbers of a sheet's table.
+// The numbers of tables.
 ghost use Rattle.std.specs.Prelude.{◌≡◌, ℕ, ◌+◌, ◌^◌, ◌<◌, ◌↔◌, max, map, All, IfOk, IsTrue, vec_len};
 
 use std::alloc::{AllocError, Global};

@@ -26,7 +26,7 @@ fn first_of(a: Entry, b: Entry) -> Entry
 /// The entries, joined with those that a batch of pieces leads to from the first of them; how many these are.
 fn join(alloc: Global, entries: &[Entry], batch: Entry) -> Result<(Vec<Entry>, usize), AllocError>
     requires rising { AreRising entries.now }
-    requires low { HaveWorthsBoundedByRoom (2 ^ 20) (Contains entries.now) }
+    requires low { HaveWorthsBoundedByRoom (2 ^ 30) (2 ^ 20) (Contains entries.now) }
     requires some { 1 ≤ batch.room }
     requires short { batch.room ≤ 2 ^ 20 }
     requires gain { batch.worth ≤ batch.room * 2 ^ 30 }
@@ -59,7 +59,7 @@ pub fn offer_entries(
     whole: u32,
 ) -> Result<Vec<Entry>, AllocError>
     requires rising { AreRising entries.now }
-    requires low { HaveWorthsBoundedByRoom whole (Contains entries.now) }
+    requires low { HaveWorthsBoundedByRoom (2 ^ 30) whole (Contains entries.now) }
     requires whole { whole ≤ 2 ^ 20 }
     requires some { 1 ≤ batch.room }
     requires short { batch.room ≤ 2 ^ 20 }

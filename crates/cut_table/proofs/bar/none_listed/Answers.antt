@@ -5,4 +5,4 @@ use Rattle.cut_table.proofs.LevelCounts.{none_reached}
 use Rattle.cut_table.proofs.bar.none_listed.Goals as goal
 
 pub returns : goal.returns
-returns c = λ k whole. subst (λ entries. AreRising entries × AreReached k [] whole (Contains entries)) (sym c.in_ok-none.ensures.items) (none_reached k whole)
+returns g c = λ k whole. subst (λ entries. AreRising entries × AreReached k [] whole (Contains entries)) (sym c.in_ok-none.ensures.items) (none_reached k whole)

@@ -7,36 +7,42 @@ use Rattle.cut_table.proofs.LevelCounts.{copied_level, copied_same, level_own}
 use Rattle.cut_table.proofs.level.offer_batches.Goals as goal
 
 pub loop-taken-init : goal.loop-taken-init
-loop-taken-init c = (
+loop-taken-init g c = (
   omega arith,
   copied_level c.args.whole c.args.base.now c.in_ok-offered.offered c.in_ok-offered.ensures c.requires.level,
-  offered_same c.args.piece.room c.args.piece.worth 0 c.args.whole (Has c.args.base.now) (Has c.args.base.now) (Has c.args.base.now) (Has c.in_ok-offered.offered)
-      (offered_none c.args.piece.room c.args.piece.worth c.args.whole (Has c.args.base.now) (level_own c.args.whole c.args.base.now c.requires.level) c.requires.low) (λ e. (λ h. h, λ h. h))
-      (copied_same c.args.base.now c.in_ok-offered.offered c.in_ok-offered.ensures),
+  offered_same c.args.piece.room c.args.piece.worth 0 c.args.whole (Has g.T.Number.value c.args.base.now) (Has g.T.Number.value c.args.base.now) (Has g.T.Number.value c.args.base.now) (Has g.T.Number.value c.in_ok-offered.offered)
+      (offered_none c.requires.below.price c.args.piece.room c.args.piece.worth c.args.whole (Has g.T.Number.value c.args.base.now) (level_own g.T.Number.value c.args.whole c.args.base.now c.requires.level) c.requires.below.low) (λ e. (λ h. h, λ h. h))
+      (copied_same g.T.Number.value c.args.base.now c.in_ok-offered.offered c.in_ok-offered.ensures),
 )
 
 pub overflow_mul-batch-in-loop-taken : goal.overflow_mul-batch-in-loop-taken
-overflow_mul-batch-in-loop-taken c =
+overflow_mul-batch-in-loop-taken g c =
     let more = c.min-more.result in
+    let b = c.requires.below in
+    let rooms = mul-le more c.args.piece.room c.args.most c.args.piece.room (omega arith) (le_refl c.args.piece.room) in
     omega (
       arith,
-      mul-le more c.args.piece.worth more (c.args.piece.room * 2 ^ 30) (le_refl more) c.requires.gain,
-      mul-le more c.args.piece.room c.args.most c.args.piece.room (omega arith) (le_refl c.args.piece.room),
+      mul-le more c.args.piece.worth more (c.args.piece.room * b.price) (le_refl more) b.gains,
+      mul-le (more * c.args.piece.room) b.price (2 ^ 20) (2 ^ 30) (omega (arith, rooms)) b.modest,
     )
 
-pub offer-requires-clause-low : goal.offer-requires-clause-low
-offer-requires-clause-low c =
-    offered_low c.args.piece.room c.args.piece.worth c.loop-taken.taken c.args.whole (Has c.args.base.now) (Has c.loop-taken.offered) c.loop-taken.invariant.2 c.requires.low c.requires.gain
-
-pub offer-requires-clause-gain : goal.offer-requires-clause-gain
-offer-requires-clause-gain c =
+pub offer-requires-clause-below : goal.offer-requires-clause-below
+offer-requires-clause-below g c =
+    let f = g.T.Number.value in
     let more = c.min-more.result in
-    omega (arith, mul-le more c.args.piece.worth more (c.args.piece.room * 2 ^ 30) (le_refl more) c.requires.gain)
+    let b = c.requires.below in
+    record {
+      price = b.price;
+      modest = b.modest;
+      low = offered_low b.price c.args.piece.room c.args.piece.worth c.loop-taken.taken c.args.whole (Has f c.args.base.now) (Has f c.loop-taken.offered) c.loop-taken.invariant.2 b.low b.gains;
+      gains = omega (arith, mul-le more c.args.piece.worth more (c.args.piece.room * b.price) (le_refl more) b.gains);
+      below = b.below;
+    }
 
 pub loop-taken-preserved : goal.loop-taken-preserved
-loop-taken-preserved c = (
+loop-taken-preserved g c = (
   omega arith,
   c.in_ok-offered-2.ensures.level,
-  offered_more c.args.piece.room c.args.piece.worth c.loop-taken.taken c.min-more.result c.args.whole (Has c.args.base.now) (Has c.loop-taken.offered) (Has c.in_ok-offered-2.offered)
+  offered_more c.args.piece.room c.args.piece.worth c.loop-taken.taken c.min-more.result c.args.whole (Has g.T.Number.value c.args.base.now) (Has g.T.Number.value c.loop-taken.offered) (Has g.T.Number.value c.in_ok-offered-2.offered)
       c.loop-taken.invariant.2 (omega arith) c.in_ok-offered-2.ensures.offered,
 )
