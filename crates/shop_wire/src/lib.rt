@@ -9,6 +9,8 @@ mod faults;
 mod job_tests;
 mod limits;
 mod reader;
+#[cfg(test)]
+mod refusal_tests;
 mod replays;
 #[cfg(test)]
 mod tests;
