@@ -25,6 +25,14 @@ const ANY_TREE: &str =
 
 const DONE: &str = r#"{"do":"done","job":3,"number":5,"terminal":1}"#;
 
+const BREAK: &str = r#"{"cuts":1,"do":"break","job":3,"lost":true,"number":5,"terminal":1}"#;
+
+const BREAK_LISTED: &str =
+    r#"{"cuts":[0,2],"do":"break","job":3,"lost":1,"number":5,"terminal":1}"#;
+
+const BREAK_WITHOUT_CUTS: &str =
+    r#"{"cuts":[],"do":"break","job":3,"lost":false,"number":5,"terminal":1}"#;
+
 const RELEASE: &str = r#"{"do":"release","job":4294967295,"number":6,"terminal":1}"#;
 
 const SCRAP: &str = r#"{"do":"scrap","number":7,"part":"2/4","terminal":1}"#;
@@ -47,7 +55,19 @@ fn is_printed(rt: &impl Abort, alloc: Global, line: &str, text: &str) -> Result<
 #[test]
 fn messages_are_printed_back(rt: HostRuntime) -> Result<(), Fail> {
     for line in [
-        MATERIAL, RECEIVE, ORDER, TWO_LINES, NO_LINES, RESERVE, ANY_TREE, DONE, RELEASE, SCRAP,
+        MATERIAL,
+        RECEIVE,
+        ORDER,
+        TWO_LINES,
+        NO_LINES,
+        RESERVE,
+        ANY_TREE,
+        DONE,
+        BREAK,
+        BREAK_LISTED,
+        BREAK_WITHOUT_CUTS,
+        RELEASE,
+        SCRAP,
         RETURN,
     ] {
         is_printed(&rt, rt.alloc(), line, line)?;
@@ -66,7 +86,7 @@ fn keys_come_in_any_order(rt: HostRuntime) -> Result<(), Fail> {
 }
 
 // Values that are neither a message nor a query.
-const BAD: [&str; 39] = [
+const BAD: [&str; 43] = [
     r#"{}"#,
     r#"[]"#,
     r#"{"ask":"totals"}"#,
@@ -78,6 +98,10 @@ const BAD: [&str; 39] = [
     r#"{"ask":"trace","part":"1/0","x":0}"#,
     r#"{"ask":"trace","part":1}"#,
     r#"{"ask":"demand"}"#,
+    r#"{"ask":"rack"}"#,
+    r#"{"cuts":1,"do":"break","job":3,"lost":0,"number":5,"terminal":1}"#,
+    r#"{"cuts":[0],"do":"break","job":3,"lost":true,"number":5,"terminal":1}"#,
+    r#"{"cuts":["0"],"do":"break","job":3,"lost":false,"number":5,"terminal":1}"#,
     r#"{"ask":"demand","demand":"1"}"#,
     r#"{"ask":"demand","demand":1,"do":"done","job":3,"number":5,"terminal":1}"#,
     r#"{"batch":"B-1","count":2,"do":"receive","h":1,"material":"STEEL","number":2,"terminal":1}"#,
@@ -132,6 +156,7 @@ fn asked_for(alloc: Global, line: &str) -> Result<String, Fail> {
     };
     match &query {
         Query::Totals { material } => Ok(format!(in alloc; "totals {}", material.as_str())?),
+        Query::Rack { material } => Ok(format!(in alloc; "rack {}", material.as_str())?),
         Query::Trace { part } => Ok(format!(in alloc; "trace {}/{}", part.act(), part.node())?),
         Query::Demand { demand } => Ok(format!(in alloc; "demand {}", *demand)?),
     }
@@ -141,6 +166,8 @@ fn asked_for(alloc: Global, line: &str) -> Result<String, Fail> {
 fn queries_are_read(rt: HostRuntime) -> Result<(), Fail> {
     let asked = asked_for(rt.alloc(), r#"{"ask":"totals","material":"STEEL"}"#)?;
     assert_eq!(rt; asked.as_str(), "totals STEEL");
+    let asked = asked_for(rt.alloc(), r#"{"ask":"rack","material":"STEEL"}"#)?;
+    assert_eq!(rt; asked.as_str(), "rack STEEL");
     let asked = asked_for(rt.alloc(), r#"{"ask":"trace","part":"3/1"}"#)?;
     assert_eq!(rt; asked.as_str(), "trace 3/1");
     let asked = asked_for(rt.alloc(), r#"{"ask":"demand","demand":7}"#)?;
@@ -156,6 +183,7 @@ fn replies_are_read_back(rt: HostRuntime) -> Result<(), Fail> {
         r#"{"count":1,"first":2,"ok":"order","order":"A-1"}"#,
         r#"{"cuts":2,"job":3,"ok":"reserve"}"#,
         r#"{"job":3,"kerf":6,"ok":"done","pieces":60,"rack":34,"scrap":18446744073709551615}"#,
+        r#"{"job":3,"kerf":8,"ok":"break","pieces":0,"rack":72,"scrap":0}"#,
         r#"{"job":3,"ok":"release"}"#,
         r#"{"ok":"scrap","part":"2/4"}"#,
         r#"{"ok":"return","part":"1/1"}"#,
