@@ -1,11 +1,8 @@
-ghost use Rattle.std.specs.Prelude.{◌≡◌, ◌≤◌, None};
-ghost use Rattle.cut_measure.specs.declared.sizes.Kind.TheVariants.{Bar};
-ghost use Rattle.cut_plan.specs.Faults.{fault_of};
+ghost use Rattle.std.specs.Prelude.{◌≤◌};
 
 use crate::faults::first_fault;
 use crate::{Bound, PlanFault, Want, have_demands, least_units, plan_bar, plan_sheet, reached};
 use cut_measure::{Kind, Size};
-use cut_table::bar::{counted_worth, table_counts};
 use std::alloc::{AllocError, Global};
 use std::test::Fail;
 
@@ -95,6 +92,25 @@ fn names_a_bars_fault(rt: HostRuntime) -> Result<(), Fail> {
     Ok(())
 }
 
+// A bar of 100 and so many wants, each of one piece a tenth longer than the one before: the worth, or the fault.
+fn worth_of_wants(rt: &HostRuntime, count: u32) -> Result<Result<u64, PlanFault>, Fail> {
+    let mut wants = Vec::new(rt.alloc());
+    for length in 1..count.saturating_add(1) {
+        wants.push(want(length, length, 1, 1, 1)?)?;
+    }
+    match bar(rt, 100, 0, &wants)? {
+        Ok((worth, _)) => Ok(Ok(worth)),
+        Err(fault) => Ok(Err(fault)),
+    }
+}
+
+#[test]
+fn plans_forty_wants(rt: HostRuntime) -> Result<(), Fail> {
+    assert_eq!(rt; worth_of_wants(&rt, 40)?, Ok(13));
+    assert_eq!(rt; worth_of_wants(&rt, 41)?, Err(PlanFault::BadWant));
+    Ok(())
+}
+
 #[test]
 fn prints_faults(rt: HostRuntime) -> Result<(), Fail> {
     let text = format!(in rt.alloc(); "{}", PlanFault::NothingFits)?;
@@ -180,14 +196,28 @@ fn plans_bars_of_any_worth(rt: HostRuntime) -> Result<(), Fail> {
     Ok(())
 }
 
-// The best worth of a bar by a table over every room.
+// Offers a piece to each room: from the longest on, so that it is taken once.
+fn offer_one(best: &mut [u64], room: usize, worth: u64) {
+    for whole in (room..best.len()).rev() {
+        best[whole] = best[whole].max(best[whole - room].saturating_add(worth));
+    }
+}
+
+// The best worth of a bar by a plain table: for each room up to the bar's and a kerf what some pieces in it are worth at
+// most, piece by piece.
 fn table_worth(alloc: Global, size: Size, kerf: u32, wants: &[Want]) -> Result<u64, AllocError>
     requires kerf { kerf ≤ 200 }
-    requires faultless { fault_of Bar size kerf 0 wants.now ≡ None }
 {
-    let counts = table_counts(alloc, wants, size.w(), kerf)?;
-    let worth = counted_worth(wants, &counts);
-    Ok(worth)
+    let whole = size.w() as usize + kerf as usize;
+    let mut best = Vec::new(alloc);
+    best.resize(whole + 1, 0)?;
+    for want in wants {
+        let room = want.size.w() as usize + kerf as usize;
+        for _ in 0..want.left {
+            offer_one(&mut best, room, want.worth as u64);
+        }
+    }
+    Ok(best.last().copied().unwrap_or(0))
 }
 
 // Whether the plan of a bar is worth what the table says.
@@ -261,6 +291,9 @@ fn plans_sheets(rt: HostRuntime) -> Result<(), Fail> {
         ((10, 8), 1, 2, want(1, 4, 3, 10, 12)?, (24, 0, 48)),
         ((100, 100), 0, 1, want(1, 10, 10, 2, 1)?, (2, 98, 100)),
         ((11, 5), 0, 4, want(1, 9, 5, 1, 1)?, (0, 0, 1)),
+        ((500, 1), 0, 1, want(1, 1, 1, 5, 1)?, (5, 495, 500)),
+        ((85, 1), 0, 1, want(1, 1, 1, 85, 1)?, (85, 0, 85)),
+        ((86, 1), 0, 1, want(1, 1, 1, 86, 1)?, (86, 0, 86)),
     ];
     for (size, kerf, step, want, found) in planned {
         if kerf <= 200 {
@@ -271,6 +304,9 @@ fn plans_sheets(rt: HostRuntime) -> Result<(), Fail> {
     let faults = [
         ((10, 10), 6, want(1, 5, 5, 2, 25)?, PlanFault::BadStep),
         ((10, 10), 0, want(1, 5, 5, 2, 25)?, PlanFault::BadStep),
+        ((10, 10), 0, want(1, 5, 5, 0, 25)?, PlanFault::BadWant),
+        ((1002, 2), 0, want(1, 5, 5, 2, 25)?, PlanFault::BadStep),
+        ((501, 1), 1, want(1, 1, 1, 5, 1)?, PlanFault::TableTooLarge),
         (
             (1002, 2),
             2,

@@ -306,8 +306,3 @@ none_reached k whole = (
     zero e i z at =
         let here : none ≡ e = subst (λ i. get_or (none ∷ []) i e ≡ e) z at in
         (omega (arith, ap (λ (e : Entry). e.room) here), omega (arith, ap (λ (e : Entry). e.worth) here))
-
-pub none_below : (limit : ℕ) → 1 < limit → (e : Entry) → Contains (none ∷ []) e → e.worth + 1 < limit
-none_below limit one e has =
-    let value = ((none_reached 0 0).1.only e has).1.value in
-    omega (arith, value, one)

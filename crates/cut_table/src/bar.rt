@@ -8,7 +8,6 @@ ghost use Rattle.cut_table.specs.Legal.{HaveOwnDemands};
 ghost use Rattle.cut_table.specs.Reached.{AreRising, AreReached, AreOffered, IsMoved, IsLedTo, AreCountsOf, ArePricedBelow};
 ghost use Rattle.cut_table.specs.Levels.{Has, IsLevel, AreLevels, IsOfFirst};
 
-use crate::cells::table_of;
 use crate::level::{Level, offer_want};
 use crate::number::Number;
 pub use crate::reach::Entry;
@@ -19,33 +18,21 @@ use std::alloc::{AllocError, Global};
 /// The longest bar that is planned, in tenths of a millimetre.
 pub const LONGEST_BAR: u32 = 150_000;
 
-/// What no counts at all reach, as a list.
-fn none_listed<T: Number>(alloc: Global) -> Result<Level<T>, AllocError>
+/// What no counts at all reach.
+fn none_reached<T: Number>(alloc: Global) -> Result<Level<T>, AllocError>
     ensures { IfOk result (λ level. (k whole : ℕ) → IsLevel whole level × AreReached k [] whole (Has T.value level)) }
 {
     let none = Vec::from_slice(alloc, &[Entry { room: 0, worth: 0 }])?;
     Ok(Level::Listed(none))
 }
 
-/// What no counts at all reach, as a table.
-fn none_tabled<T: Number>(alloc: Global, whole: u32) -> Result<Level<T>, AllocError>
-    requires whole { whole ≤ 2 ^ 20 }
-    requires limit { 1 < T.limit }
-    ensures { IfOk result (λ level. (k : ℕ) → IsLevel whole level × AreReached k [] whole (Has T.value level)) }
-{
-    let cells = table_of(alloc, &[Entry { room: 0, worth: 0 }], whole)?;
-    Ok(Level::Tabled(cells))
-}
-
 /// What the wants reach within the whole, then what those behind the first do, and so on to none.
 fn levels<T: Number>(
     alloc: Global,
-    none: Level<T>,
     wants: &[Want],
     kerf: u32,
     whole: u32,
 ) -> Result<Vec<Level<T>>, AllocError>
-    requires none { IsLevel whole none × AreReached kerf [] whole (Has T.value none) }
     requires whole { whole ≤ 2 ^ 20 - 1 }
     requires kerf { kerf ≤ MOST_KERF }
     requires below { ArePricedBelow T.limit kerf whole wants.now }
@@ -53,6 +40,7 @@ fn levels<T: Number>(
     ensures levels { IfOk result (λ levels. AreLevels T.value kerf whole wants.now levels.items) }
 {
     let mut levels = Vec::new(alloc);
+    let none = none_reached(alloc)?;
     levels.push(none)?;
     for i in (0..wants.len()).rev() {
         let level = offer_want(alloc, &levels[0], &wants[i], kerf, whole)?;
@@ -109,15 +97,13 @@ fn read_levels<T: Number>(
     Ok(counts)
 }
 
-/// The best counts, from a level of no counts at all.
-fn counts_from<T: Number>(
+/// The best counts, by levels whose cells are of one width.
+fn counts_by<T: Number>(
     alloc: Global,
-    none: Level<T>,
     wants: &[Want],
     size: u32,
     kerf: u32,
 ) -> Result<Vec<u32>, AllocError>
-    requires none { IsLevel (size + kerf) none × AreReached kerf [] (size + kerf) (Has T.value none) }
     requires own { HaveOwnDemands wants.now }
     requires bar { AreUprightOfHeightOne wants.now }
     requires below { ArePricedBelow T.limit kerf (size + kerf) wants.now }
@@ -127,50 +113,10 @@ fn counts_from<T: Number>(
     ensures counts { IfOk result (λ counts. AreBestCounts kerf wants.now (size + kerf) counts.items) }
     ensures best { IfOk result (λ counts. IsBestWithin wants.now kerf size 1 (worth_of_counts wants.now counts.items)) }
 {
-    let levels = levels(alloc, none, wants, kerf, size + kerf)?;
+    let levels: Vec<Level<T>> = levels(alloc, wants, kerf, size + kerf)?;
     let best = levels[0].best();
     let counts = read_levels(alloc, wants, &levels, kerf, best)?;
     Ok(counts)
-}
-
-/// The best counts, from a list.
-fn counts_from_list<T: Number>(
-    alloc: Global,
-    wants: &[Want],
-    size: u32,
-    kerf: u32,
-) -> Result<Vec<u32>, AllocError>
-    requires own { HaveOwnDemands wants.now }
-    requires bar { AreUprightOfHeightOne wants.now }
-    requires below { ArePricedBelow T.limit kerf (size + kerf) wants.now }
-    requires size { size ≤ LONGEST_BAR }
-    requires kerf { kerf ≤ MOST_KERF }
-    ensures some { IfOk result (λ _. HaveLength wants.now) }
-    ensures counts { IfOk result (λ counts. AreBestCounts kerf wants.now (size + kerf) counts.items) }
-    ensures best { IfOk result (λ counts. IsBestWithin wants.now kerf size 1 (worth_of_counts wants.now counts.items)) }
-{
-    let none = none_listed(alloc)?;
-    counts_from::<T>(alloc, none, wants, size, kerf)
-}
-
-/// The best counts, from a table.
-fn counts_from_table<T: Number>(
-    alloc: Global,
-    wants: &[Want],
-    size: u32,
-    kerf: u32,
-) -> Result<Vec<u32>, AllocError>
-    requires own { HaveOwnDemands wants.now }
-    requires bar { AreUprightOfHeightOne wants.now }
-    requires below { ArePricedBelow T.limit kerf (size + kerf) wants.now }
-    requires size { size ≤ LONGEST_BAR }
-    requires kerf { kerf ≤ MOST_KERF }
-    ensures some { IfOk result (λ _. HaveLength wants.now) }
-    ensures counts { IfOk result (λ counts. AreBestCounts kerf wants.now (size + kerf) counts.items) }
-    ensures best { IfOk result (λ counts. IsBestWithin wants.now kerf size 1 (worth_of_counts wants.now counts.items)) }
-{
-    let none = none_tabled(alloc, size + kerf)?;
-    counts_from::<T>(alloc, none, wants, size, kerf)
 }
 
 /// All that counts reach.
@@ -187,7 +133,7 @@ fn entries_of<T: Number>(
     ensures reached { IfOk result (λ entries. AreReached kerf wants.now (size + kerf) (Contains entries.items)) }
 {
     let whole = size + kerf;
-    let mut level: Level<T> = none_listed(alloc)?;
+    let mut level: Level<T> = none_reached(alloc)?;
     for i in (0..wants.len()).rev() {
         level = offer_want(alloc, &level, &wants[i], kerf, whole)?;
     }
@@ -248,32 +194,9 @@ pub fn best_counts(
     ensures best { IfOk result (λ counts. IsBestWithin wants.now kerf size 1 (worth_of_counts wants.now counts.items)) }
 {
     if is_narrow(wants, size, kerf) {
-        counts_from_list::<u32>(alloc, wants, size, kerf)
+        counts_by::<u32>(alloc, wants, size, kerf)
     } else {
-        counts_from_list::<u64>(alloc, wants, size, kerf)
-    }
-}
-
-/// The same by a table over every room, with which tests compare `best_counts`.
-pub fn table_counts(
-    alloc: Global,
-    wants: &[Want],
-    size: u32,
-    kerf: u32,
-) -> Result<Vec<u32>, AllocError>
-    requires own { HaveOwnDemands wants.now }
-    requires bar { AreUprightOfHeightOne wants.now }
-    requires modest { HaveBoundedWorthsAndLefts wants.now }
-    requires size { size ≤ LONGEST_BAR }
-    requires kerf { kerf ≤ MOST_KERF }
-    ensures some { IfOk result (λ _. HaveLength wants.now) }
-    ensures counts { IfOk result (λ counts. AreBestCounts kerf wants.now (size + kerf) counts.items) }
-    ensures best { IfOk result (λ counts. IsBestWithin wants.now kerf size 1 (worth_of_counts wants.now counts.items)) }
-{
-    if is_narrow(wants, size, kerf) {
-        counts_from_table::<u32>(alloc, wants, size, kerf)
-    } else {
-        counts_from_table::<u64>(alloc, wants, size, kerf)
+        counts_by::<u64>(alloc, wants, size, kerf)
     }
 }
 

@@ -8,7 +8,7 @@ use Rattle.cut_table.proofs.bar.levels.Goals as goal
 
 pub loop-i-init : goal.loop-i-init
 loop-i-init g c = (
-  rw (c.in_ok-push.ensures.items, c.new-levels.ensures.items) (one_level g.T.Number.value c.args.kerf c.args.whole (length c.args.wants.now) c.args.wants.now c.args.none (omega arith) c.requires.none),
+  rw (c.in_ok-push.ensures.items, c.new-levels.ensures.items) (one_level g.T.Number.value c.args.kerf c.args.whole (length c.args.wants.now) c.args.wants.now c.in_ok-none.none (omega arith) (c.in_ok-none.ensures c.args.kerf c.args.whole)),
   length_none c.args.wants.now (length c.args.wants.now) (omega arith),
 )
 

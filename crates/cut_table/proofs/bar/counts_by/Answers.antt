@@ -2,7 +2,7 @@ use Rattle.std.proofs.Common.{◌+◌, sym, subst, arith}
 use Rattle.cut_table.specs.Levels.{Has, IsLevel}
 use Rattle.cut_table.proofs.BarCounts.{counts_best, bar_wants}
 use Rattle.cut_table.proofs.LevelCounts.{first_level, some_entry, best_from_entry}
-use Rattle.cut_table.proofs.bar.counts_from.Goals as goal
+use Rattle.cut_table.proofs.bar.counts_by.Goals as goal
 
 pub best-best-requires-clause-level : goal.best-best-requires-clause-level
 best-best-requires-clause-level g c =
