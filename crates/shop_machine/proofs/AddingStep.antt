@@ -108,6 +108,7 @@ module _ (texts : Texts) (message : Message) (m : Content) (code : List ℕ) (ki
     sums = none_yet stock is;
     act = tt;
     demand = tt;
+    import = tt;
     kept = new;
   }
   material_fits stock (Some row) is new = record {
@@ -125,6 +126,7 @@ module _ (texts : Texts) (message : Message) (m : Content) (code : List ℕ) (ki
     sums = λ c. refl;
     act = tt;
     demand = tt;
+    import = tt;
     kept = new;
   }
 

@@ -42,6 +42,9 @@ pub mod EndingDeed
 -- a standing part as a whole gets another state
 pub mod TurningStep
 pub mod TurningDeed
+-- asking for a plan, or for a bound
+pub mod PlanningDecision
+pub mod PlanningReply
 -- every command, every history and every run
 pub mod Sound
 pub mod Given

@@ -105,7 +105,8 @@ entries_apart : (es : List (Name × Part)) → T (is_sorted name_cmp es) → Apa
 entries_apart [] t = tt
 entries_apart (e ∷ es) t = ((λ f i. below_in e.0 es f (first (below_all name_cmp e.0 es) _ t) i), entries_apart es (second (below_all name_cmp e.0 es) _ t))
 
-found_in : (es : List (Name × Part)) (e : Name × Part) → T (is_sorted name_cmp es) → IsIn e es → find name_cmp e.0 es ≡ Some e.1
+-- an entry of a map is found by its key
+pub found_in : (es : List (Name × Part)) (e : Name × Part) → T (is_sorted name_cmp es) → IsIn e es → find name_cmp e.0 es ≡ Some e.1
 found_in [] e t i = absurd i
 found_in (f ∷ es) e t (inl is) =
     ap (λ (v : Name × Part). find name_cmp v.0 (f ∷ es)) is ∙ ap (λ b. cond b (Some f.1) (find name_cmp f.0 es)) (ap is_eq (tied_itself names_total f.0)) ∙ ap (λ (v : Name × Part). Some v.1) (sym is)

@@ -274,6 +274,7 @@ module _ (m : Content) (stock : IsStock m) (order : List ℕ) (lines : List Orde
         sums = λ c. refl;
         act = tt;
         demand = (omega (arith, some), omega (arith, some, numbers));
+        import = tt;
         kept = new;
       }
 

@@ -86,6 +86,7 @@ module _ (m : Content) (stock : IsStock m) (row : Part) (s : State) (made : List
     totals = totals;
     act = act;
     demand = None;
+    import = None;
     kept = None;
     reply = answer;
   }
@@ -229,5 +230,6 @@ module _ (m : Content) (stock : IsStock m) (row : Part) (s : State) (made : List
       sums = sums;
       act = step.numbers;
       demand = tt;
+      import = tt;
       kept = new;
     }

@@ -345,6 +345,7 @@ module _ (m : Content) (stock : IsStock m) (material batch : List ℕ) (w h coun
     sums = sums_after;
     act = (omega arith, receipt.number);
     demand = tt;
+    import = tt;
     kept = new;
   }
 

@@ -158,5 +158,6 @@ module _ (m : Content) (stock : IsStock m) (name : Name) (row : Part) (found : p
         (record { stock = omega arith; rack = omega arith; pieces = omega arith; kerf = omega arith; scrap = omega arith; returned = omega arith });
     act = tt;
     demand = tt;
+    import = tt;
     kept = new;
   }

@@ -15,6 +15,7 @@ use Rattle.shop_machine.specs.declared.records.Demand.{Demand}
 use Rattle.shop_machine.specs.declared.records.Totals.{Totals}
 use Rattle.shop_machine.specs.declared.records.Column.{Column}
 use Rattle.shop_machine.specs.declared.records.Column.TheVariants.{Received, Stock, Rack, Pieces, Kerf, Scrap, Returned}
+use Rattle.shop_machine.specs.declared.imports.ImportRow.{ImportRow}
 use Rattle.shop_machine.specs.declared.kept_texts.Pair.{Pair}
 use Rattle.shop_machine.specs.declared.kept_texts.Kept.{Kept}
 use Rattle.shop_machine.specs.declared.kept_texts.KeptMessage.{KeptMessage}
@@ -26,7 +27,8 @@ abbrev pub pair_cmp : Pair → Pair → Ordering
 pair_cmp a b = ordering_then (nat_cmp a.terminal b.terminal) (nat_cmp a.number b.number)
 
 -- The materials by their codes, the parts by their names, the jobs and the demands by their numbers, the codes of the
--- orders, the accepted messages by their pairs, and the last numbers of an act and of a demand.
+-- orders, the accepted messages by their pairs, the imports by their orders' codes, and the last numbers of an act and of a
+-- demand.
 pub record Content : Type 0 where
   pub materials : map.FinMap code_cmp Material
   pub parts : map.FinMap name_cmp Part
@@ -34,6 +36,7 @@ pub record Content : Type 0 where
   pub orders : set.FinSet code_cmp
   pub demands : map.FinMap nat_cmp Demand
   pub kept : map.FinMap pair_cmp Kept
+  pub imports : map.FinMap code_cmp ImportRow
   pub last_act : ℕ
   pub last_demand : ℕ
 
@@ -47,6 +50,7 @@ fresh =
       orders = set.empty;
       demands = map.empty;
       kept = map.empty;
+      imports = map.empty;
       last_act = 0;
       last_demand = 0;
     }
@@ -69,6 +73,10 @@ demand_at content number = map.get content.demands number
 
 abbrev pub kept_at : Content → Pair → Option Kept
 kept_at content pair = map.get content.kept pair
+
+-- what is kept of the import that an order came by
+abbrev pub import_at : Content → List ℕ → Option ImportRow
+import_at content code = map.get content.imports code
 
 -- a found part's material
 abbrev pub material_of : Content → Option Part → Option Material
@@ -171,6 +179,10 @@ abbrev pub with_kept : Option KeptMessage → map.FinMap pair_cmp Kept → map.F
 with_kept None messages = messages
 with_kept (Some message) messages = map.insert messages message.pair message.kept
 
+abbrev pub with_import : Option ImportRow → map.FinMap code_cmp ImportRow → map.FinMap code_cmp ImportRow
+with_import None imports = imports
+with_import (Some row) imports = map.insert imports row.order row
+
 -- the last number after one was given
 abbrev pub with_number : Option ℕ → ℕ → ℕ
 with_number None last = last
@@ -186,6 +198,7 @@ changed content change =
       orders = with_order change.order content.orders;
       demands = with_demands change.demands content.demands;
       kept = with_kept change.kept content.kept;
+      imports = with_import change.import content.imports;
       last_act = with_number change.act content.last_act;
       last_demand = with_number change.demand content.last_demand;
     }

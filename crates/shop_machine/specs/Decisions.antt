@@ -29,6 +29,7 @@ no_change answer =
       totals = None;
       act = None;
       demand = None;
+      import = None;
       kept = None;
       reply = answer;
     }

@@ -13,6 +13,8 @@ pub mod Reserving
 pub mod Moving
 pub mod Ending
 pub mod Turning
+pub mod Planning
 pub mod Machine
 pub mod Soundness
 pub mod History
+pub mod Visits

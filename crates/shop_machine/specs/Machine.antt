@@ -29,6 +29,7 @@ use Rattle.shop_machine.specs.Ordering.{order_refusal, order_change}
 use Rattle.shop_machine.specs.Reserving.{IsReading, reserve_refusal, IsReservation}
 use Rattle.shop_machine.specs.Ending.{end_refusal, IsWork, IsDone, IsBroken, IsRelease}
 use Rattle.shop_machine.specs.Turning.{scrap_refusal, return_refusal, turn_change}
+use Rattle.shop_machine.specs.Planning.{IsPlanAnswer, IsBoundAnswer}
 
 -- ---- commands
 
@@ -163,12 +164,17 @@ abbrev pub told_demand : Option Demand → Reply
 told_demand None = reply.Refused NoDemand
 told_demand (Some d) = reply.Demand d.number d.line d.made d.material d.order d.reserved d.wanted
 
-abbrev pub answer_of : Content → Query → Reply
-answer_of content (query.Totals material) = told_totals (material_at content material) material (totals_of content material)
-answer_of content (query.Rack material) = told_rack (material_at content material) material (parts_of content material)
-answer_of content (query.Trace part) = told_part (part_at content part)
-answer_of content (query.Demand demand) = told_demand (demand_at content demand)
+-- what may be answered to a query: to a plan and a bound any that the planners may give
+abbrev pub IsAnswer : Content → Query → Reply → Type 0
+IsAnswer content (query.Totals material) answer = answer ≡ told_totals (material_at content material) material (totals_of content material)
+IsAnswer content (query.Rack material) answer = answer ≡ told_rack (material_at content material) material (parts_of content material)
+IsAnswer content (query.Trace part) answer = answer ≡ told_part (part_at content part)
+IsAnswer content (query.Demand demand) answer = answer ≡ told_demand (demand_at content demand)
+IsAnswer content (query.Plan part demands step) answer =
+    IsPlanAnswer (part_at content part) (material_of content (part_at content part)) (demand_at content) demands step answer
+IsAnswer content (query.Bound material w h demands step) answer =
+    IsBoundAnswer (material_at content material) material (record { w = w; h = h }) (demand_at content) demands step answer
 
--- what may be answered to a query, memory and the store aside; it changes nothing
+-- the same, memory and the store aside; a query changes nothing
 abbrev pub Answers : Content → Query → Reply → Type 0
-Answers content asked answer = answer ≢ reply.Refused NoMemory → answer ≢ reply.Refused StoreFault → answer ≡ answer_of content asked
+Answers content asked answer = answer ≢ reply.Refused NoMemory → answer ≢ reply.Refused StoreFault → IsAnswer content asked answer

@@ -71,6 +71,8 @@ IsMade (reply.Totals material received stock rack pieces kerf scrap returned) = 
 IsMade (reply.Rack material parts) = ⊥
 IsMade (reply.Trace batch h of part root state w x y) = ⊥
 IsMade (reply.Demand demand line made material order reserved wanted) = ⊥
+IsMade (reply.Plan ceiling dropped tree worth) = ⊥
+IsMade (reply.Bound best units) = ⊥
 IsMade (reply.Refused refusal) = ⊥
 
 -- the refusal that a reply tells of

@@ -38,6 +38,10 @@ pub record IsReading (old : Content) (part : Name) (text : List ℕ) (plan : Pat
   pub spelled : IsSpelling text plan.tree plan.w plan.h plan.kerf
   pub few_cuts : cut_count plan.tree ≤ MOST_CUTS
 
+-- the text is read as a plan without a piece
+abbrev pub HasNoPiece : Content → Name → List ℕ → Type 0
+HasNoPiece old part text = (plan : Pattern) × IsReading old part text plan × (plan_leaves plan ≡ [])
+
 -- the leaf has the demand's size, or the swapped one where it is turned and the demand's pieces may turn
 abbrev pub fits_demand : Leaf → Demand → Bool
 fits_demand leaf demand =

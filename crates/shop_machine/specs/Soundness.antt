@@ -23,7 +23,7 @@ use Rattle.shop_machine.specs.declared.changes.MaterialTotals.{MaterialTotals}
 use Rattle.shop_machine.specs.declared.records.Totals.{Totals}
 use Rattle.shop_machine.specs.Columns.{is_piece_for, is_waiting}
 use Rattle.shop_machine.specs.Messages.{Texts, IsMessage, pair_of}
-use Rattle.shop_machine.specs.Content.{Content, material_at, part_at, job_at, has_order, demand_at, kept_at, totals_of, AddsUp, in_state, changed}
+use Rattle.shop_machine.specs.Content.{Content, material_at, part_at, job_at, has_order, demand_at, kept_at, import_at, totals_of, AddsUp, in_state, changed}
 use Rattle.shop_machine.specs.Same.{same_code}
 use Rattle.shop_machine.specs.Machine.{KeepsReply}
 
@@ -174,7 +174,7 @@ with_totals (Some row) code before = if same_code row.material code then row.tot
 -- names rise; a part that moves; a job, new with an act and else one that moves; an order of a new code; demands of known
 -- materials, each once, of which no more is reserved and made than wanted, with an order its own, of different lines, and
 -- else ones that move; totals, such that each material has the sums of its parts after the change; numbers above the last
--- ones; and a message of a new pair.
+-- ones; an import of the new order; and a message of a new pair.
 pub record Fits (content : Content) (change : Change) : Type 0 where
   pub material : IfSome change.material (λ row. material_at content row.code ≡ None)
   pub parts : All (IsNewPart content) change.parts
@@ -190,4 +190,5 @@ pub record Fits (content : Content) (change : Change) : Type 0 where
   pub sums : (code : List ℕ) → totals_of (changed content change) code ≡ with_totals change.totals code (totals_of content code)
   pub act : IfSome change.act (λ act. (content.last_act < act) × (act ≤ MOST_NUMBERS))
   pub demand : IfSome change.demand (λ demand. (content.last_demand < demand) × (demand ≤ MOST_NUMBERS))
+  pub import : IfSome change.import (λ row. (import_at content row.order ≡ None) × (change.order ≡ Some row.order))
   pub kept : IfSome change.kept (λ row. kept_at content row.pair ≡ None)

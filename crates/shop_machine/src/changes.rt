@@ -1,3 +1,4 @@
+use crate::imports::ImportRow;
 use crate::kept_texts::KeptMessage;
 use crate::messages::Reply;
 use crate::records::{Demand, Job, Material, Part, Totals};
@@ -38,6 +39,8 @@ pub struct Change {
     pub act: Option<u32>,
     /// The last demand number from now on, where demands were numbered.
     pub demand: Option<u32>,
+    /// What is kept of the import that the new order came by.
+    pub import: Option<ImportRow>,
     /// The message to keep, once its texts are known.
     pub kept: Option<KeptMessage>,
     pub reply: Reply,

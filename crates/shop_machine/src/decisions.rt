@@ -19,6 +19,7 @@ pub fn no_change(alloc: Global, reply: Reply) -> Change
         totals: None,
         act: None,
         demand: None,
+        import: None,
         kept: None,
         reply,
     }

@@ -25,6 +25,9 @@ pub type LineList = RowList<OrderLine>;
 /// Parts on the rack, in order.
 pub type RackList = RowList<RackRow>;
 
+/// Numbers of demands, in order.
+pub type NumberList = RowList<u32>;
+
 /// What a terminal wants done. Numbers are as they came: the shop judges their ranges.
 #[derive(Debug, Drop)]
 pub enum Command {
@@ -83,10 +86,32 @@ pub struct Message {
 /// What a terminal asks.
 #[derive(Debug, Drop)]
 pub enum Query {
-    Totals { material: Code },
-    Rack { material: Code },
-    Trace { part: PartName },
-    Demand { demand: u32 },
+    Totals {
+        material: Code,
+    },
+    Rack {
+        material: Code,
+    },
+    Trace {
+        part: PartName,
+    },
+    Demand {
+        demand: u32,
+    },
+    /// Which plan to cut a standing part by, for what is left of demands. Sides are counted in steps.
+    Plan {
+        part: PartName,
+        demands: NumberList,
+        step: u32,
+    },
+    /// How many units of a size it takes at least for what is left of demands.
+    Bound {
+        material: Code,
+        w: u32,
+        h: u32,
+        demands: NumberList,
+        step: u32,
+    },
 }
 
 /// What a message or a query is answered.
@@ -171,6 +196,19 @@ pub enum Reply {
         order: Code,
         reserved: u32,
         wanted: u32,
+    },
+    /// A plan's text, what its pieces are worth, how many pieces were dropped, and a worth that no plan exceeds. Of a bar
+    /// nothing is dropped, and its plan is worth the ceiling.
+    Plan {
+        ceiling: u64,
+        dropped: u32,
+        tree: Text,
+        worth: u64,
+    },
+    /// What no unit is worth more than, and the least number of units.
+    Bound {
+        best: u64,
+        units: u64,
     },
     Refused(Refusal),
 }

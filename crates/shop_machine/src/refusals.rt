@@ -1,6 +1,7 @@
 ghost use Rattle.std.specs.Prelude.{◌≡◌};
 ghost use Rattle.shop_machine.specs.Refusals.{refusal_number, refusal_name};
 
+use cut_plan::PlanFault;
 use std::alloc::AllocError;
 
 /// Why a message or a query is refused. Each has a number and a name, which never change.
@@ -74,6 +75,23 @@ impl From<AllocError> for Refusal {
 
     fn from(_error: AllocError) -> Refusal {
         Refusal::NoMemory
+    }
+}
+
+impl From<PlanFault> for Refusal {
+    ghost use Rattle.std.specs.Prelude.{◌≡◌};
+    ghost use Rattle.shop_machine.specs.Planning.{planner_refusal};
+
+    ghost from_gives = { λ fault refusal. refusal ≡ planner_refusal fault };
+
+    fn from(fault: PlanFault) -> Refusal {
+        match fault {
+            PlanFault::BadWant => Refusal::BadWant,
+            PlanFault::BadStep => Refusal::BadStep,
+            PlanFault::TableTooLarge => Refusal::TableTooLarge,
+            PlanFault::NothingFits => Refusal::NothingFits,
+            PlanFault::NoMemory => Refusal::NoMemory,
+        }
     }
 }
 

@@ -183,6 +183,8 @@ reply_back (reply.Totals material received stock rack pieces kerf scrap returned
 reply_back (reply.Rack material parts) h = absurd h
 reply_back (reply.Trace batch h of part root state w x y) made = absurd made
 reply_back (reply.Demand demand line made material order reserved wanted) h = absurd h
+reply_back (reply.Plan ceiling dropped tree worth) h = absurd h
+reply_back (reply.Bound best units) h = absurd h
 reply_back (reply.Refused refusal) h = absurd h
 
 -- ---- texts
@@ -218,6 +220,8 @@ reply_no_float (reply.Totals material received stock rack pieces kerf scrap retu
 reply_no_float (reply.Rack material parts) = ap (λ (b : Bool). b || false) (rack_no_float parts)
 reply_no_float (reply.Trace batch h of part root state w x y) = refl
 reply_no_float (reply.Demand demand line made material order reserved wanted) = refl
+reply_no_float (reply.Plan ceiling dropped tree worth) = refl
+reply_no_float (reply.Bound best units) = refl
 reply_no_float (reply.Refused refusal) = refl
 
 pub message_no_float : (message : Message) → has_float (message_data message) ≡ false
@@ -339,6 +343,8 @@ reply_text_read (reply.Totals material received stock rack pieces kerf scrap ret
 reply_text_read (reply.Rack material parts) h = absurd h
 reply_text_read (reply.Trace batch h of part root state w x y) made = absurd made
 reply_text_read (reply.Demand demand line made material order reserved wanted) h = absurd h
+reply_text_read (reply.Plan ceiling dropped tree worth) h = absurd h
+reply_text_read (reply.Bound best units) h = absurd h
 reply_text_read (reply.Refused refusal) h = absurd h
 
 same_some : {A : Type 0} (a b : A) → Some a ≡ Some b → a ≡ b

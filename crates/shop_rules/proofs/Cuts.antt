@@ -13,8 +13,8 @@ use Rattle.serde_json.specs.View.{items_of}
 use Rattle.serde_json.specs.Written.{items_outline, items_have_float}
 use Rattle.serde_json.proofs.Numbers.{number_of-decimal}
 use Rattle.shop_machine.specs.Messages.{IsNumber}
-use Rattle.shop_rules.specs.Fields.{elements, all_of, number_of}
-use Rattle.shop_rules.specs.Forms.{cuts_at, list_data}
+use Rattle.shop_rules.specs.Fields.{elements, all_of, number_of, numbers_at}
+use Rattle.shop_rules.specs.Forms.{list_data}
 use Rattle.shop_rules.proofs.FieldFacts.{small_is}
 use Rattle.shop_rules.proofs.Lists.{all_some, all_empty}
 
@@ -26,7 +26,7 @@ cuts_back [] h = all_empty number_of
 cuts_back (c ∷ cuts) h =
     all_some number_of (cut_data c) (elements (items_of (map cut_data cuts))) c (small_is c h.0) ∙ ap (option_map (λ more. c ∷ more)) (cuts_back cuts h.1)
 
-pub cuts_there : (key : List ℕ) (d : Data) (cuts : List ℕ) → get key d ≡ Some (list_data cuts) → All IsNumber cuts → cuts_at key d ≡ Some cuts
+pub cuts_there : (key : List ℕ) (d : Data) (cuts : List ℕ) → get key d ≡ Some (list_data cuts) → All IsNumber cuts → numbers_at key d ≡ Some cuts
 cuts_there key d cuts is h =
     ap (λ o. option_and_then (all_of number_of) (option_map elements (option_and_then as_array o))) is ∙ cuts_back cuts (recursion_from_All IsNumber cuts h)
 

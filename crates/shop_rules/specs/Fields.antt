@@ -62,6 +62,10 @@ elements_at key d = option_map elements (option_and_then as_array (get key d))
 unfoldable pub all_of : {T : Type 0} → (Data → Option T) → List Data → Option (List T)
 all_of read ds = if list_all (λ d. is_some (read d)) ds then Some (filter_map read ds) else None
 
+-- the numbers of the list at a key
+abbrev pub numbers_at : List ℕ → Data → Option (List ℕ)
+numbers_at key d = option_and_then (all_of number_of) (elements_at key d)
+
 -- so many keys: an object has each key once, so where each key of a row is there, these are exactly the row's
 abbrev pub has_keys : ℕ → Data → Bool
 has_keys n d = unwrap_or (option_map (λ members. members_len members == n) (as_object d)) false

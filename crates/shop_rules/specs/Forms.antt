@@ -21,7 +21,7 @@ use Rattle.serde_json.specs.Data.{Data, array, boolean, object, number, unsigned
 use Rattle.serde_json.specs.Read.{read}
 use Rattle.serde_json.specs.View.{items_of}
 use Rattle.serde_json.specs.Written.{compact_text}
-use Rattle.shop_rules.specs.Fields.{number_at, number_of, wide_at, flag_at, text_at, code_at, name_at, kind_at, word_at, elements_at, all_of, row, kind_text, state_text, text_member, number_member, name_member, flag_member}
+use Rattle.shop_rules.specs.Fields.{number_at, wide_at, numbers_at, flag_at, text_at, code_at, name_at, kind_at, word_at, elements_at, all_of, row, kind_text, state_text, text_member, number_member, name_member, flag_member}
 
 -- A command has a row of keys that is read, the keys that are printed but `terminal` and `number`, in byte order, and the same
 -- of the reply to it.
@@ -152,10 +152,6 @@ done_made d = option_map (λ c. reply.Done c.0 c.1 c.2 c.3 c.4) (ended_cells d)
 
 -- ---- a broken job
 
--- the cuts at a key
-abbrev pub cuts_at : List ℕ → Data → Option (List ℕ)
-cuts_at key d = option_and_then (all_of number_of) (elements_at key d)
-
 -- no cut went wrong
 abbrev pub none_lost : Bool → Option (Option ℕ)
 none_lost true = None
@@ -171,7 +167,7 @@ first_cuts d = option_and_then (λ cuts. option_map (λ lost. First cuts lost) (
 
 -- the cuts that were made, and the one that went wrong
 abbrev pub listed_cuts : Data → Option Halt
-listed_cuts d = option_and_then (λ cuts. option_map (λ lost. Listed cuts lost) (lost_cut (codes "lost") d)) (cuts_at (codes "cuts") d)
+listed_cuts d = option_and_then (λ cuts. option_map (λ lost. Listed cuts lost) (lost_cut (codes "lost") d)) (numbers_at (codes "cuts") d)
 
 abbrev pub break_command : Data → Option Command
 break_command d = option_and_then (λ job. option_map (λ halt. Break job halt) (option_or (first_cuts d) (listed_cuts d))) (number_at (codes "job") d)
@@ -285,13 +281,38 @@ demand_told demand line made material order reserved wanted =
     (text_member (codes "material") material (text_member (codes "ok") (codes "demand") (text_member (codes "order") order
     (number_member (codes "reserved") reserved (number_member (codes "wanted") wanted no_members))))))))
 
+abbrev pub plan_query : Data → Option Query
+plan_query d =
+    option_and_then (λ part. option_and_then (λ demands. option_map (λ step. query.Plan part demands step)
+    (number_at (codes "step") d)) (numbers_at (codes "demands") d)) (name_at (codes "part") d)
+
+abbrev pub plan_told : (ceiling dropped : ℕ) → List ℕ → (worth : ℕ) → Data
+plan_told ceiling dropped tree worth =
+    object (number_member (codes "ceiling") ceiling (number_member (codes "dropped") dropped (text_member (codes "ok") (codes "plan")
+    (text_member (codes "tree") tree (number_member (codes "worth") worth no_members)))))
+
+abbrev pub bound_query : Data → Option Query
+bound_query d =
+    option_and_then (λ material. option_and_then (λ w. option_and_then (λ h. option_and_then (λ demands. option_map (λ step. query.Bound material w h demands step)
+    (number_at (codes "step") d)) (numbers_at (codes "demands") d)) (number_at (codes "h") d)) (number_at (codes "w") d)) (code_at (codes "material") d)
+
+abbrev pub bound_told : (best units : ℕ) → Data
+bound_told best units =
+    object (number_member (codes "best") best (text_member (codes "ok") (codes "bound") (number_member (codes "units") units no_members)))
+
+-- the rows with one key beside `ask`, by its word
+abbrev pub short_query : List ℕ → Data → Option Query
+short_query word d =
+    if bytes_eq word (codes "totals") then totals_query d
+    else (if bytes_eq word (codes "rack") then rack_query d
+    else (if bytes_eq word (codes "trace") then trace_query d
+    else (if bytes_eq word (codes "demand") then demand_query d else None)))
+
 -- the rows by the word of `ask`, each with `ask`
 abbrev pub asked_of : List ℕ → Data → Option Query
 asked_of word d =
-    if bytes_eq word (codes "totals") then row 2 totals_query d
-    else (if bytes_eq word (codes "rack") then row 2 rack_query d
-    else (if bytes_eq word (codes "trace") then row 2 trace_query d
-    else (if bytes_eq word (codes "demand") then row 2 demand_query d else None)))
+    if bytes_eq word (codes "plan") then row 4 plan_query d
+    else (if bytes_eq word (codes "bound") then row 6 bound_query d else row 2 (short_query word) d)
 
 abbrev pub query_of : Data → Option Query
 query_of d = option_and_then (λ word. asked_of word d) (word_at (codes "ask") (codes "do") d)
@@ -384,6 +405,8 @@ reply_data (reply.Totals material received stock rack pieces kerf scrap returned
 reply_data (reply.Rack material parts) = rack_told material parts
 reply_data (reply.Trace batch h of part root state w x y) = trace_data batch (name_text part) (name_text root) (state_text state) h of w x y
 reply_data (reply.Demand demand line made material order reserved wanted) = demand_told demand line made material order reserved wanted
+reply_data (reply.Plan ceiling dropped tree worth) = plan_told ceiling dropped tree worth
+reply_data (reply.Bound best units) = bound_told best units
 reply_data (reply.Refused refusal) =
     object (text_member (codes "name") (refusal_name refusal) (number_member (codes "refused") (refusal_number refusal) no_members))
 

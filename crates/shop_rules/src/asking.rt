@@ -1,10 +1,11 @@
 ghost use Rattle.std.specs.Prelude.{◌≡◌, IfOk};
 ghost use Rattle.serde_json.specs.View.{view};
 ghost use Rattle.shop_machine.specs.declared.messages.Reply.TheVariants as reply;
+ghost use Rattle.shop_rules.specs.Fields.{row};
 ghost use Rattle.shop_rules.specs.Forms as form;
 ghost use Rattle.shop_rules.specs.Forms.{reply_data, trace_data};
 
-use crate::fields::{code_at, has_keys, name_at, number_at, word_at};
+use crate::fields::{code_at, has_keys, name_at, number_at, numbers_at, word_at};
 use crate::words::{part_text, state_word, wide};
 use cut_measure::PartName;
 use serde_json::{Value, json};
@@ -197,11 +198,86 @@ pub(crate) fn demand_reply(
     })
 }
 
-// The query that a value stands for.
-pub(crate) fn asked(value: &Value) -> Option<Query>
-    ensures { result ≡ form.query_of (view value.now) }
+// The query for a plan.
+fn plan_query(alloc: Global, value: &Value) -> Result<Option<Query>, AllocError>
+    ensures { IfOk result (λ query. query ≡ row 4 form.plan_query (view value.now)) }
 {
-    let word = word_at(value, "ask", "do")?;
+    if !has_keys(value, 4) {
+        return Ok(None);
+    }
+    let (Some(part), Some(demands), Some(step)) = (
+        name_at(value, "part"),
+        numbers_at(alloc, value, "demands")?,
+        number_at(value, "step"),
+    ) else {
+        return Ok(None);
+    };
+    Ok(Some(Query::Plan {
+        part,
+        demands,
+        step,
+    }))
+}
+
+// The object of the reply to it.
+pub(crate) fn plan_reply(
+    alloc: Global,
+    ceiling: u64,
+    dropped: u64,
+    tree: &str,
+    worth: u64,
+) -> Result<Value, AllocError>
+    ensures { IfOk result (λ value. view value ≡ reply_data (reply.Plan ceiling dropped tree.now worth)) }
+{
+    json!(in alloc; {
+        "ceiling": ceiling,
+        "dropped": dropped,
+        "ok": "plan",
+        "tree": tree,
+        "worth": worth
+    })
+}
+
+// The query for a bound.
+fn bound_query(alloc: Global, value: &Value) -> Result<Option<Query>, AllocError>
+    ensures { IfOk result (λ query. query ≡ row 6 form.bound_query (view value.now)) }
+{
+    if !has_keys(value, 6) {
+        return Ok(None);
+    }
+    let (Some(material), Some(w), Some(h)) = (
+        code_at(value, "material"),
+        number_at(value, "w"),
+        number_at(value, "h"),
+    ) else {
+        return Ok(None);
+    };
+    let (Some(demands), Some(step)) = (
+        numbers_at(alloc, value, "demands")?,
+        number_at(value, "step"),
+    ) else {
+        return Ok(None);
+    };
+    Ok(Some(Query::Bound {
+        material,
+        w,
+        h,
+        demands,
+        step,
+    }))
+}
+
+// The object of the reply to it.
+pub(crate) fn bound_reply(alloc: Global, best: u64, units: u64) -> Result<Value, AllocError>
+    ensures { IfOk result (λ value. view value ≡ reply_data (reply.Bound best units)) }
+{
+    json!(in alloc; {"best": best, "ok": "bound", "units": units})
+}
+
+// The query with one key beside `ask` that a value stands for.
+fn short_query(value: &Value, word: &str) -> Option<Query>
+    ensures { result ≡ row 2 (form.short_query word.now) (view value.now) }
+{
     if !has_keys(value, 2) {
         return None;
     }
@@ -215,5 +291,21 @@ pub(crate) fn asked(value: &Value) -> Option<Query>
         demand_query(value)
     } else {
         None
+    }
+}
+
+// The query that a value stands for.
+pub(crate) fn asked(alloc: Global, value: &Value) -> Result<Option<Query>, AllocError>
+    ensures { IfOk result (λ query. query ≡ form.query_of (view value.now)) }
+{
+    let Some(word) = word_at(value, "ask", "do") else {
+        return Ok(None);
+    };
+    if word == "plan" {
+        plan_query(alloc, value)
+    } else if word == "bound" {
+        bound_query(alloc, value)
+    } else {
+        Ok(short_query(value, word))
     }
 }

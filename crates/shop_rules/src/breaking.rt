@@ -1,42 +1,18 @@
-ghost use Rattle.std.specs.Prelude.{◌≡◌, IfOk, All, map};
+ghost use Rattle.std.specs.Prelude.{◌≡◌, IfOk, All};
 ghost use Rattle.serde_json.specs.View.{view};
 ghost use Rattle.shop_machine.specs.declared.messages.Command.TheVariants.{Break};
 ghost use Rattle.shop_machine.specs.Messages.{IsNumber, IsHalt};
-ghost use Rattle.shop_rules.specs.Fields.{all_of, number_of, row};
+ghost use Rattle.shop_rules.specs.Fields.{row};
 ghost use Rattle.shop_rules.specs.Forms as form;
 ghost use Rattle.shop_rules.specs.Forms.{message_data};
 
 use crate::ending::ended_cells;
-use crate::fields::{elements_at, flag_at, has_keys, number_at, number_of};
+use crate::fields::{flag_at, has_keys, number_at, numbers_at};
 use crate::words::wide;
-use cut_tree::{CutList, Halt, MOST_CUTS};
+use cut_tree::{Halt, MOST_CUTS};
 use serde_json::{Value, json};
 use shop_machine::{Command, Reply};
 use std::alloc::{AllocError, Global};
-
-// The cuts that the values stand for, where each stands for one.
-fn read_cuts(alloc: Global, values: &[Value]) -> Result<Option<CutList>, AllocError>
-    ensures { IfOk result (λ cuts. cuts ≡ all_of number_of (map view values.now)) }
-{
-    let mut cuts = CutList::new(alloc);
-    for value in values {
-        let Some(cut) = number_of(value) else {
-            return Ok(None);
-        };
-        cuts.push(cut)?;
-    }
-    Ok(Some(cuts))
-}
-
-// The cuts at a key.
-fn cuts_at(alloc: Global, value: &Value, key: &str) -> Result<Option<CutList>, AllocError>
-    ensures { IfOk result (λ cuts. cuts ≡ form.cuts_at key.now (view value.now)) }
-{
-    match elements_at(value, key) {
-        Some(values) => read_cuts(alloc, values),
-        None => Ok(None),
-    }
-}
 
 // The cut that went wrong by its number, or `false` where none did.
 fn lost_cut(value: &Value, key: &str) -> Option<Option<u32>>
@@ -64,7 +40,7 @@ fn first_cuts(value: &Value) -> Option<Halt>
 fn listed_cuts(alloc: Global, value: &Value) -> Result<Option<Halt>, AllocError>
     ensures { IfOk result (λ halt. halt ≡ form.listed_cuts (view value.now)) }
 {
-    match cuts_at(alloc, value, "cuts")? {
+    match numbers_at(alloc, value, "cuts")? {
         Some(cuts) => match lost_cut(value, "lost") {
             Some(lost) => Ok(Some(Halt::Listed { cuts, lost })),
             None => Ok(None),

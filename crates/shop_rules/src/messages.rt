@@ -1,5 +1,4 @@
-ghost use Rattle.std.specs.Prelude.{◌≡◌, ◌≢◌, IfOk, IfErr, Some, None, option_map};
-ghost use Rattle.std.specs.Option.{ok_or};
+ghost use Rattle.std.specs.Prelude.{◌≡◌, ◌≢◌, ◌⊎◌, IfOk, IfErr, Some, None, option_map};
 ghost use Rattle.serde_json.specs.View.{view};
 ghost use Rattle.shop_machine.specs.Messages.{IsMessage};
 ghost use Rattle.shop_machine.specs.declared.refusals.Refusal.TheVariants.{BadMessage, NoMemory};
@@ -165,9 +164,11 @@ pub fn message_text(alloc: Global, message: &Message) -> Result<Text, AllocError
     Ok(Text::of(text))
 }
 
-/// The query that a value stands for; refused `BadMessage` where it stands for none.
-pub fn read_query(value: &Value) -> Result<Query, Refusal>
-    ensures { result ≡ ok_or (form.query_of (view value.now)) BadMessage }
+/// The query that a value stands for; refused `BadMessage` where it stands for none, and `NoMemory` where memory runs out.
+pub fn read_query(alloc: Global, value: &Value) -> Result<Query, Refusal>
+    ensures ok { IfOk result (λ query. form.query_of (view value.now) ≡ Some query) }
+    ensures err { IfErr result (λ refusal. (refusal ≡ NoMemory) ⊎ ((refusal ≡ BadMessage) × (form.query_of (view value.now) ≡ None))) }
 {
-    asked(value).ok_or(Refusal::BadMessage)
+    let query = asked(alloc, value)?;
+    query.ok_or(Refusal::BadMessage)
 }

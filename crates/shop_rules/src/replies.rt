@@ -8,7 +8,9 @@ ghost use Rattle.shop_rules.specs.Forms as form;
 ghost use Rattle.shop_rules.specs.Forms.{reply_data, json_texts};
 
 use crate::adding::{material_made, material_reply};
-use crate::asking::{Counts, Place, demand_reply, rack_reply, totals_reply, trace_reply};
+use crate::asking::{
+    Counts, Place, bound_reply, demand_reply, plan_reply, rack_reply, totals_reply, trace_reply,
+};
 use crate::breaking::break_made;
 use crate::ending::{done_made, ended_reply, release_made, release_reply};
 use crate::fields::text_at;
@@ -167,6 +169,13 @@ pub fn reply_value(alloc: Global, reply: &Reply) -> Result<Value, AllocError>
                 counts,
             )
         }
+        Reply::Plan {
+            ceiling,
+            dropped,
+            tree,
+            worth,
+        } => plan_reply(alloc, *ceiling, wide(*dropped), tree.as_str(), *worth),
+        Reply::Bound { best, units } => { bound_reply(alloc, *best, *units) }
         Reply::Refused(refusal) => {
             let number = wide(refusal.number());
             json!(in alloc; {"name": refusal.name(), "refused": number})

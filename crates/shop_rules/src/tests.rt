@@ -48,7 +48,7 @@ fn is_printed(rt: &impl Abort, alloc: Global, line: &str, text: &str) -> Result<
     assert_eq!(rt; message_text(alloc, &message)?.as_str(), text);
     let printed = message_value(alloc, &message)?.to_string(alloc)?;
     assert_eq!(rt; printed.as_str(), text);
-    assert!(rt; read_query(&value).is_err());
+    assert!(rt; read_query(alloc, &value).is_err());
     Ok(())
 }
 
@@ -86,7 +86,7 @@ fn keys_come_in_any_order(rt: HostRuntime) -> Result<(), Fail> {
 }
 
 // Values that are neither a message nor a query.
-const BAD: [&str; 43] = [
+const BAD: [&str; 52] = [
     r#"{}"#,
     r#"[]"#,
     r#"{"ask":"totals"}"#,
@@ -99,6 +99,15 @@ const BAD: [&str; 43] = [
     r#"{"ask":"trace","part":1}"#,
     r#"{"ask":"demand"}"#,
     r#"{"ask":"rack"}"#,
+    r#"{"ask":"plan","demands":[1],"part":"1/0"}"#,
+    r#"{"ask":"plan","demands":[1],"part":"1/0","step":0,"w":1}"#,
+    r#"{"ask":"plan","demands":1,"part":"1/0","step":0}"#,
+    r#"{"ask":"plan","demands":["1"],"part":"1/0","step":0}"#,
+    r#"{"ask":"plan","demands":[4294967296],"part":"1/0","step":0}"#,
+    r#"{"ask":"plan","demands":[1],"part":"1","step":0}"#,
+    r#"{"ask":"plan","demands":[1],"part":"1/0","step":-1}"#,
+    r#"{"ask":"bound","demands":[1],"h":1,"material":"STEEL","w":100}"#,
+    r#"{"ask":"bound","demands":[1.0],"h":1,"material":"STEEL","step":0,"w":100}"#,
     r#"{"cuts":1,"do":"break","job":3,"lost":0,"number":5,"terminal":1}"#,
     r#"{"cuts":[0],"do":"break","job":3,"lost":true,"number":5,"terminal":1}"#,
     r#"{"cuts":["0"],"do":"break","job":3,"lost":false,"number":5,"terminal":1}"#,
@@ -141,17 +150,23 @@ fn bad_values_are_refused(rt: HostRuntime) -> Result<(), Fail> {
             "{text}"
         );
         assert!(rt;
-            matches!(read_query(&value), Err(Refusal::BadMessage)),
+            matches!(read_query(rt.alloc(), &value), Err(Refusal::BadMessage)),
             "{text}"
         );
     }
     Ok(())
 }
 
+// The first of some numbers, and how many there are.
+fn first_of(numbers: &[u32]) -> (u32, usize) {
+    let first = numbers.first().copied().unwrap_or(0);
+    (first, numbers.len())
+}
+
 // What a query asks for, as text.
 fn asked_for(alloc: Global, line: &str) -> Result<String, Fail> {
     let value = Value::from_str(alloc, line)?;
-    let Ok(query) = read_query(&value) else {
+    let Ok(query) = read_query(alloc, &value) else {
         return Err(Fail::from("no query"));
     };
     match &query {
@@ -159,6 +174,32 @@ fn asked_for(alloc: Global, line: &str) -> Result<String, Fail> {
         Query::Rack { material } => Ok(format!(in alloc; "rack {}", material.as_str())?),
         Query::Trace { part } => Ok(format!(in alloc; "trace {}/{}", part.act(), part.node())?),
         Query::Demand { demand } => Ok(format!(in alloc; "demand {}", *demand)?),
+        Query::Plan {
+            part,
+            demands,
+            step,
+        } => {
+            let place = (part.act(), part.node());
+            let (first, count) = first_of(demands.as_slice());
+            Ok(format!(in alloc;
+                "plan {}/{} {} of {} step {}",
+                place.0, place.1, first, count, *step
+            )?)
+        }
+        Query::Bound {
+            material,
+            w,
+            h,
+            demands,
+            step,
+        } => {
+            let code = material.as_str();
+            let (first, count) = first_of(demands.as_slice());
+            Ok(format!(in alloc;
+                "bound {} {} by {} {} of {} step {}",
+                code, *w, *h, first, count, *step
+            )?)
+        }
     }
 }
 
@@ -172,6 +213,26 @@ fn queries_are_read(rt: HostRuntime) -> Result<(), Fail> {
     assert_eq!(rt; asked.as_str(), "trace 3/1");
     let asked = asked_for(rt.alloc(), r#"{"ask":"demand","demand":7}"#)?;
     assert_eq!(rt; asked.as_str(), "demand 7");
+    Ok(())
+}
+
+#[test]
+fn queries_for_plans_are_read(rt: HostRuntime) -> Result<(), Fail> {
+    let asked = asked_for(
+        rt.alloc(),
+        r#"{"ask":"plan","demands":[2,1],"part":"1/0","step":0}"#,
+    )?;
+    assert_eq!(rt; asked.as_str(), "plan 1/0 2 of 2 step 0");
+    let asked = asked_for(
+        rt.alloc(),
+        r#"{"ask":"plan","demands":[],"part":"3/1","step":4294967295}"#,
+    )?;
+    assert_eq!(rt; asked.as_str(), "plan 3/1 0 of 0 step 4294967295");
+    let asked = asked_for(
+        rt.alloc(),
+        r#"{"ask":"bound","demands":[7],"h":1,"material":"STEEL","step":3,"w":100}"#,
+    )?;
+    assert_eq!(rt; asked.as_str(), "bound STEEL 100 by 1 7 of 1 step 3");
     Ok(())
 }
 
@@ -201,6 +262,38 @@ fn replies_are_read_back(rt: HostRuntime) -> Result<(), Fail> {
     let refused = Reply::Refused(Refusal::NoMaterial);
     let text = reply_text(rt.alloc(), &refused)?;
     assert_eq!(rt; text.as_str(), r#"{"name":"NoMaterial","refused":20}"#);
+    Ok(())
+}
+
+// What a reply is told as.
+fn is_told(rt: &impl Abort, alloc: Global, reply: &Reply, text: &str) -> Result<(), Fail> {
+    assert_eq!(rt; reply_text(alloc, reply)?.as_str(), text);
+    Ok(())
+}
+
+#[test]
+fn plans_and_bounds_are_told(rt: HostRuntime) -> Result<(), Fail> {
+    let tree = Text::from_str(rt.alloc(), "x48 p2 x48 p2")?;
+    let plan = Reply::Plan {
+        ceiling: 97,
+        dropped: 3,
+        tree,
+        worth: 96,
+    };
+    let text = r#"{"ceiling":97,"dropped":3,"ok":"plan","tree":"x48 p2 x48 p2","worth":96}"#;
+    is_told(&rt, rt.alloc(), &plan, text)?;
+    let bound = Reply::Bound {
+        best: 60,
+        units: 18446744073709551615,
+    };
+    let text = r#"{"best":60,"ok":"bound","units":18446744073709551615}"#;
+    is_told(&rt, rt.alloc(), &bound, text)?;
+    for text in [
+        r#"{"ceiling":97,"dropped":3,"ok":"plan","tree":"r","worth":96}"#,
+        r#"{"best":60,"ok":"bound","units":3}"#,
+    ] {
+        assert!(rt; kept_reply(rt.alloc(), text)?.is_none());
+    }
     Ok(())
 }
 
