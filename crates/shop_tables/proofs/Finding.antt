@@ -16,10 +16,10 @@ use Rattle.cut_measure.specs.Codes.{code_cmp}
 use Rattle.cut_measure.specs.Names.{Name, name_cmp}
 use Rattle.shop_machine.specs.Content.{pair_cmp}
 use Rattle.shop_machine.specs.declared.kept_texts.Pair.{Pair}
-use Rattle.shop_tables.specs.Rows.{meta_row, meta_entries, material_columns, material_row, part_columns, part_row, job_columns, job_row, order_row, demand_columns, demand_row, kept_columns, kept_row, totals_columns, totals_row}
+use Rattle.shop_tables.specs.Rows.{meta_row, meta_entries, material_columns, material_row, part_columns, part_row, job_columns, job_row, order_row, demand_columns, demand_row, kept_columns, kept_row, import_columns, import_row, totals_columns, totals_row}
 use Rattle.shop_tables.specs.Shown.{Books, Shows}
 use Rattle.shop_tables.proofs.Keys.{equal, equal-Int, equal-Text, and_true, shown_as}
-use Rattle.shop_tables.proofs.Texts.{get_meta_text, get_meta_terms, get_meta_is, get_material_text, get_material_terms, get_material_is, get_part_text, get_part_terms, get_part_is, get_job_text, get_job_terms, get_job_is, get_order_text, get_order_terms, get_order_is, get_demand_text, get_demand_terms, get_demand_is, get_kept_text, get_kept_terms, get_kept_is, get_totals_text, get_totals_terms, get_totals_is, by_one, by_two, by_number}
+use Rattle.shop_tables.proofs.Texts.{get_meta_text, get_meta_terms, get_meta_is, get_material_text, get_material_terms, get_material_is, get_part_text, get_part_terms, get_part_is, get_job_text, get_job_terms, get_job_is, get_order_text, get_order_terms, get_order_is, get_demand_text, get_demand_terms, get_demand_is, get_kept_text, get_kept_terms, get_kept_is, get_import_text, get_import_terms, get_import_is, get_totals_text, get_totals_terms, get_totals_is, by_one, by_two, by_number}
 use Rattle.shop_tables.proofs.Reading.{asked, finds}
 
 pub code_total : IsTotalOrder code_cmp
@@ -144,6 +144,11 @@ module _ (old new : State) (rows : List Row) (b : Books) (has : Shows old b) whe
   finds_kept k shown =
       finds pair_total pair_same 1 kept_row (λ e. kept_columns e.1) b.content.kept k _ (is_two k.terminal k.number) (two_later k.terminal k.number) (λ e. two_tests e.0.terminal e.0.number k.terminal k.number (kept_columns e.1)) _ kept_shown kept_shown_later (λ e. refl) _ rows has.stands.kept
       (asked old new has.schema get_kept_text (Int (pos k.terminal) ∷ Int (pos k.number) ∷ []) 11 by_two get_kept_terms _ (get_kept_is old.now.schema has.schema) refl rows shown)
+
+  pub finds_import : (code : List ℕ) → Shown get_import_text (Text code ∷ []) old new rows → rows ≡ option_to_list (option_map import_columns (get b.content.imports code))
+  finds_import code shown =
+      finds code_total code_same 1 import_row (λ e. import_columns e.1) b.content.imports code _ (is_word code) (word_later code) (λ e. word_tests e.0 code (import_columns e.1)) _ material_shown material_shown_later (λ e. refl) _ rows has.stands.imports
+      (asked old new has.schema get_import_text (Text code ∷ []) 13 by_one get_import_terms _ (get_import_is old.now.schema has.schema) refl rows shown)
 
   pub finds_totals : (code : List ℕ) → Shown get_totals_text (Text code ∷ []) old new rows → rows ≡ option_to_list (option_map totals_columns (get b.totals code))
   finds_totals code shown =

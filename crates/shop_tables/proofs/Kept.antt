@@ -109,3 +109,9 @@ refused_keeps g sql params old new e ended runs = elim (cases_Bool old.in_transa
     by_case : ExecutesInside 0 sql params (state g old) (state g new) (Err e) → Stays (state g old) (state g new)
     by_case (inl h) = h.1
     by_case (inr h) = inl h.2
+
+-- a text that was not run keeps it too
+pub not_run_keeps : (old new : State) (sql : List ℕ) (params : Row) (e : Error) → IsNotRun old new sql params e → KeepsCommit old new
+unfolding IsNotRun
+not_run_keeps old new sql params e (inl refused) = keeps_commit old new (inl refused.1)
+not_run_keeps old new sql params e (inr failed) = keeps_commit old new (inr failed.3)

@@ -13,6 +13,7 @@ use Rattle.shop_machine.specs.declared.records.Material.{Material}
 use Rattle.shop_machine.specs.declared.records.Part.{Part}
 use Rattle.shop_machine.specs.declared.records.Job.{Job}
 use Rattle.shop_machine.specs.declared.records.Demand.{Demand}
+use Rattle.shop_machine.specs.declared.imports.ImportRow.{ImportRow}
 use Rattle.shop_tables.specs.Rows.{IsKeyed, IsOwnJob}
 use Rattle.shop_tables.proofs.Finding.{code_total, code_same, name_total, name_same}
 
@@ -87,6 +88,7 @@ module _ (m : Content) (keyed : IsKeyed m) where
     parts = keyed.parts;
     jobs = λ number job there. job_still m (record m { materials = insert m.materials x.code x }) (λ q p found. (p, found, itself p)) (λ code y. found_still code_total code_same m.materials x.code code x y fresh) number job (keyed.jobs number job there);
     demands = keyed.demands;
+    imports = keyed.imports;
   }
 
   pub with_part_keyed : (x : Part) → get m.parts x.name ≡ None → IsKeyed (record m { parts = insert m.parts x.name x })
@@ -95,6 +97,7 @@ module _ (m : Content) (keyed : IsKeyed m) where
     parts = each_then name_total name_same (λ name y. y.name ≡ name) m.parts x.name x keyed.parts refl;
     jobs = λ number job there. job_still m (record m { parts = insert m.parts x.name x }) (λ q p found. (p, found_still name_total name_same m.parts x.name q x p fresh found, itself p)) (λ code y found. found) number job (keyed.jobs number job there);
     demands = keyed.demands;
+    imports = keyed.imports;
   }
 
   pub with_moved_keyed : (x d : Part) → get m.parts x.name ≡ Some d → SameCut d x → IsKeyed (record m { parts = insert m.parts x.name x })
@@ -103,6 +106,7 @@ module _ (m : Content) (keyed : IsKeyed m) where
     parts = each_then name_total name_same (λ name y. y.name ≡ name) m.parts x.name x keyed.parts refl;
     jobs = λ number job there. job_still m (record m { parts = insert m.parts x.name x }) (λ q p found. found_like name_total name_same SameCut itself m.parts x.name q x d p was like found) (λ code y found. found) number job (keyed.jobs number job there);
     demands = keyed.demands;
+    imports = keyed.imports;
   }
 
   pub with_job_keyed : (x : Job) → IsOwnJob m x.act x → IsKeyed (record m { jobs = insert m.jobs x.act x })
@@ -111,6 +115,7 @@ module _ (m : Content) (keyed : IsKeyed m) where
     parts = keyed.parts;
     jobs = λ number job there. job_still m (record m { jobs = insert m.jobs x.act x }) (λ q p found. (p, found, itself p)) (λ code y found. found) number job (each_then nat_cmp_total nat_cmp-IsAntisymmetric (IsOwnJob m) m.jobs x.act x keyed.jobs own number job there);
     demands = keyed.demands;
+    imports = keyed.imports;
   }
 
   pub with_demand_keyed : (x : Demand) → IsKeyed (record m { demands = insert m.demands x.number x })
@@ -119,4 +124,14 @@ module _ (m : Content) (keyed : IsKeyed m) where
     parts = keyed.parts;
     jobs = λ number job there. job_still m (record m { demands = insert m.demands x.number x }) (λ q p found. (p, found, itself p)) (λ code y found. found) number job (keyed.jobs number job there);
     demands = each_then nat_cmp_total nat_cmp-IsAntisymmetric (λ number y. y.number ≡ number) m.demands x.number x keyed.demands refl;
+    imports = keyed.imports;
+  }
+
+  pub with_import_keyed : (x : ImportRow) → IsKeyed (record m { imports = insert m.imports x.order x })
+  with_import_keyed x = record {
+    materials = keyed.materials;
+    parts = keyed.parts;
+    jobs = λ number job there. job_still m (record m { imports = insert m.imports x.order x }) (λ q p found. (p, found, itself p)) (λ code y found. found) number job (keyed.jobs number job there);
+    demands = keyed.demands;
+    imports = each_then code_total code_same (λ code y. y.order ≡ code) m.imports x.order x keyed.imports refl;
   }

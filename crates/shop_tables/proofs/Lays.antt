@@ -33,9 +33,10 @@ use Rattle.shop_machine.specs.declared.records.Part.{Part}
 use Rattle.shop_machine.specs.declared.records.Job.{Job}
 use Rattle.shop_machine.specs.declared.records.Demand.{Demand}
 use Rattle.shop_machine.specs.declared.records.Totals.{Totals}
+use Rattle.shop_machine.specs.declared.imports.ImportRow.{ImportRow}
 use Rattle.shop_machine.specs.declared.kept_texts.Kept.{Kept}
 use Rattle.shop_tables.specs.Layout.{Loose, no_schema, shop_schema, IsShop, meta_table, materials_table, parts_table, jobs_table, orders_table, demands_table, kept_table, imports_table, totals_table, totals2_table}
-use Rattle.shop_tables.specs.Rows.{AreRows, IsKeyed, meta_row, meta_entries, material_row, part_row, job_row, order_row, demand_row, kept_row, totals_row}
+use Rattle.shop_tables.specs.Rows.{AreRows, IsKeyed, meta_row, meta_entries, material_row, part_row, job_row, order_row, demand_row, kept_row, import_row, totals_row}
 use Rattle.shop_tables.specs.Shown.{Shows, fresh_books, Lays as LaysTables}
 use Rattle.shop_tables.proofs.Keys.{cast-Int, cast-Null}
 use Rattle.shop_tables.proofs.Making.{MakesAs, Blank, blank_then, runs_in, IsBatch, Next, next}
@@ -219,6 +220,7 @@ fresh_keyed = record {
   parts = λ name x h. no_key name_cmp name x _ h;
   jobs = λ number x h. no_key nat_cmp number x _ h;
   demands = λ number x h. no_key nat_cmp number x _ h;
+  imports = λ order x h. no_key code_cmp order x _ h;
 }
 
 module _ {S : Type 0} (g : Ghosts S) where
@@ -244,7 +246,7 @@ module _ {S : Type 0} (g : Ghosts S) where
             orders = record { codes = empty; there = λ code. set.contains-empty code_cmp code ∙ sym (ap is_some (get-empty code_cmp code)); rows = none 1 order_row (entries empty) (t.now.trees 7) (no_entries code_cmp (Unit {0})) (e.others 7 (unlike 7 0 refl) far.1.1.1.1.0 ∙ no.1.1.1.1.0) };
             demands = none 0 demand_row (entries empty) (t.now.trees 9) (no_entries nat_cmp Demand) (e.others 9 (unlike 9 0 refl) far.1.1.1.1.1.0 ∙ no.1.1.1.1.1.0);
             kept = none 1 kept_row (entries empty) (t.now.trees 11) (no_entries pair_cmp Kept) (e.others 11 (unlike 11 0 refl) far.1.1.1.1.1.1.0 ∙ no.1.1.1.1.1.1.0);
-            imports = e.others 13 (unlike 13 0 refl) far.1.1.1.1.1.1.1.0 ∙ no.1.1.1.1.1.1.1.0;
+            imports = none 1 import_row (entries empty) (t.now.trees 13) (no_entries code_cmp ImportRow) (e.others 13 (unlike 13 0 refl) far.1.1.1.1.1.1.1.0 ∙ no.1.1.1.1.1.1.1.0);
             totals = e.others 15 (unlike 15 0 refl) far.1.1.1.1.1.1.1.1.0 ∙ no.1.1.1.1.1.1.1.1.0;
             totals2 = none 1 totals_row (entries empty) (t.now.trees 17) (no_entries code_cmp Totals) (e.others 17 (unlike 17 0 refl) far.1.1.1.1.1.1.1.1.1.0 ∙ no.1.1.1.1.1.1.1.1.1.0);
           };

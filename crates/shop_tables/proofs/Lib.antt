@@ -18,3 +18,12 @@ pub mod Standing
 pub mod KeyedRows
 pub mod Putting
 pub mod Setting
+pub mod Steps
+pub mod InTurn
+pub mod Fitting
+pub mod Commits
+pub mod Going
+pub mod Listed
+pub mod Taken
+pub mod Adopted
+pub mod Reopened

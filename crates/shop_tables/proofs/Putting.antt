@@ -16,16 +16,17 @@ use Rattle.shop_machine.specs.declared.records.Part.{Part}
 use Rattle.shop_machine.specs.declared.records.Job.{Job}
 use Rattle.shop_machine.specs.declared.records.Demand.{Demand}
 use Rattle.shop_machine.specs.declared.records.Totals.{Totals}
+use Rattle.shop_machine.specs.declared.imports.ImportRow.{ImportRow}
 use Rattle.shop_machine.specs.declared.kept_texts.KeptMessage.{KeptMessage}
-use Rattle.shop_tables.specs.Layout.{loosened, materials_table, parts_table, jobs_table, orders_table, demands_table, kept_table, totals2_table}
-use Rattle.shop_tables.specs.Rows.{IsOwnJob, kind_number, state_number, job_state_number, turn_number, material_row, part_row, job_row, order_row, demand_row, kept_row, totals_row, job_columns, demand_columns}
-use Rattle.shop_tables.specs.Changes.{with_material, with_part, with_job, with_order, with_demand, with_kept, with_totals}
+use Rattle.shop_tables.specs.Layout.{loosened, materials_table, parts_table, jobs_table, orders_table, demands_table, kept_table, imports_table, totals2_table}
+use Rattle.shop_tables.specs.Rows.{IsOwnJob, kind_number, state_number, job_state_number, turn_number, form_number, form_material, material_row, part_row, job_row, order_row, demand_row, kept_row, import_row, totals_row, job_columns, demand_columns}
+use Rattle.shop_tables.specs.Changes.{with_material, with_part, with_job, with_order, with_demand, with_kept, with_import, with_totals}
 use Rattle.shop_tables.specs.Shown.{Books, Shows}
 use Rattle.shop_tables.proofs.Finding.{code_total, code_same, name_total, name_same, pair_total, pair_same}
 use Rattle.shop_tables.proofs.Keys.{cast-Int, cast-Null, news_are, news_keyed}
-use Rattle.shop_tables.proofs.KeyedRows.{with_material_keyed, with_part_keyed, with_job_keyed, with_demand_keyed}
-use Rattle.shop_tables.proofs.Standing.{materials_shown, parts_shown, jobs_shown, orders_shown, demands_shown, kept_shown, totals2_shown}
-use Rattle.shop_tables.proofs.Texts.{put_material_text, put_material_terms, put_material_is, put_part_text, put_part_terms, put_part_is, put_job_text, put_job_terms, put_job_is, put_order_text, put_order_terms, put_order_is, put_demand_text, put_demand_terms, put_demand_is, put_kept_text, put_kept_terms, put_kept_is, put_totals_text, put_totals_terms, put_totals_is}
+use Rattle.shop_tables.proofs.KeyedRows.{with_material_keyed, with_part_keyed, with_job_keyed, with_demand_keyed, with_import_keyed}
+use Rattle.shop_tables.proofs.Standing.{materials_shown, parts_shown, jobs_shown, orders_shown, demands_shown, kept_shown, imports_shown, totals2_shown}
+use Rattle.shop_tables.proofs.Texts.{put_material_text, put_material_terms, put_material_is, put_part_text, put_part_terms, put_part_is, put_job_text, put_job_terms, put_job_is, put_order_text, put_order_terms, put_order_is, put_demand_text, put_demand_terms, put_demand_is, put_kept_text, put_kept_terms, put_kept_is, put_import_text, put_import_terms, put_import_is, put_totals_text, put_totals_terms, put_totals_is}
 use Rattle.shop_tables.proofs.Writing.{puts, rows_with}
 
 module _ (old new : State) (count : ℕ) (b : Books) (has : Shows old b) where
@@ -61,6 +62,13 @@ module _ (old new : State) (count : ℕ) (b : Books) (has : Shows old b) where
       let put = puts old new has.schema put_kept_text (kept_row (x.pair, x.kept)) 6 (loosened has.schema.kept kept_table) refl put_kept_terms 5 (put_kept_is old.now.schema has.schema) (Int id ∷ kept_row (x.pair, x.kept)) count
       (news_are (loosened has.schema.kept kept_table) (kept_row (x.pair, x.kept)) (old.now.trees 11) (λ i. cast-Int (pos x.pair.terminal) i ∷ cast-Int (pos x.pair.number) i ∷ Text x.kept.command ∷ Text x.kept.reply ∷ [])) ran in
       kept_shown old new b has _ _ (insert b.content.kept x.pair x.kept) put (rows_with pair_total pair_same 1 kept_row old new 11 (Int id ∷ kept_row (x.pair, x.kept)) id b.content.kept x.pair x.kept fresh refl refl has.stands.kept put)
+
+  pub puts_import : (x : ImportRow) → get b.content.imports x.order ≡ None → Executes put_import_text (import_row (x.order, x)) old new (Ok count) → Shows new (with_import x b)
+  puts_import x fresh ran =
+      let id = next_rowid (old.now.trees 13) in
+      let put = puts old new has.schema put_import_text (import_row (x.order, x)) 7 (loosened has.schema.imports imports_table) refl put_import_terms 6 (put_import_is old.now.schema has.schema) (Int id ∷ import_row (x.order, x)) count
+      (news_are (loosened has.schema.imports imports_table) (import_row (x.order, x)) (old.now.trees 13) (λ i. Text x.order ∷ cast-Int (pos (form_number x.form)) i ∷ Text (form_material x.form) ∷ Text x.text ∷ Text x.reply ∷ [])) ran in
+      imports_shown old new b has _ _ (insert b.content.imports x.order x) put (rows_with code_total code_same 1 import_row old new 13 (Int id ∷ import_row (x.order, x)) id b.content.imports x.order x fresh refl refl has.stands.imports put) (with_import_keyed b.content has.keyed x)
 
   pub puts_totals : (code : List ℕ) (x : Totals) → get b.totals code ≡ None → Executes put_totals_text (totals_row (code, x)) old new (Ok count) → Shows new (with_totals code x b)
   puts_totals code x fresh ran =

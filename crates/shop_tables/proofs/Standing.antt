@@ -13,9 +13,10 @@ use Rattle.shop_machine.specs.declared.records.Part.{Part}
 use Rattle.shop_machine.specs.declared.records.Job.{Job}
 use Rattle.shop_machine.specs.declared.records.Demand.{Demand}
 use Rattle.shop_machine.specs.declared.records.Totals.{Totals}
+use Rattle.shop_machine.specs.declared.imports.ImportRow.{ImportRow}
 use Rattle.shop_machine.specs.declared.kept_texts.Kept.{Kept}
 use Rattle.shop_tables.specs.Layout.{IsShop}
-use Rattle.shop_tables.specs.Rows.{AreRows, AreOrders, IsKeyed, meta_row, meta_entries, material_row, part_row, job_row, demand_row, kept_row, totals_row}
+use Rattle.shop_tables.specs.Rows.{AreRows, AreOrders, IsKeyed, meta_row, meta_entries, material_row, part_row, job_row, demand_row, kept_row, import_row, totals_row}
 use Rattle.shop_tables.specs.Shown.{Books, Shows}
 use Rattle.shop_tables.proofs.Writing.{IsPut}
 
@@ -32,11 +33,11 @@ module _ (old new : State) (b : Books) (has : Shows old b) (left : List Row) (ro
       orders = subst (AreOrders b.content.orders) (sym (put.others 7 refl has.schema.bare.1.1.1.1.0)) has.stands.orders;
       demands = subst (AreRows 0 _) (sym (put.others 9 refl has.schema.bare.1.1.1.1.1.0)) has.stands.demands;
       kept = subst (AreRows 1 _) (sym (put.others 11 refl has.schema.bare.1.1.1.1.1.1.0)) has.stands.kept;
-      imports = put.others 13 refl has.schema.bare.1.1.1.1.1.1.1.0 ∙ has.stands.imports;
+      imports = subst (AreRows 1 _) (sym (put.others 13 refl has.schema.bare.1.1.1.1.1.1.1.0)) has.stands.imports;
       totals = put.others 15 refl has.schema.bare.1.1.1.1.1.1.1.1.0 ∙ has.stands.totals;
       totals2 = subst (AreRows 1 _) (sym (put.others 17 refl has.schema.bare.1.1.1.1.1.1.1.1.1.0)) has.stands.totals2;
     };
-    keyed = record { materials = has.keyed.materials; parts = has.keyed.parts; jobs = λ number job there. let j = has.keyed.jobs number job there in record { numbered = j.numbered; kerf = j.kerf; plan = j.plan; on = record { row = j.on.row; found = j.on.found; material = j.on.material; known = j.on.known; width = j.on.width; height = j.on.height; kerf = j.on.kerf } }; demands = has.keyed.demands };
+    keyed = record { materials = has.keyed.materials; parts = has.keyed.parts; jobs = λ number job there. let j = has.keyed.jobs number job there in record { numbered = j.numbered; kerf = j.kerf; plan = j.plan; on = record { row = j.on.row; found = j.on.found; material = j.on.material; known = j.on.known; width = j.on.width; height = j.on.height; kerf = j.on.kerf } }; demands = has.keyed.demands; imports = has.keyed.imports };
   }
 
   pub materials_shown : (m : FinMap code_cmp Material) → IsPut old new 2 left row → AreRows 1 (map material_row (entries m)) (new.now.trees 2) → IsKeyed (record b.content { materials = m }) → Shows new (record b { content = record b.content { materials = m } })
@@ -51,7 +52,7 @@ module _ (old new : State) (b : Books) (has : Shows old b) (left : List Row) (ro
       orders = subst (AreOrders b.content.orders) (sym (put.others 7 refl has.schema.bare.1.1.1.1.0)) has.stands.orders;
       demands = subst (AreRows 0 _) (sym (put.others 9 refl has.schema.bare.1.1.1.1.1.0)) has.stands.demands;
       kept = subst (AreRows 1 _) (sym (put.others 11 refl has.schema.bare.1.1.1.1.1.1.0)) has.stands.kept;
-      imports = put.others 13 refl has.schema.bare.1.1.1.1.1.1.1.0 ∙ has.stands.imports;
+      imports = subst (AreRows 1 _) (sym (put.others 13 refl has.schema.bare.1.1.1.1.1.1.1.0)) has.stands.imports;
       totals = put.others 15 refl has.schema.bare.1.1.1.1.1.1.1.1.0 ∙ has.stands.totals;
       totals2 = subst (AreRows 1 _) (sym (put.others 17 refl has.schema.bare.1.1.1.1.1.1.1.1.1.0)) has.stands.totals2;
     };
@@ -70,7 +71,7 @@ module _ (old new : State) (b : Books) (has : Shows old b) (left : List Row) (ro
       orders = subst (AreOrders b.content.orders) (sym (put.others 7 refl has.schema.bare.1.1.1.1.0)) has.stands.orders;
       demands = subst (AreRows 0 _) (sym (put.others 9 refl has.schema.bare.1.1.1.1.1.0)) has.stands.demands;
       kept = subst (AreRows 1 _) (sym (put.others 11 refl has.schema.bare.1.1.1.1.1.1.0)) has.stands.kept;
-      imports = put.others 13 refl has.schema.bare.1.1.1.1.1.1.1.0 ∙ has.stands.imports;
+      imports = subst (AreRows 1 _) (sym (put.others 13 refl has.schema.bare.1.1.1.1.1.1.1.0)) has.stands.imports;
       totals = put.others 15 refl has.schema.bare.1.1.1.1.1.1.1.1.0 ∙ has.stands.totals;
       totals2 = subst (AreRows 1 _) (sym (put.others 17 refl has.schema.bare.1.1.1.1.1.1.1.1.1.0)) has.stands.totals2;
     };
@@ -89,7 +90,7 @@ module _ (old new : State) (b : Books) (has : Shows old b) (left : List Row) (ro
       orders = subst (AreOrders b.content.orders) (sym (put.others 7 refl has.schema.bare.1.1.1.1.0)) has.stands.orders;
       demands = subst (AreRows 0 _) (sym (put.others 9 refl has.schema.bare.1.1.1.1.1.0)) has.stands.demands;
       kept = subst (AreRows 1 _) (sym (put.others 11 refl has.schema.bare.1.1.1.1.1.1.0)) has.stands.kept;
-      imports = put.others 13 refl has.schema.bare.1.1.1.1.1.1.1.0 ∙ has.stands.imports;
+      imports = subst (AreRows 1 _) (sym (put.others 13 refl has.schema.bare.1.1.1.1.1.1.1.0)) has.stands.imports;
       totals = put.others 15 refl has.schema.bare.1.1.1.1.1.1.1.1.0 ∙ has.stands.totals;
       totals2 = subst (AreRows 1 _) (sym (put.others 17 refl has.schema.bare.1.1.1.1.1.1.1.1.1.0)) has.stands.totals2;
     };
@@ -108,11 +109,11 @@ module _ (old new : State) (b : Books) (has : Shows old b) (left : List Row) (ro
       orders = rows;
       demands = subst (AreRows 0 _) (sym (put.others 9 refl has.schema.bare.1.1.1.1.1.0)) has.stands.demands;
       kept = subst (AreRows 1 _) (sym (put.others 11 refl has.schema.bare.1.1.1.1.1.1.0)) has.stands.kept;
-      imports = put.others 13 refl has.schema.bare.1.1.1.1.1.1.1.0 ∙ has.stands.imports;
+      imports = subst (AreRows 1 _) (sym (put.others 13 refl has.schema.bare.1.1.1.1.1.1.1.0)) has.stands.imports;
       totals = put.others 15 refl has.schema.bare.1.1.1.1.1.1.1.1.0 ∙ has.stands.totals;
       totals2 = subst (AreRows 1 _) (sym (put.others 17 refl has.schema.bare.1.1.1.1.1.1.1.1.1.0)) has.stands.totals2;
     };
-    keyed = record { materials = has.keyed.materials; parts = has.keyed.parts; jobs = λ number job there. let j = has.keyed.jobs number job there in record { numbered = j.numbered; kerf = j.kerf; plan = j.plan; on = record { row = j.on.row; found = j.on.found; material = j.on.material; known = j.on.known; width = j.on.width; height = j.on.height; kerf = j.on.kerf } }; demands = has.keyed.demands };
+    keyed = record { materials = has.keyed.materials; parts = has.keyed.parts; jobs = λ number job there. let j = has.keyed.jobs number job there in record { numbered = j.numbered; kerf = j.kerf; plan = j.plan; on = record { row = j.on.row; found = j.on.found; material = j.on.material; known = j.on.known; width = j.on.width; height = j.on.height; kerf = j.on.kerf } }; demands = has.keyed.demands; imports = has.keyed.imports };
   }
 
   pub demands_shown : (m : FinMap nat_cmp Demand) → IsPut old new 9 left row → AreRows 0 (map demand_row (entries m)) (new.now.trees 9) → IsKeyed (record b.content { demands = m }) → Shows new (record b { content = record b.content { demands = m } })
@@ -127,7 +128,7 @@ module _ (old new : State) (b : Books) (has : Shows old b) (left : List Row) (ro
       orders = subst (AreOrders b.content.orders) (sym (put.others 7 refl has.schema.bare.1.1.1.1.0)) has.stands.orders;
       demands = rows;
       kept = subst (AreRows 1 _) (sym (put.others 11 refl has.schema.bare.1.1.1.1.1.1.0)) has.stands.kept;
-      imports = put.others 13 refl has.schema.bare.1.1.1.1.1.1.1.0 ∙ has.stands.imports;
+      imports = subst (AreRows 1 _) (sym (put.others 13 refl has.schema.bare.1.1.1.1.1.1.1.0)) has.stands.imports;
       totals = put.others 15 refl has.schema.bare.1.1.1.1.1.1.1.1.0 ∙ has.stands.totals;
       totals2 = subst (AreRows 1 _) (sym (put.others 17 refl has.schema.bare.1.1.1.1.1.1.1.1.1.0)) has.stands.totals2;
     };
@@ -146,11 +147,30 @@ module _ (old new : State) (b : Books) (has : Shows old b) (left : List Row) (ro
       orders = subst (AreOrders b.content.orders) (sym (put.others 7 refl has.schema.bare.1.1.1.1.0)) has.stands.orders;
       demands = subst (AreRows 0 _) (sym (put.others 9 refl has.schema.bare.1.1.1.1.1.0)) has.stands.demands;
       kept = rows;
-      imports = put.others 13 refl has.schema.bare.1.1.1.1.1.1.1.0 ∙ has.stands.imports;
+      imports = subst (AreRows 1 _) (sym (put.others 13 refl has.schema.bare.1.1.1.1.1.1.1.0)) has.stands.imports;
       totals = put.others 15 refl has.schema.bare.1.1.1.1.1.1.1.1.0 ∙ has.stands.totals;
       totals2 = subst (AreRows 1 _) (sym (put.others 17 refl has.schema.bare.1.1.1.1.1.1.1.1.1.0)) has.stands.totals2;
     };
-    keyed = record { materials = has.keyed.materials; parts = has.keyed.parts; jobs = λ number job there. let j = has.keyed.jobs number job there in record { numbered = j.numbered; kerf = j.kerf; plan = j.plan; on = record { row = j.on.row; found = j.on.found; material = j.on.material; known = j.on.known; width = j.on.width; height = j.on.height; kerf = j.on.kerf } }; demands = has.keyed.demands };
+    keyed = record { materials = has.keyed.materials; parts = has.keyed.parts; jobs = λ number job there. let j = has.keyed.jobs number job there in record { numbered = j.numbered; kerf = j.kerf; plan = j.plan; on = record { row = j.on.row; found = j.on.found; material = j.on.material; known = j.on.known; width = j.on.width; height = j.on.height; kerf = j.on.kerf } }; demands = has.keyed.demands; imports = has.keyed.imports };
+  }
+
+  pub imports_shown : (m : FinMap code_cmp ImportRow) → IsPut old new 13 left row → AreRows 1 (map import_row (entries m)) (new.now.trees 13) → IsKeyed (record b.content { imports = m }) → Shows new (record b { content = record b.content { imports = m } })
+  imports_shown m put rows keyed = record {
+    schema = subst IsShop (sym put.schema_is) has.schema;
+    sound = put.sound;
+    stands = record {
+      meta = subst (AreRows 1 _) (sym (put.others 0 refl has.schema.bare.0)) has.stands.meta;
+      materials = subst (AreRows 1 _) (sym (put.others 2 refl has.schema.bare.1.0)) has.stands.materials;
+      parts = subst (AreRows 1 _) (sym (put.others 4 refl has.schema.bare.1.1.0)) has.stands.parts;
+      jobs = subst (AreRows 0 _) (sym (put.others 6 refl has.schema.bare.1.1.1.0)) has.stands.jobs;
+      orders = subst (AreOrders b.content.orders) (sym (put.others 7 refl has.schema.bare.1.1.1.1.0)) has.stands.orders;
+      demands = subst (AreRows 0 _) (sym (put.others 9 refl has.schema.bare.1.1.1.1.1.0)) has.stands.demands;
+      kept = subst (AreRows 1 _) (sym (put.others 11 refl has.schema.bare.1.1.1.1.1.1.0)) has.stands.kept;
+      imports = rows;
+      totals = put.others 15 refl has.schema.bare.1.1.1.1.1.1.1.1.0 ∙ has.stands.totals;
+      totals2 = subst (AreRows 1 _) (sym (put.others 17 refl has.schema.bare.1.1.1.1.1.1.1.1.1.0)) has.stands.totals2;
+    };
+    keyed = keyed;
   }
 
   pub totals2_shown : (m : FinMap code_cmp Totals) → IsPut old new 17 left row → AreRows 1 (map totals_row (entries m)) (new.now.trees 17) → Shows new (record b { totals = m })
@@ -165,7 +185,7 @@ module _ (old new : State) (b : Books) (has : Shows old b) (left : List Row) (ro
       orders = subst (AreOrders b.content.orders) (sym (put.others 7 refl has.schema.bare.1.1.1.1.0)) has.stands.orders;
       demands = subst (AreRows 0 _) (sym (put.others 9 refl has.schema.bare.1.1.1.1.1.0)) has.stands.demands;
       kept = subst (AreRows 1 _) (sym (put.others 11 refl has.schema.bare.1.1.1.1.1.1.0)) has.stands.kept;
-      imports = put.others 13 refl has.schema.bare.1.1.1.1.1.1.1.0 ∙ has.stands.imports;
+      imports = subst (AreRows 1 _) (sym (put.others 13 refl has.schema.bare.1.1.1.1.1.1.1.0)) has.stands.imports;
       totals = put.others 15 refl has.schema.bare.1.1.1.1.1.1.1.1.0 ∙ has.stands.totals;
       totals2 = rows;
     };

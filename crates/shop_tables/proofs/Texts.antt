@@ -82,6 +82,12 @@ get_kept_text = codes "SELECT command, reply FROM kept WHERE terminal = ?1 AND n
 abbrev pub get_kept_terms : List Term
 get_kept_terms = col 1 3 ∷ col 1 4 ∷ []
 
+abbrev pub get_import_text : List ℕ
+get_import_text = codes "SELECT form, material, body, reply FROM imports WHERE ord = ?1"
+
+abbrev pub get_import_terms : List Term
+get_import_terms = col 1 2 ∷ col 1 3 ∷ col 1 4 ∷ col 1 5 ∷ []
+
 abbrev pub get_totals_text : List ℕ
 get_totals_text = codes "SELECT received, stock, rack, pieces, kerf, scrap, returned FROM totals2 WHERE material = ?1"
 
@@ -135,6 +141,12 @@ put_kept_text = codes "INSERT INTO kept (terminal, number, command, reply) VALUE
 
 abbrev pub put_kept_terms : List Term
 put_kept_terms = lit Null ∷ col 0 0 ∷ col 0 1 ∷ col 0 2 ∷ col 0 3 ∷ []
+
+abbrev pub put_import_text : List ℕ
+put_import_text = codes "INSERT INTO imports (ord, form, material, body, reply) VALUES (?1, ?2, ?3, ?4, ?5)"
+
+abbrev pub put_import_terms : List Term
+put_import_terms = lit Null ∷ col 0 0 ∷ col 0 1 ∷ col 0 2 ∷ col 0 3 ∷ col 0 4 ∷ []
 
 abbrev pub put_totals_text : List ℕ
 put_totals_text = codes "INSERT INTO totals2 (material, received, stock, rack, pieces, kerf, scrap, returned) VALUES (?1, ?2, ?3, ?4, ?5, ?6, ?7, ?8)"
@@ -201,6 +213,10 @@ module _ (schema : Schema) (h : IsShop schema) where
   unfolding understood everything
   get_kept_is = record { command = refl; listing = refl; plain = (refl, refl) }
 
+  pub get_import_is : Reads (shop schema h) get_import_text (from_table 13 by_one get_import_terms []) (codes "form" ∷ codes "material" ∷ codes "body" ∷ codes "reply" ∷ [])
+  unfolding understood everything
+  get_import_is = record { command = refl; listing = refl; plain = (refl, refl) }
+
   pub get_totals_is : Reads (shop schema h) get_totals_text (from_table 17 by_one get_totals_terms []) (codes "received" ∷ codes "stock" ∷ codes "rack" ∷ codes "pieces" ∷ codes "kerf" ∷ codes "scrap" ∷ codes "returned" ∷ [])
   unfolding understood everything
   get_totals_is = record { command = refl; listing = refl; plain = (refl, refl) }
@@ -232,6 +248,10 @@ module _ (schema : Schema) (h : IsShop schema) where
   pub put_kept_is : Writes (shop schema h) put_kept_text (Insert 6 (Values put_kept_terms 5))
   unfolding understood everything
   put_kept_is = record { command = refl; plain = (refl, refl) }
+
+  pub put_import_is : Writes (shop schema h) put_import_text (Insert 7 (Values put_import_terms 6))
+  unfolding understood everything
+  put_import_is = record { command = refl; plain = (refl, refl) }
 
   pub put_totals_is : Writes (shop schema h) put_totals_text (Insert 9 (Values put_totals_terms 9))
   unfolding understood everything
@@ -286,6 +306,10 @@ get_demand_selects = refl
 pub get_kept_selects : is_select get_kept_text ≡ true
 unfolding everything
 get_kept_selects = refl
+
+pub get_import_selects : is_select get_import_text ≡ true
+unfolding everything
+get_import_selects = refl
 
 pub get_totals_selects : is_select get_totals_text ≡ true
 unfolding everything

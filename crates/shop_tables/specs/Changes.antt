@@ -7,6 +7,7 @@ use Rattle.shop_machine.specs.declared.records.Part.{Part}
 use Rattle.shop_machine.specs.declared.records.Job.{Job}
 use Rattle.shop_machine.specs.declared.records.Demand.{Demand}
 use Rattle.shop_machine.specs.declared.records.Totals.{Totals}
+use Rattle.shop_machine.specs.declared.imports.ImportRow.{ImportRow}
 use Rattle.shop_machine.specs.declared.kept_texts.KeptMessage.{KeptMessage}
 use Rattle.shop_tables.specs.Shown.{Books}
 
@@ -30,6 +31,9 @@ with_demand demand b = record b { content = record b.content { demands = insert 
 
 abbrev pub with_kept : KeptMessage → Books → Books
 with_kept message b = record b { content = record b.content { kept = insert b.content.kept message.pair message.kept } }
+
+abbrev pub with_import : ImportRow → Books → Books
+with_import row b = record b { content = record b.content { imports = insert b.content.imports row.order row } }
 
 -- the totals of a material, new or other ones
 abbrev pub with_totals : List ℕ → Totals → Books → Books

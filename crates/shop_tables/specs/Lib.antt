@@ -4,3 +4,7 @@ pub mod Selecting
 pub mod Shown
 pub mod Faults
 pub mod Changes
+pub mod Changing
+pub mod Held
+pub mod Lending
+pub mod Adopting

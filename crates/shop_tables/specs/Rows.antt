@@ -14,7 +14,7 @@ use Rattle.cut_measure.specs.declared.sizes.Kind.TheVariants as kind
 use Rattle.cut_tree.specs.Patterns.{IsPlan}
 use Rattle.cut_tree.specs.Spelling.{text_of}
 use Rattle.shop_machine.specs.Columns.{state_of}
-use Rattle.shop_machine.specs.Content.{Content, material_at, part_at, job_at, demand_at}
+use Rattle.shop_machine.specs.Content.{Content, material_at, part_at, job_at, demand_at, import_at}
 use Rattle.shop_machine.specs.Soundness.{IsOnPart}
 use Rattle.shop_machine.specs.declared.records.Material.{Material}
 use Rattle.shop_machine.specs.declared.records.Part.{Part}
@@ -25,6 +25,9 @@ use Rattle.shop_machine.specs.declared.records.JobState.{JobState}
 use Rattle.shop_machine.specs.declared.records.JobState.TheVariants as job
 use Rattle.shop_machine.specs.declared.records.Demand.{Demand}
 use Rattle.shop_machine.specs.declared.records.Totals.{Totals}
+use Rattle.shop_machine.specs.declared.imports.Form.{Form}
+use Rattle.shop_machine.specs.declared.imports.Form.TheVariants as form
+use Rattle.shop_machine.specs.declared.imports.ImportRow.{ImportRow}
 use Rattle.shop_machine.specs.declared.kept_texts.Pair.{Pair}
 use Rattle.shop_machine.specs.declared.kept_texts.Kept.{Kept}
 
@@ -54,6 +57,15 @@ abbrev pub turn_number : Bool → ℕ
 turn_number false = 0
 turn_number true = 1
 
+-- an import's form; its material stands beside it
+abbrev pub form_number : Form → ℕ
+form_number form.Csv = 0
+form_number (form.Cgcut material) = 1
+
+abbrev pub form_material : Form → List ℕ
+form_material form.Csv = []
+form_material (form.Cgcut material) = material
+
 -- ---- columns behind the key
 
 abbrev pub material_columns : Material → Row
@@ -78,6 +90,9 @@ demand_columns d =
 abbrev pub kept_columns : Kept → Row
 kept_columns k = Text k.command ∷ Text k.reply ∷ []
 
+abbrev pub import_columns : ImportRow → Row
+import_columns r = Int (pos (form_number r.form)) ∷ Text (form_material r.form) ∷ Text r.text ∷ Text r.reply ∷ []
+
 abbrev pub totals_columns : Totals → Row
 totals_columns t =
     Int (pos t.received) ∷ Int (pos t.stock) ∷ Int (pos t.rack) ∷ Int (pos t.pieces) ∷ Int (pos t.kerf) ∷ Int (pos t.scrap)
@@ -99,6 +114,9 @@ order_row e = Text e.0 ∷ []
 
 abbrev pub kept_row : Pair × Kept → Row
 kept_row e = Int (pos e.0.terminal) ∷ Int (pos e.0.number) ∷ kept_columns e.1
+
+abbrev pub import_row : List ℕ × ImportRow → Row
+import_row e = Text e.0 ∷ import_columns e.1
 
 abbrev pub totals_row : List ℕ × Totals → Row
 totals_row e = Text e.0 ∷ totals_columns e.1
@@ -130,7 +148,7 @@ pub record AreOrders (orders : set.FinSet code_cmp) (stored : List Row) : Type 0
   pub there : (code : List ℕ) → set.contains orders code ≡ is_some (get codes code)
   pub rows : AreRows 1 (map order_row (entries codes)) stored
 
--- The trees have the rows that stand for the content and the totals, and no import.
+-- The trees have the rows that stand for the content and the totals.
 pub record Stands (db : Trees) (m : Content) (sums : FinMap code_cmp Totals) : Type 0 where
   pub meta : AreRows 1 (map meta_row (meta_entries m)) (db 0)
   pub materials : AreRows 1 (map material_row (entries m.materials)) (db 2)
@@ -139,7 +157,7 @@ pub record Stands (db : Trees) (m : Content) (sums : FinMap code_cmp Totals) : T
   pub orders : AreOrders m.orders (db 7)
   pub demands : AreRows 0 (map demand_row (entries m.demands)) (db 9)
   pub kept : AreRows 1 (map kept_row (entries m.kept)) (db 11)
-  pub imports : db 13 ≡ []
+  pub imports : AreRows 1 (map import_row (entries m.imports)) (db 13)
   pub totals : db 15 ≡ []
   pub totals2 : AreRows 1 (map totals_row (entries sums)) (db 17)
 
@@ -156,3 +174,4 @@ pub record IsKeyed (m : Content) : Type 0 where
   pub parts : (name : Name) (part : Part) → part_at m name ≡ Some part → part.name ≡ name
   pub jobs : (number : ℕ) (job : Job) → job_at m number ≡ Some job → IsOwnJob m number job
   pub demands : (number : ℕ) (demand : Demand) → demand_at m number ≡ Some demand → demand.number ≡ number
+  pub imports : (order : List ℕ) (row : ImportRow) → import_at m order ≡ Some row → row.order ≡ order

@@ -58,6 +58,12 @@ pub record Ran (old new : State) : Type 0 where
   pub earlier : HasCleanDisk new → HasCleanDisk old
   pub on : HasCleanDisk new → IsTrue old.in_transaction → IsTrue old.is_open × IsTrue new.is_open × IsTrue new.in_transaction
 
+-- steps inside a transaction, which goes on; there may be none
+pub record Went (old new : State) : Type 0 where
+  pub earlier : HasCleanDisk new → HasCleanDisk old
+  pub mode : HasCleanDisk new → IsTrue old.in_transaction → IsTrue new.in_transaction
+  pub stays_open : HasCleanDisk new → IsTrue old.in_transaction → IsTrue old.is_open → IsTrue new.is_open
+
 -- it makes these books of those
 abbrev pub Makes : State → State → Books → Books → Type 0
 Makes old new before after = HasCleanDisk new → IsTrue old.in_transaction → Shows old before → Shows new after

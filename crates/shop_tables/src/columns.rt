@@ -5,11 +5,11 @@ ghost use Rattle.sqlite_value.specs.declared.value.Value.TheVariants.{Int, Text 
 ghost use Rattle.sqlite_value.specs.Order.{column};
 ghost use Rattle.cut_measure.specs.declared.ranges.TheConstants.{MOST_NUMBERS};
 ghost use Rattle.shop_machine.specs.Columns.{state_of};
-ghost use Rattle.shop_tables.specs.Rows.{kind_number, state_number, job_state_number, turn_number};
+ghost use Rattle.shop_tables.specs.Rows.{kind_number, state_number, job_state_number, turn_number, form_number, form_material};
 
 use crate::TableFault;
 use cut_measure::{Code, Kind, Limits, MOST_NUMBERS, PartName, Size};
-use shop_machine::{JobState, State, Text};
+use shop_machine::{Form, JobState, State, Text};
 use sqlite::Row;
 use sqlite::types::{Value, ValueRef};
 
@@ -145,6 +145,30 @@ pub(crate) fn turn_in(row: &Row, at: usize) -> Result<bool, TableFault>
     }
 }
 
+// A form and its material, side by side.
+pub(crate) fn form_in(row: &Row, at: usize) -> Result<Form, TableFault>
+    requires { at < 100 }
+    ensures word { IfOk result (λ form. column row.now at ≡ Int (pos (form_number form))) }
+    ensures material { IfOk result (λ form. column row.now (at + 1) ≡ Word (form_material form)) }
+{
+    let word = number_in(row, at)?;
+    let material = word_in(row, at + 1)?;
+    form_of_words(word, material).ok_or(TableFault::Store)
+}
+
+fn form_of_words(word: u32, material: &str) -> Option<Form>
+    ensures word { IfSome result (λ form. form_number form ≡ word) }
+    ensures material { IfSome result (λ form. form_material form ≡ material.now) }
+{
+    if word == 0 && material.is_empty() {
+        Some(Form::Csv)
+    } else if word == 1 {
+        Some(Form::Cgcut(Code::read(material)?))
+    } else {
+        None
+    }
+}
+
 pub(crate) fn number_of_kind(kind: Kind) -> u32
     ensures { result ≡ kind_number kind }
 {
@@ -183,6 +207,25 @@ pub(crate) fn number_of_turn(turn: bool) -> u32
     ensures { result ≡ turn_number turn }
 {
     u32::from(turn)
+}
+
+pub(crate) fn number_of_form(form: Form) -> u32
+    ensures { result ≡ form_number form }
+{
+    match form {
+        Form::Csv => 0,
+        Form::Cgcut(_) => 1,
+    }
+}
+
+// A form's material, nothing where it has none.
+pub(crate) fn material_of_form(form: &Form) -> &str
+    ensures { result.now ≡ form_material form.now }
+{
+    match form {
+        Form::Csv => "",
+        Form::Cgcut(material) => material.as_str(),
+    }
 }
 
 // A count as a column has it, below 9223372036854775808.

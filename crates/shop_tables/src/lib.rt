@@ -1,30 +1,46 @@
 //! What the shop contains, as rows of SQL tables.
 #![tactic(auto)]
 
+mod adopting;
+mod changing;
 mod columns;
+mod committing;
 mod demands;
 mod faults;
+mod imports;
 mod jobs;
 mod kept_messages;
 mod laying;
+mod lending;
 mod materials;
 mod numbers;
 mod orders;
 mod parts;
+mod reopening;
 mod rows;
 mod running;
 mod sums;
 
+pub use adopting::{AdoptFault, adopt_tables};
+pub use changing::write_change;
+pub use committing::commit_change;
 pub use demands::{count_demand, find_demand, put_demand};
 pub use faults::TableFault;
+pub use imports::{find_import, put_import};
 pub use jobs::{find_job, move_job, put_job};
 pub use kept_messages::{find_kept, put_kept};
 pub use laying::lay_tables;
+pub use lending::lend_parts;
 pub use materials::{find_material, put_material};
 pub use numbers::{find_last_act, find_last_demand, find_version, set_last_act, set_last_demand};
 pub use orders::{find_order, put_order};
 pub use parts::{find_part, move_part, put_part};
+pub use reopening::reopen_tables;
 pub use sums::{find_totals, put_totals, set_totals};
 
+#[cfg(test)]
+mod adopting_tests;
+#[cfg(test)]
+mod commit_tests;
 #[cfg(test)]
 mod tests;

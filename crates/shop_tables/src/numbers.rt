@@ -14,7 +14,10 @@ use crate::rows::row_by_text;
 use crate::running::run;
 use sqlite::{Alter, Connection, Error, Row, Transaction, params};
 
-fn number_row<S: Alter>(conn: &mut Connection<S>, word: &str) -> Result<Option<Row>, Error>
+pub(crate) fn number_row<S: Alter>(
+    conn: &mut Connection<S>,
+    word: &str,
+) -> Result<Option<Row>, Error>
     ensures row { Says (state S.Store conn.old) (state S.Store conn.new) (λ books. (n : ℕ) → filter (λ e. eq_by_cmp code_cmp e.0 word.now) (meta_entries books.content) ≡ (word.now, n) ∷ [] → IfOk result (GivesNumber n)) }
     ensures leaves { Leaves (state S.Store conn.old) (state S.Store conn.new) }
     ensures mode { conn.old.in_transaction ≡ false → conn.new.in_transaction ≡ false }

@@ -2,17 +2,18 @@ use crate::*;
 use cut_measure::{Code, Kind, Limits, PartName, Size};
 use cut_tree::Plan;
 use shop_machine::{
-    Demand, Job, JobState, Kept, KeptMessage, Material, Pair, Part, State, Text, Totals,
+    Demand, Form, ImportRow, Job, JobState, Kept, KeptMessage, Material, Pair, Part, PartVisitor,
+    State, Text, Totals,
 };
 use sqlite::{Connection, MemStore, Transaction};
 use std::alloc::Global;
 use std::rt::HostRuntime;
 
-fn code(text: &str) -> Result<Code, TableFault> {
+pub fn code(text: &str) -> Result<Code, TableFault> {
     Code::read(text).ok_or(TableFault::Store)
 }
 
-fn steel() -> Result<Material, TableFault> {
+pub fn steel() -> Result<Material, TableFault> {
     let limits = Limits::new(Kind::Sheet, 3, 20, 5).ok_or(TableFault::Store)?;
     Ok(Material {
         code: code("STEEL")?,
@@ -21,7 +22,7 @@ fn steel() -> Result<Material, TableFault> {
     })
 }
 
-fn part(node: u32, state: State) -> Result<Part, TableFault> {
+pub fn part(node: u32, state: State) -> Result<Part, TableFault> {
     let size = Size::new(Kind::Sheet, 100, 80).ok_or(TableFault::Store)?;
     Ok(Part {
         name: PartName::new(7, node),
@@ -35,7 +36,7 @@ fn part(node: u32, state: State) -> Result<Part, TableFault> {
     })
 }
 
-fn job(alloc: Global, state: JobState) -> Result<Job, TableFault> {
+pub fn job(alloc: Global, state: JobState) -> Result<Job, TableFault> {
     let size = Size::new(Kind::Sheet, 100, 80).ok_or(TableFault::Store)?;
     let Ok(plan) = Plan::read(alloc, "x30 y50 p1 p2t r", size, 3) else {
         return Err(TableFault::Store);
@@ -49,7 +50,7 @@ fn job(alloc: Global, state: JobState) -> Result<Job, TableFault> {
     })
 }
 
-fn demand(reserved: u32, made: u32) -> Result<Demand, TableFault> {
+pub fn demand(reserved: u32, made: u32) -> Result<Demand, TableFault> {
     let size = Size::new(Kind::Sheet, 30, 50).ok_or(TableFault::Store)?;
     Ok(Demand {
         number: 9,
@@ -65,7 +66,7 @@ fn demand(reserved: u32, made: u32) -> Result<Demand, TableFault> {
     })
 }
 
-fn message(alloc: Global) -> Result<KeptMessage, TableFault> {
+pub fn message(alloc: Global) -> Result<KeptMessage, TableFault> {
     Ok(KeptMessage {
         pair: Pair {
             terminal: 1,
@@ -78,7 +79,7 @@ fn message(alloc: Global) -> Result<KeptMessage, TableFault> {
     })
 }
 
-const FIRST: Totals = Totals {
+pub const FIRST: Totals = Totals {
     received: 8000,
     stock: 1,
     rack: 2,
@@ -88,7 +89,7 @@ const FIRST: Totals = Totals {
     returned: 6,
 };
 
-const LAST: Totals = Totals {
+pub const LAST: Totals = Totals {
     received: 1000000000000000,
     stock: 7,
     rack: 8,
@@ -98,7 +99,7 @@ const LAST: Totals = Totals {
     returned: 12,
 };
 
-fn lay(tx: &mut Transaction<'_, MemStore>) -> Result<(), TableFault> {
+pub fn lay(tx: &mut Transaction<'_, MemStore>) -> Result<(), TableFault> {
     lay_tables(tx)?;
     Ok(())
 }
@@ -121,6 +122,22 @@ fn put_rest(alloc: Global, tx: &mut Transaction<'_, MemStore>) -> Result<(), Tab
     set_last_demand(tx, 9)
 }
 
+// What is kept of an import of these orders: A-1 by a problem of STEEL, A-2 by an order file.
+fn import(alloc: Global, order: &str, form: Form) -> Result<ImportRow, TableFault> {
+    Ok(ImportRow {
+        order: code(order)?,
+        form,
+        text: Text::from_str(alloc, "1 2 3")?,
+        reply: Text::from_str(alloc, "imported")?,
+    })
+}
+
+fn put_imports(alloc: Global, tx: &mut Transaction<'_, MemStore>) -> Result<(), TableFault> {
+    put_order(tx, code("A-2")?)?;
+    put_import(tx, &import(alloc, "A-1", Form::Cgcut(code("STEEL")?))?)?;
+    put_import(tx, &import(alloc, "A-2", Form::Csv)?)
+}
+
 fn move_rows(alloc: Global, tx: &mut Transaction<'_, MemStore>) -> Result<(), TableFault> {
     move_part(tx, &part(0, State::Returned)?)?;
     move_job(tx, &job(alloc, JobState::Released)?)?;
@@ -132,7 +149,7 @@ fn set_sums(tx: &mut Transaction<'_, MemStore>) -> Result<(), TableFault> {
 }
 
 // A shop with a row of each kind.
-fn filled(alloc: Global) -> Result<Connection<MemStore>, TableFault> {
+pub fn filled(alloc: Global) -> Result<Connection<MemStore>, TableFault> {
     let mut conn = Connection::open_in_memory(alloc)?;
     if !conn.is_autocommit() {
         return Err(TableFault::Store);
@@ -142,6 +159,7 @@ fn filled(alloc: Global) -> Result<Connection<MemStore>, TableFault> {
     put_stock(&mut tx)?;
     put_work(alloc, &mut tx)?;
     put_rest(alloc, &mut tx)?;
+    put_imports(alloc, &mut tx)?;
     tx.commit()?;
     Ok(conn)
 }
@@ -195,7 +213,18 @@ fn a_message_and_totals_are_read_back(rt: HostRuntime) -> Result<(), TableFault>
 fn an_order_is_there(rt: HostRuntime) -> Result<(), TableFault> {
     let mut conn = filled(rt.alloc())?;
     assert!(rt; find_order(&mut conn, code("A-1")?)?);
-    assert!(rt; !find_order(&mut conn, code("A-2")?)?);
+    assert!(rt; !find_order(&mut conn, code("A-3")?)?);
+    Ok(())
+}
+
+#[test]
+fn imports_are_read_back(rt: HostRuntime) -> Result<(), TableFault> {
+    let mut conn = filled(rt.alloc())?;
+    let sheet = import(rt.alloc(), "A-1", Form::Cgcut(code("STEEL")?))?;
+    assert!(rt; find_import(&mut conn, code("A-1")?)? == Some(sheet));
+    let lines = import(rt.alloc(), "A-2", Form::Csv)?;
+    assert!(rt; find_import(&mut conn, code("A-2")?)? == Some(lines));
+    assert!(rt; find_import(&mut conn, code("A-3")?)?.is_none());
     Ok(())
 }
 
@@ -253,7 +282,14 @@ const SEEN: &[(&str, i64)] = &[
     ),
     ("SELECT returned FROM totals2 WHERE material = 'STEEL'", 12),
     ("SELECT count(*) FROM totals", 0),
-    ("SELECT count(*) FROM imports", 0),
+    (
+        "SELECT form FROM imports WHERE ord = 'A-1' AND material = 'STEEL' AND body = '1 2 3'",
+        1,
+    ),
+    (
+        "SELECT form FROM imports WHERE ord = 'A-2' AND material = '' AND reply = 'imported'",
+        0,
+    ),
 ];
 
 #[test]
@@ -293,5 +329,69 @@ fn totals_above_the_greatest_are_refused(rt: HostRuntime) -> Result<(), TableFau
         ..LAST
     };
     assert!(rt; set_totals(&mut tx, code("STEEL")?, &totals).is_err());
+    Ok(())
+}
+
+// The nodes of the parts that it looks at, one digit each; it asks for so many.
+#[derive(Drop)]
+struct Nodes {
+    digits: u32,
+    most: u32,
+}
+
+impl PartVisitor for Nodes {
+    ghost use Rattle.std.specs.Prelude.{⊤};
+
+    ghost looks = { λ _ _ _ _. ⊤ };
+
+    fn part(&mut self, part: &Part) -> bool {
+        self.digits = self.digits.wrapping_mul(10).wrapping_add(part.name.node());
+        self.most = self.most.wrapping_sub(1);
+        self.most > 0
+    }
+}
+
+fn put_row(tx: &mut Transaction<'_, MemStore>) -> Result<(), TableFault> {
+    put_part(tx, &part(4, State::Standing)?)?;
+    put_part(tx, &part(3, State::Scrap)?)?;
+    put_part(tx, &part(2, State::Reserved(9))?)
+}
+
+// Part 0 stands; part 4 is put before parts 3 and 2.
+fn stocked(alloc: Global) -> Result<Connection<MemStore>, TableFault> {
+    let mut conn = filled(alloc)?;
+    if !conn.is_autocommit() {
+        return Err(TableFault::Store);
+    }
+    let mut tx = conn.transaction();
+    put_row(&mut tx)?;
+    tx.commit()?;
+    Ok(conn)
+}
+
+// How many parts are asked for, the nodes that are seen, and whether they are all.
+const LENT: &[(u32, u32, bool)] = &[(1, 0, false), (2, 2, false), (3, 24, false), (4, 24, true)];
+
+#[test]
+fn standing_parts_are_lent_in_order_until_a_stop(rt: HostRuntime) -> Result<(), TableFault> {
+    let mut conn = stocked(rt.alloc())?;
+    'lent: for (most, digits, all) in LENT {
+        let mut nodes = Nodes {
+            digits: 0,
+            most: *most,
+        };
+        assert!(rt; lend_parts(&mut conn, code("STEEL")?, &mut nodes)? == *all);
+        assert!(rt; nodes.digits == *digits);
+    }
+    Ok(())
+}
+
+#[test]
+fn no_part_of_another_material_is_lent(rt: HostRuntime) -> Result<(), TableFault> {
+    let mut conn = stocked(rt.alloc())?;
+    let mut nodes = Nodes { digits: 0, most: 9 };
+    assert!(rt; lend_parts(&mut conn, code("GLASS")?, &mut nodes)?);
+    assert!(rt; nodes.digits == 0);
+    assert!(rt; nodes.most == 9);
     Ok(())
 }

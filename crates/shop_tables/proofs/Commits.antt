@@ -1,0 +1,100 @@
+-- The end of a transaction in which a change was written.
+use Rattle.std.proofs.Common.{◌≡◌, ◌⊎◌, inl, inr, true, false, true≢false, IsTrue, refl, sym, ap, subst, ◌∙◌, arith}
+use Rattle.sqlite_trees.specs.declared.store.Store.{Ghosts}
+use Rattle.sqlite_trees.specs.Tree.{Trees}
+use Rattle.sqlite.specs.Effect.{Database, IsDatabase}
+use Rattle.sqlite.specs.State.{State, HasCleanDisk, KeepsCommit, IsRolledBack, Survives}
+use Rattle.sqlite.specs.State as sql
+use Rattle.sqlite.specs.Held.{Held, state}
+use Rattle.sqlite.specs.Steps.{FailsToCommit}
+use Rattle.sqlite.specs.declared.error.Error.{Error}
+use Rattle.sqlite.proofs.StateLemmas.{survives_then, survives_weaker}
+use Rattle.sqlite.proofs.Callers.{survives_begin}
+use Rattle.shop_machine.specs.Content.{Content, changed}
+use Rattle.shop_machine.specs.Soundness.{Fits}
+use Rattle.shop_machine.specs.declared.changes.Change.{Change}
+use Rattle.shop_tables.specs.Layout.{IsShop}
+use Rattle.shop_tables.specs.Rows.{Stands}
+use Rattle.shop_tables.specs.Shown.{Books, Shows, IsSettled, Holds, Ran, Makes, Within, StandsIn}
+use Rattle.shop_tables.specs.Changing.{HasSums, with_row, with_change}
+use Rattle.shop_tables.specs.Held.{books, HoldsContent, StandsFor}
+use Rattle.shop_tables.proofs.Fitting.{sums_kept}
+
+pub stands_in : (s : State) (b : Books) → Shows s b → StandsIn s.now.trees b
+stands_in s b h = ((s.now.schema, h.schema, h.sound), h.stands, h.keyed)
+
+pub shows_along : (old new : State) (b : Books) → old.now ≡ new.now → Shows old b → Shows new b
+shows_along old new b same h = record {
+  schema = subst (λ (d : Database). IsShop d.schema) same h.schema;
+  sound = subst IsDatabase same h.sound;
+  stands = subst (λ (d : Database). Stands d.trees b.content b.totals) same h.stands;
+  keyed = h.keyed;
+}
+
+module _ {S : Type 0} (g : Ghosts S) (h : Held S) where
+  abbrev old : State
+  old = state g h
+
+  abbrev begun : State
+  begun = state g (record h { in_transaction = true })
+
+  module _ (done last : State) (late : HasCleanDisk last → HasCleanDisk done) where
+    -- ---- it is undone
+
+    undoes : (b : Books) → Holds old b → Within begun done → (HasCleanDisk last → IsRolledBack done last) → Holds last b
+    undoes b was within back clean up =
+        let undone = back clean in
+        let kept = within.kept (late clean) in
+        let was_up = undone.was_open up in
+        let s = within.survives.clean in
+        let early : HasCleanDisk old = let now = late clean in omega (arith, s, now) in
+        let start = was early (kept.was_open was_up) in
+        let now : old.now ≡ last.now = start.committed ∙ sym ((undone.undone up).0 ∙ kept.committed was_up) in
+        record { shows = shows_along old last b now start.shows; committed = (undone.undone up).0 ∙ sym (undone.undone up).1 }
+
+    pub undone : (m : Content) → HoldsContent old m → Within begun done → (HasCleanDisk last → IsRolledBack done last) → HoldsContent last m
+    undone m was within back = record { totals = was.totals; sums = was.sums; holds = undoes (books m was.totals) was.holds within back }
+
+    module _ (ran : Ran begun done) where
+      -- a commit that fails has undone it
+      pub failed : (e : Error) → (HasCleanDisk last → FailsToCommit done last e) → HasCleanDisk last → IsRolledBack done last
+      failed e fails clean = elim (fails clean) [
+        | inl store ↦ store.3
+        | inr ended ↦ absurd (true≢false (sym (ran.on (late clean) refl).2 ∙ ended.1))
+      ]
+
+      -- ---- it is committed
+
+      module _ (m : Content) (change : Change) (was : HoldsContent old m) (fits : Fits m change) (made : Makes begun done (books m was.totals) (with_change change (books m was.totals))) where
+        abbrev after : Books
+        after = with_change change (books m was.totals)
+
+        sums : HasSums after
+        sums = sums_kept (books m was.totals) change was.sums fits
+
+        -- what the transaction sees at its end
+        pub shows_end : HasCleanDisk done → Shows done after
+        shows_end clean =
+            let start = (was.holds (ran.earlier clean) (ran.on clean refl).0).shows in
+            made clean refl (record { schema = start.schema; sound = start.sound; stands = start.stands; keyed = start.keyed })
+
+        pub stands_end : HasCleanDisk done → StandsFor done.now.trees (changed m change)
+        stands_end clean = record { totals = after.totals; sums = sums; stands = stands_in done after (shows_end clean) }
+
+        pub committed : (HasCleanDisk last → sql.Shows done last done.now done.now false) → HoldsContent last (changed m change)
+        committed end = record {
+          totals = after.totals;
+          sums = sums;
+          holds = λ clean up. let e = end clean in record { shows = shows_along done last after (sym e.now_is) (shows_end (late clean)); committed = e.now_is ∙ sym e.committed_is };
+        }
+
+        -- what a crash may leave after the commit
+        pub survived : Within begun done → Survives done last (λ db. db ≡ done.now.trees) → Survives old last (λ db. StandsFor db (changed m change))
+        survived within end = survives_begin g h last (λ db. StandsFor db (changed m change))
+            (survives_then begun done last (λ _. ⊥) (λ db. db ≡ done.now.trees) (λ db. StandsFor db (changed m change)) (λ _ db none. absurd none)
+            (λ clean db is. subst (λ t. StandsFor t (changed m change)) (sym is) (stands_end (late clean))) within.survives end)
+
+  -- what a crash may leave of a transaction that is undone
+  pub dropped : (done last : State) (P : Trees → Type 0) → Within begun done → Survives done last (λ _. ⊥) → Survives old last P
+  dropped done last P within end = survives_begin g h last P
+      (survives_then begun done last (λ _. ⊥) (λ _. ⊥) P (λ _ db none. absurd none) (λ _ db none. absurd none) within.survives end)

@@ -1,0 +1,153 @@
+-- What is known while rows are lent.
+use Rattle.std.proofs.Common.{◌≡◌, ◌⊎◌, inl, inr, ℕ, Bool, true, false, List, [], ◌∷◌, ◌++◌, Some, None, Option, Ok, Err, Result, IsTrue, IfOk, refl, sym, ap, ◌∙◌, subst, arith}
+use Rattle.std.proofs.lemmas.Fn.{FoldsTo-push}
+use Rattle.sqlite_value.specs.Order.{Row}
+use Rattle.sqlite_trees.specs.declared.store.Store.{Ghosts}
+use Rattle.sqlite_resolve.specs.declared.compiled.Compiled.{Compiled}
+use Rattle.sqlite_resolve.specs.declared.error.CompileError.{CompileError}
+use Rattle.sqlite.specs.Listing.{understood}
+use Rattle.sqlite.specs.State.{State, HasCleanDisk, IsUnchanged, Survives, CommitsShowing}
+use Rattle.sqlite.specs.Held.{Held, state}
+use Rattle.sqlite.specs.Given.{HasGiven, HasBegun, Returns, Advances}
+use Rattle.sqlite.proofs.Callers.{given_begin, unchanged_then}
+use Rattle.shop_machine.specs.declared.records.Part.{Part}
+use Rattle.shop_machine.specs.Visits.{GoesOn, HasSeen}
+use Rattle.shop_tables.specs.Lending.{AreReadOf, IsReadOf, IsHeldAt, IsLent, Starts, Answers, went_on}
+use Rattle.shop_tables.specs.declared.faults.TableFault.{TableFault}
+use Rattle.shop_tables.specs.declared.lending.Lent.{Lent}
+use Rattle.shop_tables.specs.declared.lending.Lent.TheVariants as lent
+use Rattle.shop_tables.specs.Selecting.{is_select}
+use Rattle.shop_tables.specs.Shown.{Leaves}
+use Rattle.shop_tables.proofs.Kept.{Stays, stays_open, settled_stays, query_survives}
+use Rattle.shop_tables.proofs.Queries.{query_returns}
+use Rattle.shop_tables.proofs.Reading.{leaves_then}
+
+returns_not : (r : Result Compiled CompileError) → ((c : Compiled) → r ≡ Ok c → c.returning ≡ None) → Returns r → ⊥
+returns_not (Ok c) none some = absurd (let n = rw (none c refl) at some in cc)
+returns_not (Err e) none some = some
+
+-- what a step leaves that undoes at most a transaction
+pub leaves_stays : (old new : State) → Survives old new (λ _. ⊥) → (HasCleanDisk new → Stays old new) → Leaves old new
+leaves_stays old new survives stays = record {
+  stays = λ b was clean up. let s = stays clean in settled_stays old new b s up (was (omega (arith, survives.clean)) (stays_open old new b s up));
+  survives = survives;
+}
+
+pub read_push : (rows : List Row) (parts : List Part) (row : Row) (part : Part) → AreReadOf rows parts → IsReadOf row part → AreReadOf (rows ++ row ∷ []) (parts ++ part ∷ [])
+read_push [] [] row part h one = (one, tt)
+read_push [] (p ∷ parts) row part h one = absurd h
+read_push (r ∷ rows) [] row part h one = absurd h
+read_push (r ∷ rows) (p ∷ parts) row part h one = (h.0, read_push rows parts row part h.1 one)
+
+strange : (r : Result Lent TableFault) → IfOk r (λ how. how ≡ lent.Strange) → IfOk r (λ how. true ≡ went_on how) × ((Q : Type 0) → IfOk r (λ how. how ≡ lent.All → Q))
+strange (Ok how) is = (sym (ap went_on is), λ Q all. absurd (let e : lent.Strange ≡ lent.All = sym is ∙ all in cc))
+strange (Err e) is = (tt, λ Q. tt)
+
+module _ {S : Type 0} (g : Ghosts S) where
+  pub begun_select : (sql : List ℕ) (params : Row) (old new : Held S) → is_select sql ≡ true → HasBegun g sql params old new → HasGiven g sql params new [] × IsUnchanged (state g old) (state g new)
+  begun_select sql params old new is (inl h) = h
+  begun_select sql params old new is (inr h) = absurd (returns_not (understood old.schema sql) (λ c. query_returns old.schema sql is c) h.0)
+
+  given_open : (sql : List ℕ) (params : Row) (h : Held S) (given : List Row) → HasGiven g sql params h given → IsTrue (state g h).is_open
+  unfolding HasGiven
+  given_open sql params h given it = it.0.is_open
+
+  module _ {V : Type 0} (looks : V → Part → Bool → V → Type 0) (sql : List ℕ) (params : Row) (first : Held S) (before : V) where
+    -- so many rows were lent, and their parts led the visitor to what it is
+    pub record Going (now : Held S) (after : V) : Type 0 where
+      pub given : List Row
+      pub parts : List Part
+      pub read : AreReadOf given parts
+      pub visitor : GoesOn looks parts before after
+      pub at : HasCleanDisk (state g now) → HasGiven g sql params now given × IsUnchanged (state g first) (state g now)
+      pub leaves : Leaves (state g first) (state g now)
+
+    -- a query began
+    pub started : (now : Held S) → is_select sql ≡ true → (HasCleanDisk (state g now) → HasBegun g sql params first now) → Survives (state g first) (state g now) (CommitsShowing sql params (state g first)) → Going now before
+    started now is begun survives = record {
+      given = [];
+      parts = [];
+      read = tt;
+      visitor = refl;
+      at = λ clean. begun_select sql params first now is (begun clean);
+      leaves = leaves_stays (state g first) (state g now) (query_survives sql params (state g first) (state g now) is survives) (λ clean. inl (begun_select sql params first now is (begun clean)).1);
+    }
+
+    held_at : (now : Held S) (after : V) → Going now after → HasCleanDisk (state g now) → IsHeldAt g sql params first now
+    held_at now after it clean = record {
+      clean = clean;
+      is_open = given_open sql params now it.given (it.at clean).0;
+      stays = it.leaves.stays;
+    }
+
+    -- the rows so far are the first of the answer
+    pub starts : (now : Held S) (after : V) (it : Going now after) → HasCleanDisk (state g now) → Starts g sql params first it.given
+    starts now after it clean = inr (now, held_at now after it clean, given_begin g sql params now it.given (it.at clean).0)
+
+    -- no row is left
+    pub ended : (now next : Held S) (after : V) (it : Going now after) → HasCleanDisk (state g now) → Advances g now next None → Answers g sql params first it.given
+    ended now next after it clean on = (now, next, held_at now after it clean, on sql params it.given (it.at clean).0)
+
+    -- one row more
+    pub went_to : (now next : Held S) (after last : V) (row : Row) (part : Part) → Going now after → Leaves (state g now) (state g next)
+        → (HasCleanDisk (state g next) → Advances g now next (Some row)) → (HasCleanDisk (state g next) → IsUnchanged (state g now) (state g next)) → IsReadOf row part → looks after part true last → Going next last
+    went_to now next after last row part it step on same read look =
+        record {
+          given = it.given ++ row ∷ [];
+          parts = it.parts ++ part ∷ [];
+          read = read_push it.given it.parts row part it.read read;
+          visitor = FoldsTo-push (λ v p w. looks v p true w) before it.parts after part last it.visitor look;
+          at = λ clean.
+              let was = it.at (omega (arith, step.survives.clean)) in
+              (on clean sql params it.given was.0, unchanged_then (state g first) (state g now) (state g next) was.1 (same clean));
+          leaves = leaves_then (state g first) (state g now) (state g next) it.leaves step;
+        }
+
+    -- ---- the ways to an end
+
+    -- no query began
+    pub none_lent : (new : Held S) (r : Result Lent TableFault) → IfOk r (λ how. how ≡ lent.Strange) → IsLent g sql params first looks new before r before
+    none_lent new r is = record { given = []; parts = []; read = tt; on = true; visitor = refl; told = (strange r is).0; begins = λ _. inl refl; whole = λ _. (strange r is).1 _ }
+
+    -- a fault, or a row that is no part
+    pub broken_off : (now new : Held S) (after : V) (r : Result Lent TableFault) → IfOk r (λ how. how ≡ lent.Strange) → Going now after → (HasCleanDisk (state g new) → HasCleanDisk (state g now))
+        → IsLent g sql params first looks new before r after
+    broken_off now new after r is it late = record {
+      given = it.given;
+      parts = it.parts;
+      read = it.read;
+      on = true;
+      visitor = it.visitor;
+      told = (strange r is).0;
+      begins = λ clean. starts now after it (late clean);
+      whole = λ _. (strange r is).1 _;
+    }
+
+    -- the end of the rows
+    pub all_lent : (now new : Held S) (after : V) → Going now after → Leaves (state g now) (state g new) → (HasCleanDisk (state g new) → Advances g now new None) → IsLent g sql params first looks new before (Ok lent.All) after
+    all_lent now new after it step on = record {
+      given = it.given;
+      parts = it.parts;
+      read = it.read;
+      on = true;
+      visitor = it.visitor;
+      told = refl;
+      begins = λ clean. starts now after it (omega (arith, step.survives.clean));
+      whole = λ clean _. ended now new after it (omega (arith, step.survives.clean)) (on clean);
+    }
+
+    -- the visitor stopped at a row
+    pub stopped_at : (now new : Held S) (after last : V) (row : Row) (part : Part) → Going now after → Leaves (state g now) (state g new) → (HasCleanDisk (state g new) → Advances g now new (Some row))
+        → IsReadOf row part → looks after part false last → IsLent g sql params first looks new before (Ok lent.Stopped) last
+    stopped_at now new after last row part it step on read look = record {
+      given = it.given ++ row ∷ [];
+      parts = it.parts ++ part ∷ [];
+      read = read_push it.given it.parts row part it.read read;
+      on = false;
+      visitor = (it.parts, part, after, refl, it.visitor, look);
+      told = refl;
+      begins = λ clean.
+          let more = on clean sql params it.given (it.at (omega (arith, step.survives.clean))).0 in
+          inr (new, record { clean = clean; is_open = given_open sql params new (it.given ++ row ∷ []) more; stays = λ b was. step.stays b (it.leaves.stays b was) }, given_begin g sql params new (it.given ++ row ∷ []) more);
+      whole = λ _ other. absurd (cc);
+    }

@@ -1,0 +1,259 @@
+-- The standing parts of a material, in order.
+use Rattle.std.proofs.Common.{◌≡◌, ℕ, suc, ◌+◌, ◌<◌, ◌≤◌, pos, Bool, true, false, ◌&&◌, ◌||◌, ◌==◌, List, [], ◌∷◌, ◌++◌, length, map, drop, filter, get_or, Some, refl, sym, ap, subst, ◌∙◌, arith, IsPermutation, IsSorted, inl, inr, append-nil, Ok, Err, Result, IfOk}
+use Rattle.std.specs.List.{AllByRecursion, list_all}
+use Rattle.std.specs.Ordering.{is_eq, is_lt, int_cmp, nat_cmp, ordering_then}
+use Rattle.std.specs.declared.cmp.Ordering.TheVariants.{Equal}
+use Rattle.std.specs.FinMap.{FinMap, entries, entries_sorted, get-entries, values}
+use Rattle.std.proofs.lemmas.List.Sorted.{sorted_far, ranks_by, IsPermutation-trans}
+use Rattle.std.proofs.lemmas.Int.{ints}
+use Rattle.std.proofs.lemmas.Bool.Decides.{nat_tests}
+use Rattle.std.specs.List.Sorted.{IsSortedBy}
+use Rattle.std.proofs.lemmas.List.{length-map, get_or-map}
+use Rattle.sqlite_value.specs.declared.value.Value.TheVariants.{Int, Text}
+use Rattle.sqlite_value.specs.declared.keys.Collation.TheVariants.{Binary}
+use Rattle.sqlite_value.specs.Order.{Row, column, value_cmp}
+use Rattle.sqlite_value.proofs.OrderLemmas.{value_cmp-Int, then-Equal}
+use Rattle.sqlite_sql.specs.declared.ops.BinaryOp.TheVariants.{Compare, Or}
+use Rattle.sqlite_sql.specs.declared.ops.CompareOp.TheVariants.{Eq}
+use Rattle.sqlite_sql.specs.Ops.{binary, is_true, from_truth, truth, or3}
+use Rattle.sqlite_trees.specs.Tree.{IsAscending}
+use Rattle.sqlite_trees.proofs.ListLemmas.{all-filter, pull_back}
+use Rattle.sqlite.specs.Schema.{Schema}
+use Rattle.sqlite.specs.Tree.{Trees}
+use Rattle.sqlite.specs.Term.{Term, holds}
+use Rattle.sqlite.specs.Query.{Output, output_cmp}
+use Rattle.sqlite.specs.Program.{overlay, IsProgramAnswer}
+use Rattle.sqlite_trees.specs.declared.store.Store.{Ghosts}
+use Rattle.sqlite.specs.Held.{Held, state}
+use Rattle.sqlite.specs.State.{State, HasCleanDisk, Shown, Begins}
+use Rattle.sqlite.proofs.Callers.{reads_as, begins_as}
+use Rattle.cut_measure.specs.Codes.{code_cmp}
+use Rattle.cut_measure.specs.Names.{Name, name_cmp}
+use Rattle.shop_machine.specs.Columns.{is_there}
+use Rattle.shop_machine.specs.Content.{Content, is_listed, parts_of}
+use Rattle.shop_machine.specs.History.{IsIn}
+use Rattle.shop_machine.specs.Visits.{IsVisit}
+use Rattle.shop_machine.specs.declared.records.Part.{Part}
+use Rattle.shop_machine.specs.declared.records.State.{State as PartState}
+use Rattle.shop_machine.specs.declared.records.State.TheVariants as stands
+use Rattle.shop_machine.proofs.Marks.{found_in}
+use Rattle.shop_tables.specs.Lending.{AreReadOf, IsLent}
+use Rattle.shop_tables.specs.declared.faults.TableFault.{TableFault}
+use Rattle.shop_tables.specs.declared.lending.Lent.{Lent}
+use Rattle.shop_tables.specs.declared.lending.Lent.TheVariants as lent
+use Rattle.shop_tables.specs.Rows.{AreRows, IsKeyed, part_columns, part_row, state_number}
+use Rattle.shop_tables.specs.Shown.{Books, Shows, Holds, Says}
+use Rattle.shop_tables.proofs.Finding.{name_total, name_same}
+use Rattle.shop_tables.proofs.Keys.{equal, equal-Text, and_true, as_number, same_number, shown_as}
+use Rattle.shop_tables.proofs.Lists.{filter-map, map-map}
+use Rattle.shop_tables.proofs.Maps.{one_order, sorted_filter, Rises}
+use Rattle.shop_tables.proofs.Selects.{selects}
+use Rattle.shop_tables.proofs.Terms.{from_table, Reads}
+use Rattle.shop_tables.proofs.Texts.{shop, shop_is, parts_of_text, parts_of_tests, parts_of_terms, parts_of_order, parts_of_is}
+
+-- from places to each earlier and later element
+module _ {A : Type 0} (P : A → A → Type 0) where
+  each : (x : A) (xs : List A) → ((j : ℕ) → j < length xs → P x (get_or xs j x)) → AllByRecursion (P x) xs
+  each x xs h = go xs h
+    where
+      go : (ys : List A) → ((j : ℕ) → j < length ys → P x (get_or ys j x)) → AllByRecursion (P x) ys
+      go [] h = tt
+      go (y ∷ ys) h = (h 0 (omega arith), go ys (λ j lt. h (suc j) (omega arith)))
+
+  ascends : (xs : List A) → ((i j : ℕ) (d : A) → i < j → j < length xs → P (get_or xs i d) (get_or xs j d)) → IsAscending P xs
+  ascends [] h = tt
+  ascends (x ∷ xs) h = (each x xs (λ j lt. h 0 (suc j) x (omega arith) (omega arith)), ascends xs (λ i j d lt up. h (suc i) (suc j) d (omega arith) (omega arith)))
+
+-- ---- the order of the rows
+
+abbrev whole : Row → Row
+whole d = column d 0 ∷ column d 1 ∷ column d 2 ∷ column d 3 ∷ column d 4 ∷ column d 5 ∷ column d 6 ∷ column d 7 ∷ column d 8 ∷ column d 9 ∷ column d 10 ∷ column d 11 ∷ []
+
+abbrev part_out : Name × Part → Output
+part_out e = (Int (pos e.0.act) ∷ Int (pos e.0.node) ∷ [], part_row e)
+
+shown_later : (r : Row) → ◌≡◌ {A = Output} (column r 1 ∷ column r 2 ∷ [], column r 1 ∷ column r 2 ∷ column r 3 ∷ column r 4 ∷ column r 5 ∷ column r 6 ∷ column r 7 ∷ column r 8 ∷ column r 9 ∷ column r 10 ∷ column r 11 ∷ column r 12 ∷ []) (column (drop 1 r) 0 ∷ column (drop 1 r) 1 ∷ [], whole (drop 1 r))
+shown_later [] = refl
+shown_later (x ∷ d) = refl
+
+as_nat : (m n : ℕ) → int_cmp (pos m) (pos n) ≡ nat_cmp m n
+as_nat m n = grind (arith, ints, nat_tests)
+
+ranked : (m n : ℕ) → value_cmp (Int (pos m)) (Int (pos n)) ≡ nat_cmp m n
+ranked m n = value_cmp-Int (pos m) (pos n) ∙ as_nat m n
+
+module _ (tests : List Term) where
+  by_output : (a b : Name × Part) → output_cmp (from_table 4 tests parts_of_terms parts_of_order) (part_out a) (part_out b) ≡ name_cmp a.0 b.0
+  by_output a b = (λ i. ordering_then (ranked a.0.act b.0.act i) (ordering_then (ranked a.0.node b.0.node i) Equal)) ∙ ap (ordering_then (nat_cmp a.0.act b.0.act)) (then-Equal (nat_cmp a.0.node b.0.node))
+
+  adjacent : (to : List (Name × Part)) → IsSorted (output_cmp (from_table 4 tests parts_of_terms parts_of_order)) (map part_out to) → IsSortedBy (λ a b. is_lt (name_cmp a.0 b.0)) to
+  adjacent to up k d low within =
+      let inside : k + 1 < length (map part_out to) = rw length-map within in
+      let first = up k (part_out d) low inside in
+      ap is_lt (sym (by_output (get_or to (k + 1) d) (get_or to k d))) ∙ rw (get_or-map part_out to (k + 1) d (part_out d) within, get_or-map part_out to k d (part_out d) (omega arith)) at first
+
+  rises : (to : List (Name × Part)) → IsSorted (output_cmp (from_table 4 tests parts_of_terms parts_of_order)) (map part_out to) → Rises Part name_total name_same to
+  rises to up = ascends (λ a b. is_lt (name_cmp b.0 a.0) ≡ false) to (λ i j d lt within. sorted_far (λ a b. is_lt (name_cmp a.0 b.0)) (ranks_by name_total (λ (e : Name × Part). e.0)) to (adjacent to up) i j d (omega arith) within)
+
+-- what a query answers that shows parts whole, in their order
+module _ (tests : List Term) (db : Trees) (params : Row) (low : overlay db [] 4 ≡ db 4) (t : Name × Part → Bool) (q : Row → Bool)
+    (later : (r : Row) → list_all (holds (params ∷ r ∷ [])) tests ≡ q (drop 1 r)) (passes : (e : Name × Part) → q (part_row e) ≡ t e) where
+  in_order : (rows : List Row) (parts : FinMap name_cmp Part) → AreRows 1 (map part_row (entries parts)) (db 4) → IsProgramAnswer [] (from_table 4 tests parts_of_terms parts_of_order) db params rows → rows ≡ map part_row (filter t (entries parts))
+  in_order rows parts are a =
+      let s = selects 4 tests parts_of_terms parts_of_order db params low rows a in
+      let mine = filter t (entries parts) in
+      let out = shown_as 1 part_row t _ q later passes _ (λ d. (column d 0 ∷ column d 1 ∷ [], whole d)) part_out shown_later (λ e. refl) (entries parts) (db 4) are in
+      let back = pull_back part_out _ s.ordered (IsPermutation-trans _ _ _ out s.same) mine refl in
+      let to = back.0 in
+      let same : mine ≡ to = one_order Part name_total name_same mine to (sorted_filter Part name_total name_same t (entries parts) (entries_sorted parts))
+      (rises tests to (subst (IsSorted (output_cmp (from_table 4 tests parts_of_terms parts_of_order))) back.2 s.sorted)) back.1 in
+      s.shown ∙ ap (map (λ (o : Output). o.1)) back.2 ∙ map-map (λ (o : Output). o.1) part_out to ∙ ap (map part_row) (sym same)
+
+-- ---- from rows to parts
+
+-- the first rows are those of the first parts
+first_parts : (es : List (Name × Part)) → AllByRecursion (λ e. e.1.name ≡ e.0) es → (given tail : List Row) (parts : List Part) → given ++ tail ≡ map part_row es → AreReadOf given parts
+    → (rest : List Part) × (map (λ e. e.1) es ≡ parts ++ rest) × (tail ≡ [] → rest ≡ [])
+first_parts es named [] tail [] is read = (map (λ e. e.1) es, refl, λ none. ended es (sym is ∙ none))
+  where
+    ended : (fs : List (Name × Part)) → map part_row fs ≡ [] → map (λ e. e.1) fs ≡ []
+    ended [] h = refl
+    ended (f ∷ fs) h = absurd (cc)
+first_parts es named [] tail (p ∷ parts) is read = absurd read
+first_parts es named (r ∷ given) tail [] is read = absurd read
+first_parts [] named (r ∷ given) tail (p ∷ parts) is read = absurd (cc)
+first_parts (e ∷ es) named (r ∷ given) tail (p ∷ parts) is read =
+    let head : r ≡ part_row e = cc in
+    let more : given ++ tail ≡ map part_row es = cc in
+    let own : p ≡ e.1 = read.0 e head ∙ (λ i. record e.1 { name = sym named.0 i }) in
+    let next = first_parts es named.1 given tail parts more read.1 in
+    (next.0, (λ i. sym own i ∷ next.1 i), next.2)
+
+all_named : (m : Content) → IsKeyed m → AllByRecursion (λ (e : Name × Part). e.1.name ≡ e.0) (entries m.parts)
+all_named m keyed = go (entries m.parts) (λ e i. keyed.parts e.0 e.1 (get-entries m.parts e.0 ∙ found_in (entries m.parts) e (entries_sorted m.parts) i))
+  where
+    go : (es : List (Name × Part)) → ((e : Name × Part) → IsIn e es → e.1.name ≡ e.0) → AllByRecursion (λ (e : Name × Part). e.1.name ≡ e.0) es
+    go [] h = tt
+    go (e ∷ es) h = (h e (inl refl), go es (λ f i. h f (inr i)))
+
+-- ---- the standing parts of a material
+
+abbrev either_state : Row → ℕ → Bool
+either_state d at = is_true (binary Or (binary (Compare Eq Binary) (column d at) (Int (pos 0))) (binary (Compare Eq Binary) (column d at) (Int (pos 1))))
+
+abbrev stands_of : List ℕ → Row → Bool
+stands_of code d = equal (column d 2) (Text code) && (either_state d 10 && true)
+
+two : (x y : Bool) → is_true (from_truth (or3 (truth (from_truth (Some x))) (truth (from_truth (Some y))))) ≡ (x || y)
+two true true = refl
+two true false = refl
+two false true = refl
+two false false = refl
+
+is_number : (s n : ℕ) → is_eq (value_cmp (Int (pos s)) (Int (pos n))) ≡ (s == n)
+is_number s n = ap is_eq (value_cmp-Int (pos s) (pos n)) ∙ as_number s n ∙ same_number s n
+
+or_test : (s : ℕ) → is_true (binary Or (binary (Compare Eq Binary) (Int (pos s)) (Int (pos 0))) (binary (Compare Eq Binary) (Int (pos s)) (Int (pos 1)))) ≡ ((s == 0) || (s == 1))
+unfolding binary
+or_test s = two _ _ ∙ (λ i. is_number s 0 i || is_number s 1 i)
+
+there : (s : PartState) → ((state_number s == 0) || (state_number s == 1)) ≡ is_there s
+there stands.Standing = refl
+there (stands.Reserved n) = refl
+there (stands.Cut n) = refl
+there (stands.Piece n) = refl
+there stands.Kerf = refl
+there stands.Scrap = refl
+there stands.Returned = refl
+
+listed : (code : List ℕ) (e : Name × Part) → stands_of code (part_row e) ≡ is_listed code e.1
+listed code e = (λ i. equal-Text e.1.material code i && ((or_test (state_number e.1.state) ∙ there e.1.state) i && true)) ∙ ap (λ b. is_eq (code_cmp e.1.material code) && b) (and_true (is_there e.1.state))
+
+listed_later : (code : List ℕ) (r : Row) → (equal (column r 3) (Text code) && (either_state r 11 && true)) ≡ stands_of code (drop 1 r)
+listed_later code [] = refl
+listed_later code (x ∷ d) = refl
+
+module _ (old : State) (code : List ℕ) (b : Books) (has : Shows old b) where
+  abbrev over : Schema
+  over = shop old.now.schema has.schema
+
+  mine : (rows : List Row) → IsProgramAnswer [] (from_table 4 parts_of_tests parts_of_terms parts_of_order) old.now.trees (Text code ∷ []) rows → rows ≡ map part_row (filter (λ e. is_listed code e.1) (entries b.content.parts))
+  mine rows a = in_order parts_of_tests old.now.trees (Text code ∷ []) refl (λ e. is_listed code e.1) (stands_of code) (listed_later code) (listed code) rows b.content.parts has.stands.parts a
+
+  listed_named : AllByRecursion (λ (e : Name × Part). e.1.name ≡ e.0) (filter (λ e. is_listed code e.1) (entries b.content.parts))
+  listed_named = all-filter (λ (e : Name × Part). e.1.name ≡ e.0) _ (entries b.content.parts) (all_named b.content has.keyed)
+
+  as_listed : map (λ (e : Name × Part). e.1) (filter (λ e. is_listed code e.1) (entries b.content.parts)) ≡ parts_of b.content code
+  as_listed = sym (filter-map (λ (e : Name × Part). e.1) (is_listed code) (entries b.content.parts))
+
+  -- all rows were lent
+  pub all_listed : (new : State) (given : List Row) (parts : List Part) → Shown parts_of_text (Text code ∷ []) old new given → AreReadOf given parts → parts_of b.content code ≡ parts
+  all_listed new given parts shown read =
+      let is = parts_of_is old.now.schema has.schema in
+      let a = (reads_as parts_of_text (Text code ∷ []) old new over (shop_is old.now.schema has.schema) _ is.command is.plain is.listing given shown).answer in
+      let f = first_parts _ listed_named given [] parts (append-nil given ∙ mine given a) read in
+      sym as_listed ∙ f.1 ∙ ap (λ l. parts ++ l) (f.2 refl) ∙ append-nil parts
+
+  -- the first of them were
+  pub first_listed : (given : List Row) (parts : List Part) → Begins parts_of_text (Text code ∷ []) old given → AreReadOf given parts → (rest : List Part) × (parts_of b.content code ≡ parts ++ rest)
+  first_listed given parts begins read =
+      let is = parts_of_is old.now.schema has.schema in
+      let first = begins_as parts_of_text (Text code ∷ []) old old over (shop_is old.now.schema has.schema) _ is.command is.plain is.listing given begins in
+      let more = first.1 in
+      let f = first_parts _ listed_named given more.0 parts (mine (given ++ more.0) more.1) read in
+      (f.0, sym as_listed ∙ f.1)
+
+-- ---- what a visitor was handed of them
+
+none_read : (parts : List Part) → AreReadOf [] parts → parts ≡ []
+none_read [] h = refl
+none_read (p ∷ parts) h = absurd h
+
+module _ {S : Type 0} (g : Ghosts S) (code : List ℕ) (old new : Held S) {V : Type 0} (looks : V → Part → Bool → V → Type 0) (before after : V) where
+  abbrev Handed : Result Lent TableFault → Type 0
+  Handed r = IsLent g parts_of_text (Text code ∷ []) old looks new before r after
+
+  abbrev Visited : Result Bool TableFault → Type 0
+  Visited told = IsVisit looks {Fault = TableFault} (λ what. Says (state g old) (state g new) (λ b. what (parts_of b.content code))) before told after
+
+  -- the parts that were handed out begin the list
+  begin_listed : (r : Result Lent TableFault) (h : Handed r) → HasCleanDisk (state g new) → (b : Books) → Holds (state g old) b → (rest : List Part) × (parts_of b.content code ≡ h.parts ++ rest)
+  begin_listed r h clean b was = elim (h.begins clean) [
+    | inl none ↦ (parts_of b.content code, ap (λ l. l ++ parts_of b.content code) (sym (none_read h.parts (rw none at h.read))))
+    | inr some ↦ first_listed (state g some.0) code b (some.1.stays b was some.1.clean some.1.is_open).shows h.given h.parts some.2 h.read
+  ]
+
+  pub visited_all : (r : Result Lent TableFault) → r ≡ Ok lent.All → Handed r → Visited (Ok true)
+  visited_all r is h =
+      let it = rw is at h in
+      record {
+        parts = it.parts;
+        on = it.on;
+        visitor = it.visitor;
+        answer = sym it.told;
+        begins = λ clean b was.
+            let whole = it.whole clean refl in
+            let held = whole.2 in
+            ([], all_listed (state g whole.0) code b (held.stays b was held.clean held.is_open).shows (state g whole.1) it.given it.parts whole.3 it.read ∙ sym (append-nil it.parts), λ _. refl);
+      }
+
+  pub visited_some : (r : Result Lent TableFault) → r ≡ Ok lent.Stopped → Handed r → Visited (Ok false)
+  visited_some r is h =
+      let it = rw is at h in
+      record {
+        parts = it.parts;
+        on = it.on;
+        visitor = it.visitor;
+        answer = sym it.told;
+        begins = λ clean b was. let first = begin_listed (Ok lent.Stopped) it clean b was in (first.0, first.1, λ on. absurd (cc));
+      }
+
+  pub visited_till : (r : Result Lent TableFault) (told : Result Bool TableFault) → IfOk told (λ on. ⊥) → Handed r → Visited told
+  visited_till r (Ok on) none h = absurd none
+  visited_till r (Err fault) none h = record {
+    parts = h.parts;
+    on = h.on;
+    visitor = h.visitor;
+    answer = tt;
+    begins = λ clean b was. let first = begin_listed r h clean b was in (first.0, first.1, tt);
+  }

@@ -1,0 +1,51 @@
+-- What was committed is found again, with the schema that its trees list.
+use Rattle.std.proofs.Common.{◌≡◌, IsTrue, refl, sym, ap, subst, ◌∙◌}
+use Rattle.sqlite_disk.specs.declared.Disk.{Ghosts}
+use Rattle.sqlite_disk.specs.declared.Files.{Files}
+use Rattle.sqlite_wal.specs.Reads.{AreClean}
+use Rattle.sqlite_store.specs.declared.store.FileStore.{FileStore}
+use Rattle.sqlite_catalog.proofs.ReadLemmas.{lists_once}
+use Rattle.sqlite_catalog.specs.Listing.{Lists}
+use Rattle.sqlite_trees.specs.Objects.{catalog_tree}
+use Rattle.sqlite.specs.Tree.{Trees}
+use Rattle.sqlite.specs.Schema.{Schema}
+use Rattle.sqlite.specs.Effect.{Database, IsDatabase}
+use Rattle.sqlite.specs.State.{State, HasCleanDisk}
+use Rattle.sqlite.specs.Held.{Held}
+use Rattle.sqlite.specs.Files.{file_state, IsOpened, Finds}
+use Rattle.sqlite.specs.Closing.{IsCopied}
+use Rattle.sqlite.proofs.Callers.{finds_again}
+use Rattle.shop_tables.specs.Layout.{IsShop}
+use Rattle.shop_tables.specs.Rows.{Stands}
+use Rattle.shop_tables.specs.Shown.{Books, IsSettled, Holds, StandsIn}
+
+-- trees list one schema at most
+pub one_schema : (a b : Database) → IsDatabase a → IsDatabase b → b.trees ≡ a.trees → b.schema ≡ a.schema
+one_schema a b p q same = lists_once _ b.schema a.schema q.lists (subst (λ (t : Trees). Lists (t catalog_tree) a.schema) (sym same) p.lists)
+
+pub found_settled : {D : Type 0} {g : Ghosts D} (old new : Held (FileStore D g)) (files : Files D) (b : Books) → (AreClean g files.log files.db → IsCopied old files)
+    → (HasCleanDisk (file_state new) → IsOpened new) → (HasCleanDisk (file_state new) → Finds files new) → Holds (file_state old) b → HasCleanDisk (file_state new) → IsSettled (file_state new) b
+found_settled old new files b copied opened found was clean =
+    let f = found clean in
+    let c = copied f.honest in
+    let start = was c.was_clean c.was_open in
+    let o = opened clean in
+    let live = (o.1 o.0.is_open).0 in
+    let trees : (file_state new).now.trees ≡ (file_state old).now.trees = ap (λ (d : Database). d.trees) o.0.clean ∙ finds_again old new files copied f ∙ ap (λ (d : Database). d.trees) (sym start.committed) in
+    let schema : (file_state new).now.schema ≡ (file_state old).now.schema = one_schema (file_state old).now (file_state new).now start.shows.sound live trees in
+    record {
+      shows = record { schema = subst IsShop (sym schema) start.shows.schema; sound = live; stands = subst (λ (t : Trees). Stands t b.content b.totals) (sym trees) start.shows.stands; keyed = start.shows.keyed };
+      committed = o.0.clean;
+    }
+
+-- What a crash left is found too: an open of it sees the content for which its trees stand.
+pub left_settled : {D : Type 0} {g : Ghosts D} (new : Held (FileStore D g)) (b : Books) → IsOpened new → StandsIn (file_state new).committed.trees b → IsSettled (file_state new) b
+left_settled new b opened left =
+    let live = (opened.1 opened.0.is_open).0 in
+    let trees : (file_state new).now.trees ≡ (file_state new).committed.trees = ap (λ (d : Database). d.trees) opened.0.clean in
+    let listed : Database = record { schema = left.0.0; trees = (file_state new).committed.trees } in
+    let schema : (file_state new).now.schema ≡ left.0.0 = one_schema listed (file_state new).now left.0.2 live trees in
+    record {
+      shows = record { schema = subst IsShop (sym schema) left.0.1; sound = live; stands = subst (λ (t : Trees). Stands t b.content b.totals) (sym trees) left.1; keyed = left.2 };
+      committed = opened.0.clean;
+    }

@@ -1,0 +1,17 @@
+use Rattle.std.proofs.Common.{refl, sym, subst}
+use Rattle.shop_machine.specs.declared.records.Demand.{Demand}
+use Rattle.shop_tables.specs.Changes.{with_demand}
+use Rattle.shop_tables.specs.Changing.{IsCounted, AreCounted, with_demands}
+use Rattle.sqlite.specs.Held.{state}
+use Rattle.shop_tables.specs.Shown.{Shows}
+use Rattle.shop_tables.proofs.Steps.{went_as, none_below}
+use Rattle.shop_tables.proofs.InTurn.{chain}
+use Rattle.shop_tables.proofs.changing.+count_demands.Goals as goal
+
+pub returns-clause-put : goal.returns-clause-put
+returns-clause-put g t c b fits =
+    chain (λ demands b. AreCounted demands b.content.demands) (λ demand b. IsCounted b.content.demands demand) with_demand with_demands (λ demand more b fits. fits) (λ demand more b. refl)
+    _ _ _ b c.args.demands.now c.first-item.result c.count_demands.result c.in-len1-up.len_at_least c.first-item.is fits (went_as _ _ c.in_ok-count_demand.ensures.ran) c.count_demands.ensures.went (λ was. c.in_ok-count_demand.ensures.put b was.before was.found was.is) c.count_demands.ensures.put
+
+pub returns-in_default-clause-put : goal.returns-in_default-clause-put
+returns-in_default-clause-put g t c b fits clean inside has = subst (λ rows. Shows (state g.S.Store c.args.tx.now.conn.now) (with_demands rows b)) (sym (none_below c.args.demands.now c.in_default.len_below)) has

@@ -1,0 +1,18 @@
+use Rattle.std.proofs.Common.{◌≡◌, None, refl, sym, subst}
+use Rattle.shop_machine.specs.Content.{part_at}
+use Rattle.shop_machine.specs.declared.records.Part.{Part}
+use Rattle.shop_tables.specs.Changes.{with_part}
+use Rattle.shop_tables.specs.Changing.{AreNew, with_parts}
+use Rattle.sqlite.specs.Held.{state}
+use Rattle.shop_tables.specs.Shown.{Shows}
+use Rattle.shop_tables.proofs.Steps.{went_as, none_below}
+use Rattle.shop_tables.proofs.InTurn.{chain}
+use Rattle.shop_tables.proofs.changing.+put_parts.Goals as goal
+
+pub returns-clause-put : goal.returns-clause-put
+returns-clause-put g t c b fits =
+    chain (λ parts b. AreNew (λ (part : Part). part.name) parts b.content.parts) (λ part b. part_at b.content part.name ≡ None) with_part with_parts (λ part more b fits. fits) (λ part more b. refl)
+    _ _ _ b c.args.parts.now c.first-item.result c.put_parts.result c.in-len1-up.len_at_least c.first-item.is fits (went_as _ _ c.in_ok-put_part.ensures.ran) c.put_parts.ensures.went (c.in_ok-put_part.ensures.put b) c.put_parts.ensures.put
+
+pub returns-in_default-clause-put : goal.returns-in_default-clause-put
+returns-in_default-clause-put g t c b fits clean inside has = subst (λ rows. Shows (state g.S.Store c.args.tx.now.conn.now) (with_parts rows b)) (sym (none_below c.args.parts.now c.in_default.len_below)) has

@@ -1,0 +1,4 @@
+use Rattle.shop_tables.proofs.changing.write_order.Goals as goal
+
+pub returns-in-Some-clause-put : goal.returns-in-Some-clause-put
+returns-in-Some-clause-put g c b = rw c.in-Some.is (c.put_order.ensures.put b)

@@ -1,0 +1,14 @@
+use Rattle.std.proofs.Common.{◌≡◌}
+use Rattle.shop_machine.specs.Content.{import_at}
+use Rattle.shop_machine.specs.declared.imports.ImportRow.{ImportRow}
+use Rattle.shop_tables.specs.Rows.{import_columns}
+use Rattle.shop_tables.proofs.Reading.{read_as, none_as}
+use Rattle.shop_tables.proofs.imports.find_import.Goals as goal
+
+pub returns-in_default-clause-row : goal.returns-in_default-clause-row
+returns-in_default-clause-row g c clean b was = none_as (λ (row : ImportRow). row.order ≡ c.args.order) import_columns (import_at b.content c.args.order) (rw c.in_default.is at (c.in_ok-row.ensures.row clean b was))
+
+pub returns-clause-row : goal.returns-clause-row
+returns-clause-row g c clean b was =
+    read_as (λ (row : ImportRow). row.order ≡ c.args.order) import_columns (import_at b.content c.args.order) c.in-Some.row c.in_ok-import.import (rw c.in-Some.is at (c.in_ok-row.ensures.row clean b was))
+    c.in_ok-import.ensures

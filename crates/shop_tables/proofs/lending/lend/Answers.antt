@@ -1,0 +1,128 @@
+use Rattle.std.proofs.Common.{◌≡◌, ◌∙◌, true, false, Some, None, Ok, IfOk, [], inl, inr, refl, sym, subst, rules, arith}
+use Rattle.sqlite.specs.Given.{Advances, row_if}
+use Rattle.sqlite.specs.Held.{Held, state}
+use Rattle.sqlite.specs.State.{HasCleanDisk}
+use Rattle.sqlite.specs.Values.{bound}
+use Rattle.shop_tables.specs.Lending.{IsLent, IsReadOf}
+use Rattle.shop_tables.specs.declared.lending.Lent.TheVariants as lent
+use Rattle.shop_tables.specs.Shown.{Leaves}
+use Rattle.shop_tables.proofs.Going.{started, leaves_stays, none_lent, broken_off, all_lent, stopped_at, went_to}
+use Rattle.shop_tables.proofs.Kept.{fails_stays, query_survives}
+use Rattle.shop_tables.proofs.Reading.{leaves_then}
+use Rattle.shop_tables.proofs.lending.lend.Goals as goal
+
+pub returns-in_err-rows-clause-lent : goal.returns-in_err-rows-clause-lent
+returns-in_err-rows-clause-lent g c = none_lent g.S.Store g.V.PartVisitor.looks c.args.sql.now (bound c.args.params.now) c.args.conn.now c.args.visitor.now _ _ (search rules)
+
+pub returns-in_err-rows-clause-leaves : goal.returns-in_err-rows-clause-leaves
+returns-in_err-rows-clause-leaves g c =
+    let held = rw c.in_err-rows.was at c.query.follows.holds-at-none in
+    leaves_stays (state g.S.Store c.args.conn.now) (state g.S.Store c.query.follows.lender-at-none)
+    (query_survives c.args.sql.now (bound c.args.params.now) _ _ c.requires held.survives)
+    (λ clean. fails_stays c.args.sql.now (bound c.args.params.now) _ _ _ (held.err clean))
+
+pub rows-init : goal.rows-init
+rows-init g c =
+    let made = c.in_ok-rows.ensures in
+    (refl, made.mode, started g.S.Store g.V.PartVisitor.looks c.args.sql.now (bound c.args.params.now) c.args.conn.now c.args.visitor.now c.in_ok-rows.rows.conn.now c.requires made.begun made.survives)
+
+-- ---- the rows failed
+
+pub returns-in_err-advance-clause-lent : goal.returns-in_err-advance-clause-lent
+returns-in_err-advance-clause-lent g c =
+    let ends : c.advance.new.self.conn.now ≡ c.conn-in_err-advance-1.given.0 = search rules in
+    subst (λ h. IsLent g.S.Store c.args.sql.now (bound c.args.params.now) c.args.conn.now g.V.PartVisitor.looks h c.args.visitor.now c.from_residual-in_err-advance.result c.rows.visitor) ends
+    (broken_off g.S.Store g.V.PartVisitor.looks c.args.sql.now (bound c.args.params.now) c.args.conn.now c.args.visitor.now c.rows.rows.conn.now c.advance.new.self.conn.now c.rows.visitor _ (search rules)
+    c.rows.invariant.2 (λ clean. omega (arith, c.advance.ensures.survives.clean)))
+
+pub returns-in_err-advance-clause-leaves : goal.returns-in_err-advance-clause-leaves
+returns-in_err-advance-clause-leaves g c =
+    let ends : c.advance.new.self.conn.now ≡ c.conn-in_err-advance-1.given.0 = search rules in
+    let failed : Leaves (state g.S.Store c.rows.rows.conn.now) (state g.S.Store c.advance.new.self.conn.now) =
+    leaves_stays _ _ c.advance.ensures.survives (λ clean. elim (c.in_err-advance.ensures.kept clean) [ inl fails ↦ inr fails.3 | inr same ↦ inl same ]) in
+    subst (λ h. Leaves (state g.S.Store c.args.conn.now) (state g.S.Store h)) ends (leaves_then _ _ _ c.rows.invariant.2.leaves failed)
+
+-- ---- no row was left
+
+pub returns-in_default-clause-lent : goal.returns-in_default-clause-lent
+returns-in_default-clause-lent g c =
+    let ends : c.advance.new.self.conn.now ≡ c.conn-in_default-1.given.0 = search rules in
+    let none : None ≡ row_if c.advance.new.self.has_row c.advance.new.self.conn.now = c.in_default.ensures in
+    subst (λ h. IsLent g.S.Store c.args.sql.now (bound c.args.params.now) c.args.conn.now g.V.PartVisitor.looks h c.args.visitor.now (Ok lent.All) c.rows.visitor) ends
+    (all_lent g.S.Store g.V.PartVisitor.looks c.args.sql.now (bound c.args.params.now) c.args.conn.now c.args.visitor.now c.rows.rows.conn.now c.advance.new.self.conn.now c.rows.visitor c.rows.invariant.2
+    (leaves_stays _ _ c.advance.ensures.survives (λ clean. inl (c.in_ok-advance.ensures.same clean)))
+    (λ clean. subst (λ o. Advances g.S.Store c.rows.rows.conn.now c.advance.new.self.conn.now o) (sym none) (c.in_ok-advance.ensures.ok clean)))
+
+pub returns-in_default-clause-leaves : goal.returns-in_default-clause-leaves
+returns-in_default-clause-leaves g c =
+    let ends : c.advance.new.self.conn.now ≡ c.conn-in_default-1.given.0 = search rules in
+    subst (λ h. Leaves (state g.S.Store c.args.conn.now) (state g.S.Store h)) ends
+    (leaves_then _ _ _ c.rows.invariant.2.leaves (leaves_stays (state g.S.Store c.rows.rows.conn.now) (state g.S.Store c.advance.new.self.conn.now) c.advance.ensures.survives (λ clean. inl (c.in_ok-advance.ensures.same clean))))
+
+-- ---- a row was no part
+
+pub returns-in_err-part-clause-lent : goal.returns-in_err-part-clause-lent
+returns-in_err-part-clause-lent g c =
+    let ends : c.advance.new.self.conn.now ≡ c.conn-in_err-part-1.given.0 = search rules in
+    subst (λ h. IsLent g.S.Store c.args.sql.now (bound c.args.params.now) c.args.conn.now g.V.PartVisitor.looks h c.args.visitor.now c.from_residual-in_err-part.result c.rows.visitor) ends
+    (broken_off g.S.Store g.V.PartVisitor.looks c.args.sql.now (bound c.args.params.now) c.args.conn.now c.args.visitor.now c.rows.rows.conn.now c.advance.new.self.conn.now c.rows.visitor _ (search rules)
+    c.rows.invariant.2 (λ clean. omega (arith, c.advance.ensures.survives.clean)))
+
+pub returns-in_err-part-clause-leaves : goal.returns-in_err-part-clause-leaves
+returns-in_err-part-clause-leaves g c =
+    let ends : c.advance.new.self.conn.now ≡ c.conn-in_err-part-1.given.0 = search rules in
+    subst (λ h. Leaves (state g.S.Store c.args.conn.now) (state g.S.Store h)) ends
+    (leaves_then _ _ _ c.rows.invariant.2.leaves (leaves_stays (state g.S.Store c.rows.rows.conn.now) (state g.S.Store c.advance.new.self.conn.now) c.advance.ensures.survives (λ clean. inl (c.in_ok-advance.ensures.same clean))))
+
+pub returns-in_default-2-clause-lent : goal.returns-in_default-2-clause-lent
+returns-in_default-2-clause-lent g c =
+    let ends : c.advance.new.self.conn.now ≡ c.conn-in_default-2-1.given.0 = search rules in
+    subst (λ h. IsLent g.S.Store c.args.sql.now (bound c.args.params.now) c.args.conn.now g.V.PartVisitor.looks h c.args.visitor.now (Ok lent.Strange) c.rows.visitor) ends
+    (broken_off g.S.Store g.V.PartVisitor.looks c.args.sql.now (bound c.args.params.now) c.args.conn.now c.args.visitor.now c.rows.rows.conn.now c.advance.new.self.conn.now c.rows.visitor (Ok lent.Strange) refl
+    c.rows.invariant.2 (λ clean. omega (arith, c.advance.ensures.survives.clean)))
+
+pub returns-in_default-2-clause-leaves : goal.returns-in_default-2-clause-leaves
+returns-in_default-2-clause-leaves g c =
+    let ends : c.advance.new.self.conn.now ≡ c.conn-in_default-2-1.given.0 = search rules in
+    subst (λ h. Leaves (state g.S.Store c.args.conn.now) (state g.S.Store h)) ends
+    (leaves_then _ _ _ c.rows.invariant.2.leaves (leaves_stays (state g.S.Store c.rows.rows.conn.now) (state g.S.Store c.advance.new.self.conn.now) c.advance.ensures.survives (λ clean. inl (c.in_ok-advance.ensures.same clean))))
+
+-- ---- the visitor looked at a part
+
+pub returns-then-not-part-clause-lent : goal.returns-then-not-part-clause-lent
+returns-then-not-part-clause-lent g c =
+    let ends : c.advance.new.self.conn.now ≡ c.conn-then-not-part-1.given.0 = search rules in
+    let row : Some c.in-Some.row.now ≡ row_if c.advance.new.self.has_row c.advance.new.self.conn.now = c.in-Some.ensures in
+    subst (λ h. IsLent g.S.Store c.args.sql.now (bound c.args.params.now) c.args.conn.now g.V.PartVisitor.looks h c.args.visitor.now (Ok lent.Stopped) c.part.new.self) ends
+    (stopped_at g.S.Store g.V.PartVisitor.looks c.args.sql.now (bound c.args.params.now) c.args.conn.now c.args.visitor.now c.rows.rows.conn.now c.advance.new.self.conn.now c.rows.visitor c.part.new.self c.in-Some.row.now c.in-Some-2.part c.rows.invariant.2
+    (leaves_stays _ _ c.advance.ensures.survives (λ clean. inl (c.in_ok-advance.ensures.same clean)))
+    (λ clean. subst (λ o. Advances g.S.Store c.rows.rows.conn.now c.advance.new.self.conn.now o) (sym row) (c.in_ok-advance.ensures.ok clean))
+    (rw c.in-Some-2.is at c.in_ok-part.ensures)
+    (subst (λ b. g.V.PartVisitor.looks c.rows.visitor c.in-Some-2.part b c.part.new.self) c.if-not-part.true c.part.ensures))
+
+pub returns-then-not-part-clause-leaves : goal.returns-then-not-part-clause-leaves
+returns-then-not-part-clause-leaves g c =
+    let ends : c.advance.new.self.conn.now ≡ c.conn-then-not-part-1.given.0 = search rules in
+    subst (λ h. Leaves (state g.S.Store c.args.conn.now) (state g.S.Store h)) ends
+    (leaves_then _ _ _ c.rows.invariant.2.leaves (leaves_stays (state g.S.Store c.rows.rows.conn.now) (state g.S.Store c.advance.new.self.conn.now) c.advance.ensures.survives (λ clean. inl (c.in_ok-advance.ensures.same clean))))
+
+pub rows-preserved : goal.rows-preserved
+rows-preserved g c =
+    let row : Some c.in-Some.row.now ≡ row_if c.advance.new.self.has_row c.advance.new.self.conn.now = c.in-Some.ensures in (
+      c.advance.ensures.same_reference ∙ c.rows.invariant.0,
+      λ outside. c.advance.ensures.mode (c.rows.invariant.1 outside),
+      went_to g.S.Store g.V.PartVisitor.looks c.args.sql.now (bound c.args.params.now) c.args.conn.now c.args.visitor.now c.rows.rows.conn.now c.advance.new.self.conn.now c.rows.visitor c.part.new.self c.in-Some.row.now c.in-Some-2.part c.rows.invariant.2
+          (leaves_stays _ _ c.advance.ensures.survives (λ clean. inl (c.in_ok-advance.ensures.same clean)))
+          (λ clean. subst (λ o. Advances g.S.Store c.rows.rows.conn.now c.advance.new.self.conn.now o) (sym row) (c.in_ok-advance.ensures.ok clean))
+          c.in_ok-advance.ensures.same
+          (rw c.in-Some-2.is at c.in_ok-part.ensures)
+          (subst (λ b. g.V.PartVisitor.looks c.rows.visitor c.in-Some-2.part b c.part.new.self) c.if-not-part.false c.part.ensures),
+    )
+
+-- ---- more rows than a table has
+
+pub returns-clause-lent : goal.returns-clause-lent
+returns-clause-lent g c =
+    let ends : c.rows.rows.conn.now ≡ c.conn-2-1.given.0 = search rules in
+    subst (λ h. IsLent g.S.Store c.args.sql.now (bound c.args.params.now) c.args.conn.now g.V.PartVisitor.looks h c.args.visitor.now _ c.rows.visitor) ends
+    (broken_off g.S.Store g.V.PartVisitor.looks c.args.sql.now (bound c.args.params.now) c.args.conn.now c.args.visitor.now c.rows.rows.conn.now c.rows.rows.conn.now c.rows.visitor _ tt c.rows.invariant.2 (λ clean. clean))

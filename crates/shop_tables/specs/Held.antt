@@ -1,0 +1,29 @@
+-- When a connection, or what a crash left of it, stands for a content.
+use Rattle.std.specs.FinMap.{FinMap}
+use Rattle.sqlite_trees.specs.Tree.{Trees}
+use Rattle.sqlite.specs.State.{State, HasCleanDisk}
+use Rattle.cut_measure.specs.Codes.{code_cmp}
+use Rattle.shop_machine.specs.Content.{Content}
+use Rattle.shop_machine.specs.declared.records.Totals.{Totals}
+use Rattle.shop_tables.specs.Shown.{Books, Holds, StandsIn}
+use Rattle.shop_tables.specs.Changing.{HasSums}
+
+-- the books of a content and rows of totals
+abbrev pub books : Content → FinMap code_cmp Totals → Books
+books m totals = record { content = m; totals = totals }
+
+-- The connection holds the content, and as totals the sums of its parts.
+pub record HoldsContent (s : State) (m : Content) : Type 0 where
+  pub totals : FinMap code_cmp Totals
+  pub sums : HasSums (books m totals)
+  pub holds : Holds s (books m totals)
+
+-- The trees stand for the content, and for the sums of its parts as totals.
+pub record StandsFor (db : Trees) (m : Content) : Type 0 where
+  pub totals : FinMap code_cmp Totals
+  pub sums : HasSums (books m totals)
+  pub stands : StandsIn db (books m totals)
+
+-- an open after a crash finds the content
+abbrev pub LeavesOnly : State → Content → Type 0
+LeavesOnly s m = HasCleanDisk s → (db : Trees) → s.may_leave db → StandsFor db m

@@ -1,0 +1,58 @@
+-- Parts that are lent one row at a time.
+use Rattle.std.specs.Prelude.{◌≡◌, ◌⊎◌, ℕ, Bool, true, false, List, [], ◌∷◌, ⊤, IsTrue, IfOk, Result}
+use Rattle.sqlite_value.specs.Order.{Row}
+use Rattle.sqlite_trees.specs.declared.store.Store.{Ghosts}
+use Rattle.sqlite.specs.Held.{Held, state}
+use Rattle.sqlite.specs.State.{HasCleanDisk, Shown, Begins}
+use Rattle.cut_measure.specs.Names.{Name}
+use Rattle.shop_machine.specs.declared.records.Part.{Part}
+use Rattle.shop_machine.specs.Visits.{HasSeen}
+use Rattle.shop_tables.specs.declared.faults.TableFault.{TableFault}
+use Rattle.shop_tables.specs.declared.lending.Lent.{Lent}
+use Rattle.shop_tables.specs.declared.lending.Lent.TheVariants as lent
+use Rattle.shop_tables.specs.Rows.{part_row}
+use Rattle.shop_tables.specs.Shown.{Books, Holds}
+
+-- the part is the one that the row is of
+abbrev pub IsReadOf : Row → Part → Type 0
+IsReadOf row part = (e : Name × Part) → row ≡ part_row e → part ≡ record e.1 { name = e.0 }
+
+-- each part is of its row
+abbrev pub AreReadOf : List Row → List Part → Type 0
+AreReadOf [] [] = ⊤
+AreReadOf [] (p ∷ parts) = ⊥
+AreReadOf (r ∷ rows) [] = ⊥
+AreReadOf (r ∷ rows) (p ∷ parts) = IsReadOf r p × AreReadOf rows parts
+
+-- whether each part was answered true
+abbrev pub went_on : Lent → Bool
+went_on lent.All = true
+went_on lent.Stopped = false
+went_on lent.Strange = true
+
+module _ {S : Type 0} (g : Ghosts S) (sql : List ℕ) (params : Row) (old : Held S) where
+  -- an open connection that holds what was held
+  pub record IsHeldAt (mid : Held S) : Type 0 where
+    pub clean : HasCleanDisk (state g mid)
+    pub is_open : IsTrue (state g mid).is_open
+    pub stays : (b : Books) → Holds (state g old) b → Holds (state g mid) b
+
+  -- the rows are the first of the answer
+  abbrev pub Starts : List Row → Type 0
+  Starts given = (given ≡ []) ⊎ ((mid : Held S) × IsHeldAt mid × Begins sql params (state g mid) given)
+
+  -- the rows are the answer
+  abbrev pub Answers : List Row → Type 0
+  Answers given = (mid : Held S) × (next : Held S) × IsHeldAt mid × Shown sql params (state g mid) (state g next) given
+
+  -- The parts of the first rows were handed to the visitor, and led it to what it is. The result tells how far: to the end,
+  -- or to where the visitor or a row stopped it.
+  pub record IsLent {V : Type 0} (looks : V → Part → Bool → V → Type 0) (new : Held S) (before : V) (result : Result Lent TableFault) (after : V) : Type 0 where
+    pub given : List Row
+    pub parts : List Part
+    pub read : AreReadOf given parts
+    pub on : Bool
+    pub visitor : HasSeen looks parts on before after
+    pub told : IfOk result (λ how. on ≡ went_on how)
+    pub begins : HasCleanDisk (state g new) → Starts given
+    pub whole : HasCleanDisk (state g new) → IfOk result (λ how. how ≡ lent.All → Answers given)

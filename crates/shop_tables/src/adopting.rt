@@ -1,0 +1,155 @@
+//! From a connection to one that holds books.
+
+ghost use Rattle.std.specs.Prelude.{◌≡◌, ◌≢◌, true, false, Err, IfOk, IsTrue, OnOk, OnErr};
+ghost use Rattle.sqlite.specs.State.{HasCleanDisk, Survives};
+ghost use Rattle.sqlite.specs.Held.{state};
+ghost use Rattle.sqlite_catalog.specs.Change.{is_used};
+ghost use Rattle.shop_tables.specs.Adopting.{IsVacant, LeavesBooks, is_table, names_are_free, names_are_tables};
+ghost use Rattle.shop_tables.specs.Layout.{no_schema, IsShop};
+ghost use Rattle.shop_tables.specs.Shown.{Books, Holds, IsSettled, Leaves, Says, StandsIn, fresh_books};
+ghost use Rattle.shop_tables.specs.declared.adopting.AdoptFault.TheVariants.{WrongVersion};
+
+use crate::TableFault;
+use crate::columns::number_in;
+use crate::laying::lay_tables;
+use crate::numbers::number_row;
+use sqlite::{Alter, Connection, Error, ErrorCode};
+use sqlite_schema::schema::Schema;
+
+/// Why a connection wasn't taken over.
+#[derive(Clone, Copy, Debug, PartialEq, Eq)]
+pub enum AdoptFault {
+    /// Memory was wanting.
+    NoMemory,
+    /// The store failed.
+    Store,
+    /// The database has a table, an index or a view with one of the shop's names, and isn't the shop's.
+    WrongVersion,
+}
+
+fn is_used(schema: &Schema, name: &[u8]) -> bool
+    ensures { result ≡ is_used schema.now name.now }
+{
+    schema.table_named(name).is_some()
+        || schema.index_named(name).is_some()
+        || schema.view_named(name).is_some()
+}
+
+fn is_table(schema: &Schema, name: &[u8]) -> bool
+    ensures { result ≡ is_table schema.now name.now }
+{
+    schema.table_named(name).is_some()
+}
+
+// No table, index or view has a name of ours.
+fn are_free(schema: &Schema) -> bool
+    ensures { result ≡ names_are_free schema.now }
+{
+    !is_used(schema, b"meta")
+        && (!is_used(schema, b"materials")
+            && (!is_used(schema, b"parts")
+                && (!is_used(schema, b"jobs")
+                    && (!is_used(schema, b"orders")
+                        && (!is_used(schema, b"demands")
+                            && (!is_used(schema, b"kept")
+                                && (!is_used(schema, b"imports")
+                                    && (!is_used(schema, b"totals")
+                                        && !is_used(schema, b"totals2")))))))))
+}
+
+// Each name of ours is that of a table.
+fn are_tables(schema: &Schema) -> bool
+    ensures { result ≡ names_are_tables schema.now }
+{
+    is_table(schema, b"meta")
+        && (is_table(schema, b"materials")
+            && (is_table(schema, b"parts")
+                && (is_table(schema, b"jobs")
+                    && (is_table(schema, b"orders")
+                        && (is_table(schema, b"demands")
+                            && (is_table(schema, b"kept")
+                                && (is_table(schema, b"imports")
+                                    && (is_table(schema, b"totals")
+                                        && is_table(schema, b"totals2")))))))))
+}
+
+// Makes the tables, in one transaction.
+fn lay<S: Alter>(conn: &mut Connection<S>) -> Result<(), Error>
+    requires outside { conn.old.in_transaction ≡ false }
+    requires settled { IsTrue (state S.Store conn.old).is_open → (state S.Store conn.old).now ≡ (state S.Store conn.old).committed }
+    ensures mode { conn.new.in_transaction ≡ false }
+    ensures earlier { HasCleanDisk (state S.Store conn.new) → HasCleanDisk (state S.Store conn.old) }
+    ensures fresh { conn.old.schema ≡ no_schema → OnOk result (Holds (state S.Store conn.new) fresh_books) }
+    ensures vacant { conn.old.schema ≡ no_schema → OnErr result (IsVacant (state S.Store conn.new)) }
+    ensures crash { conn.old.schema ≡ no_schema → Survives (state S.Store conn.old) (state S.Store conn.new) (λ db. StandsIn db fresh_books) }
+    ensures after { conn.old.schema ≡ no_schema → OnOk result (LeavesBooks (state S.Store conn.new) fresh_books) }
+{
+    let mut tx = conn.transaction();
+    lay_tables(&mut tx)?;
+    tx.commit()
+}
+
+// Whether the tables say that they are these.
+fn has_version<S: Alter>(conn: &mut Connection<S>) -> Result<bool, TableFault>
+    ensures ours { Says (state S.Store conn.old) (state S.Store conn.new) (λ books. IfOk result (λ is. is ≡ true)) }
+    ensures leaves { Leaves (state S.Store conn.old) (state S.Store conn.new) }
+    ensures mode { conn.old.in_transaction ≡ false → conn.new.in_transaction ≡ false }
+{
+    let Some(row) = number_row(conn, "version")? else {
+        return Ok(false);
+    };
+    let version = number_in(&row, 0)?;
+    Ok(version == 2)
+}
+
+fn fault_of_store(error: Error) -> AdoptFault
+    ensures { result ≢ WrongVersion }
+{
+    if error == Error::SqliteFailure(ErrorCode::OutOfMemory) {
+        AdoptFault::NoMemory
+    } else {
+        AdoptFault::Store
+    }
+}
+
+fn fault_of_tables(fault: TableFault) -> AdoptFault
+    ensures { result ≢ WrongVersion }
+{
+    match fault {
+        TableFault::NoMemory => AdoptFault::NoMemory,
+        TableFault::Store => AdoptFault::Store,
+    }
+}
+
+/// Makes the tables where none of their names is taken, in one transaction, and goes on with tables of version 2. It answers
+/// `WrongVersion` where a name is taken and they aren't there, or are of another version, and writes nothing then.
+pub fn adopt_tables<S: Alter>(conn: &mut Connection<S>) -> Result<(), AdoptFault>
+    requires outside { conn.old.in_transaction ≡ false }
+    ensures mode { conn.new.in_transaction ≡ false }
+    ensures earlier { HasCleanDisk (state S.Store conn.new) → HasCleanDisk (state S.Store conn.old) }
+    ensures fresh { conn.old.schema ≡ no_schema → OnOk result (Holds (state S.Store conn.new) fresh_books) }
+    ensures vacant { conn.old.schema ≡ no_schema → OnErr result (IsVacant (state S.Store conn.new)) }
+    ensures crash { conn.old.schema ≡ no_schema → Survives (state S.Store conn.old) (state S.Store conn.new) (λ db. StandsIn db fresh_books) }
+    ensures after { conn.old.schema ≡ no_schema → OnOk result (LeavesBooks (state S.Store conn.new) fresh_books) }
+    ensures held { (b : Books) → IsSettled (state S.Store conn.old) b → Holds (state S.Store conn.new) b }
+    ensures still { IsShop conn.old.schema → Survives (state S.Store conn.old) (state S.Store conn.new) (λ _. ⊥) }
+    ensures strange { result ≡ Err WrongVersion → conn.old.schema ≢ no_schema }
+    ensures unwritten { result ≡ Err WrongVersion → Leaves (state S.Store conn.old) (state S.Store conn.new) }
+    ensures neither { result ≡ Err WrongVersion → HasCleanDisk (state S.Store conn.new) → (b : Books) → IsSettled (state S.Store conn.old) b → ⊥ }
+{
+    let _outside = conn.is_autocommit();
+    if are_free(conn.schema()) {
+        return match lay(conn) {
+            Ok(()) => Ok(()),
+            Err(error) => Err(fault_of_store(error)),
+        };
+    }
+    if !are_tables(conn.schema()) {
+        return Err(AdoptFault::WrongVersion);
+    }
+    match has_version(conn) {
+        Ok(true) => Ok(()),
+        Ok(false) => Err(AdoptFault::WrongVersion),
+        Err(fault) => Err(fault_of_tables(fault)),
+    }
+}

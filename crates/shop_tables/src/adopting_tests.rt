@@ -1,0 +1,124 @@
+use crate::*;
+use sqlite::{Connection, MemStore};
+use std::alloc::Global;
+use std::rt::HostRuntime;
+
+// The fault of an adopt, if there is one.
+fn adopted(conn: &mut Connection<MemStore>) -> Result<Option<AdoptFault>, TableFault> {
+    if !conn.is_autocommit() {
+        return Err(TableFault::Store);
+    }
+    match adopt_tables(conn) {
+        Ok(()) => Ok(None),
+        Err(fault) => Ok(Some(fault)),
+    }
+}
+
+// A database in which this was done.
+fn database(alloc: Global, batch: &str) -> Result<Connection<MemStore>, TableFault> {
+    let mut conn = Connection::open_in_memory(alloc)?;
+    conn.execute_batch(batch)?;
+    Ok(conn)
+}
+
+// A shop in which this was done.
+fn shop(alloc: Global, batch: &str) -> Result<Connection<MemStore>, TableFault> {
+    let mut conn = Connection::open_in_memory(alloc)?;
+    adopted(&mut conn)?;
+    conn.execute_batch(batch)?;
+    Ok(conn)
+}
+
+fn number(conn: &mut Connection<MemStore>, query: &str) -> Result<i64, TableFault> {
+    let row = conn.query_row(query, &[])?;
+    Ok(row.get(0)?)
+}
+
+fn tables(conn: &mut Connection<MemStore>) -> Result<i64, TableFault> {
+    number(
+        conn,
+        "SELECT count(*) FROM sqlite_schema WHERE type = 'table'",
+    )
+}
+
+#[test]
+fn an_empty_database_becomes_a_shop(rt: HostRuntime) -> Result<(), TableFault> {
+    let mut conn = Connection::open_in_memory(rt.alloc())?;
+    assert!(rt; adopted(&mut conn)?.is_none());
+    assert!(rt; tables(&mut conn)? == 10);
+    assert!(rt; find_version(&mut conn)? == 2);
+    assert!(rt; find_last_act(&mut conn)? == 0);
+    Ok(())
+}
+
+#[test]
+fn a_shop_goes_on(rt: HostRuntime) -> Result<(), TableFault> {
+    let mut conn = shop(rt.alloc(), "UPDATE meta SET value = 7 WHERE name = 'act'")?;
+    assert!(rt; adopted(&mut conn)?.is_none());
+    assert!(rt; tables(&mut conn)? == 10);
+    assert!(rt; find_last_act(&mut conn)? == 7);
+    Ok(())
+}
+
+const BESIDE: &str =
+    "CREATE TABLE other (x INTEGER NOT NULL) STRICT;CREATE INDEX at ON other (x);CREATE VIEW shown AS SELECT x FROM other";
+
+#[test]
+fn a_shop_is_made_beside_another_table(rt: HostRuntime) -> Result<(), TableFault> {
+    let mut conn = database(rt.alloc(), BESIDE)?;
+    assert!(rt; adopted(&mut conn)?.is_none());
+    assert!(rt; tables(&mut conn)? == 11);
+    assert!(rt; adopted(&mut conn)?.is_none());
+    assert!(rt; find_version(&mut conn)? == 2);
+    Ok(())
+}
+
+#[test]
+fn another_table_is_made_beside_a_shop(rt: HostRuntime) -> Result<(), TableFault> {
+    let mut conn = shop(rt.alloc(), BESIDE)?;
+    assert!(rt; adopted(&mut conn)?.is_none());
+    assert!(rt; tables(&mut conn)? == 11);
+    assert!(rt; find_version(&mut conn)? == 2);
+    Ok(())
+}
+
+// What takes a name, and how many tables there are.
+const TAKEN: &[(&str, i64)] = &[
+    ("CREATE TABLE parts (x INTEGER NOT NULL) STRICT", 1),
+    (
+        "CREATE TABLE a (x INTEGER NOT NULL) STRICT;CREATE INDEX meta ON a (x)",
+        1,
+    ),
+    (
+        "CREATE TABLE a (x INTEGER NOT NULL) STRICT;CREATE VIEW totals2 AS SELECT x FROM a",
+        1,
+    ),
+];
+
+#[test]
+fn a_name_that_is_taken_is_a_wrong_version(rt: HostRuntime) -> Result<(), TableFault> {
+    'taken: for (batch, count) in TAKEN {
+        let mut conn = database(rt.alloc(), batch)?;
+        assert!(rt; adopted(&mut conn)? == Some(AdoptFault::WrongVersion));
+        assert!(rt; tables(&mut conn)? == *count);
+    }
+    Ok(())
+}
+
+const STRANGE: &[&str] = &[
+    "UPDATE meta SET value = 3 WHERE name = 'version'",
+    "DELETE FROM meta WHERE name = 'version'",
+    "DROP TABLE imports",
+    "DROP TABLE totals",
+    "DROP TABLE totals2",
+];
+
+#[test]
+fn other_tables_are_a_wrong_version(rt: HostRuntime) -> Result<(), TableFault> {
+    'strange: for batch in STRANGE {
+        let mut conn = shop(rt.alloc(), batch)?;
+        assert!(rt; adopted(&mut conn)? == Some(AdoptFault::WrongVersion));
+        assert!(rt; number(&mut conn, "SELECT count(*) FROM parts")? == 0);
+    }
+    Ok(())
+}

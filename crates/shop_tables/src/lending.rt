@@ -1,0 +1,111 @@
+//! Parts that a query lends one row at a time.
+
+ghost use Rattle.std.specs.Prelude.{◌≡◌, true, false, IfOk, IfSome};
+ghost use Rattle.sqlite.specs.Held.{state};
+ghost use Rattle.sqlite.specs.Values.{bound};
+ghost use Rattle.shop_tables.specs.Lending.{IsLent, IsReadOf};
+ghost use Rattle.shop_tables.specs.Selecting.{is_select};
+ghost use Rattle.shop_tables.specs.Shown.{Leaves, Says};
+ghost use Rattle.shop_machine.specs.Content.{parts_of};
+ghost use Rattle.shop_machine.specs.Visits.{IsVisit};
+
+use crate::TableFault;
+use crate::columns::{code_in, name_in, number_in, size_in, state_in};
+use cut_measure::Code;
+use shop_machine::{Part, PartVisitor};
+use sqlite::types::ValueRef;
+use sqlite::{Alter, Connection, Row, params};
+
+/// More rows than a table has.
+const MOST_ROWS: u64 = 18446744073709551615;
+
+/// How the rows of a query were gone through.
+#[derive(Clone, Copy)]
+pub(crate) enum Lent {
+    /// To the end.
+    All,
+    /// Up to the part at which the visitor stopped.
+    Stopped,
+    /// Up to a row that is no part.
+    Strange,
+}
+
+// A part of which each column is shown, its name first.
+fn read_whole(row: &Row) -> Result<Part, TableFault>
+    ensures { IfOk result (IsReadOf row.now) }
+{
+    Ok(Part {
+        name: name_in(row, 0)?,
+        material: code_in(row, 2)?,
+        batch: code_in(row, 3)?,
+        root: name_in(row, 4)?,
+        x: number_in(row, 6)?,
+        y: number_in(row, 7)?,
+        size: size_in(row, 8)?,
+        state: state_in(row, 10)?,
+    })
+}
+
+// None where a column has no value of its type.
+fn read_lent(row: &Row) -> Result<Option<Part>, TableFault>
+    ensures { IfOk result (λ part. IfSome part (IsReadOf row.now)) }
+{
+    match read_whole(row) {
+        Ok(part) => Ok(Some(part)),
+        Err(TableFault::Store) => Ok(None),
+        Err(TableFault::NoMemory) => Err(TableFault::NoMemory),
+    }
+}
+
+/// Hands the parts that a query shows to a visitor, for as long as it answers true.
+pub(crate) fn lend<S: Alter, V: PartVisitor>(
+    conn: &mut Connection<S>,
+    sql: &str,
+    params: &[ValueRef<'_>],
+    visitor: &mut V,
+) -> Result<Lent, TableFault>
+    requires { is_select sql.now ≡ true }
+    ensures lent { IsLent S.Store sql.now (bound params.now) conn.old V.looks conn.new visitor.old result visitor.new }
+    ensures leaves { Leaves (state S.Store conn.old) (state S.Store conn.new) }
+    ensures mode { conn.old.in_transaction ≡ false → conn.new.in_transaction ≡ false }
+{
+    let mut rows = conn.query(sql, params)?;
+    'rows: for _ in 0..MOST_ROWS {
+        rows.advance()?;
+        let Some(row) = rows.get() else {
+            return Ok(Lent::All);
+        };
+        let Some(part) = read_lent(row)? else {
+            return Ok(Lent::Strange);
+        };
+        if !visitor.part(&part) {
+            return Ok(Lent::Stopped);
+        }
+    }
+    Err(TableFault::Store)
+}
+
+/// Hands the standing and the reserved parts of a material to a visitor, by rising act and then node, for as long as it
+/// answers true. The answer is true where that was all of them and false where the visitor stopped; after an `Err` too the
+/// parts that were handed out begin them, and the visitor is what they in turn made of it.
+pub fn lend_parts<S: Alter, V: PartVisitor>(
+    conn: &mut Connection<S>,
+    material: Code,
+    visitor: &mut V,
+) -> Result<bool, TableFault>
+    ensures visit { IsVisit V.looks (λ what. Says (state S.Store conn.old) (state S.Store conn.new) (λ books. what (parts_of books.content material))) visitor.old result visitor.new }
+    ensures leaves { Leaves (state S.Store conn.old) (state S.Store conn.new) }
+    ensures mode { conn.old.in_transaction ≡ false → conn.new.in_transaction ≡ false }
+{
+    let lent = lend(
+        conn,
+        "SELECT act, node, material, batch, root_act, root_node, x, y, w, h, state, detail FROM parts WHERE material = ?1 AND (state = 0 OR state = 1) ORDER BY act, node",
+        params![material.as_str()],
+        visitor,
+    )?;
+    match lent {
+        Lent::All => Ok(true),
+        Lent::Stopped => Ok(false),
+        Lent::Strange => Err(TableFault::Store),
+    }
+}
