@@ -5,7 +5,8 @@ use Rattle.std.proofs.lemmas.Fn.{FoldsTo-push}
 use Rattle.std.proofs.lemmas.List.{append-nil, take_all, take-append-drop}
 use Rattle.std.proofs.lemmas.List.Elements.{filter-append, filter_more}
 use Rattle.shop_machine.specs.declared.records.Part.{Part}
-use Rattle.shop_store.specs.Visits.{HasSeen, IsVisit}
+use Rattle.shop_machine.specs.Visits.{HasSeen, IsVisit}
+use Rattle.shop_store.specs.declared.books.BookFault.{BookFault}
 
 -- the next row is among those so far, where it passes
 pub so_far : (test : Part → Bool) (rows : List Part) (at : ℕ) (row : Part) (b : Bool) → at < length rows → row ≡ get_or rows at row → test row ≡ b
@@ -31,7 +32,7 @@ module _ {V : Type 0} (looks : V → Part → Bool → V → Type 0) (test : Par
 
   -- the visitor stops at a row
   pub stopped : (new : V) (row : Part) → at < length rows → row ≡ get_or rows at row → test row ≡ true
-      → HasSeen looks (filter test (take at rows)) true old mid → looks mid row false new → IsVisit looks (λ what. what (filter test rows)) old (Ok false) new
+      → HasSeen looks (filter test (take at rows)) true old mid → looks mid row false new → IsVisit looks {Fault = BookFault} (λ what. what (filter test rows)) old (Ok false) new
   stopped new row within is passes seen look =
       record {
         parts = filter test (take (at + 1) rows);
@@ -42,7 +43,7 @@ module _ {V : Type 0} (looks : V → Part → Bool → V → Type 0) (test : Par
       }
 
   -- all rows were seen
-  pub ended : length rows ≤ at → HasSeen looks (filter test (take at rows)) true old mid → IsVisit looks (λ what. what (filter test rows)) old (Ok true) mid
+  pub ended : length rows ≤ at → HasSeen looks (filter test (take at rows)) true old mid → IsVisit looks {Fault = BookFault} (λ what. what (filter test rows)) old (Ok true) mid
   ended all seen =
       record {
         parts = filter test rows;

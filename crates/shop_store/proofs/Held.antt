@@ -12,16 +12,17 @@ use Rattle.cut_measure.specs.Codes.{code_cmp}
 use Rattle.shop_machine.specs.declared.records.Material.{Material}
 use Rattle.shop_machine.specs.declared.records.Job.{Job}
 use Rattle.shop_machine.specs.declared.records.Demand.{Demand}
-use Rattle.shop_machine.specs.Content.{Content, pair_cmp, cells_in, with_material, with_job, with_demands, with_kept, with_number}
+use Rattle.shop_machine.specs.Content.{Content, pair_cmp, cells_in, with_material, with_job, with_demands, with_kept, with_import, with_number}
 use Rattle.shop_machine.specs.Soundness.{IsInRange}
 use Rattle.std.specs.Cmp.{IsTotalOrder}
 use Rattle.std.specs.BTreeMap.{insert_entry}
 use Rattle.std.specs.FinMap.{FinMap, empty, insert, from_sorted, find, put, is_sorted, get, get-from_sorted, values, entries-from_sorted, entries-insert, same_entries_map, len-entries, empty_of_len}
 use Rattle.std.specs.FinMap.Entries.{by_order, is_sorted-put}
+use Rattle.shop_machine.specs.declared.imports.ImportRow.{ImportRow}
 use Rattle.shop_machine.specs.declared.kept_texts.Pair.{Pair}
 use Rattle.shop_machine.specs.declared.kept_texts.Kept.{Kept}
 use Rattle.shop_machine.specs.declared.kept_texts.KeptMessage.{KeptMessage}
-use Rattle.shop_store.specs.Memory.{material_key, job_key, demand_key, put_kept, pairs_total}
+use Rattle.shop_store.specs.Memory.{material_key, job_key, demand_key, import_key, put_kept, pairs_total}
 use Rattle.shop_store.specs.Rows.{entries_of, rise, row_at, put_each, map_of, with_rows, ArePut}
 use Rattle.std.specs.Bool.{Decides}
 use Rattle.std.specs.Cmp.Lexicographic.{pointwise}
@@ -114,6 +115,10 @@ material_after (Some row) m = refl
 pub job_after : (row : Option Job) (m : FinMap nat_cmp Job) → with_rows job_key nat_cmp (option_to_list row) m ≡ with_job row m
 job_after None m = refl
 job_after (Some row) m = refl
+
+pub import_after : (row : Option ImportRow) (m : FinMap code_cmp ImportRow) → with_rows import_key code_cmp (option_to_list row) m ≡ with_import row m
+import_after None m = refl
+import_after (Some row) m = refl
 
 pub demands_after : (rows : List Demand) (m : FinMap nat_cmp Demand) → with_rows demand_key nat_cmp rows m ≡ with_demands rows m
 demands_after [] m = refl

@@ -6,3 +6,6 @@ pub mod Summed
 -- what a book in memory holds, and hands out
 pub mod Held
 pub mod Handed
+-- what a book in SQL tables answers and keeps
+pub mod Telling
+pub mod Taking

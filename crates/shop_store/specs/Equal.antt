@@ -27,6 +27,9 @@ use Rattle.shop_machine.specs.declared.records.State.{State}
 use Rattle.shop_machine.specs.declared.records.State.TheVariants as state
 use Rattle.shop_machine.specs.declared.kept_texts.Pair.{Pair}
 use Rattle.shop_machine.specs.declared.kept_texts.Kept.{Kept}
+use Rattle.shop_machine.specs.declared.imports.Form.{Form}
+use Rattle.shop_machine.specs.declared.imports.Form.TheVariants.{Csv, Cgcut}
+use Rattle.shop_machine.specs.declared.imports.ImportRow.{ImportRow}
 use Rattle.shop_machine.specs.Content.{Content}
 use Rattle.shop_machine.specs.Same.{same_name, same_pair}
 use Rattle.shop_machine.specs.contracts.records.MaterialPartialEq.TheImpl as material_eq
@@ -38,6 +41,8 @@ use Rattle.shop_machine.specs.contracts.records.JobStatePartialEq.TheImpl as job
 use Rattle.shop_machine.specs.contracts.records.DemandPartialEq.TheImpl as demand_eq
 use Rattle.cut_tree.specs.SamePatterns.{same_pattern_decides}
 use Rattle.shop_machine.specs.contracts.kept_texts.KeptPartialEq.TheImpl as kept_eq
+use Rattle.shop_machine.specs.contracts.imports.FormPartialEq.TheImpl as form_eq
+use Rattle.shop_machine.specs.contracts.imports.ImportRowPartialEq.TheImpl as import_eq
 use Rattle.shop_store.specs.Memory.{MemoryBook}
 
 -- ---- tests, as `==` makes them
@@ -57,6 +62,9 @@ same_demand = demand_eq.ghosts.eq
 abbrev pub same_kept : Kept → Kept → Bool
 same_kept = kept_eq.ghosts.eq
 
+abbrev pub same_import : ImportRow → ImportRow → Bool
+same_import = import_eq.ghosts.eq
+
 -- whether two maps have the same entries
 abbrev pub same_entries : {K X : Type 0} {R : K → K → Ordering} → (K → K → Bool) → (X → X → Bool) → FinMap R X → FinMap R X → Bool
 same_entries E F m n = pointwise (λ e f. E e.0 f.0 && F e.1 f.1) (entries m) (entries n)
@@ -71,7 +79,8 @@ same_content m n =
     && (same_entries same_name same_part m.parts n.parts
     && (same_entries nat_eq same_job m.jobs n.jobs
     && (same_codes m.orders n.orders
-    && (same_entries nat_eq same_demand m.demands n.demands && (same_entries same_pair same_kept m.kept n.kept && (m.last_act == n.last_act && m.last_demand == n.last_demand))))))
+    && (same_entries nat_eq same_demand m.demands n.demands && (same_entries same_pair same_kept m.kept n.kept
+    && (same_entries (pointwise nat_eq) same_import m.imports n.imports && (m.last_act == n.last_act && m.last_demand == n.last_demand)))))))
 
 -- the same contents, whatever failed
 abbrev pub same_books : MemoryBook → MemoryBook → Bool
@@ -285,6 +294,27 @@ pub kept_decides : (a b : Kept) → Decides (same_kept a b) (a ≡ b)
 kept_decides a b =
     Decides-like _ (λ p i. record { command = p.0 i; reply = p.1 i }) (λ p. (ap (λ n. n.command) p, ap (λ n. n.reply) p)) (Decides-and _ _ (bytes_decides a.command b.command) (bytes_decides a.reply b.reply))
 
+abbrev same_form : Form → Form → Bool
+same_form = form_eq.ghosts.eq
+
+one_form : (a b : Form) → same_form a b ≡ true → a ≡ b
+one_form Csv Csv e = refl
+one_form Csv (Cgcut b) e = no e
+one_form (Cgcut a) Csv e = no e
+one_form (Cgcut a) (Cgcut b) e = ap Cgcut ((bytes_decides a b).0 e)
+
+own_form : (a : Form) → same_form a a ≡ true
+own_form Csv = refl
+own_form (Cgcut a) = (bytes_decides a a).1 refl
+
+form_decides : (a b : Form) → Decides (same_form a b) (a ≡ b)
+form_decides a b = (one_form a b, λ e. subst (λ k. same_form a k ≡ true) e (own_form a))
+
+pub import_decides : (a b : ImportRow) → Decides (same_import a b) (a ≡ b)
+import_decides a b =
+    Decides-like _ (λ p i. record { order = p.0 i; form = p.1.0 i; text = p.1.1.0 i; reply = p.1.1.1 i }) (λ p. (ap (λ r. r.order) p, (ap (λ r. r.form) p, (ap (λ r. r.text) p, ap (λ r. r.reply) p))))
+    (Decides-and _ _ (bytes_decides a.order b.order) (Decides-and _ _ (form_decides a.form b.form) (Decides-and _ _ (bytes_decides a.text b.text) (bytes_decides a.reply b.reply))))
+
 pub content_decides : (m n : Content) → Decides (same_content m n) (m ≡ n)
 content_decides m n =
     Decides-like _
@@ -296,19 +326,21 @@ content_decides m n =
       orders = p.1.1.1.0 i;
       demands = p.1.1.1.1.0 i;
       kept = p.1.1.1.1.1.0 i;
-      last_act = p.1.1.1.1.1.1.0 i;
-      last_demand = p.1.1.1.1.1.1.1 i;
+      imports = p.1.1.1.1.1.1.0 i;
+      last_act = p.1.1.1.1.1.1.1.0 i;
+      last_demand = p.1.1.1.1.1.1.1.1 i;
     })
     (λ p. (
       ap (λ c. c.materials) p,
-      (ap (λ c. c.parts) p, (ap (λ c. c.jobs) p, (ap (λ c. c.orders) p, (ap (λ c. c.demands) p, (ap (λ c. c.kept) p, (ap (λ c. c.last_act) p, ap (λ c. c.last_demand) p)))))),
+      (ap (λ c. c.parts) p, (ap (λ c. c.jobs) p, (ap (λ c. c.orders) p, (ap (λ c. c.demands) p, (ap (λ c. c.kept) p, (ap (λ c. c.imports) p, (ap (λ c. c.last_act) p, ap (λ c. c.last_demand) p))))))),
     ))
     (Decides-and _ _ (maps_decide bytes_decides material_decides m.materials n.materials)
     (Decides-and _ _ (maps_decide name_decides part_decides m.parts n.parts)
     (Decides-and _ _ (maps_decide unsigned_Decides job_decides m.jobs n.jobs)
     (Decides-and _ _ (codes_decide m.orders n.orders)
     (Decides-and _ _ (maps_decide unsigned_Decides demand_decides m.demands n.demands)
-    (Decides-and _ _ (maps_decide pair_decides kept_decides m.kept n.kept) (Decides-and _ _ (unsigned_Decides m.last_act n.last_act) (unsigned_Decides m.last_demand n.last_demand))))))))
+    (Decides-and _ _ (maps_decide pair_decides kept_decides m.kept n.kept)
+    (Decides-and _ _ (maps_decide bytes_decides import_decides m.imports n.imports) (Decides-and _ _ (unsigned_Decides m.last_act n.last_act) (unsigned_Decides m.last_demand n.last_demand)))))))))
 
 pub same_books_laws : IsPartialEquivalence same_books
 same_books_laws =

@@ -1,7 +1,6 @@
 -- what a book promises
 pub mod Failures
 pub mod Books
-pub mod Visits
 pub mod Kept
 -- a book in memory
 pub mod Rows
@@ -9,3 +8,6 @@ pub mod Sums
 pub mod Memory
 pub mod Equal
 pub mod MemBooks
+-- a book in SQL tables
+pub mod SqlBooks
+pub mod Takers

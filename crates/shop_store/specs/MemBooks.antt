@@ -7,12 +7,12 @@ use Rattle.cut_measure.specs.Names.{name_cmp}
 use Rattle.shop_machine.specs.Content.{pair_cmp}
 use Rattle.shop_store.specs.Rows.{rise}
 use Rattle.shop_store.specs.Sums.{sums_key, AreSumsOf, all_small}
-use Rattle.shop_store.specs.Memory.{MemoryBook, material_key, part_key, job_key, order_key, demand_key, content_of_rows}
+use Rattle.shop_store.specs.Memory.{MemoryBook, material_key, part_key, job_key, order_key, demand_key, import_key, content_of_rows}
 use Rattle.shop_store.specs.declared.memory.MemBook.TheInside.{Inside}
 
 abbrev pub book_of : Inside → MemoryBook
 book_of book = record {
-  content = content_of_rows book.materials.items book.parts.items book.jobs.items book.orders.items book.demands.items book.kept.entries book.last_act book.last_demand;
+  content = content_of_rows book.materials.items book.parts.items book.jobs.items book.orders.items book.demands.items book.kept.entries book.imports.items book.last_act book.last_demand;
   failures = book.failures;
 }
 
@@ -25,5 +25,6 @@ pub record IsConsistent (book : Inside) : Type 0 where
   pub orders : IsTrue (rise order_key code_cmp book.orders.items)
   pub demands : IsTrue (rise demand_key nat_cmp book.demands.items)
   pub kept : IsTrue (is_sorted pair_cmp book.kept.entries)
+  pub imports : IsTrue (rise import_key code_cmp book.imports.items)
   pub small : IsTrue (all_small book.parts.items)
   pub sums : AreSumsOf book.parts.items book.totals.items

@@ -15,6 +15,7 @@ use Rattle.shop_machine.specs.contracts.records.Job as job_type
 use Rattle.shop_machine.specs.contracts.records.Demand as demand_type
 use Rattle.shop_machine.specs.contracts.kept_texts.Pair as pair_type
 use Rattle.shop_machine.specs.contracts.kept_texts.Kept as kept_type
+use Rattle.shop_machine.specs.contracts.imports.ImportRow as import_type
 use Rattle.cut_measure.specs.Codes.{code_cmp}
 use Rattle.cut_measure.specs.Names.{Name, name_cmp}
 use Rattle.shop_machine.specs.declared.records.Material.{Material}
@@ -24,6 +25,7 @@ use Rattle.shop_machine.specs.declared.records.Demand.{Demand}
 use Rattle.shop_machine.specs.declared.kept_texts.Pair.{Pair}
 use Rattle.shop_machine.specs.declared.kept_texts.Kept.{Kept}
 use Rattle.shop_machine.specs.declared.kept_texts.KeptMessage.{KeptMessage}
+use Rattle.shop_machine.specs.declared.imports.ImportRow.{ImportRow}
 use Rattle.shop_machine.specs.Content.{Content, pair_cmp}
 use Rattle.shop_store.specs.Rows.{map_of}
 
@@ -42,6 +44,9 @@ order_key code = code
 
 abbrev pub demand_key : Demand → ℕ
 demand_key d = d.number
+
+abbrev pub import_key : ImportRow → List ℕ
+import_key row = row.order
 
 pub names_total : IsTotalOrder name_cmp
 names_total = then_total (on_total (λ n. n.act) nat_cmp_total) (on_total (λ n. n.node) nat_cmp_total)
@@ -66,18 +71,19 @@ abbrev pub memory_code : Coded MemoryBook
 memory_code =
     code_by
     (map.FinMap code_cmp Material
-    × (map.FinMap name_cmp Part × (map.FinMap nat_cmp Job × (set.FinSet code_cmp × (map.FinMap nat_cmp Demand × (map.FinMap pair_cmp Kept × (ℕ × (ℕ × ℕ))))))))
+    × (map.FinMap name_cmp Part × (map.FinMap nat_cmp Job × (set.FinSet code_cmp × (map.FinMap nat_cmp Demand × (map.FinMap pair_cmp Kept × (map.FinMap code_cmp ImportRow × (ℕ × (ℕ × ℕ)))))))))
     (coded× (map.code (coded_list coded_ℕ) material_type.the_row.coded)
     (coded× (map.code name_code part_type.the_row.coded)
     (coded× (map.code coded_ℕ job_type.the_row.coded)
     (coded× (set.code (coded_list coded_ℕ))
     (coded× (map.code coded_ℕ demand_type.the_row.coded)
-    (coded× (map.code pair_type.the_row.coded kept_type.the_row.coded) (coded× coded_ℕ (coded× coded_ℕ coded_ℕ))))))))
-    (λ b. (b.content.materials, (b.content.parts, (b.content.jobs, (b.content.orders, (b.content.demands, (b.content.kept, (b.content.last_act, (b.content.last_demand, b.failures)))))))))
+    (coded× (map.code pair_type.the_row.coded kept_type.the_row.coded)
+    (coded× (map.code (coded_list coded_ℕ) import_type.the_row.coded) (coded× coded_ℕ (coded× coded_ℕ coded_ℕ)))))))))
+    (λ b. (b.content.materials, (b.content.parts, (b.content.jobs, (b.content.orders, (b.content.demands, (b.content.kept, (b.content.imports, (b.content.last_act, (b.content.last_demand, b.failures))))))))))
     (λ p.
     record {
-      content = record { materials = p.0; parts = p.1.0; jobs = p.1.1.0; orders = p.1.1.1.0; demands = p.1.1.1.1.0; kept = p.1.1.1.1.1.0; last_act = p.1.1.1.1.1.1.0; last_demand = p.1.1.1.1.1.1.1.0 };
-      failures = p.1.1.1.1.1.1.1.1;
+      content = record { materials = p.0; parts = p.1.0; jobs = p.1.1.0; orders = p.1.1.1.0; demands = p.1.1.1.1.0; kept = p.1.1.1.1.1.0; imports = p.1.1.1.1.1.1.0; last_act = p.1.1.1.1.1.1.1.0; last_demand = p.1.1.1.1.1.1.1.1.0 };
+      failures = p.1.1.1.1.1.1.1.1.1;
     })
     (λ _. refl)
 
@@ -85,8 +91,8 @@ memory_code =
 abbrev pub orders_in : List (List ℕ) → set.FinSet code_cmp
 orders_in codes = set.from_list codes
 
-abbrev pub content_of_rows : List Material → List Part → List Job → List (List ℕ) → List Demand → List (Pair × Kept) → ℕ → ℕ → Content
-content_of_rows materials parts jobs orders demands kept last_act last_demand =
+abbrev pub content_of_rows : List Material → List Part → List Job → List (List ℕ) → List Demand → List (Pair × Kept) → List ImportRow → ℕ → ℕ → Content
+content_of_rows materials parts jobs orders demands kept imports last_act last_demand =
     record {
       materials = map_of material_key code_cmp materials;
       parts = map_of part_key name_cmp parts;
@@ -94,6 +100,7 @@ content_of_rows materials parts jobs orders demands kept last_act last_demand =
       orders = orders_in orders;
       demands = map_of demand_key nat_cmp demands;
       kept = map.from_sorted kept;
+      imports = map_of import_key code_cmp imports;
       last_act = last_act;
       last_demand = last_demand;
     }

@@ -1,13 +1,14 @@
 ghost use Rattle.std.specs.Prelude.{◌≡◌, ◌+◌, ◌≤◌, ◌⊎◌, ℕ, IfOk, IfSome, OnOk, OnErr};
-ghost use Rattle.shop_machine.specs.Content.{Content, material_at, part_at, job_at, has_order, demand_at, kept_at, totals_of, parts_of as listed_parts, changed};
+ghost use Rattle.shop_machine.specs.Content.{Content, material_at, part_at, job_at, has_order, demand_at, kept_at, import_at, totals_of, parts_of as listed_parts, changed};
 ghost use Rattle.shop_machine.specs.Soundness.{Fits};
 ghost use Rattle.shop_store.specs.Failures.{CountsFailure};
 ghost use Rattle.shop_store.specs.Books.{Keeps};
-ghost use Rattle.shop_store.specs.Visits.{IsVisit};
+ghost use Rattle.shop_machine.specs.Visits.{IsVisit};
 
-use crate::visits::PartVisitor;
 use cut_measure::{Code, PartName};
-use shop_machine::{Change, Demand, Job, Kept, Material, Part, PartList, Refusal, Totals};
+use shop_machine::{
+    Change, Demand, ImportRow, Job, Kept, Material, Part, PartList, PartVisitor, Refusal, Totals,
+};
 use std::alloc::{AllocError, Global};
 use std::error::Error;
 use std::fmt;
@@ -119,6 +120,11 @@ pub trait Book {
     fn kept(&mut self, alloc: Global, terminal: u32, number: u32) -> Result<Option<Kept>, BookFault>
         ensures row { is_honest self.new → (m : Content) → holds self.old m
             → IfOk result (λ row. row ≡ kept_at m (record { terminal = terminal; number = number })) }
+        ensures keeps { Keeps is_honest holds may_leave failed (CountsFailure result) self.old self.new };
+
+    /// What is kept of the import that the order of this code came by.
+    fn import(&mut self, alloc: Global, order: Code) -> Result<Option<ImportRow>, BookFault>
+        ensures row { is_honest self.new → (m : Content) → holds self.old m → IfOk result (λ row. row ≡ import_at m order) }
         ensures keeps { Keeps is_honest holds may_leave failed (CountsFailure result) self.old self.new };
 
     /// The number of the next act, 1 on a fresh book.

@@ -1,6 +1,6 @@
 use crate::rows::Row;
 use cut_measure::{Code, PartName};
-use shop_machine::{Demand, Job, Material, Part};
+use shop_machine::{Demand, ImportRow, Job, Material, Part};
 use std::cmp::Ordering;
 
 impl Row for Material {
@@ -124,4 +124,29 @@ impl Row for Demand {
     ghost total = { nat_cmp_total };
 
     ghost exact = { nat_cmp-IsAntisymmetric };
+}
+
+impl Row for ImportRow {
+    ghost use Rattle.cut_measure.specs.Codes.{code_cmp};
+    ghost use Rattle.std.specs.Cmp.Lexicographic.{nat_list_cmp_total};
+    ghost use Rattle.std.specs.FinMap.{slice_cmp-IsAntisymmetric, nat_cmp-IsAntisymmetric};
+    ghost use Rattle.shop_store.specs.Memory.{import_key};
+
+    type Key = Code;
+
+    ghost key_of = { import_key };
+
+    ghost cmp = { code_cmp };
+
+    fn compare(&self, key: Code) -> Ordering {
+        self.order.order(&key)
+    }
+
+    fn key(&self) -> Code {
+        self.order
+    }
+
+    ghost total = { nat_list_cmp_total };
+
+    ghost exact = { slice_cmp-IsAntisymmetric nat_cmp-IsAntisymmetric };
 }

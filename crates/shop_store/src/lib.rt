@@ -5,11 +5,15 @@ mod books;
 mod keys;
 mod memory;
 mod rows;
+mod sql;
+#[cfg(test)]
+mod sql_tests;
 mod sums;
+mod takers;
 #[cfg(test)]
 mod tests;
-mod visits;
 
 pub use books::{Book, BookFault, MOST_FAILURES};
 pub use memory::MemBook;
-pub use visits::PartVisitor;
+pub use shop_machine::PartVisitor;
+pub use sql::SqlBook;

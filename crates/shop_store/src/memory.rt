@@ -2,21 +2,22 @@ ghost use Rattle.std.specs.Prelude.{◌≡◌, ◌≢◌, ◌+◌, ◌<◌, ◌�
 ghost use Rattle.cut_measure.specs.Codes.{code_cmp};
 ghost use Rattle.cut_measure.specs.Names.{name_cmp};
 ghost use Rattle.std.specs.Ordering.{nat_cmp};
-ghost use Rattle.shop_machine.specs.Content.{Content, material_at, part_at, job_at, has_order, demand_at, kept_at, totals_of, parts_of as listed_parts, changed, is_listed, with_parts, with_moved, with_material, with_job, with_order, with_demands, pair_cmp};
+ghost use Rattle.shop_machine.specs.Content.{Content, material_at, part_at, job_at, has_order, demand_at, kept_at, import_at, totals_of, parts_of as listed_parts, changed, is_listed, with_parts, with_moved, with_material, with_job, with_order, with_demands, pair_cmp};
 ghost use Rattle.shop_machine.specs.Soundness.{IsInRange};
-ghost use Rattle.shop_store.specs.Memory.{material_key, part_key, job_key, order_key, put_kept};
+ghost use Rattle.shop_store.specs.Memory.{material_key, part_key, job_key, order_key, import_key, put_kept};
 ghost use Rattle.std.specs.FinMap.{find as find_entry};
 ghost use Rattle.shop_store.specs.Rows.{rise, row_at, map_of, IsPut};
-ghost use Rattle.shop_store.specs.Visits.{IsVisit};
+ghost use Rattle.shop_machine.specs.Visits.{IsVisit};
+ghost use Rattle.shop_store.specs.declared.books.BookFault.{BookFault as Fault};
 ghost use Rattle.shop_store.specs.Sums.{sums_key, AreSumsOf, all_small};
 
 use crate::books::{Book, BookFault};
 use crate::rows::{at, find, put, put_all, put_some};
 use crate::sums::{Sums, add_part, take_replaced, totals_in};
-use crate::visits::PartVisitor;
 use cut_measure::{Code, PartName};
 use shop_machine::{
-    Change, Demand, Job, Kept, KeptMessage, Material, Pair, Part, PartList, Totals,
+    Change, Demand, ImportRow, Job, Kept, KeptMessage, Material, Pair, Part, PartList, PartVisitor,
+    Totals,
 };
 use std::alloc::{AllocError, Global};
 use std::collections::BTreeMap;
@@ -32,6 +33,7 @@ pub struct MemBook {
     orders: Vec<Code>,
     demands: Vec<Demand>,
     kept: BTreeMap<Pair, Kept>,
+    imports: Vec<ImportRow>,
     last_act: u32,
     last_demand: u32,
     failures: u64,
@@ -68,6 +70,7 @@ impl MemBook {
             orders: Vec::new(alloc),
             demands: Vec::new(alloc),
             kept: BTreeMap::new(alloc),
+            imports: Vec::new(alloc),
             last_act: 0,
             last_demand: 0,
             failures: 0,
@@ -89,6 +92,7 @@ impl MemBook {
         let orders = Vec::from_slice(alloc, &self.orders)?;
         let demands = Vec::from_slice(alloc, &self.demands)?;
         let kept = self.kept.clone()?;
+        let imports = self.imports.clone()?;
         Ok(MemBook {
             materials,
             parts,
@@ -97,6 +101,7 @@ impl MemBook {
             orders,
             demands,
             kept,
+            imports,
             last_act: self.last_act,
             last_demand: self.last_demand,
             failures: self.failures,
@@ -119,7 +124,7 @@ fn listed(alloc: Global, parts: &[Part], material: Code) -> Result<PartList, All
 
 // Hands out the listed parts of a material, for as long as the visitor answers true.
 fn visit<V: PartVisitor>(parts: &[Part], material: Code, visitor: &mut V) -> bool
-    ensures { IsVisit V.looks (λ what. what (filter (is_listed material) parts.now)) visitor.old (Ok result) visitor.new }
+    ensures { IsVisit V.looks {Fault = Fault} (λ what. what (filter (is_listed material) parts.now)) visitor.old (Ok result) visitor.new }
 {
     for part in parts {
         if part.is_listed(&material) && !visitor.part(part) {
@@ -138,6 +143,24 @@ fn find_job(alloc: Global, jobs: &[Job], number: u32) -> Result<Option<Job>, All
         None => Ok(None),
         Some(job) => {
             let copy = job.copy(alloc)?;
+            Ok(Some(copy))
+        }
+    }
+}
+
+// A copy of what is kept of the import of an order.
+fn find_import(
+    alloc: Global,
+    imports: &[ImportRow],
+    order: Code,
+) -> Result<Option<ImportRow>, AllocError>
+    requires { IsTrue (rise import_key code_cmp imports.now) }
+    ensures { IfOk result (λ row. row ≡ row_at import_key code_cmp order imports.now) }
+{
+    match at(imports, order) {
+        None => Ok(None),
+        Some(row) => {
+            let copy = row.copy(alloc)?;
             Ok(Some(copy))
         }
     }
@@ -257,22 +280,25 @@ fn reserve(
     Ok(())
 }
 
-// Makes room for a job, an order and demands.
+// Makes room for a job, an order, demands and an import.
 fn reserve_orders(
     jobs: &mut Vec<Job>,
     orders: &mut Vec<Code>,
     demands: &mut Vec<Demand>,
+    imports: &mut Vec<ImportRow>,
     count: usize,
 ) -> Result<(), AllocError>
     ensures jobs { jobs.new.items ≡ jobs.old.items }
     ensures orders { orders.new.items ≡ orders.old.items }
     ensures demands { demands.new.items ≡ demands.old.items }
+    ensures imports { imports.new.items ≡ imports.old.items }
     ensures room { OnOk result ((vec_len jobs.new < vec_capacity jobs.new) × (vec_len orders.new < vec_capacity orders.new)
-        × (vec_len demands.new + count ≤ vec_capacity demands.new)) }
+        × (vec_len demands.new + count ≤ vec_capacity demands.new) × (vec_len imports.new < vec_capacity imports.new)) }
 {
     jobs.reserve(1)?;
     orders.reserve(1)?;
     demands.reserve(count)?;
+    imports.reserve(1)?;
     Ok(())
 }
 
@@ -331,6 +357,12 @@ impl MemBook {
         self.kept == other.kept
     }
 
+    fn has_imports_of(&self, other: &MemBook) -> bool
+        ensures { IsTrue result ↔ (self.now.content.imports ≡ other.now.content.imports) }
+    {
+        self.imports == other.imports
+    }
+
     // Whether the contents are equal.
     fn has_content_of(&self, other: &MemBook) -> bool
         ensures { IsTrue result ↔ (self.now.content ≡ other.now.content) }
@@ -341,6 +373,7 @@ impl MemBook {
             && self.has_orders_of(other)
             && self.has_demands_of(other)
             && self.has_kept_of(other)
+            && self.has_imports_of(other)
             && self.last_act == other.last_act
             && self.last_demand == other.last_demand
     }
@@ -430,6 +463,15 @@ impl Book for MemBook {
         Ok(row)
     }
 
+    fn import(&mut self, alloc: Global, order: Code) -> Result<Option<ImportRow>, BookFault>
+        ensures row { IfOk result (λ row. row ≡ import_at self.old.content order) }
+        ensures memory { IfErr result (λ fault. fault ≡ NoMemory) }
+        ensures same { self.new ≡ self.old }
+    {
+        let row = find_import(alloc, &self.imports, order)?;
+        Ok(row)
+    }
+
     fn next_act(&mut self) -> Result<u32, BookFault>
         ensures number { IfOk result (λ act. act ≡ self.old.content.last_act + 1) }
         ensures sure { self.old.content.last_act < 2 ^ 32 - 1 → IsOk result }
@@ -504,6 +546,7 @@ impl Book for MemBook {
             totals: _,
             act,
             demand,
+            import,
             kept,
             reply: _,
         } = change;
@@ -519,6 +562,7 @@ impl Book for MemBook {
             &mut self.jobs,
             &mut self.orders,
             &mut self.demands,
+            &mut self.imports,
             wanted.len(),
         )?;
         keep(&mut self.kept, kept)?;
@@ -528,6 +572,7 @@ impl Book for MemBook {
         put_some(&mut self.jobs, job);
         put_some(&mut self.orders, order);
         put_all(&mut self.demands, wanted);
+        put_some(&mut self.imports, import);
         self.last_act = act.unwrap_or(self.last_act);
         self.last_demand = demand.unwrap_or(self.last_demand);
         Ok(())

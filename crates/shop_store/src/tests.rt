@@ -11,7 +11,7 @@ use std::alloc::{AllocError, Global};
 use std::process::Abort;
 use std::test::Fail;
 
-fn iron() -> Result<Material, Fail> {
+pub fn iron() -> Result<Material, Fail> {
     let code = Code::read("IRON").ok_or("no code")?;
     let limits = Limits::new(Kind::Bar, 3, 20, 1).ok_or("no limits")?;
     Ok(Material {
@@ -22,7 +22,7 @@ fn iron() -> Result<Material, Fail> {
 }
 
 // A bar of 100 by 1, as it is received.
-fn bar(material: Code, node: u32) -> Result<Part, Fail> {
+pub fn bar(material: Code, node: u32) -> Result<Part, Fail> {
     let name = PartName::new(1, node);
     let batch = Code::read("B-1").ok_or("no batch")?;
     let size = Size::new(Kind::Bar, 100, 1).ok_or("no size")?;
@@ -63,13 +63,14 @@ fn nothing(alloc: Global, reply: Reply) -> Change {
         totals: None,
         act: None,
         demand: None,
+        import: None,
         kept: None,
         reply,
     }
 }
 
 // A material, two bars of it received by act 1, and their message.
-fn receipt(
+pub fn receipt(
     alloc: Global,
     material: Material,
     first: Part,
@@ -100,7 +101,7 @@ fn act(alloc: Global, number: u32) -> Change {
 }
 
 // Ten pieces of 40 by 1 that are wanted by an order.
-fn demand(order: Code, number: u32, line: u32) -> Result<Demand, Fail> {
+pub fn demand(order: Code, number: u32, line: u32) -> Result<Demand, Fail> {
     let material = Code::read("IRON").ok_or("no code")?;
     let size = Size::new(Kind::Bar, 40, 1).ok_or("no size")?;
     Ok(Demand {
@@ -118,7 +119,7 @@ fn demand(order: Code, number: u32, line: u32) -> Result<Demand, Fail> {
 }
 
 // An order of demands 1 and 2.
-fn ordered(
+pub fn ordered(
     alloc: Global,
     order: Code,
     first: Demand,

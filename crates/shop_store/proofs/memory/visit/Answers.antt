@@ -1,7 +1,7 @@
 use Rattle.std.proofs.Common.{◌+◌, refl, sym, subst, ◌∙◌, true, take}
 use Rattle.std.specs.Prelude.{filter}
 use Rattle.shop_machine.specs.Content.{is_listed}
-use Rattle.shop_store.specs.Visits.{HasSeen}
+use Rattle.shop_machine.specs.Visits.{HasSeen}
 use Rattle.shop_store.proofs.Handed.{handed, passed_over, stopped, ended}
 use Rattle.shop_store.proofs.memory.visit.Goals.{else-is_listed-via-then-is_listed+else-not-part, else-is_listed-via-else-is_listed}
 use Rattle.shop_store.proofs.memory.visit.Goals as goal

@@ -1,7 +1,7 @@
 use Rattle.std.proofs.Common.{take, true}
 use Rattle.std.specs.Prelude.{filter}
 use Rattle.shop_machine.specs.Content.{is_listed}
-use Rattle.shop_store.specs.Visits.{HasSeen}
+use Rattle.shop_machine.specs.Visits.{HasSeen}
 use Rattle.shop_store.proofs.memory.visit.Given as goal
 
 abbrev pub invariant-loop-part : goal.invariant-loop-part

@@ -10,7 +10,7 @@ use Rattle.shop_store.proofs.memory.MemBook.new.Goals as goal
 
 pub returns-clause-content : goal.returns-clause-content
 returns-clause-content c =
-    (λ i. content_of_rows (c.new.ensures.items i) (c.new-2.ensures.items i) (c.new-4.ensures.items i) (c.new-5.ensures.items i) (c.new-6.ensures.items i) (c.new-7.ensures.empty i) 0 0)
+    (λ i. content_of_rows (c.new.ensures.items i) (c.new-2.ensures.items i) (c.new-4.ensures.items i) (c.new-5.ensures.items i) (c.new-6.ensures.items i) (c.new-7.ensures.empty i) (c.new-8.ensures.items i) 0 0)
     ∙ (λ i.
     record {
       materials = no_rows code_cmp i;
@@ -19,6 +19,7 @@ returns-clause-content c =
       orders = set.empty;
       demands = no_rows nat_cmp i;
       kept = no_rows pair_cmp i;
+      imports = no_rows code_cmp i;
       last_act = 0;
       last_demand = 0;
     })

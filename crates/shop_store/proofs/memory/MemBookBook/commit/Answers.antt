@@ -8,10 +8,10 @@ use Rattle.cut_measure.specs.Codes.{code_cmp}
 use Rattle.cut_measure.specs.Names.{name_cmp}
 use Rattle.shop_machine.specs.declared.records.Part.{Part}
 use Rattle.shop_machine.specs.declared.records.Demand.{Demand}
-use Rattle.shop_machine.specs.Content.{pair_cmp, with_material, with_parts, with_moved, with_job, with_order, with_demands, with_kept, with_number, changed}
+use Rattle.shop_machine.specs.Content.{pair_cmp, with_material, with_parts, with_moved, with_job, with_order, with_demands, with_kept, with_import, with_number, changed}
 use Rattle.shop_store.specs.Rows.{entries_of, put_each, map_of}
-use Rattle.shop_store.specs.Memory.{material_key, part_key, job_key, demand_key, orders_in}
-use Rattle.shop_store.proofs.Held.{map_after, material_after, job_after, demands_after, kept_after, kept_sorted, number_after}
+use Rattle.shop_store.specs.Memory.{material_key, part_key, job_key, demand_key, import_key, orders_in}
+use Rattle.shop_store.proofs.Held.{map_after, material_after, job_after, demands_after, kept_after, kept_sorted, import_after, number_after}
 use Rattle.shop_store.proofs.Orders.{order_after}
 use Rattle.shop_store.proofs.memory.MemBookBook.commit.Goals as goal
 
@@ -25,6 +25,7 @@ invariant_of-self-2 c =
       orders = c.put_some-3.ensures.rising;
       demands = c.put_all.ensures.rising;
       kept = kept_sorted c.args.change.kept c.self.inside.kept.entries c.keep.new.kept.entries c.self.invariant.kept c.in_ok-keep.ensures.ok;
+      imports = c.put_some-4.ensures.rising;
       small = c.put_parts.ensures.small;
       sums = c.put_parts.ensures.sums;
     }
@@ -53,8 +54,12 @@ returns-clause-ok c =
     ∙ demands_after change.demands (map_of demand_key nat_cmp old.demands.items) in
     let kept : from_sorted {R = pair_cmp} c.keep.new.kept.entries ≡ with_kept change.kept (from_sorted old.kept.entries) =
     kept_after change.kept old.kept.entries c.keep.new.kept.entries c.self.invariant.kept c.in_ok-keep.ensures.ok in
+    let imports : map_of import_key code_cmp c.put_some-4.new.rows.items ≡ with_import change.import (map_of import_key code_cmp old.imports.items) =
+    map_after import_key code_cmp nat_list_cmp_total (option_to_list change.import) old.imports.items c.reserve_orders.new.imports.items c.put_some-4.new.rows.items
+    c.self.invariant.imports c.reserve_orders.ensures.imports c.put_some-4.ensures.put
+    ∙ import_after change.import (map_of import_key code_cmp old.imports.items) in
     let act : c.unwrap_or-self-inside.result ≡ with_number change.act old.last_act = c.unwrap_or-self-inside.ensures ∙ number_after change.act old.last_act in
     let demand : c.unwrap_or-self-inside-2.result ≡ with_number change.demand old.last_demand =
     c.unwrap_or-self-inside-2.ensures ∙ number_after change.demand old.last_demand in
-    (λ i. record { materials = materials i; parts = parts i; jobs = jobs i; orders = orders i; demands = demands i; kept = kept i; last_act = act i; last_demand = demand i })
+    (λ i. record { materials = materials i; parts = parts i; jobs = jobs i; orders = orders i; demands = demands i; kept = kept i; imports = imports i; last_act = act i; last_demand = demand i })
     ∙ ap (λ book. changed book.content change) c.self.view_is

@@ -1,0 +1,7 @@
+use Rattle.shop_machine.specs.Content.{parts_of}
+use Rattle.shop_store.proofs.Taking.{all_taken}
+use Rattle.shop_store.proofs.sql.listed_parts.Goals as goal
+
+pub returns-then-all-clause-rows : goal.returns-then-all-clause-rows
+returns-then-all-clause-rows g c clean b was =
+    all_taken (parts_of b.content c.args.material) _ c.in_ok-all.all _ c.lend_parts.new.visitor c.if-all.true (λ what it. it clean b was) c.in_ok-all.ensures.visit c.new.ensures

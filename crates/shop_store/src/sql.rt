@@ -1,0 +1,232 @@
+ghost use Rattle.std.specs.Prelude.{◌≡◌, ◌+◌, ◌≤◌, false, IfOk, OnOk, OnErr, unwrap_or};
+ghost use Rattle.std.specs.FinMap.{get};
+ghost use Rattle.sqlite.specs.Held.{state};
+ghost use Rattle.shop_machine.specs.Content.{no_totals as nothing, parts_of};
+ghost use Rattle.shop_tables.specs.Shown.{Leaves, Says};
+ghost use Rattle.shop_store.specs.Failures.{CountsFailure};
+ghost use Rattle.shop_store.specs.SqlBooks.{told as as_told};
+
+use crate::books::{Book, BookFault};
+use crate::takers::PartTaker;
+use cut_measure::{Code, PartName};
+use shop_machine::{
+    Change, Demand, ImportRow, Job, Kept, Material, Pair, Part, PartList, PartVisitor, Totals,
+    no_totals,
+};
+use shop_tables::{
+    TableFault, commit_change, find_demand, find_import, find_job, find_kept, find_last_act,
+    find_last_demand, find_material, find_order, find_part, find_totals, lend_parts,
+};
+use sqlite::{Alter, Connection};
+use std::alloc::Global;
+
+/// A book in SQL tables, over any store of `sqlite`.
+#[derive(Drop)]
+pub struct SqlBook<S: Alter> {
+    alloc: Global,
+    conn: Connection<S>,
+    failures: u64,
+    ghost outside: { conn.in_transaction ≡ false },
+}
+
+// The number behind the last act's.
+fn next_act<S: Alter>(conn: &mut Connection<S>) -> Result<u32, TableFault>
+    ensures number { Says (state S.Store conn.old) (state S.Store conn.new) (λ books. IfOk result (λ number. number ≡ books.content.last_act + 1)) }
+    ensures least { IfOk result (λ number. 1 ≤ number) }
+    ensures leaves { Leaves (state S.Store conn.old) (state S.Store conn.new) }
+    ensures mode { conn.old.in_transaction ≡ false → conn.new.in_transaction ≡ false }
+{
+    let last = find_last_act(conn)?;
+    match last.checked_add(1) {
+        Some(act) => Ok(act),
+        None => Err(TableFault::Store),
+    }
+}
+
+// The number behind the last demand's.
+fn next_demand<S: Alter>(conn: &mut Connection<S>) -> Result<u32, TableFault>
+    ensures number { Says (state S.Store conn.old) (state S.Store conn.new) (λ books. IfOk result (λ number. number ≡ books.content.last_demand + 1)) }
+    ensures least { IfOk result (λ number. 1 ≤ number) }
+    ensures leaves { Leaves (state S.Store conn.old) (state S.Store conn.new) }
+    ensures mode { conn.old.in_transaction ≡ false → conn.new.in_transaction ≡ false }
+{
+    let last = find_last_demand(conn)?;
+    match last.checked_add(1) {
+        Some(demand) => Ok(demand),
+        None => Err(TableFault::Store),
+    }
+}
+
+// A code's totals, which are zeros where it has no row.
+fn totals_of<S: Alter>(conn: &mut Connection<S>, code: Code) -> Result<Totals, TableFault>
+    ensures row { Says (state S.Store conn.old) (state S.Store conn.new) (λ books. IfOk result (λ totals. totals ≡ unwrap_or (get books.totals code) nothing)) }
+    ensures leaves { Leaves (state S.Store conn.old) (state S.Store conn.new) }
+    ensures mode { conn.old.in_transaction ≡ false → conn.new.in_transaction ≡ false }
+{
+    match find_totals(conn, code)? {
+        Some(totals) => Ok(totals),
+        None => Ok(no_totals()),
+    }
+}
+
+// The listed parts of a material.
+fn listed_parts<S: Alter>(
+    alloc: Global,
+    conn: &mut Connection<S>,
+    material: Code,
+) -> Result<PartList, TableFault>
+    ensures rows { Says (state S.Store conn.old) (state S.Store conn.new) (λ books. IfOk result (λ rows. rows ≡ parts_of books.content material)) }
+    ensures leaves { Leaves (state S.Store conn.old) (state S.Store conn.new) }
+    ensures mode { conn.old.in_transaction ≡ false → conn.new.in_transaction ≡ false }
+{
+    let mut taker = PartTaker {
+        parts: PartList::new(alloc),
+    };
+    let all = lend_parts(conn, material, &mut taker)?;
+    if all {
+        Ok(taker.parts)
+    } else {
+        Err(TableFault::NoMemory)
+    }
+}
+
+impl<S: Alter> SqlBook<S> {
+    /// Over a connection outside a transaction; no failure is counted yet.
+    pub(crate) fn over(alloc: Global, conn: Connection<S>) -> SqlBook<S>
+        requires { conn.in_transaction ≡ false }
+        ensures conn { result.conn ≡ conn }
+        ensures failures { result.failures ≡ 0 }
+    {
+        SqlBook {
+            alloc,
+            conn,
+            failures: 0,
+        }
+    }
+
+    /// The connection that it was over.
+    pub fn into_connection(self) -> Connection<S>
+        ensures { result ≡ self.conn }
+    {
+        let SqlBook {
+            alloc: _,
+            conn,
+            failures: _,
+        } = self;
+        conn
+    }
+
+    // What the tables answered, where a failure of the store is counted.
+    fn tell<T: Drop>(&mut self, answer: Result<T, TableFault>) -> Result<T, BookFault>
+        ensures conn { self.new.conn ≡ self.old.conn }
+        ensures answer { result ≡ as_told answer }
+        ensures failures { CountsFailure result self.old.failures self.new.failures }
+    {
+        match answer {
+            Ok(row) => Ok(row),
+            Err(TableFault::NoMemory) => Err(BookFault::NoMemory),
+            Err(TableFault::Store) => {
+                self.failures = self.failures.saturating_add(1);
+                Err(BookFault::Store)
+            }
+        }
+    }
+}
+
+impl<S: Alter> Book for SqlBook<S> {
+    ghost use Rattle.std.specs.Prelude.{◌≡◌, ◌≤◌, ℕ, IfOk, IfSome};
+    ghost use Rattle.sqlite_trees.specs.Tree.{Trees};
+    ghost use Rattle.sqlite.specs.State.{HasCleanDisk};
+    ghost use Rattle.sqlite.specs.Held.{state};
+    ghost use Rattle.shop_tables.specs.Held.{HoldsContent, StandsFor};
+
+    ghost Left = { Trees };
+
+    ghost stands = { StandsFor };
+
+    ghost may_leave = { λ book db. (state S.Store book.conn).may_leave db };
+
+    ghost holds = { λ book m. HoldsContent (state S.Store book.conn) m };
+
+    ghost is_honest = { λ book. HasCleanDisk (state S.Store book.conn) };
+
+    ghost failed = { λ book. book.failures };
+
+    fn material(&mut self, code: Code) -> Result<Option<Material>, BookFault> {
+        let answer = find_material(&mut self.conn, code);
+        self.tell(answer)
+    }
+
+    fn part(&mut self, name: PartName) -> Result<Option<Part>, BookFault> {
+        let answer = find_part(&mut self.conn, name);
+        self.tell(answer)
+    }
+
+    fn job(&mut self, alloc: Global, number: u32) -> Result<Option<Job>, BookFault> {
+        let answer = find_job(alloc, &mut self.conn, number);
+        self.tell(answer)
+    }
+
+    fn order(&mut self, code: Code) -> Result<bool, BookFault> {
+        let answer = find_order(&mut self.conn, code);
+        self.tell(answer)
+    }
+
+    fn demand(&mut self, number: u32) -> Result<Option<Demand>, BookFault> {
+        let answer = find_demand(&mut self.conn, number);
+        self.tell(answer)
+    }
+
+    fn kept(
+        &mut self,
+        _alloc: Global,
+        terminal: u32,
+        number: u32,
+    ) -> Result<Option<Kept>, BookFault> {
+        let answer = find_kept(&mut self.conn, Pair { terminal, number });
+        self.tell(answer)
+    }
+
+    fn import(&mut self, _alloc: Global, order: Code) -> Result<Option<ImportRow>, BookFault> {
+        let answer = find_import(&mut self.conn, order);
+        self.tell(answer)
+    }
+
+    fn next_act(&mut self) -> Result<u32, BookFault> {
+        let answer = next_act(&mut self.conn);
+        self.tell(answer)
+    }
+
+    fn next_demand(&mut self) -> Result<u32, BookFault> {
+        let answer = next_demand(&mut self.conn);
+        self.tell(answer)
+    }
+
+    fn totals(&mut self, material: Code) -> Result<Totals, BookFault> {
+        let answer = totals_of(&mut self.conn, material);
+        self.tell(answer)
+    }
+
+    fn parts_of(&mut self, alloc: Global, material: Code) -> Result<PartList, BookFault> {
+        let answer = listed_parts(alloc, &mut self.conn, material);
+        self.tell(answer)
+    }
+
+    fn visit_parts<V: PartVisitor>(
+        &mut self,
+        material: Code,
+        visitor: &mut V,
+    ) -> Result<bool, BookFault> {
+        let answer = lend_parts(&mut self.conn, material, visitor);
+        self.tell(answer)
+    }
+
+    fn commit(&mut self, change: Change) -> Result<(), BookFault> {
+        let answer = commit_change(self.alloc, &mut self.conn, &change);
+        self.tell(answer)
+    }
+
+    fn failures(&self) -> u64 {
+        self.failures
+    }
+}
