@@ -11,7 +11,7 @@ use Rattle.shop_machine.specs.declared.messages.Message.{Message}
 use Rattle.shop_machine.specs.declared.refusals.Refusal.{Refusal}
 use Rattle.shop_machine.specs.declared.refusals.Refusal.TheVariants.{NoMemory, StoreFault, NumberReused}
 use Rattle.shop_machine.specs.declared.messages.Reply.{Reply}
-use Rattle.shop_machine.specs.declared.messages.Reply.TheVariants.{AddMaterial, Receive, AddOrder, Reserve, Done, Break, Release, Scrap, GiveBack, Totals, Rack, Trace, Demand, Refused}
+use Rattle.shop_machine.specs.declared.messages.Reply.TheVariants.{AddMaterial, Receive, AddOrder, Reserve, Done, Break, Release, Scrap, GiveBack, Totals, Rack, Trace, Demand, Plan, Bound, Refused}
 use Rattle.shop_machine.specs.Messages.{Texts, IsMessage, IsMade, refusal_in, is_accepted, pair_of}
 use Rattle.shop_machine.specs.Readings.{Reading}
 use Rattle.shop_machine.specs.Content.{Content, kept_at, changed}
@@ -71,6 +71,8 @@ module _ (texts : Texts) where
   none_made (Rack material parts) made = absurd made
   none_made (Trace batch h of part root state w x y) made = absurd made
   none_made (Demand demand line made' material order reserved wanted) made = absurd made
+  none_made (Plan ceiling dropped tree worth) made = absurd made
+  none_made (Bound best units) made = absurd made
   none_made (Refused refusal) made = absurd made
 
   -- the kept reply to the kept message
@@ -127,6 +129,7 @@ module _ (texts : Texts) where
         sums = fits.sums;
         act = fits.act;
         demand = fits.demand;
+        import = fits.import;
         kept = fits.kept;
       }
 

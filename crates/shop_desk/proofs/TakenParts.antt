@@ -6,7 +6,8 @@ use Rattle.shop_machine.specs.declared.records.Part.{Part}
 use Rattle.shop_machine.specs.declared.records.RackRow.{RackRow}
 use Rattle.shop_machine.specs.Content.{rack_rows}
 use Rattle.shop_machine.specs.Columns.{is_whole, rack_row}
-use Rattle.shop_store.specs.Visits.{GoesOn, HasSeen, IsVisit}
+use Rattle.shop_machine.specs.Visits.{GoesOn, HasSeen, IsVisit}
+use Rattle.shop_store.specs.declared.books.BookFault.{BookFault}
 use Rattle.shop_desk.specs.declared.racks.RackTaker.{RackTaker}
 use Rattle.shop_desk.specs.Racks.{TakesRack}
 
@@ -25,7 +26,7 @@ taken (part ∷ parts) old new goes =
 
 -- a visit that came to the end of a list took it all
 pub rack_taken : (list : List Part) (says : (List Part → Type 0) → Type 0) (told : Bool) (old new : RackTaker) → told ≡ true → ((what : List Part → Type 0) → says what → what list)
-    → IsVisit TakesRack says old (Ok told) new → old.parts ≡ [] → new.parts ≡ rack_rows list
+    → IsVisit TakesRack {Fault = BookFault} says old (Ok told) new → old.parts ≡ [] → new.parts ≡ rack_rows list
 rack_taken list says told old new went reads visit empty =
     let goes : GoesOn TakesRack visit.parts old new = subst (λ b. HasSeen TakesRack visit.parts b old new) (sym visit.answer ∙ went) visit.visitor in
     let begins = reads _ visit.begins in

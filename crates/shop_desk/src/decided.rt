@@ -280,6 +280,7 @@ pub fn keeping_message(change: Change, message: KeptMessage) -> (Change, Reply)
         totals,
         act,
         demand,
+        import,
         kept: _,
         reply,
     } = change;
@@ -293,6 +294,7 @@ pub fn keeping_message(change: Change, message: KeptMessage) -> (Change, Reply)
         totals,
         act,
         demand,
+        import,
         kept: Some(message),
         reply: Reply::Refused(Refusal::BadMessage),
     };

@@ -1,26 +1,29 @@
 ghost use Rattle.std.specs.Prelude.{◌≡◌, ◌≢◌, IfOk, OnErr, None, true, false};
-ghost use Rattle.shop_machine.specs.Content.{Content, kept_at, parts_of, rack_rows};
+ghost use Rattle.shop_machine.specs.Content.{Content, demand_at, kept_at, material_at, material_of, part_at, parts_of, rack_rows};
+ghost use Rattle.shop_machine.specs.Planning.{AreAsked};
 ghost use Rattle.shop_machine.specs.Messages.{IsMessage, pair_of};
 ghost use Rattle.shop_machine.specs.Machine.{Answers, StepAgain};
 ghost use Rattle.shop_machine.specs.Soundness.{IsSound, IsKept};
 ghost use Rattle.shop_machine.specs.declared.kept_texts.Pair.{Pair as PairOf};
 ghost use Rattle.shop_machine.specs.declared.messages.Message.{Message as MessageOf};
-ghost use Rattle.shop_machine.specs.declared.messages.Query.TheVariants.{Totals, Rack, Trace, Demand};
+ghost use Rattle.shop_machine.specs.declared.messages.Query.TheVariants.{Totals, Rack, Trace, Demand, Plan, Bound};
 ghost use Rattle.shop_machine.specs.declared.messages.Reply.TheVariants.{Refused, Rack as RackParts};
 ghost use Rattle.shop_machine.specs.declared.refusals.Refusal.TheVariants.{NoMemory, StoreFault};
 ghost use Rattle.shop_rules.specs.Forms.{json_texts};
+ghost use Rattle.shop_store.specs.Failures.{CountsFailure};
 ghost use Rattle.shop_store.specs.Kept.{KeepsBook, Says};
 ghost use Rattle.shop_desk.specs.Faults.{CountsReply, CountsOrContradicts, CountsUp, StoreFailed};
 ghost use Rattle.shop_desk.specs.Handled.{IsHandled, HasRun};
 
 use crate::decided::{decide, keeping_message};
+use crate::found::{demands_for, material_for};
 use crate::racks::RackTaker;
 use cut_measure::PartName;
 use shop_rules::{
-    Code, Kept, KeptMessage, Message, Pair, Query, RackList, Refusal, Reply, Text, kept_reply,
-    message_text, reply_text,
+    Code, FoundList, Kept, KeptMessage, Material, Message, Pair, Part, Query, RackList, Refusal,
+    Reply, Text, answer_bound, answer_plan, kept_reply, message_text, reply_text,
 };
-use shop_store::Book;
+use shop_store::{Book, BookFault};
 use std::alloc::{AllocError, Global};
 
 // Whether two texts are one.
@@ -197,6 +200,93 @@ fn demand<B: Book>(book: &mut B, number: u32) -> Reply
     }
 }
 
+// A part, its material and the demands of a query, as far as they were found.
+struct PlanRows {
+    part: Option<Part>,
+    material: Option<Material>,
+    demands: Option<FoundList>,
+}
+
+fn plan_rows<B: Book>(
+    alloc: Global,
+    book: &mut B,
+    part: PartName,
+    numbers: &[u32],
+) -> Result<PlanRows, BookFault>
+    ensures rows { Says B.Book book.old book.new (λ m. IfOk result (λ rows. (rows.part ≡ part_at m part) × (rows.material ≡ material_of m rows.part) × AreAsked (demand_at m) numbers.now rows.demands)) }
+    ensures keeps { KeepsBook B.Book (CountsFailure result) book.old book.new }
+{
+    let part = book.part(part)?;
+    let material = material_for(book, &part)?;
+    let demands = demands_for(alloc, book, numbers)?;
+    Ok(PlanRows {
+        part,
+        material,
+        demands,
+    })
+}
+
+// Which plan to cut a part by.
+fn plan<B: Book>(alloc: Global, book: &mut B, part: PartName, numbers: &[u32], step: u32) -> Reply
+    ensures answer { Says B.Book book.old book.new (λ m. Answers m (Plan part numbers.now step) result) }
+    ensures keeps { KeepsBook B.Book (CountsReply result) book.old book.new }
+{
+    match plan_rows(alloc, book, part, numbers) {
+        Err(fault) => Reply::Refused(Refusal::from(fault)),
+        Ok(
+            PlanRows {
+                part,
+                material,
+                demands,
+            },
+        ) => answer_plan(alloc, part, material, &demands, step),
+    }
+}
+
+// A material and the demands of a query, as far as they were found.
+struct BoundRows {
+    material: Option<Material>,
+    demands: Option<FoundList>,
+}
+
+fn bound_rows<B: Book>(
+    alloc: Global,
+    book: &mut B,
+    material: Code,
+    numbers: &[u32],
+) -> Result<BoundRows, BookFault>
+    ensures rows { Says B.Book book.old book.new (λ m. IfOk result (λ rows. (rows.material ≡ material_at m material) × AreAsked (demand_at m) numbers.now rows.demands)) }
+    ensures keeps { KeepsBook B.Book (CountsFailure result) book.old book.new }
+{
+    let material = book.material(material)?;
+    let demands = demands_for(alloc, book, numbers)?;
+    Ok(BoundRows { material, demands })
+}
+
+// How many units of a size it takes at least.
+fn bound<B: Book>(
+    alloc: Global,
+    book: &mut B,
+    material: Code,
+    w: u32,
+    h: u32,
+    numbers: &[u32],
+    step: u32,
+) -> Reply
+    ensures answer { Says B.Book book.old book.new (λ m. Answers m (Bound material w h numbers.now step) result) }
+    ensures keeps { KeepsBook B.Book (CountsReply result) book.old book.new }
+{
+    match bound_rows(alloc, book, material, numbers) {
+        Err(fault) => Reply::Refused(Refusal::from(fault)),
+        Ok(
+            BoundRows {
+                material: row,
+                demands,
+            },
+        ) => answer_bound(alloc, material, row, w, h, &demands, step),
+    }
+}
+
 /// Answers a query, and changes nothing.
 pub fn ask<B: Book>(alloc: Global, book: &mut B, query: &Query) -> Reply
     ensures answer { Says B.Book book.old book.new (λ m. Answers m query.now result) }
@@ -208,6 +298,18 @@ pub fn ask<B: Book>(alloc: Global, book: &mut B, query: &Query) -> Reply
         Query::Rack { material } => rack(alloc, book, *material),
         Query::Trace { part } => trace(book, *part),
         Query::Demand { demand: number } => demand(book, *number),
+        Query::Plan {
+            part,
+            demands,
+            step,
+        } => plan(alloc, book, *part, demands.as_slice(), *step),
+        Query::Bound {
+            material,
+            w,
+            h,
+            demands,
+            step,
+        } => bound(alloc, book, *material, *w, *h, demands.as_slice(), *step),
     }
 }
 

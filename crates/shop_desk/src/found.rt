@@ -8,11 +8,15 @@ ghost use Rattle.shop_machine.specs.Content.{Content, material_at, part_at, dema
 ghost use Rattle.shop_machine.specs.Machine.{Reads};
 ghost use Rattle.shop_machine.specs.Recounts.{plan_leaves, AreDemandsFound, IsNumbered, leaves_in};
 ghost use Rattle.shop_machine.specs.Ordering.{AreMaterialsFound, lines_in};
+ghost use Rattle.shop_machine.specs.Planning.{AreAsked, AreFound, numbers_in};
 ghost use Rattle.shop_store.specs.Failures.{CountsFailure};
 ghost use Rattle.shop_store.specs.Kept.{KeepsBook, Says};
 
 use cut_tree::{Cause, Leaf, Plan};
-use shop_rules::{Demand, FoundLeaf, FoundLine, Job, Material, OrderLine, Part, Totals, no_totals};
+use shop_rules::{
+    Demand, FoundDemand, FoundLeaf, FoundLine, FoundList, Job, Material, OrderLine, Part, Totals,
+    can_be_planned, no_totals,
+};
 use shop_store::{Book, BookFault};
 use std::alloc::{AllocError, Global};
 
@@ -133,6 +137,47 @@ pub fn found_leaves<B: Book>(
         push_leaf(&mut found, *leaf, demand)?;
     }
     Ok(found)
+}
+
+fn push_demand(found: &mut FoundList, number: u32, demand: Option<Demand>) -> Result<(), AllocError>
+    ensures { OnOk result (found.new ≡ found.old ++ record { number = number; demand = demand } ∷ []) }
+{
+    found.push(FoundDemand { number, demand })?;
+    Ok(())
+}
+
+// The demands of these numbers, with their rows.
+fn found_demands<B: Book>(
+    alloc: Global,
+    book: &mut B,
+    numbers: &[u32],
+) -> Result<FoundList, BookFault>
+    ensures found { Says B.Book book.old book.new (λ m. IfOk result (AreFound (demand_at m))) }
+    ensures numbers { IfOk result (λ found. numbers_in found ≡ numbers.now) }
+    ensures keeps { KeepsBook B.Book (CountsFailure result) book.old book.new }
+{
+    let mut found = FoundList::new(alloc);
+    for number in numbers {
+        let demand = book.demand(*number)?;
+        push_demand(&mut found, *number, demand)?;
+    }
+    Ok(found)
+}
+
+/// The demands that a query names, with their rows; none where their numbers are no list that is planned.
+pub fn demands_for<B: Book>(
+    alloc: Global,
+    book: &mut B,
+    numbers: &[u32],
+) -> Result<Option<FoundList>, BookFault>
+    ensures asked { Says B.Book book.old book.new (λ m. IfOk result (AreAsked (demand_at m) numbers.now)) }
+    ensures keeps { KeepsBook B.Book (CountsFailure result) book.old book.new }
+{
+    if !can_be_planned(numbers) {
+        return Ok(None);
+    }
+    let found = found_demands(alloc, book, numbers)?;
+    Ok(Some(found))
 }
 
 /// The lines of an order, with the rows of their materials.
