@@ -196,6 +196,25 @@ fn plans_are_told(rt: HostRuntime) -> Result<(), Fail> {
     Ok(())
 }
 
+// How often a text has a word.
+fn times(text: &str, word: &str) -> usize {
+    text.split_whitespace().filter(|each| *each == word).count()
+}
+
+// Of two kinds the one that is worth more is taken twice, and the other never; lines may end as they like.
+#[test]
+fn two_kinds_are_planned(rt: HostRuntime) -> Result<(), Fail> {
+    fs::write(&rt, "kinds.txt", "  2 10 8\r\n4 3 2 66\r\n5 8 1 40\r\n")?;
+    let found = outcome(&rt, "plan kinds.txt --kerf 1 --step 1", b"")?;
+    let text = str::from_utf8(&found.output).unwrap_or("");
+    assert_eq!(rt; found.status, 0);
+    assert!(rt; text.starts_with("worth 132\nceiling 264\ndropped 2\ntree "));
+    assert_eq!(rt; times(text, "p1"), 2);
+    assert_eq!(rt; times(text, "p2"), 0);
+    fs::remove_file(&rt, "kinds.txt")?;
+    Ok(())
+}
+
 #[test]
 fn bad_texts_are_told(rt: HostRuntime) -> Result<(), Fail> {
     const FILE: &str = "bad.txt";

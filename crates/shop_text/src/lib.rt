@@ -1,12 +1,18 @@
-//! Where bytes come from and where they go, with their failures counted.
+//! Where bytes come from and where they go, with their failures counted; tickets and yield reports.
 #![tactic(auto)]
 
 mod counted;
+mod printing;
 mod streams;
 #[cfg(test)]
 mod tests;
+mod tickets;
 mod writer;
+mod yields;
 
 pub use counted::Counted;
+pub use printing::PrintFault;
 pub use streams::{Failed, Sink, Source};
+pub use tickets::ticket;
 pub use writer::write_all;
+pub use yields::yield_report;

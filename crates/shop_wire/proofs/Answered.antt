@@ -1,7 +1,6 @@
 -- What is answered to a value and to a line.
-use Rattle.std.proofs.Common.{◌≡◌, ◌≢◌, ℕ, ◌+◌, ◌<◌, ◌≤◌, List, [], ◌∷◌, map, length, Bool, true, false, nat_le, Option, Some, None, Ok, Err, refl, sym, ap, subst, ◌∙◌, arith}
+use Rattle.std.proofs.Common.{◌≡◌, ◌≢◌, ℕ, ◌+◌, ◌<◌, ◌≤◌, ◌⊎◌, inl, inr, List, [], ◌∷◌, map, length, Bool, true, false, nat_le, Option, Some, None, refl, sym, ap, subst, ◌∙◌, arith}
 use Rattle.std.specs.Prelude.{MatchOption, ◌&&◌, if◌then◌else◌, option_map, option_and_then, filter_map}
-use Rattle.std.specs.Option.{ok_or}
 use Rattle.std.specs.Str.{IsUtf8, is_utf8}
 use Rattle.std.proofs.lemmas.Str.{IsUtf8-from_is_utf8, is_utf8-from_IsUtf8}
 use Rattle.std.proofs.lemmas.Bool.{le-leb, lt-leb}
@@ -29,14 +28,6 @@ use Rattle.shop_desk.proofs.Accounts.{account_same, account_step}
 use Rattle.shop_wire.specs.Lines.{kept_of, longest_line}
 use Rattle.shop_wire.specs.Replays.{data_of, IsNoMessage, ValueStep, LineStep, line_message, HasAnswered}
 
-from_ok : {A : Type 0} (o : Option A) (a : A) (e : Refusal) → Ok a ≡ ok_or o e → o ≡ Some a
-from_ok None a e is = cc
-from_ok (Some b) a e is = cc
-
-pub from_err : {A : Type 0} (o : Option A) (e r : Refusal) → Err r ≡ ok_or o e → (o ≡ None) × (r ≡ e)
-from_err None e r is = (refl, cc)
-from_err (Some b) e r is = (cc, cc)
-
 pub not_store : (refusal : Refusal) → refusal ≡ BadMessage → refusal ≢ StoreFault
 not_store refusal is e = cc
 
@@ -55,13 +46,11 @@ module _ (old new : Content) (d : Data) (reply : Reply) where
   of_no_message none other =
       subst (λ (o : Option Message). MatchOption o (Otherwise (query_of d)) (λ message. Step json_texts old message reply new)) (sym none) other
 
-  pub of_query : (query : Query) → message_of d ≡ None → Ok query ≡ ok_or (query_of d) BadMessage → Answers old query reply → new ≡ old → ValueStep old d reply new
-  of_query query refused is answered stays =
-      of_no_message refused (subst Otherwise (sym (from_ok (query_of d) query BadMessage is)) (answered, stays))
+  pub of_query : (query : Query) → message_of d ≡ None → query_of d ≡ Some query → Answers old query reply → new ≡ old → ValueStep old d reply new
+  of_query query refused is answered stays = of_no_message refused (subst Otherwise (sym is) (answered, stays))
 
-  pub of_nothing : (s : Refusal) → message_of d ≡ None → Err s ≡ ok_or (query_of d) BadMessage → reply ≡ Refused s → new ≡ old → ValueStep old d reply new
-  of_nothing s refused none is stays =
-      of_no_message refused (subst Otherwise (sym (from_err (query_of d) BadMessage s none).0) ((λ _. is ∙ ap Refused (from_err (query_of d) BadMessage s none).1), stays))
+  pub of_nothing : message_of d ≡ None → query_of d ≡ None → reply ≡ Refused BadMessage → new ≡ old → ValueStep old d reply new
+  of_nothing refused none is stays = of_no_message refused (subst Otherwise (sym none) ((λ _. is), stays))
 
 -- want of memory may be answered to any value
 pub of_no_memory : (old : Content) (d : Data) → ValueStep old d (Refused NoMemory) old
@@ -75,6 +64,18 @@ of_no_memory old d = by_message (message_of d)
         → MatchOption o (MatchOption (query_of d) (IsNoMessage old (Refused NoMemory) old) (λ query. Answers old query (Refused NoMemory) × (old ≡ old))) (λ message. Step json_texts old message (Refused NoMemory) old)
     by_message None = by_query (query_of d)
     by_message (Some message) = fault_step json_texts old message NoMemory (kept_at old (pair_of message)) (λ n s. n refl)
+
+-- a value that is no message, and stands for no query or is refused for want of memory
+abbrev pub IsUnasked : Data → Refusal → Type 0
+IsUnasked d refusal = (refusal ≡ NoMemory) ⊎ ((refusal ≡ BadMessage) × (query_of d ≡ None))
+
+pub of_unasked : (old : Content) (d : Data) (refusal : Refusal) → message_of d ≡ None → IsUnasked d refusal → ValueStep old d (Refused refusal) old
+of_unasked old d refusal none (inl is) = subst (λ (r : Refusal). ValueStep old d (Refused r) old) (sym is) (of_no_memory old d)
+of_unasked old d refusal none (inr why) = of_nothing old old d (Refused refusal) none why.1 (ap Refused why.0) refl
+
+pub unasked_not_store : (d : Data) (refusal : Refusal) → IsUnasked d refusal → refusal ≢ StoreFault
+unasked_not_store d refusal (inl is) e = cc
+unasked_not_store d refusal (inr why) e = not_store refusal why.0 e
 
 -- ---- lines
 
@@ -142,7 +143,7 @@ module _ {B : Type 0} (book : Ghosts B) (before after : B) (m : Content) where
       one_answered ValueStep message_of d reply next (of_message m next d reply message is step) held sound blame
       (subst (AccountOne m reply next) (sym is) (account_step json_texts m next message reply is_message step))
 
-  pub query_answered : (d : Data) (query : Query) (reply : Reply) → message_of d ≡ None → Ok query ≡ ok_or (query_of d) BadMessage → Answers m query reply
+  pub query_answered : (d : Data) (query : Query) (reply : Reply) → message_of d ≡ None → query_of d ≡ Some query → Answers m query reply
       → book.holds after m → IsSound json_texts m → (reply ≡ Refused StoreFault → StoreFailed (book.failed before) (book.failed after))
       → HasAnswered ValueStep message_of book before after m (d ∷ []) (reply ∷ [])
   query_answered d query reply none is answers held sound blame =

@@ -19,7 +19,7 @@ fn query_reply<B: Book>(alloc: Global, book: &mut B, value: &Value) -> Reply
     ensures honest { B.is_honest book.new → B.is_honest book.old }
     ensures failures { CountsUp (B.failed book.old) (B.failed book.new) }
 {
-    match read_query(value) {
+    match read_query(alloc, value) {
         Ok(query) => ask(alloc, book, &query),
         Err(refusal) => Reply::Refused(refusal),
     }

@@ -8,6 +8,10 @@ mod faults;
 #[cfg(test)]
 mod job_tests;
 mod limits;
+#[cfg(test)]
+mod planning_tests;
+#[cfg(test)]
+mod printing_tests;
 mod reader;
 #[cfg(test)]
 mod refusal_tests;

@@ -1,0 +1,6 @@
+pub mod Numbers
+pub mod Front
+pub mod Named
+pub mod Routing
+pub mod Behind
+pub mod Uniqueness

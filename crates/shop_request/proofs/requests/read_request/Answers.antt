@@ -1,0 +1,74 @@
+use Rattle.std.proofs.Common.{◌≡◌, ◌∙◌, ap, sym, subst, Ok, Err, arith, take, drop}
+use Rattle.std.proofs.lemmas.List.{length-take}
+use Rattle.httparse.specs.Spans.{IsRequestAt}
+use Rattle.shop_request.specs.Heads.{front, judged}
+use Rattle.shop_request.specs.Reading.{IsHeadRead, pleas, plea_of}
+use Rattle.shop_request.proofs.Behind.{bad_head, sense_of_fault, sense_of_part, sense_of_body, sense_of_short, rest_whole}
+use Rattle.shop_request.proofs.requests.read_request.Goals as goal
+
+pub returns-in-Faulty-clause-sense : goal.returns-in-Faulty-clause-sense
+returns-in-Faulty-clause-sense g c =
+    let old = g.S.Source.left c.args.source.now in
+    bad_head old c.in-Faulty.fault
+    (subst (IsHeadRead old (g.S.Source.left c.read_head.new.source) c.read_head.new.came.items c.read_head.new.headers) c.in-Faulty.is c.in_ok-read_head.ensures.read)
+
+pub returns-in-Err-clause-sense : goal.returns-in-Err-clause-sense
+returns-in-Err-clause-sense g c =
+    let old = g.S.Source.left c.args.source.now in
+    let mid = g.S.Source.left c.read_head.new.source in
+    let came = c.read_head.new.came.items in
+    let headers = c.read_head.new.headers in
+    let read = subst (IsHeadRead old mid came headers) c.in-Whole.is c.in_ok-read_head.ensures.read in
+    let f : c.front_of.result.now ≡ front came = c.front_of.ensures ∙ ap front c.deref.ensures.value in
+    let at = read.2 in
+    let e : judged at.0 ≡ Err c.in-Err.fault = sym (c.judge.ensures at.0 (subst (λ b. IsRequestAt b headers c.in-Whole.spans at.0) (sym f) at.1)) ∙ ap pleas c.in-Err.is in
+    sense_of_fault came read.0 headers c.in-Whole.spans at.0 c.read_head.array_long read.1 at.1 old mid read.3 c.in-Err.fault e
+
+pub returns-then-not-takes_body-clause-sense : goal.returns-then-not-takes_body-clause-sense
+returns-then-not-takes_body-clause-sense g c =
+    let old = g.S.Source.left c.args.source.now in
+    let mid = g.S.Source.left c.read_head.new.source in
+    let came = c.read_head.new.came.items in
+    let headers = c.read_head.new.headers in
+    let read = subst (IsHeadRead old mid came headers) c.in-Whole.is c.in_ok-read_head.ensures.read in
+    let f : c.front_of.result.now ≡ front came = c.front_of.ensures ∙ ap front c.deref.ensures.value in
+    let at = read.2 in
+    let e : judged at.0 ≡ Ok (plea_of c.in-Ok-judge.plea) = sym (c.judge.ensures at.0 (subst (λ b. IsRequestAt b headers c.in-Whole.spans at.0) (sym f) at.1)) ∙ ap pleas c.in-Ok-judge.is in
+    sense_of_part came read.0 headers c.in-Whole.spans at.0 c.read_head.array_long read.1 at.1 old mid read.3 (plea_of c.in-Ok-judge.plea) e
+    (sym c.takes_body.ensures ∙ c.if-not-takes_body.true) c.in-Ok-from_slice.part.items c.in-Ok-from_slice.ensures.items
+
+pub read_to-requires : goal.read_to-requires
+read_to-requires g c =
+    let came = c.read_head.new.came.items in
+    let read = subst (IsHeadRead (g.S.Source.left c.args.source.now) (g.S.Source.left c.read_head.new.source) came c.read_head.new.headers) c.in-Whole.is c.in_ok-read_head.ensures.read in
+    omega (arith, read.1.section.len_fits, length-take 8192 came)
+
+pub returns-then-not-branch-clause-sense : goal.returns-then-not-branch-clause-sense
+returns-then-not-branch-clause-sense g c =
+    let old = g.S.Source.left c.args.source.now in
+    let mid = g.S.Source.left c.read_head.new.source in
+    let came = c.read_head.new.came.items in
+    let headers = c.read_head.new.headers in
+    let read = subst (IsHeadRead old mid came headers) c.in-Whole.is c.in_ok-read_head.ensures.read in
+    let f : c.front_of.result.now ≡ front came = c.front_of.ensures ∙ ap front c.deref.ensures.value in
+    let at = read.2 in
+    let e : judged at.0 ≡ Ok (plea_of c.in-Ok-judge.plea) = sym (c.judge.ensures at.0 (subst (λ b. IsRequestAt b headers c.in-Whole.spans at.0) (sym f) at.1)) ∙ ap pleas c.in-Ok-judge.is in
+    let short = c.in_ok-read_to.ensures.short (ap Ok c.if-not-branch.true) in
+    sense_of_short came read.0 headers c.in-Whole.spans at.0 c.read_head.array_long read.1 at.1 old mid (g.S.Source.left c.read_to.new.source) read.3 (plea_of c.in-Ok-judge.plea) e
+    (sym c.takes_body.ensures ∙ c.if-not-takes_body.false) c.read_to.new.came.items c.in_ok-read_to.ensures.on short.0 short.1
+
+pub returns-clause-sense : goal.returns-clause-sense
+returns-clause-sense g c =
+    let old = g.S.Source.left c.args.source.now in
+    let mid = g.S.Source.left c.read_head.new.source in
+    let came = c.read_head.new.came.items in
+    let headers = c.read_head.new.headers in
+    let read = subst (IsHeadRead old mid came headers) c.in-Whole.is c.in_ok-read_head.ensures.read in
+    let f : c.front_of.result.now ≡ front came = c.front_of.ensures ∙ ap front c.deref.ensures.value in
+    let at = read.2 in
+    let e : judged at.0 ≡ Ok (plea_of c.in-Ok-judge.plea) = sym (c.judge.ensures at.0 (subst (λ b. IsRequestAt b headers c.in-Whole.spans at.0) (sym f) at.1)) ∙ ap pleas c.in-Ok-judge.is in
+    sense_of_body came read.0 headers c.in-Whole.spans at.0 c.read_head.array_long read.1 at.1 old mid (g.S.Source.left c.read_to.new.source) read.3 (plea_of c.in-Ok-judge.plea) e
+    (sym c.takes_body.ensures ∙ c.if-not-takes_body.false) c.read_to.new.came.items c.in_ok-read_to.ensures.on (c.in_ok-read_to.ensures.all (ap Ok c.if-not-branch.false))
+    c.in-Ok-from_slice-2.body.items (c.in-Ok-from_slice-2.ensures.items
+    ∙ ap (take c.in-Ok-judge.plea.length) (rest_whole c.in-Whole.spans.len c.deref-2.result.now)
+    ∙ ap (λ l. take c.in-Ok-judge.plea.length (drop c.in-Whole.spans.len l)) c.deref-2.ensures.value)

@@ -1,0 +1,75 @@
+-- The routes, and which of them a target takes.
+use Rattle.std.specs.Prelude.{ℕ, Bool, true, false, List, [], ◌==◌, Option, Result, Ok, Err, codes, option_map, length, drop}
+use Rattle.std.specs.List.{before_first}
+use Rattle.matchit.specs.Rows.{RowsOf}
+use Rattle.matchit.specs.Order.{placed}
+use Rattle.matchit.specs.Route.{Scan, parse_route}
+use Rattle.matchit.specs.Router.{RouteOf, route_from}
+use Rattle.matchit.specs.Seek.{first}
+use Rattle.matchit.specs.declared.error.InsertError.{InsertError}
+use Rattle.shop_request.specs.declared.routes.Route.{Route}
+use Rattle.shop_request.specs.declared.routes.Route.TheVariants.{Message, Plan, Bound, Totals, Rack, Trace, Demand, Ticket, Yield}
+
+-- the text of each route
+abbrev pub route_text : Route → List ℕ
+route_text Message = codes "/message"
+route_text Plan = codes "/plan"
+route_text Bound = codes "/bound"
+route_text Totals = codes "/totals/{material}"
+route_text Rack = codes "/rack/{material}"
+route_text Trace = codes "/trace/{act}/{node}"
+route_text Demand = codes "/demand/{demand}"
+route_text Ticket = codes "/ticket/{job}"
+route_text Yield = codes "/yield/{material}"
+
+-- the bytes in front of its first parameter
+abbrev pub route_start : Route → List ℕ
+route_start Message = codes "/message"
+route_start Plan = codes "/plan"
+route_start Bound = codes "/bound"
+route_start Totals = codes "/totals/"
+route_start Rack = codes "/rack/"
+route_start Trace = codes "/trace/"
+route_start Demand = codes "/demand/"
+route_start Ticket = codes "/ticket/"
+route_start Yield = codes "/yield/"
+
+-- whether it takes a body
+abbrev pub takes_body : Route → Bool
+takes_body Message = true
+takes_body Plan = true
+takes_body Bound = true
+takes_body Totals = false
+takes_body Rack = false
+takes_body Trace = false
+takes_body Demand = false
+takes_body Ticket = false
+takes_body Yield = false
+
+abbrev pub RouteRows : Type 0
+RouteRows = RowsOf (RouteOf Route)
+
+-- the rows with one more route
+abbrev pub with_scan : Result Scan InsertError → Route → RouteRows → RouteRows
+with_scan (Ok s) route rows = placed (s.pattern, route_from s route) rows
+with_scan (Err e) route rows = rows
+
+unfoldable pub with_route : Route → RouteRows → RouteRows
+with_route route rows = with_scan (parse_route (route_text route)) route rows
+
+-- all routes, as `matchit` keeps them
+unfoldable pub all_routes : RouteRows
+all_routes =
+    with_route Yield (with_route Ticket (with_route Demand (with_route Trace (with_route Rack (with_route Totals (with_route Bound (with_route Plan (with_route Message []))))))))
+
+-- the target up to its first `?`
+abbrev pub path_of : List ℕ → List ℕ
+path_of target = before_first (λ b. b == 63) target
+
+-- the route that a path takes, by `matchit`
+abbrev pub route_of : List ℕ → Option Route
+route_of path = option_map (λ r. r.value) (first all_routes path)
+
+-- what the path says beside its route
+abbrev pub part_of : Route → List ℕ → List ℕ
+part_of route path = drop (length (route_start route)) path

@@ -1,0 +1,142 @@
+ghost use Rattle.std.specs.Prelude.{◌≡◌, ◌≤◌, ℕ, List, Option, Result, length, map, take, All, option_map, Ok};
+ghost use Rattle.std.specs.Str.{IsUtf8};
+ghost use Rattle.httparse.specs.Grammar.{RequestHead};
+ghost use Rattle.httparse.specs.Spans.{IsHeaderWithin, IsRequestAt, IsRequestWithin, header_bytes, IsRequestOf};
+ghost use Rattle.shop_request.specs.Heads.{judged, judged_parts, on_route, on_length, most_body, by_method};
+ghost use Rattle.shop_request.specs.Reading.{IsSaid, pleas};
+ghost use Rattle.shop_request.specs.Routes.{path_of, route_of, part_of, takes_body};
+
+use crate::faults::Fault;
+use crate::fields::{Said, has_hosts, is_there, said_length, values_named};
+use crate::routes::{Route, Routes};
+use httparse::spans::{HeaderSpan, RequestSpans};
+use std::str;
+
+/// What a head asks for.
+#[derive(Clone, Copy)]
+pub(crate) struct Pleaded<'b> {
+    pub(crate) route: Route,
+    pub(crate) part: &'b [u8],
+    pub(crate) length: usize,
+}
+
+// The target up to its first `?`.
+fn path_in(target: &str) -> &str
+    ensures { result.now ≡ path_of target.now }
+{
+    match target.split_once('?') {
+        Some((path, _)) => path,
+        None => target,
+    }
+}
+
+// What the path says beside its route.
+fn part_in(route: Route, path: &str) -> &[u8]
+    ensures { result.now ≡ part_of route path.now }
+{
+    path.as_bytes().get(route.start()..).unwrap_or(&[])
+}
+
+// What is asked for by a method at a route.
+fn at_route<'b>(
+    route: Route,
+    part: &'b [u8],
+    method: &[u8],
+    said: Said,
+) -> Result<Pleaded<'b>, Fault>
+    ensures { (length : Option ℕ) → IsSaid (Ok said) (Ok length) → pleas result ≡ by_method (takes_body route) route part.now method.now length }
+{
+    if !route.takes_body() {
+        if method != b"GET".as_slice() {
+            return Err(Fault::OnlyGet);
+        }
+        return Ok(Pleaded {
+            route,
+            part,
+            length: 0,
+        });
+    }
+    if method != b"POST".as_slice() {
+        return Err(Fault::OnlyPost);
+    }
+    match said {
+        Said::Nothing => Err(Fault::NoLength),
+        Said::Large => Err(Fault::LargeBody),
+        Said::Length(length) => Ok(Pleaded {
+            route,
+            part,
+            length,
+        }),
+    }
+}
+
+// What is asked for by a method and a path.
+fn at_path<'b>(
+    routes: &Routes,
+    method: &[u8],
+    path: &'b str,
+    said: Said,
+) -> Result<Pleaded<'b>, Fault>
+    ensures { (length : Option ℕ) → IsSaid (Ok said) (Ok length) → pleas result ≡ on_route method.now path.now length (route_of path.now) }
+{
+    match routes.find(path) {
+        Some(route) => at_route(route, part_in(route, path), method, said),
+        None => Err(Fault::NotFound),
+    }
+}
+
+// What is asked for by the parts of a head.
+fn judge_parts<'b>(
+    routes: &Routes,
+    buf: &[u8],
+    headers: &[HeaderSpan],
+    method: &[u8],
+    target: &'b str,
+    minor: u8,
+) -> Result<Pleaded<'b>, Fault>
+    requires { All (IsHeaderWithin (length buf.now)) headers.now }
+    ensures { pleas result ≡ judged_parts method.now target.now minor (map (header_bytes buf.now) headers.now) }
+{
+    if !has_hosts(minor, values_named(buf, headers, b"host")) {
+        return Err(Fault::BadRequest);
+    }
+    if is_there(values_named(buf, headers, b"transfer-encoding")) {
+        return Err(Fault::NoLength);
+    }
+    let said = said_length(values_named(buf, headers, b"content-length"))?;
+    at_path(routes, method, path_in(target), said)
+}
+
+// The target of a head.
+fn target_text(target: &[u8]) -> &str
+    requires { IsUtf8 target.now }
+    ensures { result.now ≡ target.now }
+{
+    match str::from_utf8(target) {
+        Ok(text) => text,
+        Err(_) => unreachable!(),
+    }
+}
+
+/// What a head asks for, or the first fault in it.
+pub(crate) fn judge<'b>(
+    routes: &Routes,
+    buf: &'b [u8],
+    headers: &[HeaderSpan],
+    spans: &RequestSpans,
+) -> Result<Pleaded<'b>, Fault>
+    requires within { IsRequestWithin buf.now headers.now spans.now }
+    requires head { IsRequestOf buf.now headers.now spans.now }
+    ensures { (h : RequestHead) → IsRequestAt buf.now headers.now spans.now h → pleas result ≡ judged h }
+{
+    let method = spans.method.of(buf);
+    let target = target_text(spans.path.of(buf));
+    judge_parts(
+        routes,
+        buf,
+        &headers[..spans.headers],
+        method,
+        target,
+        spans.version,
+    )
+}

@@ -1,0 +1,18 @@
+//! Requests of HTTP, as a source gives them in whatever pieces: the routes, the heads, the bodies, and what is wrong.
+#![tactic(auto)]
+
+mod faults;
+mod fields;
+mod heads;
+mod judging;
+mod laws;
+mod pieces;
+mod requests;
+mod routes;
+#[cfg(test)]
+mod tests;
+
+pub use faults::{Fault, StreamFault};
+pub use laws::one_sense;
+pub use requests::{Inbound, read_request};
+pub use routes::{Route, Routes};

@@ -1,0 +1,30 @@
+ghost use Rattle.std.specs.Prelude.{◌≡◌, ◌⊎◌, ◌++◌, ◌<◌, ◌≤◌, ℕ, List, length, IfErr, OnOk, Ok, [], true, false};
+ghost use Rattle.std.specs.Io.KnownBytes.{Consumes, IsAtEnd};
+ghost use Rattle.shop_text.specs.Streams.{HasFailed};
+ghost use Rattle.shop_request.specs.declared.faults.StreamFault.TheVariants.{Read, NoMemory};
+
+use crate::faults::StreamFault;
+use shop_text::Source;
+
+const ROOM: usize = 8192;
+
+/// Reads a piece more, and tells whether there was one.
+pub(crate) fn read_piece<S: Source>(source: &mut S, came: &mut Vec<u8>) -> Result<bool, StreamFault>
+    ensures kept { length came.old.items ≤ length came.new.items }
+    ensures more { result ≡ Ok true → (piece : List ℕ) × (0 < length piece) × (came.new.items ≡ came.old.items ++ piece) × Consumes (S.left source.old) (S.left source.new) piece }
+    ensures none { result ≡ Ok false → (came.new.items ≡ came.old.items) × IsAtEnd (S.left source.new) × Consumes (S.left source.old) (S.left source.new) [] }
+    ensures fault { IfErr result (λ fault. (fault ≡ NoMemory) ⊎ (fault ≡ Read) × HasFailed (S.failed source.old) (S.failed source.new)) }
+    ensures worked { OnOk result (S.failed source.new ≡ S.failed source.old) }
+{
+    let mut piece = [0; ROOM];
+    let Ok(count) = source.read(&mut piece) else {
+        return Err(StreamFault::Read);
+    };
+    if count == 0 {
+        return Ok(false);
+    }
+    match came.extend_from_slice(&piece[..count]) {
+        Ok(()) => Ok(true),
+        Err(_) => Err(StreamFault::NoMemory),
+    }
+}

@@ -1,0 +1,123 @@
+ghost use Rattle.std.specs.Prelude.{◌≡◌, length, IfOk, OnOk};
+ghost use Rattle.shop_request.specs.Routes.{all_routes, route_of, route_start, route_text, takes_body, with_route};
+
+use matchit::{InsertError, Router};
+use std::alloc::{AllocError, Global};
+
+/// What a request is about.
+#[derive(Clone, Copy, Debug, PartialEq, Eq)]
+pub enum Route {
+    /// POST `/message`: a message.
+    Message,
+    /// POST `/plan`: the query for a plan.
+    Plan,
+    /// POST `/bound`: the query for a bound.
+    Bound,
+    /// GET `/totals/{material}`.
+    Totals,
+    /// GET `/rack/{material}`.
+    Rack,
+    /// GET `/trace/{act}/{node}`.
+    Trace,
+    /// GET `/demand/{demand}`.
+    Demand,
+    /// GET `/ticket/{job}`.
+    Ticket,
+    /// GET `/yield/{material}`.
+    Yield,
+}
+
+impl Route {
+    // Its text, as the router reads it.
+    fn text(self) -> &'static str
+        ensures { result.now ≡ route_text self }
+    {
+        match self {
+            Route::Message => "/message",
+            Route::Plan => "/plan",
+            Route::Bound => "/bound",
+            Route::Totals => "/totals/{material}",
+            Route::Rack => "/rack/{material}",
+            Route::Trace => "/trace/{act}/{node}",
+            Route::Demand => "/demand/{demand}",
+            Route::Ticket => "/ticket/{job}",
+            Route::Yield => "/yield/{material}",
+        }
+    }
+
+    // The length of what stands before its first parameter.
+    pub(crate) fn start(self) -> usize
+        ensures { result ≡ length (route_start self) }
+    {
+        match self {
+            Route::Message => 8,
+            Route::Plan => 5,
+            Route::Bound => 6,
+            Route::Totals => 8,
+            Route::Rack => 6,
+            Route::Trace => 7,
+            Route::Demand => 8,
+            Route::Ticket => 8,
+            Route::Yield => 7,
+        }
+    }
+
+    /// Whether it takes a body, by POST; the others are read by GET.
+    pub fn takes_body(self) -> bool
+        ensures { result ≡ takes_body self }
+    {
+        matches!(self, Route::Message | Route::Plan | Route::Bound)
+    }
+}
+
+/// All routes, made once for many requests.
+#[derive(Drop)]
+pub struct Routes {
+    router: Router<Route>,
+    ghost all: { router ≡ all_routes },
+}
+
+// Adds a route.
+fn add(router: &mut Router<Route>, route: Route) -> Result<(), InsertError>
+    ensures { OnOk result (router.new ≡ with_route route router.old) }
+{
+    router.insert(route.text(), route)
+}
+
+#[tactic(auto, unfolding(crate::specs::Routes::all_routes))]
+// All routes.
+fn all(alloc: Global) -> Result<Router<Route>, InsertError>
+    ensures { IfOk result (λ router. router ≡ all_routes) }
+{
+    let mut router = Router::new(alloc);
+    add(&mut router, Route::Message)?;
+    add(&mut router, Route::Plan)?;
+    add(&mut router, Route::Bound)?;
+    add(&mut router, Route::Totals)?;
+    add(&mut router, Route::Rack)?;
+    add(&mut router, Route::Trace)?;
+    add(&mut router, Route::Demand)?;
+    add(&mut router, Route::Ticket)?;
+    add(&mut router, Route::Yield)?;
+    Ok(router)
+}
+
+impl Routes {
+    /// Makes them. The only error is want of memory.
+    pub fn new(alloc: Global) -> Result<Routes, AllocError> {
+        match all(alloc) {
+            Ok(router) => Ok(Routes { router }),
+            Err(_) => Err(AllocError),
+        }
+    }
+
+    /// The route that a path takes.
+    pub fn find(&self, path: &str) -> Option<Route>
+        ensures { result ≡ route_of path.now }
+    {
+        match self.router.at(path) {
+            Ok(found) => Some(*found.value),
+            Err(_) => None,
+        }
+    }
+}

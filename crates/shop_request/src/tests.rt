@@ -1,0 +1,253 @@
+ghost use Rattle.std.specs.Prelude.{None};
+
+use crate::{Fault, Inbound, Route, Routes, read_request};
+use shop_text::{Failed, Source};
+use std::alloc::Global;
+use std::process::Abort;
+use std::test::Fail;
+
+// Gives at most so many bytes a read.
+#[derive(Drop)]
+struct Pieces<'a> {
+    rest: &'a [u8],
+    size: usize,
+    reads: u64,
+}
+
+impl Source for Pieces<'_> {
+    ghost left = { λ _. None };
+
+    ghost failed = { λ _. 0 };
+
+    ghost reads = { λ s. s.reads };
+
+    fn read(&mut self, buffer: &mut [u8]) -> Result<usize, Failed> {
+        self.reads = self.reads.saturating_add(1);
+        let count = self.size.min(self.rest.len()).min(buffer.len());
+        buffer[..count].copy_from_slice(&self.rest[..count]);
+        self.rest = &self.rest[count..];
+        Ok(count)
+    }
+
+    fn failures(&self) -> u64 {
+        0
+    }
+}
+
+const SIZES: [usize; 8] = [1, 2, 3, 17, 64, 8191, 8192, 300_000];
+
+fn read_in(alloc: Global, input: &[u8], size: usize) -> Result<Inbound, Fail> {
+    let routes = Routes::new(alloc)?;
+    let mut source = Pieces {
+        rest: input,
+        size,
+        reads: 0,
+    };
+    match read_request(alloc, &routes, &mut source) {
+        Ok(inbound) => Ok(inbound),
+        Err(_) => Err("not read")?,
+    }
+}
+
+// The fault of an input, in whatever pieces it comes.
+fn has_fault(rt: &impl Abort, alloc: Global, input: &str, fault: Fault) -> Result<(), Fail> {
+    for size in SIZES {
+        match read_in(alloc, input.as_bytes(), size)? {
+            Inbound::Faulty(found) => assert_eq!(rt; found, fault),
+            _ => return Err("no fault")?,
+        }
+    }
+    Ok(())
+}
+
+// The route of an input and what belongs to it, in whatever pieces it comes.
+fn asks(
+    rt: &impl Abort,
+    alloc: Global,
+    input: &str,
+    route: Route,
+    wanted: &str,
+) -> Result<(), Fail> {
+    for size in SIZES {
+        match read_in(alloc, input.as_bytes(), size)? {
+            Inbound::Asks(found, text) => {
+                assert_eq!(rt; found, route);
+                assert_eq!(rt; text.as_slice(), wanted.as_bytes());
+            }
+            _ => return Err("a fault")?,
+        }
+    }
+    Ok(())
+}
+
+// No head, or a bad one; no host, or two; a length that is none, or said twice, also on a GET and where the path is unknown;
+// a body that ends early.
+const BAD: [&str; 14] = [
+    "G",
+    "GET /totals/A HTTP/1.1\r\nHost: x\r\n",
+    "GET /totals/A HTTP/2.0\r\nHost: x\r\n\r\n",
+    "GET /totals/A HTTP/1.1\r\n\r\n",
+    "GET /nowhere HTTP/1.1\r\n\r\n",
+    "GET /totals/A HTTP/1.1\r\nHost: x\r\nhost: x\r\n\r\n",
+    "GET /totals/A HTTP/1.0\r\nHost: x\r\nHost: y\r\n\r\n",
+    "GET /totals/A HTTP/1.1\r\nHost: x\r\nContent-Length: 1\r\nContent-Length: 1\r\n\r\n",
+    "POST /nowhere HTTP/1.1\r\nHost: x\r\nContent-Length: +5\r\n\r\n12345",
+    "POST /message HTTP/1.1\r\nHost: x\r\nContent-Length: 5,5\r\n\r\n12345",
+    "POST /message HTTP/1.1\r\nHost: x\r\nContent-Length:\r\n\r\n",
+    "POST /message HTTP/1.1\r\nHost: x\r\nContent-Length: 5\r\nContent-Length: 5\r\n\r\n12345",
+    "POST /message HTTP/1.1\r\nHost: x\r\nContent-Length: 5\r\n\r\n1234",
+    "POST /message HTTP/1.1\r\nHost: x\r\nContent-Length: 1\r\n\r\n",
+];
+
+// A transfer coding, whatever else is wrong behind it; a POST without a length.
+const WITHOUT_LENGTH: [&str; 4] = [
+    "POST /message HTTP/1.1\r\nHost: x\r\nTransfer-Encoding: chunked\r\n\r\n0\r\n\r\n",
+    "GET /nowhere HTTP/1.1\r\nHost: x\r\nTransfer-Encoding: identity\r\nContent-Length: x\r\n\r\n",
+    "POST /message HTTP/1.1\r\nHost: x\r\n\r\n",
+    "POST /plan HTTP/1.0\r\n\r\n{}",
+];
+
+const UNKNOWN: [&str; 7] = [
+    "GET / HTTP/1.1\r\nHost: x\r\n\r\n",
+    "GET /totals/ HTTP/1.1\r\nHost: x\r\n\r\n",
+    "GET /totals/A/B HTTP/1.1\r\nHost: x\r\n\r\n",
+    "GET /trace//1 HTTP/1.1\r\nHost: x\r\n\r\n",
+    "GET ?/totals/A HTTP/1.1\r\nHost: x\r\n\r\n",
+    "PUT /nowhere HTTP/1.1\r\nHost: x\r\n\r\n",
+    "POST /Message HTTP/1.1\r\nHost: x\r\nContent-Length: 200000\r\n\r\n",
+];
+
+const ONLY_POST: [&str; 3] = [
+    "GET /message HTTP/1.1\r\nHost: x\r\n\r\n",
+    "post /plan HTTP/1.1\r\nHost: x\r\n\r\n",
+    "PUT /bound HTTP/1.1\r\nHost: x\r\nContent-Length: 200000\r\n\r\n",
+];
+
+const ONLY_GET: [&str; 3] = [
+    "POST /totals/A HTTP/1.1\r\nHost: x\r\n\r\n",
+    "HEAD /rack/A HTTP/1.1\r\nHost: x\r\n\r\n",
+    "DELETE /trace/1/0 HTTP/1.1\r\nHost: x\r\nContent-Length: 200000\r\n\r\n",
+];
+
+#[test]
+fn bad_requests_are_found(rt: HostRuntime) -> Result<(), Fail> {
+    for input in BAD {
+        has_fault(&rt, rt.alloc(), input, Fault::BadRequest)?;
+    }
+    Ok(())
+}
+
+#[test]
+fn lengths_are_asked_for(rt: HostRuntime) -> Result<(), Fail> {
+    for input in WITHOUT_LENGTH {
+        has_fault(&rt, rt.alloc(), input, Fault::NoLength)?;
+    }
+    let large = "POST /bound HTTP/1.1\r\nHost: x\r\nContent-Length: 131073\r\n\r\n";
+    has_fault(&rt, rt.alloc(), large, Fault::LargeBody)?;
+    let huge =
+        "POST /plan HTTP/1.1\r\nHost: x\r\nContent-Length: 99999999999999999999999999\r\n\r\n";
+    has_fault(&rt, rt.alloc(), huge, Fault::LargeBody)
+}
+
+#[test]
+fn paths_are_found(rt: HostRuntime) -> Result<(), Fail> {
+    for input in UNKNOWN {
+        has_fault(&rt, rt.alloc(), input, Fault::NotFound)?;
+    }
+    Ok(())
+}
+
+#[test]
+fn methods_are_found(rt: HostRuntime) -> Result<(), Fail> {
+    for input in ONLY_POST {
+        has_fault(&rt, rt.alloc(), input, Fault::OnlyPost)?;
+    }
+    for input in ONLY_GET {
+        has_fault(&rt, rt.alloc(), input, Fault::OnlyGet)?;
+    }
+    Ok(())
+}
+
+#[test]
+fn bodies_are_read(rt: HostRuntime) -> Result<(), Fail> {
+    let alloc = rt.alloc();
+    let whole =
+        "POST /message HTTP/1.1\r\nHost: x\r\nExpect: 100-continue\r\nContent-Length: 005\r\n\r\n12345 and more";
+    asks(&rt, alloc, whole, Route::Message, "12345")?;
+    let old = "\r\n\r\nPOST /bound?x HTTP/1.0\r\ncontent-length: 0\r\n\r\n";
+    asks(&rt, alloc, old, Route::Bound, "")
+}
+
+#[test]
+fn parts_of_paths_are_read(rt: HostRuntime) -> Result<(), Fail> {
+    let alloc = rt.alloc();
+    let trace = "GET /trace/3/0?q HTTP/1.1\r\nHost: x\r\nContent-Length: 999999\r\n\r\n";
+    asks(&rt, alloc, trace, Route::Trace, "3/0")?;
+    let report = "GET /yield/a%20b HTTP/1.0\r\n\r\n";
+    asks(&rt, alloc, report, Route::Yield, "a%20b")
+}
+
+// A request with so many fields beside its host, and spaces before the last one's value.
+fn with_fields(alloc: Global, fields: usize, spaces: usize) -> Result<String, Fail> {
+    let mut text = String::from_str(alloc, "GET /rack/A HTTP/1.1\r\nHost: x\r\n")?;
+    for _field in 1..fields {
+        text.push_str("A: b\r\n")?;
+    }
+    text.push_str("A:")?;
+    for _space in 0..spaces {
+        text.push_str(" ")?;
+    }
+    text.push_str("b\r\n\r\n")?;
+    Ok(text)
+}
+
+// 64 fields are read, and 65 are not; a head of 8192 bytes is read, and one of 8193 is not.
+#[test]
+fn large_heads_are_refused(rt: HostRuntime) -> Result<(), Fail> {
+    let alloc = rt.alloc();
+    asks(
+        &rt,
+        alloc,
+        with_fields(alloc, 63, 1)?.as_str(),
+        Route::Rack,
+        "A",
+    )?;
+    has_fault(
+        &rt,
+        alloc,
+        with_fields(alloc, 64, 1)?.as_str(),
+        Fault::LargeHead,
+    )?;
+    let longest = with_fields(alloc, 1, 8154)?;
+    assert_eq!(rt; longest.len(), 8192);
+    asks(&rt, alloc, longest.as_str(), Route::Rack, "A")?;
+    has_fault(
+        &rt,
+        alloc,
+        with_fields(alloc, 1, 8155)?.as_str(),
+        Fault::LargeHead,
+    )
+}
+
+// The longest body is read.
+#[test]
+fn longest_body_is_read(rt: HostRuntime) -> Result<(), Fail> {
+    let alloc = rt.alloc();
+    let mut input = b"POST /message HTTP/1.1\r\nHost: x\r\nContent-Length: 131072\r\n\r\n".to_vec(
+        alloc,
+    )?;
+    input.resize(input.len() + 131_072, b'a')?;
+    let Inbound::Asks(_, body) = read_in(alloc, &input, 8000)? else {
+        return Err("a fault")?;
+    };
+    assert_eq!(rt; body.len(), 131_072);
+    Ok(())
+}
+
+// No byte at all is no request.
+#[test]
+fn silence_is_told(rt: HostRuntime) -> Result<(), Fail> {
+    let found = read_in(rt.alloc(), b"", 1)?;
+    assert!(rt; matches!(found, Inbound::Silence));
+    Ok(())
+}
