@@ -1,7 +1,11 @@
 //! How the libraries of cutting trees and plans are called: a tree is read and laid, a bar and a sheet are planned.
 #![tactic(auto)]
 
+#[cfg(test)]
+mod measure_tests;
 mod plans;
+#[cfg(test)]
+mod tree_tests;
 mod trees;
 
 use anyhow::Result;

@@ -23,5 +23,3 @@ pub use ranges::{
 };
 pub use sizes::{Axis, Kind, Size};
 
-#[cfg(test)]
-mod tests;

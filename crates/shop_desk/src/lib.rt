@@ -5,7 +5,5 @@ mod decided;
 mod desk_calls;
 mod found;
 mod racks;
-#[cfg(test)]
-mod tests;
 
 pub use desk_calls::{ask, handle, run};

@@ -12,5 +12,3 @@ pub use orders::{OrderLine, OrdersFault, read_orders};
 pub use problems::{Piece, Problem, TextCause, TextFault, read_cgcut};
 pub use shops::{MaterialEntry, ShopFault, read_shop};
 
-#[cfg(test)]
-mod tests;

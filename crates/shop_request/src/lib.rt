@@ -9,8 +9,6 @@ mod laws;
 mod pieces;
 mod requests;
 mod routes;
-#[cfg(test)]
-mod tests;
 
 pub use faults::{Fault, StreamFault};
 pub use laws::one_sense;

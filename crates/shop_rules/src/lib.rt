@@ -12,8 +12,6 @@ mod ordering;
 mod receiving;
 mod replies;
 mod reserving;
-#[cfg(test)]
-mod tests;
 mod turning;
 mod words;
 

@@ -6,12 +6,8 @@ mod keys;
 mod memory;
 mod rows;
 mod sql;
-#[cfg(test)]
-mod sql_tests;
 mod sums;
 mod takers;
-#[cfg(test)]
-mod tests;
 
 pub use books::{Book, BookFault, MOST_FAILURES};
 pub use memory::MemBook;

@@ -38,9 +38,3 @@ pub use parts::{find_part, move_part, put_part};
 pub use reopening::reopen_tables;
 pub use sums::{find_totals, put_totals, set_totals};
 
-#[cfg(test)]
-mod adopting_tests;
-#[cfg(test)]
-mod commit_tests;
-#[cfg(test)]
-mod tests;

@@ -4,8 +4,6 @@
 mod counted;
 mod printing;
 mod streams;
-#[cfg(test)]
-mod tests;
 mod tickets;
 mod writer;
 mod yields;

@@ -1,7 +1,7 @@
-use crate::tests::{FIRST, LAST, code, demand, filled, job, lay, message, part, steel};
-use crate::*;
+use crate::tables_tests::{FIRST, LAST, code, demand, filled, job, lay, message, part, steel};
 use cut_measure::PartName;
 use shop_machine::{Change, DemandList, JobState, MaterialTotals, PartList, Reply, State};
+use shop_tables::*;
 use sqlite::{Connection, MemStore};
 use std::alloc::Global;
 use std::rt::HostRuntime;

@@ -1,4 +1,4 @@
-use crate::*;
+use shop_tables::*;
 use sqlite::{Connection, MemStore};
 use std::alloc::Global;
 use std::rt::HostRuntime;

@@ -1,6 +1,6 @@
-use crate::tests::{bar, demand, iron, ordered, receipt};
-use crate::{Book, BookFault, SqlBook};
+use crate::books_tests::{bar, demand, iron, ordered, receipt};
 use cut_measure::{Code, PartName};
+use shop_store::{Book, BookFault, SqlBook};
 use shop_tables::lay_tables;
 use sqlite::{Connection, MemStore};
 use std::alloc::Global;
@@ -13,7 +13,9 @@ fn laid(alloc: Global) -> Result<SqlBook<MemStore>, Fail> {
         return Err(Fail::from("in a transaction"));
     }
     let mut tx = conn.transaction();
-    if lay_tables(&mut tx).is_err() || tx.commit().is_err() || !conn.is_autocommit() {
+    lay_tables(&mut tx)?;
+    tx.commit()?;
+    if !conn.is_autocommit() {
         return Err(Fail::from("not laid"));
     }
     Ok(SqlBook::over(alloc, conn))

@@ -1,8 +1,8 @@
 ghost use Rattle.std.specs.Prelude.{None};
 
-use crate::{ReplayFault, replay};
 use shop_store::{Book, MemBook};
 use shop_text::{Counted, Failed, Sink, Source};
+use shop_wire::{ReplayFault, replay};
 use std::alloc::Global;
 use std::process::Abort;
 use std::test::Fail;

@@ -1,10 +1,10 @@
 ghost use Rattle.std.specs.Prelude.{◌≤◌, ◌↔◌, All, IsTrue};
 ghost use Rattle.cut_tree.specs.Bars.{IsBarPiece};
 
-use crate::{
+use cut_measure::{Axis, Kind, Size};
+use cut_tree::{
     BarFault, Cause, CutList, Halt, Leaf, Owner, Plan, Row, SpellFault, Step, Stop, Token, bar_plan,
 };
-use cut_measure::{Axis, Kind, Size};
 use std::alloc::{AllocError, Global};
 use std::test::Fail;
 

@@ -1,12 +1,12 @@
 ghost use Rattle.std.specs.Prelude.{⊤};
 
-use crate::{Book, BookFault, MemBook, PartVisitor};
 use cut_measure::{Code, Kind, Limits, PartName, Size};
 use cut_tree::Plan;
 use shop_machine::{
     Change, Demand, DemandList, Job, JobState, Kept, KeptMessage, Material, Pair, Part, PartList,
     Reply, State, Text, Totals,
 };
+use shop_store::{Book, BookFault, MemBook, PartVisitor};
 use std::alloc::{AllocError, Global};
 use std::process::Abort;
 use std::test::Fail;

@@ -1,4 +1,4 @@
-use crate::{Counted, Failed, Sink, Source};
+use shop_text::{Counted, Failed, Sink, Source};
 use std::io;
 use std::io::{ErrorKind, Read, Write};
 

@@ -1,10 +1,10 @@
-use crate::*;
 use cut_measure::{Code, Kind, Limits, PartName, Size};
 use cut_tree::Plan;
 use shop_machine::{
     Demand, Form, ImportRow, Job, JobState, Kept, KeptMessage, Material, Pair, Part, PartVisitor,
     State, Text, Totals,
 };
+use shop_tables::*;
 use sqlite::{Connection, MemStore, Transaction};
 use std::alloc::Global;
 use std::rt::HostRuntime;

@@ -1,6 +1,6 @@
 ghost use Rattle.std.specs.Prelude.{None};
 
-use crate::{Fault, Inbound, Route, Routes, read_request};
+use shop_request::{Fault, Inbound, Route, Routes, read_request};
 use shop_text::{Failed, Source};
 use std::alloc::Global;
 use std::process::Abort;

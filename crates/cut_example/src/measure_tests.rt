@@ -1,4 +1,4 @@
-use crate::{Code, Kind, Limits, PartName, Size, read_mm, read_number, write_mm};
+use cut_measure::{Code, Kind, Limits, PartName, Size, read_mm, read_number, write_mm};
 use std::cmp::Ordering;
 use std::test::Fail;
 

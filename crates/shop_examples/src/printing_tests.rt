@@ -1,4 +1,4 @@
-use crate::tests::replayed;
+use crate::wire_tests::replayed;
 use cut_measure::Code;
 use shop_machine::Refusal;
 use shop_store::MemBook;

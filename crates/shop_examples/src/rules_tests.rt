@@ -1,5 +1,5 @@
-use super::*;
 use serde_json::Value;
+use shop_rules::*;
 use std::alloc::Global;
 use std::process::Abort;
 use std::test::Fail;

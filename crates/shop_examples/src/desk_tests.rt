@@ -1,6 +1,6 @@
 ghost use Rattle.std.specs.Prelude.{◌≤◌};
 
-use super::*;
+use shop_desk::*;
 use shop_rules::{
     Change, Code, Command, Kind, Limits, Material, Message, Query, Refusal, Reply, Totals,
     decide_material, decide_receive, no_totals,
