@@ -5,7 +5,8 @@
 
 Makes a repository of its own in a temporary folder: links to the four crates of the planners (of FOLDER, by default this
 repository) beside the program in bench/planners, which `rt run` proves and builds there. Each case is planned in a fresh
-process, some runs a case; the least time counts. Printed: the case, milliseconds, and the worth (0 where there is no plan).
+process, some runs a case; the least time counts. Printed: the case, milliseconds, and the worth (0 where there is no plan);
+then how often the time is taken where the length, the wants or the side are doubled, or the wants are four times as many.
 """
 
 import argparse
@@ -37,6 +38,14 @@ CASES = [
     ("sheet of 500 by 500 steps, 10 wants", 500, 500, 0, 1, 10, 30, 200, 1, 3, 1),
 ]
 
+# what grows, from one case to another
+GROWTH = [
+    ("bar, twice the length", "bar of 75000, 40 wants, many lengths", "bar of 150000, 40 wants, many lengths"),
+    ("bar, twice the wants", "bar of 150000, 20 wants, many lengths", "bar of 150000, 40 wants, many lengths"),
+    ("sheet, twice each side", "sheet of 250 by 250 steps, 40 wants", "sheet of 500 by 500 steps, 40 wants"),
+    ("sheet, four times the wants", "sheet of 500 by 500 steps, 10 wants", "sheet of 500 by 500 steps, 40 wants"),
+]
+
 
 def build(folder, root):
     crates = os.path.join(folder, "crates")
@@ -65,11 +74,15 @@ def main():
     arguments = parser.parse_args()
     with tempfile.TemporaryDirectory() as folder:
         program = build(folder, arguments.root)
+        times = {}
         for name, *numbers in CASES:
             words = [program] + [str(number) for number in numbers]
             runs = [subprocess.run(words, capture_output=True, text=True, check=True).stdout.split() for _ in range(arguments.runs)]
             least = min(int(run[0]) for run in runs)
+            times[name] = least
             print(f"{name:48} {least / 1000:9.2f} ms   worth {runs[0][1]}", flush=True)
+        for name, small, large in GROWTH:
+            print(f"{name:48} {times[large] / max(times[small], 1):9.2f} times the time")
 
 
 if __name__ == "__main__":

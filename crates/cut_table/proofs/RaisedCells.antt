@@ -42,7 +42,7 @@ led_some : (gain v u : ℕ) → v ≡ u + 1 → gained gain v ≡ u + 1 + gain
 led_some gain zero u e = absurd (omega (arith, e))
 led_some gain (suc w) u e = omega (arith, e)
 
-max_one : (a b c : ℕ) → c ≡ max a b → (c ≡ a) ⊎ (c ≡ b)
+pub max_one : (a b c : ℕ) → c ≡ max a b → (c ≡ a) ⊎ (c ≡ b)
 max_one a b c e = elim (cases_lt a b) [
   | inl lt ↦ inr (e ∙ max-eq_right (omega arith))
   | inr ge ↦ inl (e ∙ max-eq_left ge)
@@ -312,13 +312,4 @@ pub cell_within : (cells : List ℕ) (e : Entry) → HasCell cells e → e.room 
 cell_within cells e has = elim (cases_lt e.room (length cells)) [
   | inl lt ↦ lt
   | inr past ↦ absurd (omega (arith, has, get_or_past cells e.room 0 past))
-]
-
-pub best_more : (cells : List ℕ) (i best next : ℕ) → ((k : ℕ) → k < i → get_or cells k 0 ≤ get_or cells best 0) → get_or cells best 0 ≤ get_or cells next 0 → get_or cells i 0 ≤ get_or cells next 0
-    → (k : ℕ) → k < i + 1 → get_or cells k 0 ≤ get_or cells next 0
-best_more cells i best next before kept here k lt = elim (cases_lt k i) [
-  | inl less ↦ omega (arith, before k less, kept)
-  | inr ge ↦
-      let e : k ≡ i = omega arith in
-      omega (arith, here, ap (λ j. get_or cells j 0) e)
 ]

@@ -1,10 +1,11 @@
 -- Levels: what counts of some wants reach, as a list of entries or as a cell for each room.
-use Rattle.std.specs.Prelude.{◌≡◌, ℕ, ◌+◌, ◌-◌, ◌*◌, ◌<◌, ◌≤◌, ◌⊎◌, zero, suc, max, map, List, [], ◌∷◌, length, slice_index, slice_index_or, Contains}
+use Rattle.std.specs.Prelude.{◌≡◌, ℕ, ◌+◌, ◌-◌, ◌*◌, ◌<◌, ◌≤◌, ◌⊎◌, ◌++◌, zero, suc, max, map, List, length, slice_index, slice_index_or, Contains}
 use Rattle.cut_table.specs.declared.wants.Want.{Want}
 use Rattle.cut_table.specs.declared.reach.Entry.{Entry}
 use Rattle.cut_table.specs.declared.level.Level.{Level}
 use Rattle.cut_table.specs.declared.level.Level.TheVariants.{Listed, Tabled}
-use Rattle.cut_table.specs.Reached.{AreReached, AreRising, IsLedTo}
+use Rattle.cut_table.specs.Counts.{AreBestCounts}
+use Rattle.cut_table.specs.Reached.{AreRising, IsLedTo}
 
 -- the cell of the entry's room, among cells with these numbers, is one more than its worth
 abbrev pub HasCell : List ℕ → Entry → Type 0
@@ -20,23 +21,26 @@ abbrev pub IsLevel : {T : Type 0} → ℕ → Level T → Type 0
 IsLevel whole (Listed entries) = AreRising entries.items
 IsLevel whole (Tabled cells) = length cells.items ≡ whole + 1
 
--- the same entries or cells
-abbrev pub IsCopyOf : {T : Type 0} → Level T → Level T → Type 0
-IsCopyOf (Listed old) (Listed new) = new.items ≡ old.items
-IsCopyOf (Listed old) (Tabled new) = ⊥
-IsCopyOf (Tabled old) (Listed new) = ⊥
-IsCopyOf (Tabled old) (Tabled new) = new.items ≡ old.items
+-- a room for the first of two sets of entries: one of either, which fit that room and the rest of the whole, are worth no less than any that fit the whole
+pub record IsBestDivision (whole at : ℕ) (front back : Entry → Type 0) : Type 0 where
+  pub one : Entry
+  pub other : Entry
+  pub in_front : front one
+  pub in_back : back other
+  pub fits : one.room ≤ at
+  pub rest : other.room + at ≤ whole
+  pub most : (e f : Entry) → front e → back f → e.room + f.room ≤ whole → e.worth + f.worth ≤ one.worth + other.worth
 
--- what the wants reach, and what those behind each want do
-abbrev pub AreLevels : {T : Type 0} → (T → ℕ) → ℕ → ℕ → List Want → List (Level T) → Type 0
-AreLevels value k whole wants [] = ⊥
-AreLevels value k whole [] (level ∷ levels) = IsLevel whole level × AreReached k [] whole (Has value level)
-AreLevels value k whole (x ∷ xs) (level ∷ levels) = IsLevel whole level × AreReached k (x ∷ xs) whole (Has value level) × AreLevels value k whole xs levels
+-- a room for the first wants: best counts of them within it, and of the others within the rest of the whole, are together best counts
+pub record IsBestRoomForFirst (k : ℕ) (first others : List Want) (whole at : ℕ) : Type 0 where
+  pub within : at ≤ whole
+  pub best : (ns ms : List ℕ) → AreBestCounts k first at ns → AreBestCounts k others (whole - at) ms → AreBestCounts k (first ++ others) whole (ns ++ ms)
 
--- an entry of the first level
-abbrev pub IsOfFirst : {T : Type 0} → (T → ℕ) → List (Level T) → Entry → Type 0
-IsOfFirst value [] e = ⊥
-IsOfFirst value (level ∷ levels) e = Has value level e
+-- the entry of two that is worth more
+pub record IsWorthierOf (a b worthier : Entry) : Type 0 where
+  pub one : (worthier ≡ a) ⊎ (worthier ≡ b)
+  pub worth_a : a.worth ≤ worthier.worth
+  pub worth_b : b.worth ≤ worthier.worth
 
 -- a cell with a gain: nothing from 0
 abbrev pub gained : ℕ → ℕ → ℕ

@@ -66,13 +66,8 @@ pub record ArePricedBelow (limit k whole : ℕ) (wants : List Want) : Type 0 whe
   pub each : (x : Want) → Contains wants x → x.worth ≤ (x.size.w + k) * price
   pub below : whole * price + 1 < limit
 
--- no entry is worth more
-pub record IsBestEntry (has : Entry → Type 0) (best : Entry) : Type 0 where
-  pub there : has best
-  pub most : (e : Entry) → has e → e.worth ≤ best.worth
-
--- counts within what is left that have exactly this room and worth
-pub record AreCountsOf (k : ℕ) (wants : List Want) (e : Entry) (counts : List ℕ) : Type 0 where
-  pub within : AreCounts wants counts
-  pub room : room_taken k wants counts ≡ e.room
-  pub worth : worth_of_counts wants counts ≡ e.worth
+-- an entry of no room and no worth among them, low worths, and cells below the limit
+pub record HaveSmallWorths (limit whole : ℕ) (has : Entry → Type 0) : Type 0 where
+  pub none : has (record { room = 0; worth = 0 })
+  pub low : HaveWorthsBoundedByRoom (2 ^ 30) whole has
+  pub below : (e : Entry) → has e → e.worth + 1 < limit

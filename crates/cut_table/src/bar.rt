@@ -1,13 +1,14 @@
 // The best counts of pieces for a bar, and all that counts reach.
-ghost use Rattle.std.specs.Prelude.{◌≡◌, ℕ, ◌+◌, ◌-◌, ◌*◌, ◌^◌, ◌<◌, ◌≤◌, length, IfOk, IsTrue, Contains, [], drop};
+ghost use Rattle.std.specs.Prelude.{◌≡◌, ℕ, ◌+◌, ◌-◌, ◌*◌, ◌^◌, ◌<◌, ◌≤◌, length, IfOk, IsTrue, Contains, [], ◌∷◌};
 ghost use Rattle.cut_table.specs.declared.wants.Want.{Want};
 ghost use Rattle.cut_table.specs.declared.reach.Entry.{Entry};
 ghost use Rattle.cut_table.specs.Counts.{AreBestCounts, HaveBoundedWorthsAndLefts, AreUprightOfHeightOne, HaveLength, worth_of_counts};
 ghost use Rattle.cut_table.specs.Best.{IsBestWithin};
 ghost use Rattle.cut_table.specs.Legal.{HaveOwnDemands};
-ghost use Rattle.cut_table.specs.Reached.{AreRising, AreReached, AreOffered, IsMoved, IsLedTo, AreCountsOf, ArePricedBelow};
-ghost use Rattle.cut_table.specs.Levels.{Has, IsLevel, AreLevels, IsOfFirst};
+ghost use Rattle.cut_table.specs.Reached.{AreRising, AreReached, AreOffered, ArePricedBelow};
+ghost use Rattle.cut_table.specs.Levels.{Has, IsLevel, IsBestRoomForFirst};
 
+use crate::divide::divide;
 use crate::level::{Level, offer_want};
 use crate::number::Number;
 pub use crate::reach::Entry;
@@ -26,97 +27,24 @@ fn none_reached<T: Number>(alloc: Global) -> Result<Level<T>, AllocError>
     Ok(Level::Listed(none))
 }
 
-/// What the wants reach within the whole, then what those behind the first do, and so on to none.
-fn levels<T: Number>(
+/// What the wants reach within the whole.
+fn reached_level<T: Number>(
     alloc: Global,
     wants: &[Want],
     kerf: u32,
     whole: u32,
-) -> Result<Vec<Level<T>>, AllocError>
+) -> Result<Level<T>, AllocError>
+    requires below { ArePricedBelow T.limit kerf whole wants.now }
     requires whole { whole ≤ 2 ^ 20 - 1 }
     requires kerf { kerf ≤ MOST_KERF }
-    requires below { ArePricedBelow T.limit kerf whole wants.now }
-    ensures some { IfOk result (λ _. HaveLength wants.now) }
-    ensures levels { IfOk result (λ levels. AreLevels T.value kerf whole wants.now levels.items) }
+    ensures level { IfOk result (IsLevel whole) }
+    ensures reached { IfOk result (λ level. AreReached kerf wants.now whole (Has T.value level)) }
 {
-    let mut levels = Vec::new(alloc);
-    let none = none_reached(alloc)?;
-    levels.push(none)?;
+    let mut level: Level<T> = none_reached(alloc)?;
     for i in (0..wants.len()).rev() {
-        let level = offer_want(alloc, &levels[0], &wants[i], kerf, whole)?;
-        levels.insert(0, level)?;
+        level = offer_want(alloc, level, &wants[i], kerf, whole)?;
     }
-    Ok(levels)
-}
-
-/// How many of a piece lead to the entry, and from which of the level.
-fn count_of<T: Number>(level: &Level<T>, piece: Entry, entry: Entry, left: u32) -> (u32, Entry)
-    requires level { (whole : ℕ) × IsLevel whole level.now }
-    requires led { IsLedTo piece.room piece.worth left (Has T.value level.now) entry }
-    ensures few { result.0 ≤ left }
-    ensures moved { IsMoved piece.room piece.worth result.0 result.1 entry }
-    ensures there { Has T.value level.now result.1 }
-{
-    let mut count = 0;
-    let mut from = entry;
-    while count < left && !level.has(from) {
-        count += 1;
-        from = Entry {
-            room: from.room - piece.room,
-            worth: from.worth - piece.worth,
-        };
-    }
-    (count, from)
-}
-
-/// Counts that have the room and the worth of an entry.
-fn read_levels<T: Number>(
-    alloc: Global,
-    wants: &[Want],
-    levels: &[Level<T>],
-    kerf: u32,
-    entry: Entry,
-) -> Result<Vec<u32>, AllocError>
-    requires kerf { kerf ≤ MOST_KERF }
-    requires levels { (whole : ℕ) × AreLevels T.value kerf whole wants.now levels.now }
-    requires there { IsOfFirst T.value levels.now entry }
-    ensures { IfOk result (λ counts. AreCountsOf kerf wants.now entry counts.items) }
-{
-    let mut counts = Vec::new(alloc);
-    let mut left = entry;
-    for i in 0..wants.len() {
-        let want = &wants[i];
-        let piece = Entry {
-            room: want.size.w() + kerf,
-            worth: want.worth as u64,
-        };
-        let (count, from) = count_of(&levels[i + 1], piece, left, want.left);
-        counts.push(count)?;
-        left = from;
-    }
-    Ok(counts)
-}
-
-/// The best counts, by levels whose cells are of one width.
-fn counts_by<T: Number>(
-    alloc: Global,
-    wants: &[Want],
-    size: u32,
-    kerf: u32,
-) -> Result<Vec<u32>, AllocError>
-    requires own { HaveOwnDemands wants.now }
-    requires bar { AreUprightOfHeightOne wants.now }
-    requires below { ArePricedBelow T.limit kerf (size + kerf) wants.now }
-    requires size { size ≤ LONGEST_BAR }
-    requires kerf { kerf ≤ MOST_KERF }
-    ensures some { IfOk result (λ _. HaveLength wants.now) }
-    ensures counts { IfOk result (λ counts. AreBestCounts kerf wants.now (size + kerf) counts.items) }
-    ensures best { IfOk result (λ counts. IsBestWithin wants.now kerf size 1 (worth_of_counts wants.now counts.items)) }
-{
-    let levels: Vec<Level<T>> = levels(alloc, wants, kerf, size + kerf)?;
-    let best = levels[0].best();
-    let counts = read_levels(alloc, wants, &levels, kerf, best)?;
-    Ok(counts)
+    Ok(level)
 }
 
 /// All that counts reach.
@@ -132,11 +60,7 @@ fn entries_of<T: Number>(
     ensures rising { IfOk result (λ entries. AreRising entries.items) }
     ensures reached { IfOk result (λ entries. AreReached kerf wants.now (size + kerf) (Contains entries.items)) }
 {
-    let whole = size + kerf;
-    let mut level: Level<T> = none_reached(alloc)?;
-    for i in (0..wants.len()).rev() {
-        level = offer_want(alloc, &level, &wants[i], kerf, whole)?;
-    }
+    let level: Level<T> = reached_level(alloc, wants, kerf, size + kerf)?;
     level.into_entries(alloc)
 }
 
@@ -165,16 +89,98 @@ fn highest_price(wants: &[Want], kerf: u32) -> u64
     highest
 }
 
-/// Whether cells of 32 bits hold the worths of a bar; those of 64 bits do.
-fn is_narrow(wants: &[Want], size: u32, kerf: u32) -> bool
+/// Whether cells of 32 bits hold the worths within the whole; those of 64 bits do.
+fn is_narrow(wants: &[Want], kerf: u32, whole: u32) -> bool
     requires modest { HaveBoundedWorthsAndLefts wants.now }
-    requires size { size ≤ LONGEST_BAR }
     requires kerf { kerf ≤ MOST_KERF }
-    ensures narrow { IsTrue result → ArePricedBelow (2 ^ 32) kerf (size + kerf) wants.now }
-    ensures wide { ArePricedBelow (2 ^ 64) kerf (size + kerf) wants.now }
+    requires whole { whole ≤ 2 ^ 20 - 1 }
+    ensures narrow { IsTrue result → ArePricedBelow (2 ^ 32) kerf whole wants.now }
+    ensures wide { ArePricedBelow (2 ^ 64) kerf whole wants.now }
 {
-    let room = size as u64 + kerf as u64;
-    highest_price(wants, kerf) * room + 1 < 4294967296
+    highest_price(wants, kerf) * whole as u64 + 1 < 4294967296
+}
+
+/// The room for the first wants, by levels whose cells are of one width.
+fn room_by<T: Number>(
+    alloc: Global,
+    first: &[Want],
+    others: &[Want],
+    kerf: u32,
+    whole: u32,
+) -> Result<u32, AllocError>
+    requires below_first { ArePricedBelow T.limit kerf whole first.now }
+    requires below_others { ArePricedBelow T.limit kerf whole others.now }
+    requires whole { whole ≤ 2 ^ 20 - 1 }
+    requires kerf { kerf ≤ MOST_KERF }
+    ensures { IfOk result (IsBestRoomForFirst kerf first.now others.now whole) }
+{
+    let front: Level<T> = reached_level(alloc, first, kerf, whole)?;
+    let back = reached_level(alloc, others, kerf, whole)?;
+    let at = divide(alloc, front, back, whole)?;
+    Ok(at)
+}
+
+/// The room for the first wants, so that they and the others are worth most within the whole.
+fn room_for_first(
+    alloc: Global,
+    first: &[Want],
+    others: &[Want],
+    kerf: u32,
+    whole: u32,
+) -> Result<u32, AllocError>
+    requires modest_first { HaveBoundedWorthsAndLefts first.now }
+    requires modest_others { HaveBoundedWorthsAndLefts others.now }
+    requires whole { whole ≤ 2 ^ 20 - 1 }
+    requires kerf { kerf ≤ MOST_KERF }
+    ensures { IfOk result (IsBestRoomForFirst kerf first.now others.now whole) }
+{
+    let first_narrow = is_narrow(first, kerf, whole);
+    let others_narrow = is_narrow(others, kerf, whole);
+    if first_narrow && others_narrow {
+        room_by::<u32>(alloc, first, others, kerf, whole)
+    } else {
+        room_by::<u64>(alloc, first, others, kerf, whole)
+    }
+}
+
+/// As many of one want as are left and fit.
+fn count_one(want: &Want, kerf: u32, whole: u32) -> u32
+    requires kerf { kerf ≤ MOST_KERF }
+    ensures some { 1 ≤ want.now.size.w }
+    ensures best { AreBestCounts kerf (want.now ∷ []) whole (result ∷ []) }
+{
+    (whole / (want.size.w() + kerf)).min(want.left)
+}
+
+/// The best counts within a room: of one want as many as fit, and of more those of either half within its part of the room.
+fn fill_counts(
+    alloc: Global,
+    wants: &[Want],
+    kerf: u32,
+    whole: u32,
+    counts: &mut [u32],
+) -> Result<(), AllocError>
+    requires len { length counts.old ≡ length wants.now }
+    requires modest { HaveBoundedWorthsAndLefts wants.now }
+    requires whole { whole ≤ 2 ^ 20 - 1 }
+    requires kerf { kerf ≤ MOST_KERF }
+    ensures some { IfOk result (λ _. HaveLength wants.now) }
+    ensures best { IfOk result (λ _. AreBestCounts kerf wants.now whole counts.new) }
+{
+    if wants.len() == 0 {
+        return Ok(());
+    }
+    if wants.len() == 1 {
+        counts[0] = count_one(&wants[0], kerf, whole);
+        return Ok(());
+    }
+    let half = wants.len() / 2;
+    let (first, others) = wants.split_at(half);
+    let at = room_for_first(alloc, first, others, kerf, whole)?;
+    let (first_counts, other_counts) = counts.split_at_mut(half);
+    fill_counts(alloc, first, kerf, at, first_counts)?;
+    fill_counts(alloc, others, kerf, whole - at, other_counts)?;
+    Ok(())
 }
 
 /// How many pieces of each want a bar gives, so that no legal plan within the counts is worth more.
@@ -193,11 +199,9 @@ pub fn best_counts(
     ensures counts { IfOk result (λ counts. AreBestCounts kerf wants.now (size + kerf) counts.items) }
     ensures best { IfOk result (λ counts. IsBestWithin wants.now kerf size 1 (worth_of_counts wants.now counts.items)) }
 {
-    if is_narrow(wants, size, kerf) {
-        counts_by::<u32>(alloc, wants, size, kerf)
-    } else {
-        counts_by::<u64>(alloc, wants, size, kerf)
-    }
+    let mut counts = vec![in alloc; 0u32; wants.len()]?;
+    fill_counts(alloc, wants, kerf, size + kerf, &mut counts)?;
+    Ok(counts)
 }
 
 /// An entry for each room within a bar and a kerf that counts take, with the greatest worth of such counts.
@@ -208,7 +212,7 @@ pub fn reach(alloc: Global, wants: &[Want], size: u32, kerf: u32) -> Result<Vec<
     ensures rising { IfOk result (λ entries. AreRising entries.items) }
     ensures reached { IfOk result (λ entries. AreReached kerf wants.now (size + kerf) (Contains entries.items)) }
 {
-    if is_narrow(wants, size, kerf) {
+    if is_narrow(wants, kerf, size + kerf) {
         entries_of::<u32>(alloc, wants, size, kerf)
     } else {
         entries_of::<u64>(alloc, wants, size, kerf)

@@ -1,7 +1,7 @@
 // Rooms of a bar as a table: a cell for each room, 0 where no counts take it, and else one more than the greatest worth.
 ghost use Rattle.std.specs.Prelude.{◌≡◌, ℕ, ◌+◌, ◌-◌, ◌*◌, ◌^◌, ◌<◌, ◌≤◌, ◌↔◌, IfOk, IsTrue, Contains, length, map, max, vec_len};
 ghost use Rattle.cut_table.specs.declared.reach.Entry.{Entry};
-ghost use Rattle.cut_table.specs.Reached.{AreRising, HaveWorthsBoundedByRoom, IsBestEntry};
+ghost use Rattle.cut_table.specs.Reached.{AreRising, HaveWorthsBoundedByRoom};
 ghost use Rattle.cut_table.specs.Levels.{AreCellsBelow, HasCell, IsRaised, gained};
 
 use crate::number::Number;
@@ -79,34 +79,4 @@ pub fn list_of<T: Number>(alloc: Global, cells: &[T]) -> Result<Vec<Entry>, Allo
         }
     }
     Ok(entries)
-}
-
-/// Whether the entry has its cell.
-pub fn has_cell<T: Number>(cells: &[T], entry: Entry) -> bool
-    ensures { IsTrue result ↔ HasCell (map T.value cells.now) entry }
-{
-    let at = entry.room as usize;
-    if at < cells.len() {
-        let cell = cells[at].worth();
-        return cell != 0 && cell - 1 == entry.worth;
-    }
-    false
-}
-
-/// The entry of the greatest cell.
-pub fn best_cell<T: Number>(cells: &[T]) -> Entry
-    requires room { length cells.now ≤ 2 ^ 21 }
-    requires some { (e : Entry) × HasCell (map T.value cells.now) e }
-    ensures { IsBestEntry (HasCell (map T.value cells.now)) result }
-{
-    let mut best = 0;
-    for i in 0..cells.len() {
-        if cells[best].is_less(cells[i]) {
-            best = i;
-        }
-    }
-    Entry {
-        room: best as u32,
-        worth: cells[best].worth() - 1,
-    }
 }

@@ -4,6 +4,7 @@
 pub mod bar;
 pub mod bound;
 mod cells;
+mod divide;
 pub mod keep;
 mod level;
 mod number;

@@ -1,6 +1,6 @@
 // Lists of the rooms of a bar that counts of pieces take, each with the greatest worth of such counts.
 ghost use Rattle.std.specs.Prelude.{◌≡◌, ℕ, ◌+◌, ◌*◌, ◌^◌, ◌≤◌, ◌↔◌, IfOk, IsTrue, Contains, length};
-ghost use Rattle.cut_table.specs.Reached.{AreRising, AreOffered, HaveWorthsBoundedByRoom, IsBestEntry};
+ghost use Rattle.cut_table.specs.Reached.{AreRising, AreOffered, HaveWorthsBoundedByRoom};
 ghost use Rattle.cut_table.specs.Levels.{AreJoined, AreUpTo, IsFirstOf};
 
 use std::alloc::{AllocError, Global};
@@ -77,29 +77,4 @@ pub fn offer_entries(
         moved += 1;
     }
     Ok(offered)
-}
-
-/// Whether the entry is among those.
-pub fn has_entry(entries: &[Entry], entry: Entry) -> bool
-    requires { AreRising entries.now }
-    ensures { IsTrue result ↔ Contains entries.now entry }
-{
-    match entries.binary_search_by_key(&entry.room, |other| other.room) {
-        Ok(at) => entries[at].worth == entry.worth,
-        Err(_) => false,
-    }
-}
-
-/// The entry that is worth most.
-pub fn best_entry(entries: &[Entry]) -> Entry
-    requires { 1 ≤ length entries.now }
-    ensures { IsBestEntry (Contains entries.now) result }
-{
-    let mut best = entries[0];
-    for entry in entries {
-        if best.worth < entry.worth {
-            best = *entry;
-        }
-    }
-    best
 }

@@ -1,43 +1,14 @@
-use Rattle.std.proofs.Common.{◌≡◌, ◌≤◌, ◌-◌, ◌+◌, get_or, drop, length, sym, subst, arith}
+use Rattle.std.proofs.Common.{◌+◌, arith}
 use Rattle.std.specs.Prelude.{Contains}
 use Rattle.std.proofs.lemmas.Result.{IfOk-weaker}
-use Rattle.cut_table.specs.declared.wants.Want.{Want}
-use Rattle.cut_table.specs.Reached.{AreReached, AreOffered, StayBelow}
 use Rattle.cut_table.specs.Levels.{Has}
-use Rattle.cut_table.proofs.LevelCounts.{length_none, length_more, reached_all, reached_more, reached_same, stays_below}
+use Rattle.cut_table.proofs.LevelCounts.{reached_same}
 use Rattle.cut_table.proofs.bar.entries_of.Goals as goal
 
-pub loop-i-init : goal.loop-i-init
-loop-i-init g c =
-    let none = c.in_ok-level.ensures c.args.kerf (c.args.size + c.args.kerf) in (
-      none.0,
-      reached_all c.args.kerf _ (length c.args.wants.now) c.args.wants.now (Has g.T.Number.value c.in_ok-level.level) (omega arith) none.1,
-      length_none c.args.wants.now (length c.args.wants.now) (omega arith),
-    )
-
-pub offer_want-requires-clause-below : goal.offer_want-requires-clause-below
-offer_want-requires-clause-below g c =
-    let f = g.T.Number.value in
-    subst (λ (x : Want). StayBelow g.T.Number.limit (c.args.size + c.args.kerf) (Has f c.loop-i.level) (x.size.w + c.args.kerf) x.worth) (sym c.index-wants-i.is)
-    (stays_below g.T.Number.limit c.args.kerf (c.args.size + c.args.kerf) (c.loop-i.i - 1) c.loop-i.i c.args.wants.now c.index-wants-i.result (Has f c.loop-i.level) c.requires.below (omega arith)
-    c.loop-i.invariant.1)
-
-pub loop-i-preserved : goal.loop-i-preserved
-loop-i-preserved g c =
-    let d = c.index-wants-i.result in
-    let some : 1 ≤ (get_or c.args.wants.now (c.loop-i.i - 1) d).size.w = subst (λ (x : Want). 1 ≤ x.size.w) c.index-wants-i.is c.offer_want.ensures.some in
-    let o = subst (λ (x : Want). AreOffered (x.size.w + c.args.kerf) x.worth x.left (c.args.size + c.args.kerf) (Has g.T.Number.value c.loop-i.level) (Has g.T.Number.value c.in_ok-level-2.level)) c.index-wants-i.is
-    c.in_ok-level-2.ensures.offered in (
-      c.in_ok-level-2.ensures.level,
-      reached_more c.args.kerf _ (c.loop-i.i - 1) c.loop-i.i c.args.wants.now d (Has g.T.Number.value c.loop-i.level) (Has g.T.Number.value c.in_ok-level-2.level) (omega arith) (omega arith) c.loop-i.invariant.1 o,
-      length_more c.args.wants.now (c.loop-i.i - 1) c.loop-i.i d (omega arith) (omega arith) some c.loop-i.invariant.2,
-    )
-
 pub into_entries-requires : goal.into_entries-requires
-into_entries-requires g c = (c.args.size + c.args.kerf, omega arith, c.loop-i.invariant.0)
+into_entries-requires g c = (c.args.size + c.args.kerf, omega arith, c.in_ok-level.ensures.level)
 
 pub returns-clause-reached : goal.returns-clause-reached
 returns-clause-reached g c =
-    let e : c.loop-i.i ≡ 0 = omega arith in
-    let all = subst (λ i. AreReached c.args.kerf (drop i c.args.wants.now) (c.args.size + c.args.kerf) (Has g.T.Number.value c.loop-i.level)) e c.loop-i.invariant.1 in
-    IfOk-weaker c.into_entries.result _ _ (λ entries same. reached_same c.args.kerf _ c.args.wants.now (Has g.T.Number.value c.loop-i.level) (Contains entries.items) all same) c.into_entries.ensures.same
+    IfOk-weaker c.into_entries.result _ _
+    (λ entries same. reached_same c.args.kerf _ c.args.wants.now (Has g.T.Number.value c.in_ok-level.level) (Contains entries.items) c.in_ok-level.ensures.reached same) c.into_entries.ensures.same

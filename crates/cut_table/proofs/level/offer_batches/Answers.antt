@@ -2,17 +2,15 @@ use Rattle.std.proofs.Common.{◌*◌, ◌^◌, arith}
 use Rattle.std.proofs.lemmas.Nat.{mul-le}
 use Rattle.std.proofs.Math.Nat.{le_refl}
 use Rattle.cut_table.specs.Levels.{Has}
-use Rattle.cut_table.proofs.OfferedPieces.{offered_none, offered_more, offered_low, offered_same}
-use Rattle.cut_table.proofs.LevelCounts.{copied_level, copied_same, level_own}
+use Rattle.cut_table.proofs.OfferedPieces.{offered_none, offered_more, offered_low}
+use Rattle.cut_table.proofs.LevelCounts.{level_own}
 use Rattle.cut_table.proofs.level.offer_batches.Goals as goal
 
 pub loop-taken-init : goal.loop-taken-init
 loop-taken-init g c = (
   omega arith,
-  copied_level c.args.whole c.args.base.now c.in_ok-offered.offered c.in_ok-offered.ensures c.requires.level,
-  offered_same c.args.piece.room c.args.piece.worth 0 c.args.whole (Has g.T.Number.value c.args.base.now) (Has g.T.Number.value c.args.base.now) (Has g.T.Number.value c.args.base.now) (Has g.T.Number.value c.in_ok-offered.offered)
-      (offered_none c.requires.below.price c.args.piece.room c.args.piece.worth c.args.whole (Has g.T.Number.value c.args.base.now) (level_own g.T.Number.value c.args.whole c.args.base.now c.requires.level) c.requires.below.low) (λ e. (λ h. h, λ h. h))
-      (copied_same g.T.Number.value c.args.base.now c.in_ok-offered.offered c.in_ok-offered.ensures),
+  c.requires.level,
+  offered_none c.requires.below.price c.args.piece.room c.args.piece.worth c.args.whole (Has g.T.Number.value c.args.base) (level_own g.T.Number.value c.args.whole c.args.base c.requires.level) c.requires.below.low,
 )
 
 pub overflow_mul-batch-in-loop-taken : goal.overflow_mul-batch-in-loop-taken
@@ -34,7 +32,7 @@ offer-requires-clause-below g c =
     record {
       price = b.price;
       modest = b.modest;
-      low = offered_low b.price c.args.piece.room c.args.piece.worth c.loop-taken.taken c.args.whole (Has f c.args.base.now) (Has f c.loop-taken.offered) c.loop-taken.invariant.2 b.low b.gains;
+      low = offered_low b.price c.args.piece.room c.args.piece.worth c.loop-taken.taken c.args.whole (Has f c.args.base) (Has f c.loop-taken.offered) c.loop-taken.invariant.2 b.low b.gains;
       gains = omega (arith, mul-le more c.args.piece.worth more (c.args.piece.room * b.price) (le_refl more) b.gains);
       below = b.below;
     }
@@ -42,7 +40,7 @@ offer-requires-clause-below g c =
 pub loop-taken-preserved : goal.loop-taken-preserved
 loop-taken-preserved g c = (
   omega arith,
-  c.in_ok-offered-2.ensures.level,
-  offered_more c.args.piece.room c.args.piece.worth c.loop-taken.taken c.min-more.result c.args.whole (Has g.T.Number.value c.args.base.now) (Has g.T.Number.value c.loop-taken.offered) (Has g.T.Number.value c.in_ok-offered-2.offered)
-      c.loop-taken.invariant.2 (omega arith) c.in_ok-offered-2.ensures.offered,
+  c.in_ok-offered.ensures.level,
+  offered_more c.args.piece.room c.args.piece.worth c.loop-taken.taken c.min-more.result c.args.whole (Has g.T.Number.value c.args.base) (Has g.T.Number.value c.loop-taken.offered) (Has g.T.Number.value c.in_ok-offered.offered)
+      c.loop-taken.invariant.2 (omega arith) c.in_ok-offered.ensures.offered,
 )

@@ -1,4 +1,4 @@
-use Rattle.std.proofs.Common.{◌≡◌, ◌/◌, length, map, sym, ap, ◌∙◌, subst}
+use Rattle.std.proofs.Common.{◌/◌, length, map, sym, ap, ◌∙◌, subst}
 use Rattle.cut_table.specs.Levels.{HasCell}
 use Rattle.cut_table.specs.Reached.{AreOffered}
 use Rattle.cut_table.proofs.NumberRows.{same_length}
@@ -8,16 +8,14 @@ use Rattle.cut_table.proofs.level.offer_freely.Goals as goal
 pub raise_freely-requires-clause-fits : goal.raise_freely-requires-clause-fits
 raise_freely-requires-clause-fits g c =
     let f = g.T.Number.value in
-    let old : c.deref_mut.result.now ≡ c.args.cells.now = c.deref_mut.ensures.value ∙ c.in_ok-offered.ensures.items in
-    rw old
-    (cells_below g.T.Number.limit c.args.whole c.args.piece.room c.args.piece.worth (map f c.args.cells.now) (same_length f c.args.cells.now ∙ c.requires.len) c.requires.below)
+    rw c.deref_mut.ensures.value
+    (cells_below g.T.Number.limit c.args.whole c.args.piece.room c.args.piece.worth (map f c.args.cells.items) (same_length f c.args.cells.items ∙ c.requires.len) c.requires.below)
 
 pub returns-clause-offered : goal.returns-clause-offered
 returns-clause-offered g c =
     let f = g.T.Number.value in
-    let old : c.deref_mut.result.now ≡ c.args.cells.now = c.deref_mut.ensures.value ∙ c.in_ok-offered.ensures.items in
-    let new = same_length f c.raise_freely.new.cells ∙ c.raise_freely.auto.cells ∙ ap (λ cells. length cells) old ∙ c.requires.len in
-    let o = raised_freely c.args.piece.room c.args.piece.worth c.args.whole (map f c.args.cells.now) (map f c.raise_freely.new.cells) c.requires.some
-    (same_length f c.args.cells.now ∙ c.requires.len) new (rw old at c.raise_freely.ensures) in
-    subst (λ cells. AreOffered c.args.piece.room c.args.piece.worth (c.args.whole / c.args.piece.room) c.args.whole (HasCell (map f c.args.cells.now)) (HasCell (map f cells)))
+    let new = same_length f c.raise_freely.new.cells ∙ c.raise_freely.auto.cells ∙ ap (λ cells. length cells) c.deref_mut.ensures.value ∙ c.requires.len in
+    let o = raised_freely c.args.piece.room c.args.piece.worth c.args.whole (map f c.args.cells.items) (map f c.raise_freely.new.cells) c.requires.some
+    (same_length f c.args.cells.items ∙ c.requires.len) new (rw c.deref_mut.ensures.value at c.raise_freely.ensures) in
+    subst (λ cells. AreOffered c.args.piece.room c.args.piece.worth (c.args.whole / c.args.piece.room) c.args.whole (HasCell (map f c.args.cells.items)) (HasCell (map f cells)))
     (sym (written _ c.raise_freely.new.cells _ (c.raise_freely.auto.cells ∙ c.deref_mut.ensures.len))) o
