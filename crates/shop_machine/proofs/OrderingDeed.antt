@@ -2,7 +2,7 @@
 use Rattle.std.proofs.Common.{◌≡◌, ℕ, ◌+◌, List, ap, arith}
 use Rattle.shop_machine.specs.declared.changes.Change.{Change}
 use Rattle.shop_machine.specs.declared.messages.Message.{Message}
-use Rattle.shop_machine.specs.declared.messages.OrderLine.{OrderLine}
+use Rattle.shop_files.specs.declared.orders.OrderLine.{OrderLine}
 use Rattle.shop_machine.specs.Messages.{Texts}
 use Rattle.shop_machine.specs.Content.{Content}
 use Rattle.shop_machine.specs.Ordering.{order_change}

@@ -13,8 +13,8 @@ use Rattle.shop_machine.specs.declared.records.Part.{Part}
 use Rattle.shop_machine.specs.declared.records.Job.{Job}
 use Rattle.shop_machine.specs.declared.records.Demand.{Demand}
 use Rattle.shop_machine.specs.declared.messages.Message.{Message}
-use Rattle.shop_machine.specs.declared.messages.OrderLine.{OrderLine}
-use Rattle.shop_machine.specs.declared.ordering.TheConstants.{MOST_LINES}
+use Rattle.shop_files.specs.declared.orders.OrderLine.{OrderLine}
+use Rattle.shop_files.specs.declared.limits.TheConstants.{MOST_LINES}
 use Rattle.shop_machine.specs.declared.records.Material.{Material}
 use Rattle.shop_machine.specs.declared.refusals.Refusal.TheVariants.{NumbersSpent, OrderExists, BadLine}
 use Rattle.shop_machine.specs.Messages.{Texts, pair_of}

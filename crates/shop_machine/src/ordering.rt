@@ -9,14 +9,12 @@ ghost use Rattle.shop_machine.specs.Ordering.{is_good_line, line_refusal, lines_
 
 use crate::changes::{Change, DemandList};
 use crate::decisions::no_change;
-use crate::messages::{OrderLine, Reply};
+use crate::messages::Reply;
 use crate::records::{Demand, Material};
 use crate::refusals::Refusal;
 use cut_measure::{Code, Kind, MOST_COUNT, MOST_NUMBERS, MOST_WORTH, Size};
+use shop_files::{MOST_LINES, OrderLine};
 use std::alloc::{AllocError, Global};
-
-/// The most lines of an order.
-pub const MOST_LINES: usize = 200;
 
 /// A line of an order, with the row of its material.
 #[derive(Clone, Copy, Debug)]
@@ -56,8 +54,8 @@ fn line_refusal(last: u32, found: &FoundLine) -> Option<Refusal>
     }
 }
 
-// Why lines are refused behind the line of this number, if they are.
-fn lines_refusal(last: u32, lines: &[FoundLine]) -> Option<Refusal>
+/// Why lines are refused behind the line of this number, if they are.
+pub fn lines_refusal(last: u32, lines: &[FoundLine]) -> Option<Refusal>
     ensures refusal { (at : List ℕ → Option MaterialOf) → AreMaterialsFound at lines.now → result ≡ lines_refusal at last (lines_in lines.now) }
     ensures sized { IfNone result (All (λ f. IsTrue (is_size Sheet f.line.w f.line.h)) lines.now) }
 {

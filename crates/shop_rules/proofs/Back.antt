@@ -10,7 +10,7 @@ use Rattle.std.specs.Cmp.Derive.{both_true}
 use Rattle.shop_machine.specs.declared.messages.Command.{Command}
 use Rattle.shop_machine.specs.declared.messages.Command.TheVariants.{AddMaterial, Receive, AddOrder, Reserve, Done, Break, Release, Scrap, GiveBack}
 use Rattle.shop_machine.specs.declared.messages.Message.{Message}
-use Rattle.shop_machine.specs.declared.messages.OrderLine.{OrderLine}
+use Rattle.shop_files.specs.declared.orders.OrderLine.{OrderLine}
 use Rattle.shop_machine.specs.declared.messages.Query.{Query}
 use Rattle.shop_machine.specs.declared.records.RackRow.{RackRow}
 use Rattle.shop_machine.specs.declared.messages.Reply.{Reply}
