@@ -143,7 +143,10 @@ fn with_receipt(change: Change, receipt: Change) -> Change
     ensures { result ≡ record change { parts = receipt.parts; totals = receipt.totals; act = receipt.act } }
 {
     let Change {
-        parts, totals, act, ..
+        parts,
+        totals,
+        act,
+        ..
     } = receipt;
     Change {
         parts,
@@ -185,7 +188,17 @@ pub fn decide_problem(
     if let Some(refusal) = lines_refusal(0, lines) {
         return Err(refusal);
     }
-    let receipt = decide_receive(alloc, known, totals, act, material, order, size.w(), size.h(), 1)?;
+    let receipt = decide_receive(
+        alloc,
+        known,
+        totals,
+        act,
+        material,
+        order,
+        size.w(),
+        size.h(),
+        1,
+    )?;
     let change = decide_order(alloc, used, order, lines, first)?;
     let count = lines.len() as u32;
     let row = ImportRow {

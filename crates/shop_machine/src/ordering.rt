@@ -1,6 +1,7 @@
 ghost use Rattle.std.specs.Prelude.{◌≡◌, ◌≤◌, IfOk, IsTrue, ◌+◌, ℕ, List, Option, IfNone, All, length};
 ghost use Rattle.cut_measure.specs.declared.ranges.TheConstants.{MOST_NUMBERS};
 ghost use Rattle.cut_measure.specs.Measures.{is_size};
+ghost use Rattle.shop_files.specs.declared.limits.TheConstants.{MOST_LINES};
 ghost use Rattle.cut_measure.specs.declared.sizes.Kind.TheVariants.{Sheet};
 ghost use Rattle.shop_machine.specs.declared.records.Material.{Material as MaterialOf};
 ghost use Rattle.shop_machine.specs.Messages.{is_accepted};
@@ -121,6 +122,7 @@ pub fn decide_order(
     ensures decision { (at : List ℕ → Option MaterialOf) → AreMaterialsFound at lines.now →
         Decides (order_refusal used at (lines_in lines.now) first) (λ change. change ≡ order_change order (lines_in lines.now) first) result }
     ensures told { IfOk result (λ change. IsTrue (is_accepted change.reply)) }
+    ensures few { IfOk result (λ _. length lines.now ≤ MOST_LINES) }
 {
     if used {
         return Err(Refusal::OrderExists);
