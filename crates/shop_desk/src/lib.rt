@@ -4,6 +4,7 @@
 mod decided;
 mod desk_calls;
 mod found;
+mod importing;
 mod racks;
 #[cfg(test)]
 mod tests;

@@ -6,6 +6,8 @@ mod answers;
 mod breaking_tests;
 mod faults;
 #[cfg(test)]
+mod import_tests;
+#[cfg(test)]
 mod job_tests;
 mod limits;
 #[cfg(test)]
