@@ -9,15 +9,22 @@ use Rattle.shop_machine.specs.declared.records.Part.{Part}
 use Rattle.shop_machine.specs.declared.recounts.FoundLeaf.{FoundLeaf}
 use Rattle.shop_machine.specs.declared.records.Job.{Job}
 use Rattle.shop_machine.specs.declared.records.Totals.{Totals}
-use Rattle.shop_machine.specs.declared.messages.OrderLine.{OrderLine}
+use Rattle.shop_files.specs.declared.orders.OrderLine.{OrderLine}
 use Rattle.shop_machine.specs.declared.messages.Command.{Command}
-use Rattle.shop_machine.specs.declared.messages.Command.TheVariants.{AddOrder, Reserve}
+use Rattle.shop_machine.specs.declared.messages.Command.TheVariants.{AddOrder, Reserve, Import}
 use Rattle.shop_machine.specs.declared.changes.Change.{Change}
 use Rattle.shop_machine.specs.declared.refusals.Refusal.{Refusal}
 use Rattle.shop_machine.specs.declared.refusals.Refusal.TheVariants.{NoMemory, StoreFault}
-use Rattle.shop_machine.specs.Readings.{Reading, unread, plan_in, reading_of}
-use Rattle.shop_machine.specs.Content.{Content, material_at, part_at, job_at, has_order, demand_at, material_of, part_of_job, totals_of, totals_for}
-use Rattle.shop_machine.specs.Decisions.{Decides}
+use Rattle.shop_machine.specs.Messages.{Texts}
+use Rattle.shop_machine.specs.Readings.{Reading, unread, Lines, Problem, Again, plan_in, reading_of}
+use Rattle.shop_machine.specs.Content.{Content, material_at, part_at, job_at, has_order, import_at, demand_at, material_of, part_of_job, totals_of, totals_for}
+use Rattle.cut_measure.specs.Measures.{Extent}
+use Rattle.shop_files.specs.declared.problems.Piece.{Piece}
+use Rattle.shop_machine.specs.declared.imports.Form.{Form}
+use Rattle.shop_machine.specs.declared.imports.Form.TheVariants.{Csv, Cgcut}
+use Rattle.shop_machine.specs.declared.imports.ImportRow.{ImportRow}
+use Rattle.shop_machine.specs.Importing.{IsRepeat, Tells, IsImportReading, problem_lines, unread_refusal, again_refusal, problem_refusal, lines_change, problem_change}
+use Rattle.shop_machine.specs.Decisions.{Decides, no_change}
 use Rattle.shop_machine.specs.Machine.{Reads, refusal_of, Makes}
 use Rattle.shop_machine.specs.Ending.{IsWork, job_refusal, end_refusal}
 use Rattle.shop_machine.specs.Reserving.{IsReservation, reserve_refusal}
@@ -28,9 +35,9 @@ use Rattle.shop_machine.specs.declared.messages.Reply.{Reply}
 use Rattle.shop_desk.specs.Decided.{IsJudged, AreJobRows}
 
 -- a decision over the content's own refusal, what the text stands for being read
-module _ (m : Content) (command : Command) (read : Reading) (reads : Reads m command read) (before after : ℕ) (first : Option Refusal) (same : refusal_of m command read ≡ first)
+module _ (texts : Texts) (m : Content) (command : Command) (read : Reading) (reads : Reads texts m command read) (before after : ℕ) (first : Option Refusal) (same : refusal_of m command read ≡ first)
     (E : Change → Type 0) (makes : (change : Change) → E change → Makes m command read change) where
-  pub decided_by : (result : Result Change Refusal) → Decides first E result → IsJudged m command before result after
+  pub decided_by : (result : Result Change Refusal) → Decides first E result → IsJudged texts m command before result after
   decided_by (Ok change) d = record { decision = (read, reads, same ∙ d.0, makes change d.1); blame = tt }
   decided_by (Err refusal) d =
       record { decision = λ n s. (read, reads, same ∙ d n); blame = λ e. inr (read, reads, same ∙ d (λ f. memory refusal e f) ∙ ap Some e) }
@@ -60,7 +67,7 @@ module _ (m : Content) (number : ℕ) (found : Option Job) (on : Option Part) (o
 
 -- the end of a job, by its rows
 module _ (m : Content) (number : ℕ) (found : Option Job) (on : Option Part) (of : Option Material) (totals : Totals) (leaves : List FoundLeaf) (rows : AreJobRows m number found on of totals leaves)
-    (stop : Stop) (command : Command) (reads : Reads m command unread) (same : refusal_of m command unread ≡ end_refusal m stop (job_at m number)) (E : Change → Totals → Job → Part → Material → Type 0)
+    (stop : Stop) (texts : Texts) (command : Command) (reads : Reads texts m command unread) (same : refusal_of m command unread ≡ end_refusal m stop (job_at m number)) (E : Change → Totals → Job → Part → Material → Type 0)
     (makes : (change : Change) → (j : Job) × (part : Part) × (material : Material) × IsWork m number j part material × E change (totals_of m part.material) j part material → Makes m command unread change) where
   abbrev Ended : Change → Type 0
   Ended change = MatchOption found ⊥ (λ j. MatchOption on ⊥ (λ p. MatchOption of ⊥ (λ t. E change totals j p t)))
@@ -71,8 +78,8 @@ module _ (m : Content) (number : ℕ) (found : Option Job) (on : Option Part) (o
   ended : (change : Change) → Ended change → Makes m command unread change
   ended change it = makes change (work_by m number found on of rows.of_job rows.of_part rows.of_material totals rows.of_totals (E change) it)
 
-  pub end_decided : (before after : ℕ) (result : Result Change Refusal) → Decides (job_refusal stop found on of (demand_at m) totals) Ended result → IsJudged m command before result after
-  end_decided before after = decided_by m command unread reads before after _ refused Ended ended
+  pub end_decided : (before after : ℕ) (result : Result Change Refusal) → Decides (job_refusal stop found on of (demand_at m) totals) Ended result → IsJudged texts m command before result after
+  end_decided before after = decided_by texts m command unread reads before after _ refused Ended ended
 
 -- the rows of a reservation
 module _ (m : Content) (part : Name) (text : List ℕ) (row : Option Part) (material : Option Material) (read : Option Pattern) (act : ℕ)
@@ -109,7 +116,7 @@ module _ (m : Content) (part : Name) (row : Option Part) (totals : Totals) (is_r
       by None a e it = absurd it
       by (Some r) a e it = (r, sym a, it ∙ ap (λ (t : Totals). turn_change s r t (answer r.name)) e)
 
-  module _ (command : Command) (reads : Reads m command unread) (refusal : Option Part → Totals → Option Refusal) (s : State) (answer : Name → Reply)
+  module _ (texts : Texts) (command : Command) (reads : Reads texts m command unread) (refusal : Option Part → Totals → Option Refusal) (s : State) (answer : Name → Reply)
       (same : refusal_of m command unread ≡ refusal (part_at m part) (totals_for m (part_at m part)))
       (makes : (change : Change) → (r : Part) × (part_at m part ≡ Some r) × (change ≡ turn_change s r (totals_of m r.material) (answer r.name)) → Makes m command unread change) where
     abbrev Turned : Change → Type 0
@@ -118,8 +125,8 @@ module _ (m : Content) (part : Name) (row : Option Part) (totals : Totals) (is_r
     turned : (change : Change) → Turned change → Makes m command unread change
     turned change it = makes change (turn_by s answer change it)
 
-    pub turn_decided : (before after : ℕ) (result : Result Change Refusal) → Decides (refusal row totals) Turned result → IsJudged m command before result after
-    turn_decided before after = decided_by m command unread reads before after _ (same ∙ same_turn refusal) Turned turned
+    pub turn_decided : (before after : ℕ) (result : Result Change Refusal) → Decides (refusal row totals) Turned result → IsJudged texts m command before result after
+    turn_decided before after = decided_by texts m command unread reads before after _ (same ∙ same_turn refusal) Turned turned
 
 -- the lines of an order
 module _ (m : Content) (order : List ℕ) (lines found : List OrderLine) (used : Bool) (first : ℕ) (is_used : used ≡ has_order m order) (is_lines : found ≡ lines) (is_first : first ≡ m.last_demand + 1) where
@@ -130,3 +137,60 @@ module _ (m : Content) (order : List ℕ) (lines found : List OrderLine) (used :
 
   pub order_by : (change : Change) → change ≡ order_change order found first → Makes m (AddOrder order lines) unread change
   order_by change is = is ∙ ap (λ ls. order_change order ls first) is_lines ∙ ap (λ n. order_change order lines n) is_first
+
+-- ---- imports
+
+module _ (texts : Texts) (m : Content) (order text : List ℕ) where
+  abbrev Read : Form → Reading → Type 0
+  Read form read = IsImportReading texts (import_at m order) form text read
+
+  -- the same import again
+  again_read : (row : ImportRow) (form : Form) (answer : Reply) → import_at m order ≡ Some row → IsRepeat form text row → Tells texts row (Some answer) → Read form (Again (Some answer))
+  again_read row form answer is same tells = subst (λ o. IsImportReading texts o form text (Again (Some answer))) (sym is) (same, tells)
+
+  pub again_decided : (row : ImportRow) (form : Form) (answer : Reply) (earlier : Option Reply) → earlier ≡ Some answer → import_at m order ≡ Some row → IsRepeat form text row
+      → Tells texts row (Some answer) → (before after : ℕ) (result : Result Change Refusal)
+      → Decides (again_refusal earlier) (λ change. MatchOption earlier ⊥ (λ a. change ≡ no_change a)) result → IsJudged texts m (Import order form text) before result after
+  again_decided row form answer earlier one is same tells before after result decides =
+      decided_by texts m (Import order form text) (Again (Some answer)) (again_read row form answer is same tells) before after None refl (λ change. change ≡ no_change answer) (λ change it. it) result
+      (subst (λ o. Decides (again_refusal o) (λ change. MatchOption o ⊥ (λ a. change ≡ no_change a)) result) one decides)
+
+  module _ (used : Bool) (is_used : used ≡ has_order m order) where
+    -- a text that spells nothing
+    pub unread_decided : (form : Form) → Read form unread → (before after : ℕ) → IsJudged texts m (Import order form text) before (Err (unread_refusal used)) after
+    unread_decided form reads before after =
+        record { decision = λ n s. (unread, reads, ap (λ u. Some (unread_refusal u)) (sym is_used)); blame = λ e. absurd (no_fault used e) }
+      where
+        no_fault : (used : Bool) → unread_refusal used ≡ StoreFault → ⊥
+        no_fault true e = cc
+        no_fault false e = cc
+
+    module _ (found : List OrderLine) (first : ℕ) (body : List ℕ) (is_body : body ≡ text) (is_first : first ≡ m.last_demand + 1) where
+      -- an order file
+      pub lines_decided : (lines : List OrderLine) → found ≡ lines → Read Csv (Lines lines) → (before after : ℕ) (result : Result Change Refusal)
+          → Decides (order_refusal used (material_at m) found first) (λ change. change ≡ lines_change order body found first) result
+          → IsJudged texts m (Import order Csv text) before result after
+      lines_decided lines is_lines reads before after =
+          decided_by texts m (Import order Csv text) (Lines lines) reads before after _ (same_order m order lines found used first is_used is_lines is_first)
+          (λ change. change ≡ lines_change order body found first)
+          (λ change is. is ∙ ap (λ t. lines_change order t found first) is_body ∙ ap (λ ls. lines_change order text ls first) is_lines ∙ ap (lines_change order text lines) is_first)
+
+      -- a problem file
+      pub problem_decided : (material : List ℕ) (size : Extent) (pieces : List Piece) (known : Option Material) (totals : Totals) (act : ℕ) → known ≡ material_at m material
+          → totals ≡ totals_of m material → act ≡ m.last_act + 1 → found ≡ problem_lines material pieces → Read (Cgcut material) (Problem size pieces) → (before after : ℕ) (result : Result Change Refusal)
+          → Decides (problem_refusal used (material_at m) known totals act first size found) (λ change. change ≡ problem_change order material body size found totals act first) result
+          → IsJudged texts m (Import order (Cgcut material) text) before result after
+      problem_decided material size pieces known totals act is_known is_totals is_act is_found reads before after =
+          decided_by texts m (Import order (Cgcut material) text) (Problem size pieces) reads before after _
+          (ap (λ u. problem_refusal u (material_at m) (material_at m material) (totals_of m material) (m.last_act + 1) (m.last_demand + 1) size (problem_lines material pieces)) (sym is_used)
+          ∙ ap (λ k. problem_refusal used (material_at m) k (totals_of m material) (m.last_act + 1) (m.last_demand + 1) size (problem_lines material pieces)) (sym is_known)
+          ∙ ap (λ t. problem_refusal used (material_at m) known t (m.last_act + 1) (m.last_demand + 1) size (problem_lines material pieces)) (sym is_totals)
+          ∙ ap (λ a. problem_refusal used (material_at m) known totals a (m.last_demand + 1) size (problem_lines material pieces)) (sym is_act)
+          ∙ ap (λ f. problem_refusal used (material_at m) known totals act f size (problem_lines material pieces)) (sym is_first)
+          ∙ ap (problem_refusal used (material_at m) known totals act first size) (sym is_found))
+          (λ change. change ≡ problem_change order material body size found totals act first)
+          (λ change is.
+          is ∙ ap (λ t. problem_change order material t size found totals act first) is_body ∙ ap (λ ls. problem_change order material text size ls totals act first) is_found
+          ∙ ap (λ t. problem_change order material text size (problem_lines material pieces) t act first) is_totals
+          ∙ ap (λ a. problem_change order material text size (problem_lines material pieces) (totals_of m material) a first) is_act
+          ∙ ap (problem_change order material text size (problem_lines material pieces) (totals_of m material) (m.last_act + 1)) is_first)

@@ -1,17 +1,19 @@
 -- Steps of a book, and runs of them.
-use Rattle.std.proofs.Common.{◌≡◌, ◌≢◌, ℕ, List, [], ◌∷◌, ◌++◌, Option, Some, None, Ok, Err, inl, inr, refl, sym, subst, arith}
+use Rattle.std.proofs.Common.{◌≡◌, ◌≢◌, ℕ, List, [], ◌∷◌, ◌++◌, Option, Some, None, Ok, Err, inl, inr, refl, sym, ap, ◌∙◌, subst, arith}
 use Rattle.std.specs.Prelude.{◌⊎◌, ◌+◌, Bool, true, false, nat_lt, if◌then◌else◌, MatchOption, is_some, not}
+use Rattle.std.specs.Option.{option_map}
 use Rattle.shop_store.specs.declared.books.TheConstants.{MOST_FAILURES}
 use Rattle.shop_store.specs.Failures.{refusal_for}
 use Rattle.shop_store.specs.declared.books.BookFault.{BookFault}
 use Rattle.shop_store.specs.declared.books.BookFault.TheVariants as fault
 use Rattle.shop_machine.specs.declared.kept_texts.Kept.{Kept}
+use Rattle.shop_machine.specs.declared.imports.ImportRow.{ImportRow}
 use Rattle.shop_machine.specs.declared.changes.Change.{Change}
 use Rattle.shop_machine.specs.declared.messages.Message.{Message}
 use Rattle.shop_machine.specs.declared.refusals.Refusal.{Refusal}
 use Rattle.shop_machine.specs.declared.refusals.Refusal.TheVariants.{NoMemory, StoreFault, NumberReused}
 use Rattle.shop_machine.specs.declared.messages.Reply.{Reply}
-use Rattle.shop_machine.specs.declared.messages.Reply.TheVariants.{AddMaterial, Receive, AddOrder, Reserve, Done, Break, Release, Scrap, GiveBack, Totals, Rack, Trace, Demand, Plan, Bound, Refused}
+use Rattle.shop_machine.specs.declared.messages.Reply.TheVariants.{AddMaterial, Receive, AddOrder, Reserve, Done, Break, Release, Scrap, GiveBack, Import, Totals, Rack, Trace, Demand, Plan, Bound, Refused}
 use Rattle.shop_machine.specs.Messages.{Texts, IsMessage, IsMade, refusal_in, is_accepted, pair_of}
 use Rattle.shop_machine.specs.Readings.{Reading}
 use Rattle.shop_machine.specs.Content.{Content, kept_at, changed}
@@ -45,13 +47,13 @@ counted_made before after change (inr rows) = rows.1
 
 -- on a sound content a decision blames the store only where it failed
 pub blamed : (texts : Texts) (m : Content) (message : Message) (before after : ℕ) (refusal : Refusal) → IsSound texts m
-    → BlamesStore m message.command before (Err refusal) after → Refused refusal ≡ Refused StoreFault → StoreFailed before after
+    → BlamesStore texts m message.command before (Err refusal) after → Refused refusal ≡ Refused StoreFault → StoreFailed before after
 blamed texts m message before after refusal sound blames is = by (blames (same refusal is))
   where
     same : (refusal : Refusal) → Refused refusal ≡ Refused StoreFault → refusal ≡ StoreFault
     same refusal e = cc
 
-    by : StoreFailed before after ⊎ Contradicts m message.command → StoreFailed before after
+    by : StoreFailed before after ⊎ Contradicts texts m message.command → StoreFailed before after
     by (inl failed) = failed
     by (inr rows) = absurd (agrees texts m message rows.0 sound rows.1 rows.2)
 
@@ -67,6 +69,7 @@ module _ (texts : Texts) where
   none_made (Release job) made = refl
   none_made (Scrap part) made = refl
   none_made (GiveBack part) made = refl
+  none_made (Import act count first order) made = refl
   none_made (Totals material received stock rack pieces kerf scrap returned) made = absurd made
   none_made (Rack material parts) made = absurd made
   none_made (Trace batch h of part root state w x y) made = absurd made
@@ -86,7 +89,7 @@ module _ (texts : Texts) where
 
   step_made : (old : Content) (message : Message) (read : Reading) (answer : Reply) (new : Content) → IsMade answer → Accepts texts old message read answer new → StepNew texts old message answer new
   step_made old message read answer new made accepts =
-      subst (λ (o : Option Refusal). MatchOption o ((r : Reading) × Accepts texts old message r answer new) (λ refusal. Refuses old message.command refusal × (new ≡ old))) (sym (none_made answer made)) (read, accepts)
+      subst (λ (o : Option Refusal). MatchOption o ((r : Reading) × Accepts texts old message r answer new) (λ refusal. Refuses texts old message.command refusal × (new ≡ old))) (sym (none_made answer made)) (read, accepts)
 
   -- a step of a message that isn't kept
   pub step_new : (old : Content) (message : Message) (answer : Reply) (new : Content) → kept_at old (pair_of message) ≡ None → StepNew texts old message answer new → Step texts old message answer new
@@ -108,13 +111,18 @@ module _ (texts : Texts) where
   is_fault refusal fault.NoMemory e n s = n e
   is_fault refusal fault.Store e n s = s e
 
-  -- the change that is committed fits, whatever reply and texts it holds
-  pub fits_committed : (m : Content) (message : Message) (read : Reading) (made : Change) (text told : List ℕ) (answer : Reply)
-      → kept_at m (pair_of message) ≡ None → IsSound texts m → Reads m message.command read → refusal_of m message.command read ≡ None → Makes m message.command read made
-      → Fits m (record made { kept = Some (record { pair = pair_of message; kept = record { command = text; reply = told } }); reply = answer })
-  fits_committed m message read made text told answer none sound reads allowed makes =
-      let fits : Fits m (keeping texts message made) = fits_accepted texts m message read made sound reads allowed makes none in
-      record {
+  -- the change that is committed fits, whatever reply it holds
+  abbrev pub to_commit : Message → Change → (text told : List ℕ) → Reply → Change
+  to_commit message made text told answer = record made {
+    import = option_map (λ (row : ImportRow). record row { reply = told }) made.import;
+    kept = Some (record { pair = pair_of message; kept = record { command = text; reply = told } });
+    reply = answer;
+  }
+
+  fits_kept : (m : Content) (message : Message) (made : Change) (text told : List ℕ) (answer : Reply) → told ≡ texts.of_reply made.reply
+      → Fits m (keeping texts message made) → Fits m (to_commit message made text told answer)
+  fits_kept m message made text told answer is fits =
+      subst (λ t. Fits m (to_commit message made text t answer)) (sym is) (record {
         material = fits.material;
         parts = fits.parts;
         rising = fits.rising;
@@ -131,7 +139,19 @@ module _ (texts : Texts) where
         demand = fits.demand;
         import = fits.import;
         kept = fits.kept;
-      }
+      })
+
+  pub fits_committed : (m : Content) (message : Message) (read : Reading) (made : Change) (text told : List ℕ) (answer : Reply) → told ≡ texts.of_reply made.reply
+      → kept_at m (pair_of message) ≡ None → IsSound texts m → Reads texts m message.command read → refusal_of m message.command read ≡ None → Makes m message.command read made
+      → Fits m (to_commit message made text told answer)
+  fits_committed m message read made text told answer is none sound reads allowed makes =
+      fits_kept m message made text told answer is (fits_accepted texts m message read made sound reads allowed makes none)
+
+  -- and makes of the content what the change that keeps the message makes of it
+  pub row_committed : (m : Content) (message : Message) (made : Change) (text told : List ℕ) (answer : Reply) → text ≡ texts.of_message message → told ≡ texts.of_reply made.reply
+      → changed m (to_commit message made text told answer) ≡ changed m (keeping texts message made)
+  row_committed m message made text told answer is_text is_told =
+      ap (λ t. changed m (to_commit message made t told answer)) is_text ∙ ap (λ t. changed m (to_commit message made (texts.of_message message) t answer)) is_told
 
   module _ {Left : Type 0} (stands : Left → Content → Type 0) where
     left_made : (before : Left → Type 0) (old : Content) (message : Message) (answer : Reply) (next : Content) (left : Left) → IsMade answer → stands left next
@@ -185,7 +205,7 @@ module _ (texts : Texts) where
 
     -- decided against
     pub decided : (before after : Left → Type 0) (holds : Content → Type 0) (m : Content) (message : Message) (refusal : Refusal)
-        → Refuses m message.command refusal → kept_at m (pair_of message) ≡ None
+        → Refuses texts m message.command refusal → kept_at m (pair_of message) ≡ None
         → IsSound texts m → holds m → ((left : Left) → after left → before left) → IsHandled texts stands before after holds m message (Refused refusal)
     decided before after holds m message refusal refused none sound held crash =
         record {
@@ -210,7 +230,7 @@ module _ (texts : Texts) where
         }
 
     module _ (before mid after : Left → Type 0) (holds : Content → Type 0) (m : Content) (message : Message) (read : Reading) (change made : Change) (is_message : IsMessage message)
-        (none : kept_at m (pair_of message) ≡ None) (sound : IsSound texts m) (reads : Reads m message.command read) (allowed : refusal_of m message.command read ≡ None) (makes : Makes m message.command read made)
+        (none : kept_at m (pair_of message) ≡ None) (sound : IsSound texts m) (reads : Reads texts m message.command read) (allowed : refusal_of m message.command read ≡ None) (makes : Makes m message.command read made)
         (row : changed m change ≡ changed m (keeping texts message made)) where
       abbrev next : Content
       next = changed m (keeping texts message made)

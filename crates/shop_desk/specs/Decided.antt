@@ -9,6 +9,7 @@ use Rattle.shop_machine.specs.declared.changes.Change.{Change}
 use Rattle.shop_machine.specs.declared.messages.Command.{Command}
 use Rattle.shop_machine.specs.declared.refusals.Refusal.{Refusal}
 use Rattle.shop_machine.specs.declared.refusals.Refusal.TheVariants.{StoreFault}
+use Rattle.shop_machine.specs.Messages.{Texts}
 use Rattle.shop_machine.specs.Readings.{Reading}
 use Rattle.shop_machine.specs.Content.{Content, job_at, demand_at, part_of_job, material_of, totals_for}
 use Rattle.shop_machine.specs.Recounts.{AreDemandsFound}
@@ -16,24 +17,24 @@ use Rattle.shop_machine.specs.Machine.{Reads, refusal_of, Makes, Refuses}
 use Rattle.shop_desk.specs.Faults.{StoreFailed, CountsDecision}
 
 -- The command is allowed and the change is its own, what its text stands for being read; or it is refused.
-abbrev pub IsDecided : Content → Command → Result Change Refusal → Type 0
-IsDecided m command (Ok change) =
-    (read : Reading) × Reads m command read × (refusal_of m command read ≡ None) × Makes m command read change
-IsDecided m command (Err refusal) = Refuses m command refusal
+abbrev pub IsDecided : Texts → Content → Command → Result Change Refusal → Type 0
+IsDecided texts m command (Ok change) =
+    (read : Reading) × Reads texts m command read × (refusal_of m command read ≡ None) × Makes m command read change
+IsDecided texts m command (Err refusal) = Refuses texts m command refusal
 
 -- rows of the content contradict each other
-abbrev pub Contradicts : Content → Command → Type 0
-Contradicts m command = (read : Reading) × Reads m command read × (refusal_of m command read ≡ Some StoreFault)
+abbrev pub Contradicts : Texts → Content → Command → Type 0
+Contradicts texts m command = (read : Reading) × Reads texts m command read × (refusal_of m command read ≡ Some StoreFault)
 
 -- a decision tells of a failed store only where the store failed, or where rows contradict each other
-abbrev pub BlamesStore : Content → Command → ℕ → Result Change Refusal → ℕ → Type 0
-BlamesStore m command before result after =
-    IfErr result (λ refusal. refusal ≡ StoreFault → StoreFailed before after ⊎ Contradicts m command)
+abbrev pub BlamesStore : Texts → Content → Command → ℕ → Result Change Refusal → ℕ → Type 0
+BlamesStore texts m command before result after =
+    IfErr result (λ refusal. refusal ≡ StoreFault → StoreFailed before after ⊎ Contradicts texts m command)
 
 -- what is decided on a command over a content
-pub record IsJudged (m : Content) (command : Command) (before : ℕ) (result : Result Change Refusal) (after : ℕ) : Type 0 where
-  pub decision : IsDecided m command result
-  pub blame : BlamesStore m command before result after
+pub record IsJudged (texts : Texts) (m : Content) (command : Command) (before : ℕ) (result : Result Change Refusal) (after : ℕ) : Type 0 where
+  pub decision : IsDecided texts m command result
+  pub blame : BlamesStore texts m command before result after
 
 -- the failures that a decision goes with: where rows contradict each other the store didn't fail, and none is counted
 abbrev pub CountsOrDisagrees : Result Change Refusal → ℕ → ℕ → Type 0

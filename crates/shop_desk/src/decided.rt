@@ -1,4 +1,5 @@
-ghost use Rattle.std.specs.Prelude.{◌≡◌, ◌⊎◌, IfOk, IfSome, IsTrue, All, Some};
+ghost use Rattle.std.specs.Prelude.{◌≡◌, ◌⊎◌, option_map, IfOk, IfSome, IsTrue, All, Some};
+ghost use Rattle.shop_machine.specs.declared.imports.ImportRow.{ImportRow as ImportRowOf};
 ghost use Rattle.shop_machine.specs.Messages.{is_accepted};
 ghost use Rattle.cut_measure.specs.Names.{Name};
 ghost use Rattle.shop_machine.specs.Content.{Content, demand_at};
@@ -8,18 +9,21 @@ ghost use Rattle.shop_store.specs.Kept.{KeepsBook, Says};
 ghost use Rattle.shop_machine.specs.declared.messages.Command.TheVariants.{AddMaterial, Receive, AddOrder, Reserve, Done, Break, Release, Scrap, GiveBack};
 ghost use Rattle.shop_machine.specs.declared.messages.Reply.TheVariants.{Refused};
 ghost use Rattle.shop_machine.specs.declared.refusals.Refusal.TheVariants.{BadMessage};
+ghost use Rattle.shop_machine.specs.Soundness.{IsSound};
+ghost use Rattle.shop_rules.specs.Forms.{json_texts};
 ghost use Rattle.shop_desk.specs.Decided.{IsJudged, CountsOrDisagrees, AreJobRows};
 
 use crate::found::{found_leaves, found_lines, material_for, part_for, plan_for, totals_for};
+use crate::importing::import_order;
 use cut_measure::{Kind, PartName};
 use cut_tree::{Halt, Plan};
 use shop_rules::{
-    Change, Code, Command, FoundLeaf, Job, KeptMessage, LineList, Material, Part, Refusal, Reply,
+    Change, Code, Command, FoundLeaf, ImportRow, Job, KeptMessage, LineList, Material, Part, Refusal, Reply,
     Text, Totals, decide_break, decide_done, decide_give_back, decide_material, decide_order,
     decide_receive, decide_release, decide_reserve, decide_scrap,
 };
 use shop_store::{Book, BookFault};
-use std::alloc::Global;
+use std::alloc::{AllocError, Global};
 
 // Adds a material.
 fn add_material<B: Book>(
@@ -31,7 +35,7 @@ fn add_material<B: Book>(
     min_long: u32,
     min_short: u32,
 ) -> Result<Change, Refusal>
-    ensures decision { Says B.Book book.old book.new (λ m. IsJudged m (AddMaterial material kind kerf min_long min_short) (B.failed book.old) result (B.failed book.new)) }
+    ensures decision { Says B.Book book.old book.new (λ m. IsSound json_texts m → IsJudged json_texts m (AddMaterial material kind kerf min_long min_short) (B.failed book.old) result (B.failed book.new)) }
     ensures keeps { KeepsBook B.Book (CountsOrDisagrees result) book.old book.new }
     ensures told { IfOk result (λ change. IsTrue (is_accepted change.reply)) }
 {
@@ -49,7 +53,7 @@ fn receive<B: Book>(
     h: u32,
     count: u32,
 ) -> Result<Change, Refusal>
-    ensures decision { Says B.Book book.old book.new (λ m. IsJudged m (Receive material batch w h count) (B.failed book.old) result (B.failed book.new)) }
+    ensures decision { Says B.Book book.old book.new (λ m. IsSound json_texts m → IsJudged json_texts m (Receive material batch w h count) (B.failed book.old) result (B.failed book.new)) }
     ensures keeps { KeepsBook B.Book (CountsOrDisagrees result) book.old book.new }
     ensures told { IfOk result (λ change. IsTrue (is_accepted change.reply)) }
 {
@@ -66,7 +70,7 @@ fn add_order<B: Book>(
     order: Code,
     lines: &LineList,
 ) -> Result<Change, Refusal>
-    ensures decision { Says B.Book book.old book.new (λ m. IsJudged m (AddOrder order lines.now) (B.failed book.old) result (B.failed book.new)) }
+    ensures decision { Says B.Book book.old book.new (λ m. IsSound json_texts m → IsJudged json_texts m (AddOrder order lines.now) (B.failed book.old) result (B.failed book.new)) }
     ensures keeps { KeepsBook B.Book (CountsOrDisagrees result) book.old book.new }
     ensures told { IfOk result (λ change. IsTrue (is_accepted change.reply)) }
 {
@@ -117,7 +121,7 @@ fn reserve<B: Book>(
     part: PartName,
     tree: &Text,
 ) -> Result<Change, Refusal>
-    ensures decision { Says B.Book book.old book.new (λ m. IsJudged m (Reserve part tree.now) (B.failed book.old) result (B.failed book.new)) }
+    ensures decision { Says B.Book book.old book.new (λ m. IsSound json_texts m → IsJudged json_texts m (Reserve part tree.now) (B.failed book.old) result (B.failed book.new)) }
     ensures keeps { KeepsBook B.Book (CountsOrDisagrees result) book.old book.new }
     ensures told { IfOk result (λ change. IsTrue (is_accepted change.reply)) }
 {
@@ -161,7 +165,7 @@ fn job_rows<B: Book>(alloc: Global, book: &mut B, number: u32) -> Result<JobRows
 
 // Finishes a job.
 fn done<B: Book>(alloc: Global, book: &mut B, number: u32) -> Result<Change, Refusal>
-    ensures decision { Says B.Book book.old book.new (λ m. IsJudged m (Done number) (B.failed book.old) result (B.failed book.new)) }
+    ensures decision { Says B.Book book.old book.new (λ m. IsSound json_texts m → IsJudged json_texts m (Done number) (B.failed book.old) result (B.failed book.new)) }
     ensures keeps { KeepsBook B.Book (CountsOrDisagrees result) book.old book.new }
     ensures told { IfOk result (λ change. IsTrue (is_accepted change.reply)) }
 {
@@ -182,7 +186,7 @@ fn break_off<B: Book>(
     number: u32,
     halt: &Halt,
 ) -> Result<Change, Refusal>
-    ensures decision { Says B.Book book.old book.new (λ m. IsJudged m (Break number halt.now) (B.failed book.old) result (B.failed book.new)) }
+    ensures decision { Says B.Book book.old book.new (λ m. IsSound json_texts m → IsJudged json_texts m (Break number halt.now) (B.failed book.old) result (B.failed book.new)) }
     ensures keeps { KeepsBook B.Book (CountsOrDisagrees result) book.old book.new }
     ensures told { IfOk result (λ change. IsTrue (is_accepted change.reply)) }
 {
@@ -198,7 +202,7 @@ fn break_off<B: Book>(
 
 // Releases a job.
 fn release<B: Book>(alloc: Global, book: &mut B, number: u32) -> Result<Change, Refusal>
-    ensures decision { Says B.Book book.old book.new (λ m. IsJudged m (Release number) (B.failed book.old) result (B.failed book.new)) }
+    ensures decision { Says B.Book book.old book.new (λ m. IsSound json_texts m → IsJudged json_texts m (Release number) (B.failed book.old) result (B.failed book.new)) }
     ensures keeps { KeepsBook B.Book (CountsOrDisagrees result) book.old book.new }
     ensures told { IfOk result (λ change. IsTrue (is_accepted change.reply)) }
 {
@@ -214,7 +218,7 @@ fn release<B: Book>(alloc: Global, book: &mut B, number: u32) -> Result<Change, 
 
 // Makes a part scrap.
 fn scrap<B: Book>(alloc: Global, book: &mut B, part: PartName) -> Result<Change, Refusal>
-    ensures decision { Says B.Book book.old book.new (λ m. IsJudged m (Scrap part) (B.failed book.old) result (B.failed book.new)) }
+    ensures decision { Says B.Book book.old book.new (λ m. IsSound json_texts m → IsJudged json_texts m (Scrap part) (B.failed book.old) result (B.failed book.new)) }
     ensures keeps { KeepsBook B.Book (CountsOrDisagrees result) book.old book.new }
     ensures told { IfOk result (λ change. IsTrue (is_accepted change.reply)) }
 {
@@ -225,7 +229,7 @@ fn scrap<B: Book>(alloc: Global, book: &mut B, part: PartName) -> Result<Change,
 
 // Returns a unit to its supplier.
 fn give_back<B: Book>(alloc: Global, book: &mut B, part: PartName) -> Result<Change, Refusal>
-    ensures decision { Says B.Book book.old book.new (λ m. IsJudged m (GiveBack part) (B.failed book.old) result (B.failed book.new)) }
+    ensures decision { Says B.Book book.old book.new (λ m. IsSound json_texts m → IsJudged json_texts m (GiveBack part) (B.failed book.old) result (B.failed book.new)) }
     ensures keeps { KeepsBook B.Book (CountsOrDisagrees result) book.old book.new }
     ensures told { IfOk result (λ change. IsTrue (is_accepted change.reply)) }
 {
@@ -236,7 +240,7 @@ fn give_back<B: Book>(alloc: Global, book: &mut B, part: PartName) -> Result<Cha
 
 /// What is decided on a command, from the rows that it needs.
 pub fn decide<B: Book>(alloc: Global, book: &mut B, command: &Command) -> Result<Change, Refusal>
-    ensures decision { Says B.Book book.old book.new (λ m. IsJudged m command.now (B.failed book.old) result (B.failed book.new)) }
+    ensures decision { Says B.Book book.old book.new (λ m. IsSound json_texts m → IsJudged json_texts m command.now (B.failed book.old) result (B.failed book.new)) }
     ensures keeps { KeepsBook B.Book (CountsOrDisagrees result) book.old book.new }
     ensures told { IfOk result (λ change. IsTrue (is_accepted change.reply)) }
 {
@@ -262,13 +266,39 @@ pub fn decide<B: Book>(alloc: Global, book: &mut B, command: &Command) -> Result
         Command::Release { job } => release(alloc, book, *job),
         Command::Scrap { part } => scrap(alloc, book, *part),
         Command::GiveBack { part } => give_back(alloc, book, *part),
+        Command::Import { order, form, text } => import_order(alloc, book, *order, *form, text),
     }
 }
 
-/// The change with the message to keep, and the reply that was taken out of it.
-pub fn keeping_message(change: Change, message: KeptMessage) -> (Change, Reply)
-    ensures change { result.0 ≡ record change { kept = Some message; reply = Refused BadMessage } }
-    ensures reply { result.1 ≡ change.reply }
+// What is kept of an import, with the text of its reply.
+fn telling(
+    alloc: Global,
+    import: Option<ImportRow>,
+    told: &Text,
+) -> Result<Option<ImportRow>, AllocError>
+    ensures { IfOk result (λ row. row ≡ option_map (λ (r : ImportRowOf). record r { reply = told.now }) import) }
+{
+    match import {
+        Some(row) => {
+            let reply = told.copy(alloc)?;
+            Ok(Some(ImportRow { reply, ..row }))
+        }
+        None => Ok(None),
+    }
+}
+
+/// The change with the message to keep, of an import with the text of its reply too, and the reply that was taken out of it.
+pub fn keeping_message(
+    alloc: Global,
+    change: Change,
+    message: KeptMessage,
+) -> Result<(Change, Reply), AllocError>
+    ensures change { IfOk result (λ kept. kept.0 ≡ record change {
+        import = option_map (λ (r : ImportRowOf). record r { reply = message.kept.reply }) change.import;
+        kept = Some message;
+        reply = Refused BadMessage;
+    }) }
+    ensures reply { IfOk result (λ kept. kept.1 ≡ change.reply) }
 {
     let Change {
         material,
@@ -284,6 +314,7 @@ pub fn keeping_message(change: Change, message: KeptMessage) -> (Change, Reply)
         kept: _,
         reply,
     } = change;
+    let import = telling(alloc, import, &message.kept.reply)?;
     let kept = Change {
         material,
         parts,
@@ -298,5 +329,5 @@ pub fn keeping_message(change: Change, message: KeptMessage) -> (Change, Reply)
         kept: Some(message),
         reply: Reply::Refused(Refusal::BadMessage),
     };
-    (kept, reply)
+    Ok((kept, reply))
 }

@@ -74,7 +74,9 @@ fn handle_new<B: Book>(alloc: Global, book: &mut B, message: &Message, text: Tex
         command: text,
         reply: told,
     };
-    let (change, reply) = keeping_message(change, KeptMessage { pair, kept });
+    let Ok((change, reply)) = keeping_message(alloc, change, KeptMessage { pair, kept }) else {
+        return Reply::Refused(Refusal::NoMemory);
+    };
     match book.commit(change) {
         Ok(()) => reply,
         Err(fault) => Reply::Refused(Refusal::from(fault)),

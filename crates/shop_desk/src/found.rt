@@ -9,6 +9,7 @@ ghost use Rattle.shop_machine.specs.Machine.{Reads};
 ghost use Rattle.shop_machine.specs.Recounts.{plan_leaves, AreDemandsFound, IsNumbered, leaves_in};
 ghost use Rattle.shop_machine.specs.Ordering.{AreMaterialsFound, lines_in};
 ghost use Rattle.shop_machine.specs.Planning.{AreAsked, AreFound, numbers_in};
+ghost use Rattle.shop_rules.specs.Forms.{json_texts};
 ghost use Rattle.shop_store.specs.Failures.{CountsFailure};
 ghost use Rattle.shop_store.specs.Kept.{KeepsBook, Says};
 
@@ -86,7 +87,7 @@ pub fn plan_for(
     material: &Option<Material>,
     tree: &str,
 ) -> Result<Option<Plan>, AllocError>
-    ensures { IfOk result (λ read. (m : Content) → (name : Name) → part.now ≡ part_at m name → material.now ≡ material_of m part.now → Reads m (Reserve name tree.now) (reading_of read)) }
+    ensures { IfOk result (λ read. (m : Content) → (name : Name) → part.now ≡ part_at m name → material.now ≡ material_of m part.now → Reads json_texts m (Reserve name tree.now) (reading_of read)) }
 {
     let (Some(part), Some(material)) = (part, material) else {
         return Ok(None);

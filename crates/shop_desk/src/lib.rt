@@ -4,6 +4,7 @@
 mod decided;
 mod desk_calls;
 mod found;
+mod importing;
 mod racks;
 
 pub use desk_calls::{ask, handle, run};

@@ -7,6 +7,8 @@ mod desk_tests;
 #[cfg(test)]
 mod files_tests;
 #[cfg(test)]
+mod import_tests;
+#[cfg(test)]
 mod planning_tests;
 #[cfg(test)]
 mod printing_tests;

@@ -29,7 +29,7 @@ use Rattle.shop_machine.proofs.Puts.{found_one, still_there, equal, not_both, so
 use Rattle.shop_machine.proofs.AddedUp.{cells_as}
 use Rattle.shop_machine.proofs.Tallied.{same_totals}
 use Rattle.shop_machine.proofs.Allowed.{none_of}
-use Rattle.shop_machine.proofs.Grown.{IsStock, Grows, placed_more, job_more, demand_more, no_pairs}
+use Rattle.shop_machine.proofs.Grown.{IsStock, Grows, placed_more, job_more, demand_more, no_pairs, same_stock, nothing_fits}
 use Rattle.shop_machine.proofs.Agreeing.{NoFault, nothing, other}
 
 module _ (texts : Texts) (message : Message) (m : Content) (code : List ℕ) (kind : Kind) (rule : Rule) where
@@ -37,17 +37,7 @@ module _ (texts : Texts) (message : Message) (m : Content) (code : List ℕ) (ki
   after known = changed m (keeping texts message (material_change known code kind rule))
 
   pub material_stock : (known : Option Material) → material_at m code ≡ known → material_refusal known kind rule ≡ None → IsStock m → IsStock (after known)
-  material_stock (Some row) is allowed stock =
-      let grows : Grows m (after (Some row)) = record { materials = λ code x is. is; demands = λ number h. h; acts = omega arith } in
-      record {
-        in_range = record { acts = stock.in_range.acts; last = stock.in_range.last; last_demand = stock.in_range.last_demand; received = stock.in_range.received; adds_up = stock.in_range.adds_up };
-        materials = stock.materials;
-        parts = λ name part is. placed_more m (after (Some row)) grows name part (stock.parts name part is);
-        jobs = λ number j is. job_more m (after (Some row)) grows number j (λ w. record { same = refl; none_yet = w.none_yet }) (stock.jobs number j is);
-        demands = λ number d is.
-            let old = stock.demands number d is in
-            demand_more m (after (Some row)) grows (omega arith) number d old (record { few = old.counted.few; reserved = old.counted.reserved; made = old.counted.made });
-      }
+  material_stock (Some row) is allowed stock = same_stock m _ _ stock
   material_stock None is allowed stock =
       let row : Material = record { code = code; kind = kind; limits = rule } in
       let grows : Grows m (after None) = record {
@@ -111,24 +101,7 @@ module _ (texts : Texts) (message : Message) (m : Content) (code : List ℕ) (ki
     import = tt;
     kept = new;
   }
-  material_fits stock (Some row) is new = record {
-    material = tt;
-    parts = All-nil _;
-    rising = no_pairs (λ (a b : Part). name_cmp a.name b.name ≡ Less);
-    moved = tt;
-    job = tt;
-    order = tt;
-    demands = All-nil _;
-    wanted = All-nil _;
-    once = no_pairs (λ (a b : Demand). a.number ≡ b.number → ⊥);
-    lines = tt;
-    totals = tt;
-    sums = λ c. refl;
-    act = tt;
-    demand = tt;
-    import = tt;
-    kept = new;
-  }
+  material_fits stock (Some row) is new = nothing_fits m texts message _ new
 
 -- ---- its refusals and its reply
 

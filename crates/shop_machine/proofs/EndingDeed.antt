@@ -28,7 +28,7 @@ use Rattle.shop_machine.specs.Content.{Content, material_at, part_at, job_at, in
 use Rattle.shop_machine.specs.Ending.{release_change, row_part, ended_state, end_change, IsEnd, IsDone, IsBroken, IsRelease, end_refusal, IsWork}
 use Rattle.shop_machine.specs.Recounts.{AreRecounted, with_freed, with_laid, pieces_in}
 use Rattle.shop_machine.specs.Soundness.{IsSound, IsWaiting}
-use Rattle.shop_machine.specs.History.{Deed, nothing, ReceivedUnit, acts_of, ordered_lines, material_rule, owner_by, owner_of, is_cut, standing_as, HasOwner, Ends, deed, unit_material, Reservation, Owner, stands_as, owner_at, cut_owner, OneOwner, IsIn}
+use Rattle.shop_machine.specs.History.{Deed, nothing, ReceivedUnit, acts_of, ordered_lines, material_rule, owner_by, owner_of, is_cut, standing_as, HasOwner, Ends, deeds, unit_material, Reservation, Owner, stands_as, owner_at, cut_owner, OneOwner, IsIn}
 use Rattle.shop_machine.specs.Readings.{Reading}
 use Rattle.shop_machine.proofs.Basics.{name_cases, same_some}
 use Rattle.shop_machine.proofs.Moved.{no_freed, no_laid}
@@ -38,7 +38,7 @@ use Rattle.shop_machine.proofs.Cells.{Named, restated, found_cases, found_cut, k
 use Rattle.shop_machine.proofs.Accounts.{IsRow, IsWhole, reservation, Follows, row_later, row_restated, material_is, stands_yes, stands_no}
 use Rattle.shop_machine.proofs.Inside.{row_inside}
 use Rattle.shop_machine.proofs.EndingStep.{job_waits}
-use Rattle.shop_machine.proofs.Steps.{After, named, job_restated, rows_restated, whole_restated}
+use Rattle.shop_machine.proofs.Steps.{After, AfterAll, named, job_restated, rows_restated, whole_restated}
 
 module _ (texts : Texts) (message : Message) (earlier : List Deed) (old : Content) (sound : IsSound texts old) (f : Follows earlier old)
     (j : Job) (row : Part) (material : Material) (found : job_at old j.act ≡ Some j) (waits : IsWaiting old j) (kept : part_at old j.part ≡ Some row) (known : material_at old row.material ≡ Some material) (outcome : ℕ → Outcome)
@@ -202,7 +202,7 @@ module _ (texts : Texts) (message : Message) (earlier : List Deed) (old : Conten
   }
 
   abbrev Then : Command → Reading → Change → Type 0
-  Then command read change = After texts message earlier old sound f (deed command read) change
+  Then command read change = AfterAll texts message earlier old sound f (deeds command read) change
 
   waiting : (stop : Stop) (number : ℕ) (j : Job) → job_at old number ≡ Some j → end_refusal old stop (job_at old number) ≡ None → IsWaiting old j
   waiting stop number j found allowed = (sound.jobs number j found).waits (job_waits old stop number j found allowed)

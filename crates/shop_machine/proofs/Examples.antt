@@ -12,7 +12,7 @@ use Rattle.shop_machine.specs.declared.records.State.TheVariants as state
 use Rattle.shop_machine.specs.declared.records.Material.{Material}
 use Rattle.shop_machine.specs.declared.refusals.Refusal.TheVariants.{NoMaterial, BadSize, BadCount, TooMuch, NumbersSpent, MaterialExists, BadMaterial}
 use Rattle.shop_machine.specs.declared.messages.Command.TheVariants.{AddMaterial, Receive, AddOrder, Reserve, Done}
-use Rattle.shop_machine.specs.declared.messages.OrderLine.{OrderLine}
+use Rattle.shop_files.specs.declared.orders.OrderLine.{OrderLine}
 use Rattle.shop_machine.specs.declared.records.Column.TheVariants as column
 use Rattle.shop_machine.specs.Readings.{unread, Plan}
 use Rattle.shop_machine.specs.Receiving.{receive_refusal, received_totals}

@@ -1,16 +1,30 @@
 -- What stays true of parts, jobs and demands when a content grows.
-use Rattle.std.proofs.Common.{◌≡◌, ℕ, ◌≤◌, ◌<◌, List, sym, ap, ◌∙◌, arith, []}
+use Rattle.std.proofs.Common.{◌≡◌, ℕ, ◌≤◌, ◌<◌, List, refl, sym, ap, ◌∙◌, arith, []}
 use Rattle.std.specs.Prelude.{Some, None, IsSome, AllPairs}
-use Rattle.cut_measure.specs.Names.{Name}
+use Rattle.std.specs.declared.cmp.Ordering.TheVariants.{Less}
+use Rattle.std.specs.FinMap.{FinMap}
+use Rattle.std.proofs.lemmas.List.Elements.{All-nil}
+use Rattle.cut_measure.specs.Codes.{code_cmp}
+use Rattle.cut_measure.specs.Names.{Name, name_cmp}
+use Rattle.shop_machine.specs.declared.kept_texts.Kept.{Kept}
+use Rattle.shop_machine.specs.declared.imports.ImportRow.{ImportRow}
 use Rattle.shop_machine.specs.declared.records.Material.{Material}
 use Rattle.shop_machine.specs.declared.records.Part.{Part}
 use Rattle.shop_machine.specs.declared.records.Job.{Job}
 use Rattle.shop_machine.specs.declared.records.Demand.{Demand}
-use Rattle.shop_machine.specs.Content.{Content, material_at, part_at, job_at, demand_at}
-use Rattle.shop_machine.specs.Soundness.{IsInRange, IsKnown, IsPlaced, IsWaiting, IsJob, IsDemand, IsCounted, IsSound}
-use Rattle.shop_machine.specs.Messages.{Texts}
+use Rattle.shop_machine.specs.Content.{Content, pair_cmp, material_at, part_at, job_at, demand_at, kept_at}
+use Rattle.shop_machine.specs.Soundness.{IsInRange, IsKnown, IsPlaced, IsWaiting, IsJob, IsDemand, IsCounted, IsSound, Fits}
+use Rattle.shop_machine.specs.declared.messages.Message.{Message}
+use Rattle.shop_machine.specs.declared.messages.Reply.{Reply}
+use Rattle.shop_machine.specs.Messages.{Texts, pair_of}
+use Rattle.shop_machine.specs.Decisions.{no_change}
+use Rattle.shop_machine.specs.Machine.{keeping}
 use Rattle.shop_machine.proofs.Basics.{same_some, none_at}
 use Rattle.shop_machine.proofs.Puts.{some_known, is_known}
+
+-- a content with other kept messages and imports
+abbrev pub with_messages : FinMap pair_cmp Kept → FinMap code_cmp ImportRow → Content → Content
+with_messages kept imports content = record content { kept = kept; imports = imports }
 
 -- materials and demands that were there are there
 pub record Grows (old new : Content) : Type 0 where
@@ -18,7 +32,7 @@ pub record Grows (old new : Content) : Type 0 where
   pub demands : (number : ℕ) → IsSome (demand_at old number) → IsSome (demand_at new number)
   pub acts : old.last_act ≤ new.last_act
 
--- what a sound content has besides the messages that it keeps
+-- what a sound content has besides the messages and the imports that it keeps
 pub record IsStock (content : Content) : Type 0 where
   pub in_range : IsInRange content
   pub materials : (code : List ℕ) (material : Material) → material_at content code ≡ Some material → IsKnown code material
@@ -95,3 +109,39 @@ no_pairs R i j d before within = absurd (omega arith)
 
 pub stock_of : (texts : Texts) (m : Content) → IsSound texts m → IsStock m
 stock_of texts m sound = record { in_range = sound.in_range; materials = sound.materials; parts = sound.parts; jobs = sound.jobs; demands = sound.demands }
+
+-- ---- what changes nothing but messages
+
+pub same_stock : (m : Content) (kept : FinMap pair_cmp Kept) (imports : FinMap code_cmp ImportRow) → IsStock m → IsStock (with_messages kept imports m)
+same_stock m kept imports stock =
+    let after : Content = with_messages kept imports m in
+    let grows : Grows m after = record { materials = λ code x is. is; demands = λ number h. h; acts = omega arith } in
+    record {
+      in_range = record { acts = stock.in_range.acts; last = stock.in_range.last; last_demand = stock.in_range.last_demand; received = stock.in_range.received; adds_up = stock.in_range.adds_up };
+      materials = stock.materials;
+      parts = λ name part is. placed_more m after grows name part (stock.parts name part is);
+      jobs = λ number j is. job_more m after grows number j (λ w. record { same = refl; none_yet = w.none_yet }) (stock.jobs number j is);
+      demands = λ number d is.
+          let old = stock.demands number d is in
+          demand_more m after grows (omega arith) number d old (record { few = old.counted.few; reserved = old.counted.reserved; made = old.counted.made });
+    }
+
+pub nothing_fits : (m : Content) (texts : Texts) (message : Message) (answer : Reply) → kept_at m (pair_of message) ≡ None → Fits m (keeping texts message (no_change answer))
+nothing_fits m texts message answer new = record {
+  material = tt;
+  parts = All-nil _;
+  rising = no_pairs (λ (a b : Part). name_cmp a.name b.name ≡ Less);
+  moved = tt;
+  job = tt;
+  order = tt;
+  demands = All-nil _;
+  wanted = All-nil _;
+  once = no_pairs (λ (a b : Demand). a.number ≡ b.number → ⊥);
+  lines = tt;
+  totals = tt;
+  sums = λ c. refl;
+  act = tt;
+  demand = tt;
+  import = tt;
+  kept = new;
+}

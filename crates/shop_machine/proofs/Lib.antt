@@ -31,6 +31,10 @@ pub mod ReceivingDeed
 pub mod OrderingDecision
 pub mod OrderingStep
 pub mod OrderingDeed
+-- importing an order
+pub mod ImportingDecision
+pub mod ImportingStep
+pub mod ImportingDeed
 -- reserving a part
 pub mod ReservingDecision
 pub mod ReservingStep

@@ -3,23 +3,26 @@ use Rattle.std.proofs.Common.{◌≡◌, ℕ, zero, suc, ◌+◌, ◌≤◌, ◌
 use Rattle.std.specs.Prelude.{Option, Some, None, IsSome, if◌then◌else◌, nat_le, nat_lt, ◌&&◌, not}
 use Rattle.std.specs.declared.cmp.Ordering.TheVariants.{Less}
 use Rattle.std.specs.Cmp.{nat_cmp_total}
-use Rattle.std.specs.FinMap.{nat_cmp-IsAntisymmetric}
+use Rattle.std.specs.FinMap.{FinMap, nat_cmp-IsAntisymmetric}
 use Rattle.std.proofs.lemmas.List.Elements.{All-nil}
 use Rattle.std.proofs.lemmas.Bool.{and_parts, not-false, leb-true, ltb-true, ltb-false}
+use Rattle.cut_measure.specs.Codes.{code_cmp}
 use Rattle.cut_measure.specs.Names.{name_cmp}
 use Rattle.cut_measure.specs.declared.ranges.TheConstants.{MOST_NUMBERS}
 use Rattle.cut_tree.specs.Tree.{count_of}
 use Rattle.shop_machine.specs.declared.records.Part.{Part}
 use Rattle.shop_machine.specs.declared.records.Job.{Job}
 use Rattle.shop_machine.specs.declared.records.Demand.{Demand}
+use Rattle.shop_machine.specs.declared.kept_texts.Kept.{Kept}
+use Rattle.shop_machine.specs.declared.imports.ImportRow.{ImportRow}
 use Rattle.shop_machine.specs.declared.messages.Message.{Message}
-use Rattle.shop_machine.specs.declared.messages.OrderLine.{OrderLine}
-use Rattle.shop_machine.specs.declared.ordering.TheConstants.{MOST_LINES}
+use Rattle.shop_files.specs.declared.orders.OrderLine.{OrderLine}
+use Rattle.shop_files.specs.declared.limits.TheConstants.{MOST_LINES}
 use Rattle.shop_machine.specs.declared.records.Material.{Material}
 use Rattle.shop_machine.specs.declared.refusals.Refusal.TheVariants.{NumbersSpent, OrderExists, BadLine}
 use Rattle.shop_machine.specs.Messages.{Texts, pair_of}
 use Rattle.shop_machine.specs.Columns.{is_piece_for, is_waiting}
-use Rattle.shop_machine.specs.Content.{Content, material_at, has_order, demand_at, kept_at, changed}
+use Rattle.shop_machine.specs.Content.{Content, pair_cmp, material_at, has_order, demand_at, kept_at, changed}
 use Rattle.shop_machine.specs.Ordering.{new_demand, new_demands, order_change, order_refusal, line_refusal, lines_refusal, is_good_line}
 use Rattle.shop_machine.specs.Machine.{keeping}
 use Rattle.shop_machine.specs.History.{IsIn}
@@ -28,7 +31,7 @@ use Rattle.shop_machine.specs.Decisions.{first_of}
 use Rattle.shop_machine.proofs.Basics.{names_total, names_same, same_some, none_at, demand_cases}
 use Rattle.shop_machine.proofs.Puts.{Pairwise, all_from, pairs_from, not_both, is_known, some_known, sum_no_rows}
 use Rattle.shop_machine.proofs.Allowed.{none_of, or_none}
-use Rattle.shop_machine.proofs.Grown.{IsStock, Grows, placed_more, job_more, demand_more, no_pairs}
+use Rattle.shop_machine.proofs.Grown.{with_messages, IsStock, Grows, placed_more, job_more, demand_more, no_pairs}
 use Rattle.shop_machine.proofs.Agreeing.{NoFault, either, nothing, other}
 
 -- ---- what is known of an order that isn't refused
@@ -156,15 +159,12 @@ none_reserved number j h = by (is_waiting j.state) refl
     by false e = refl
 
 module _ (m : Content) (stock : IsStock m) (order : List ℕ) (lines : List OrderLine)
-    (ordered : IsOrder (has_order m order) (material_at m) lines (m.last_demand + 1)) (texts : Texts) (message : Message) where
+    (ordered : IsOrder (has_order m order) (material_at m) lines (m.last_demand + 1)) where
   abbrev first : ℕ
   first = m.last_demand + 1
 
   abbrev rows : List Demand
   rows = new_demands order first lines
-
-  abbrev after : Content
-  after = changed m (keeping texts message (order_change order lines first))
 
   -- a number to come is no demand's yet
   none_later : (number : ℕ) → m.last_demand < number → demand_at m number ≡ None
@@ -184,67 +184,71 @@ module _ (m : Content) (stock : IsStock m) (order : List ℕ) (lines : List Orde
       let there = some_known (demand_at m number) ((stock.parts k p is).asked number piece) in
       not_both (demand_at m number) there.0 (none_later number later) there.1))
 
-  found_after : (number : ℕ) (d : Demand) → demand_at after number ≡ Some d → (IsNew order first lines d × (d.number ≡ number)) ⊎ (demand_at m number ≡ Some d)
-  found_after number d is =
-      elim (demand_cases rows m.demands number) [
-        | inl q ↦
-            let same : q.0 ≡ d = same_some q.0 d (sym q.3 ∙ is) in
-            inl (subst (IsNew order first lines) same (new_in order first lines q.0 q.1), ap (λ (x : Demand). x.number) (sym same) ∙ q.2)
-        | inr q ↦ inr (sym q.1 ∙ is)
-      ]
+  module _ (kept : FinMap pair_cmp Kept) (imports : FinMap code_cmp ImportRow) where
+    abbrev after : Content
+    after = with_messages kept imports (changed m (order_change order lines first))
 
-  there_after : (number : ℕ) → IsSome (demand_at m number) → IsSome (demand_at after number)
-  there_after number h =
-      elim (demand_cases rows m.demands number) [
-        | inl q ↦ is_known (demand_at after number) q.0 q.3
-        | inr q ↦ subst (λ (o : Option Demand). IsSome o) (sym q.1) h
-      ]
+    found_after : (number : ℕ) (d : Demand) → demand_at after number ≡ Some d → (IsNew order first lines d × (d.number ≡ number)) ⊎ (demand_at m number ≡ Some d)
+    found_after number d is =
+        elim (demand_cases rows m.demands number) [
+          | inl q ↦
+              let same : q.0 ≡ d = same_some q.0 d (sym q.3 ∙ is) in
+              inl (subst (IsNew order first lines) same (new_in order first lines q.0 q.1), ap (λ (x : Demand). x.number) (sym same) ∙ q.2)
+          | inr q ↦ inr (sym q.1 ∙ is)
+        ]
 
-  grows : Grows m after
-  grows = record { materials = λ code x is. is; demands = there_after; acts = omega arith }
+    there_after : (number : ℕ) → IsSome (demand_at m number) → IsSome (demand_at after number)
+    there_after number h =
+        elim (demand_cases rows m.demands number) [
+          | inl q ↦ is_known (demand_at after number) q.0 q.3
+          | inr q ↦ subst (λ (o : Option Demand). IsSome o) (sym q.1) h
+        ]
 
-  row_new : (number : ℕ) (d : Demand) → IsNew order first lines d → d.number ≡ number → IsDemand after number d
-  row_new number d r e =
-      let least = r.least in
-      let most = r.most in
-      let same : d.number ≡ r.number = ap (λ (x : Demand). x.number) r.is in
-      let none : d.reserved ≡ 0 = ap (λ (x : Demand). x.reserved) r.is in
-      let unmade : d.made ≡ 0 = ap (λ (x : Demand). x.made) r.is in
-      record {
-        numbered = e;
-        least = omega (arith, least, same, e);
-        so_far = omega (arith, most, same, e);
-        known = subst (λ (x : Demand). IsSome (material_at m x.material)) (sym r.is) (ordered.known r.line r.there);
-        counted = record {
-          few = omega (arith, none, unmade);
-          reserved = none ∙ sym (none_reserved_yet number (omega (arith, least, same, e)));
-          made = unmade ∙ sym (none_made_yet number (omega (arith, least, same, e)));
-        };
-      }
+    grows : Grows m after
+    grows = record { materials = λ code x is. is; demands = there_after; acts = omega arith }
 
-  pub order_stock : IsStock after
-  order_stock =
-      let some = ordered.some in
-      let numbers = ordered.numbers in
-      record {
-        in_range = record {
-          acts = stock.in_range.acts;
-          last = stock.in_range.last;
-          last_demand = omega (arith, some, numbers);
-          received = stock.in_range.received;
-          adds_up = stock.in_range.adds_up;
-        };
-        materials = stock.materials;
-        parts = λ name part is. placed_more m after grows name part (stock.parts name part is);
-        jobs = λ number j is. job_more m after grows number j (λ w. record { same = refl; none_yet = w.none_yet }) (stock.jobs number j is);
-        demands = λ number d is.
-            elim (found_after number d is) [
-              | inl q ↦ row_new number d q.0 q.1
-              | inr q ↦
-                  let old = stock.demands number d q in
-                  demand_more m after grows (omega (arith, some)) number d old (record { few = old.counted.few; reserved = old.counted.reserved; made = old.counted.made })
-            ];
-      }
+    row_new : (number : ℕ) (d : Demand) → IsNew order first lines d → d.number ≡ number → IsDemand after number d
+    row_new number d r e =
+        let least = r.least in
+        let most = r.most in
+        let same : d.number ≡ r.number = ap (λ (x : Demand). x.number) r.is in
+        let none : d.reserved ≡ 0 = ap (λ (x : Demand). x.reserved) r.is in
+        let unmade : d.made ≡ 0 = ap (λ (x : Demand). x.made) r.is in
+        record {
+          numbered = e;
+          least = omega (arith, least, same, e);
+          so_far = omega (arith, most, same, e);
+          known = subst (λ (x : Demand). IsSome (material_at m x.material)) (sym r.is) (ordered.known r.line r.there);
+          counted = record {
+            few = omega (arith, none, unmade);
+            reserved = none ∙ sym (none_reserved_yet number (omega (arith, least, same, e)));
+            made = unmade ∙ sym (none_made_yet number (omega (arith, least, same, e)));
+          };
+        }
+
+    pub order_stock : IsStock after
+    order_stock =
+        let some = ordered.some in
+        let numbers = ordered.numbers in
+        record {
+          in_range = record {
+            acts = stock.in_range.acts;
+            last = stock.in_range.last;
+            last_demand = omega (arith, some, numbers);
+            received = stock.in_range.received;
+            adds_up = stock.in_range.adds_up;
+          };
+          materials = stock.materials;
+          parts = λ name part is. placed_more m after grows name part (stock.parts name part is);
+          jobs = λ number j is. job_more m after grows number j (λ w. record { same = refl; none_yet = w.none_yet }) (stock.jobs number j is);
+          demands = λ number d is.
+              elim (found_after number d is) [
+                | inl q ↦ row_new number d q.0 q.1
+                | inr q ↦
+                    let old = stock.demands number d q in
+                    demand_more m after grows (omega (arith, some)) number d old (record { few = old.counted.few; reserved = old.counted.reserved; made = old.counted.made })
+              ];
+        }
 
   row_fits : (x : Demand) → IsNew order first lines x → IsNewDemand m order x
   row_fits x r =
@@ -253,8 +257,8 @@ module _ (m : Content) (stock : IsStock m) (order : List ℕ) (lines : List Orde
       let later : m.last_demand < x.number = omega (arith, least, same) in
       record { new = none_later x.number later; later = later; of = ap (λ (d : Demand). d.order) r.is }
 
-  pub order_fits : kept_at m (pair_of message) ≡ None → Fits m (keeping texts message (order_change order lines first))
-  order_fits new =
+  pub order_fits : (texts : Texts) (message : Message) → kept_at m (pair_of message) ≡ None → Fits m (keeping texts message (order_change order lines first))
+  order_fits texts message new =
       let some = ordered.some in
       let numbers = ordered.numbers in
       record {
@@ -284,7 +288,7 @@ line_agrees : (last : ℕ) (line : OrderLine) (o : Option Material) → NoFault 
 line_agrees last line None = λ e. cc
 line_agrees last line (Some m) = other (not (is_good_line last line m.kind)) _ _ (λ e. cc) nothing
 
-lines_agree : (at : List ℕ → Option Material) (last : ℕ) (lines : List OrderLine) → NoFault (lines_refusal at last lines)
+pub lines_agree : (at : List ℕ → Option Material) (last : ℕ) (lines : List OrderLine) → NoFault (lines_refusal at last lines)
 lines_agree at last [] = λ e. cc
 lines_agree at last (line ∷ lines) = either (line_refusal last line (at line.material)) (lines_refusal at line.line lines) (line_agrees last line (at line.material)) (lines_agree at line.line lines)
 

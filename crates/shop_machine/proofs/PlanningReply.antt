@@ -38,7 +38,7 @@ use Rattle.shop_machine.specs.declared.messages.Reply.TheVariants as reply
 use Rattle.shop_machine.specs.Same.{same_code}
 use Rattle.shop_machine.specs.Columns.{is_free}
 use Rattle.shop_machine.specs.Messages.{Texts, pair_of}
-use Rattle.shop_machine.specs.Readings.{Reading, unread, Plan, plan_in}
+use Rattle.shop_machine.specs.Readings.{Reading, unread, Plan, plan_in, Lines, Problem, Again}
 use Rattle.shop_machine.specs.Content.{Content, material_at, part_at, demand_at, kept_at, material_of}
 use Rattle.shop_machine.specs.Decisions.{first_of}
 use Rattle.shop_machine.specs.Recounts.{plan_leaves}
@@ -337,9 +337,12 @@ module _ (ceiling dropped : ℕ) (text : List ℕ) (worth : ℕ) where
         ∙ ap (λ o. reserve_refusal o (Some rows.material) (Some plan) (demand_at m) act) rows.here
         ∙ ap (λ b. option_or (first_of ((not b, NotStanding) ∷ (false, StoreFault) ∷ [])) (plan_refusal rows.row (Some plan) (demand_at m) act)) rows.free
 
-    refused_only : (refusal : Refusal) (read : Reading) → Reads m (Reserve part text) read → refusal_of m (Reserve part text) read ≡ Some refusal
+    refused_only : (refusal : Refusal) (read : Reading) → Reads texts m (Reserve part text) read → refusal_of m (Reserve part text) read ≡ Some refusal
         → (refusal ≡ NumbersSpent) ⊎ ((refusal ≡ BadTree) × HasNoPiece m part text)
     refused_only refusal unread reads e = absurd (reads plan reading)
+    refused_only refusal (Lines lines) reads e = absurd reads
+    refused_only refusal (Problem size pieces) reads e = absurd reads
+    refused_only refusal (Again answer) reads e = absurd reads
     refused_only refusal (Plan q) reads e =
         refused_for refusal
         (sym reserved ∙ ap (λ p. reserve_refusal (part_at m part) (material_of m (part_at m part)) (Some p) (demand_at m) act) (sym (same_reading q reads)) ∙ e)
@@ -349,5 +352,5 @@ module _ (ceiling dropped : ℕ) (text : List ℕ) (worth : ℕ) where
         → (refusal ≡ NumbersSpent) ⊎ ((refusal ≡ BadTree) × HasNoPiece m part text)
     reserve_refused message next refusal command none step n s =
         let new : StepNew texts m message (reply.Refused refusal) next = MatchOption-at_none _ _ none step in
-        let it = subst (λ (c : Command). Refuses m c refusal) command new.0 n s in
+        let it = subst (λ (c : Command). Refuses texts m c refusal) command new.0 n s in
         refused_only refusal it.0 it.1 it.2

@@ -6,21 +6,22 @@ use Rattle.cut_measure.specs.Names.{Name, name_cmp}
 use Rattle.cut_measure.specs.Measures.{Extent, below}
 use Rattle.shop_machine.specs.declared.records.Part.{Part}
 use Rattle.shop_machine.specs.declared.records.State.TheVariants.{Standing}
+use Rattle.cut_measure.specs.Codes.{code_cmp}
+use Rattle.shop_machine.specs.declared.kept_texts.Kept.{Kept}
+use Rattle.shop_machine.specs.declared.imports.ImportRow.{ImportRow}
 use Rattle.shop_machine.specs.declared.changes.Change.{Change}
-use Rattle.shop_machine.specs.declared.messages.Message.{Message}
-use Rattle.shop_machine.specs.Messages.{Texts}
-use Rattle.shop_machine.specs.Content.{Content, totals_of}
+use Rattle.shop_machine.specs.Content.{Content, pair_cmp, totals_of, changed}
 use Rattle.shop_machine.specs.Receiving.{receive_change, unit_part}
-use Rattle.shop_machine.specs.Soundness.{IsSound}
+use Rattle.shop_machine.specs.Soundness.{IsInRange}
 use Rattle.shop_machine.specs.History.{Deed, Receives, ReceivedUnit, acts_of, units_of, owner_by, owner_of, HasOwner}
 use Rattle.shop_machine.proofs.Basics.{in_append, in_first, in_map, map_in}
 use Rattle.shop_machine.proofs.Cells.{after_receipt, received_cases, found_unit, kept_before, still_owned, new_owned}
+use Rattle.shop_machine.proofs.Grown.{with_messages}
 use Rattle.shop_machine.proofs.Accounts.{IsRow, IsWhole, Follows, unit_of, unit_acts, if_yes, if_no, row_later}
-use Rattle.shop_machine.proofs.Steps.{After}
 
-module _ (texts : Texts) (message : Message) (earlier : List Deed) (old : Content) (sound : IsSound texts old) (f : Follows earlier old) where
+module _ (earlier : List Deed) (old : Content) (range : IsInRange old) (f : Follows earlier old) (kept : FinMap pair_cmp Kept) (imports : FinMap code_cmp ImportRow) where
   abbrev Next : Deed → Change → Type 0
-  Next = After texts message earlier old sound f
+  Next done change = Follows (done ∷ earlier) (with_messages kept imports (changed old change))
 
   module _ (material batch : List ℕ) (w h count : ℕ) where
     abbrev size : Extent
@@ -31,7 +32,7 @@ module _ (texts : Texts) (message : Message) (earlier : List Deed) (old : Conten
 
     older : (n : Name) (p : Part) → get old.parts n ≡ Some p → (n.act ≡ acts_of earlier + 1 → ⊥) × (p.root.act ≡ acts_of earlier + 1 → ⊥)
     older n p k = (
-      (λ e. let a : n.act ≤ old.last_act = sound.in_range.acts n p k in let b : old.last_act ≡ acts_of earlier = f.acts in absurd (omega arith)),
+      (λ e. let a : n.act ≤ old.last_act = range.acts n p k in let b : old.last_act ≡ acts_of earlier = f.acts in absurd (omega arith)),
       (λ e.
           let r : IsRow earlier p = f.rows n p k in
           let a : r.unit.name.act ≤ acts_of earlier = unit_acts earlier r.unit r.received in

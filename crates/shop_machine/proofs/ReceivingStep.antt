@@ -3,7 +3,7 @@ use Rattle.std.proofs.Common.{◌≡◌, ℕ, zero, suc, ◌+◌, ◌*◌, ◌�
 use Rattle.std.specs.Prelude.{Some, None, IsSome, ◌⊎◌, sum_by, ◌&&◌, ◌==◌, if◌then◌else◌, Option, nat_le, nat_lt, not}
 use Rattle.std.specs.declared.cmp.Ordering.TheVariants.{Less}
 use Rattle.std.specs.Ordering.{is_eq}
-use Rattle.std.specs.FinMap.{values}
+use Rattle.std.specs.FinMap.{FinMap, values}
 use Rattle.std.proofs.lemmas.List.{length-map}
 use Rattle.std.proofs.lemmas.List.Sums.{sum_by-cons}
 use Rattle.std.proofs.lemmas.List.Elements.{All-nil}
@@ -21,13 +21,15 @@ use Rattle.shop_machine.specs.declared.records.Demand.{Demand}
 use Rattle.shop_machine.specs.declared.records.Column.{Column}
 use Rattle.shop_machine.specs.declared.records.Column.TheVariants.{Received, Stock, Rack, Pieces, Kerf, Scrap, Returned}
 use Rattle.shop_machine.specs.declared.records.Totals.{Totals}
+use Rattle.shop_machine.specs.declared.kept_texts.Kept.{Kept}
+use Rattle.shop_machine.specs.declared.imports.ImportRow.{ImportRow}
 use Rattle.shop_machine.specs.declared.messages.Message.{Message}
 use Rattle.shop_machine.specs.declared.refusals.Refusal.TheVariants.{BadSize, BadCount, TooMuch, NumbersSpent, StoreFault}
 use Rattle.shop_machine.specs.declared.messages.Command.TheVariants.{Receive}
 use Rattle.shop_machine.specs.Messages.{Texts, pair_of}
 use Rattle.shop_machine.specs.Same.{same_name}
 use Rattle.shop_machine.specs.Columns.{is_piece_for, is_counted}
-use Rattle.shop_machine.specs.Content.{Content, material_at, part_at, kept_at, changed, cells_in, totals_in, totals_of, AddsUp}
+use Rattle.shop_machine.specs.Content.{Content, pair_cmp, material_at, part_at, kept_at, changed, cells_in, totals_in, totals_of, AddsUp}
 use Rattle.shop_machine.specs.Receiving.{unit_part, unit_parts, receive_change, receive_refusal, received_totals}
 use Rattle.shop_machine.specs.Machine.{keeping, refusal_of}
 use Rattle.shop_machine.specs.History.{IsIn}
@@ -37,7 +39,7 @@ use Rattle.shop_machine.proofs.Basics.{in_map, in_append, codes_same, same_some,
 use Rattle.shop_machine.proofs.Puts.{Pairwise, all_from, pairs_from, pairs_more, map_pairs, sum_as, is_known, equal, put_other, sum_parts}
 use Rattle.shop_machine.proofs.Allowed.{none_of, IsSized, sized, flat}
 use Rattle.shop_machine.proofs.AddedUp.{cells_as, cells_left, adds_up, adds_up_so}
-use Rattle.shop_machine.proofs.Grown.{IsStock, Grows, placed_more, job_more, none_later, demand_more, no_pairs}
+use Rattle.shop_machine.proofs.Grown.{with_messages, IsStock, Grows, placed_more, job_more, none_later, demand_more, no_pairs}
 use Rattle.shop_machine.proofs.Tallied.{own, same_totals, same_sums}
 use Rattle.shop_machine.proofs.Agreeing.{NoFault, nothing, other, no_such}
 
@@ -104,7 +106,7 @@ same_self : (name : Name) → same_name name name ≡ true
 same_self name = ap (λ b. b && (name.node == name.node)) (eq-eqb name.act name.act refl) ∙ eq-eqb name.node name.node refl
 
 module _ (m : Content) (stock : IsStock m) (material batch : List ℕ) (w h count : ℕ)
-    (receipt : IsReceipt (material_at m material) (totals_of m material) (m.last_act + 1) w h count) (texts : Texts) (message : Message) where
+    (receipt : IsReceipt (material_at m material) (totals_of m material) (m.last_act + 1) w h count) where
   abbrev size : Extent
   size = record { w = w; h = h }
 
@@ -113,9 +115,6 @@ module _ (m : Content) (stock : IsStock m) (material batch : List ℕ) (w h coun
 
   abbrev units : List Part
   units = unit_parts material batch size act count
-
-  abbrev after : Content
-  after = changed m (keeping texts message (receive_change material batch size act count (totals_of m material)))
 
   -- a unit's number, and the unit
   unit_in : (x : Part) → IsIn x units → (i : ℕ) × (x ≡ unit_part material batch size act i)
@@ -137,196 +136,200 @@ module _ (m : Content) (stock : IsStock m) (material batch : List ℕ) (w h coun
       map_pairs (λ (a b : Part). a.name ≡ b.name → ⊥) (unit_part material batch size act) (below count)
       (pairs_more (λ (a b : ℕ). a < b) _ (λ a b less e. let same : a ≡ b = ap (λ (n : Name). n.node) e in omega (arith, less, same)) (below count) (below_rises count))
 
-  sum_after : (f : Part → ℕ) → sum_by f (values after.parts) ≡ sum_by f (values m.parts) + sum_by f units
-  sum_after f =
-      sum_parts f units m.parts units_apart unit_new
+  module _ (kept : FinMap pair_cmp Kept) (imports : FinMap code_cmp ImportRow) where
+    abbrev after : Content
+    after = with_messages kept imports (changed m (receive_change material batch size act count (totals_of m material)))
 
-  -- each unit has the same number
-  sum_units : (f : Part → ℕ) (c : ℕ) → ((i : ℕ) → f (unit_part material batch size act i) ≡ c) → sum_by f units ≡ count * c
-  sum_units f c same =
-      sum_as f (λ x. c) units (λ x i. let r = unit_in x i in ap f r.1 ∙ same r.0) ∙ sum_constant c units
-      ∙ ap (λ n. n * c) (length-map (below count) (unit_part material batch size act) ∙ length-below count)
-    where
-      sum_constant : (c : ℕ) (xs : List Part) → sum_by (λ x. c) xs ≡ length xs * c
-      sum_constant c [] = omega arith
-      sum_constant c (x ∷ xs) = let rest = sum_constant c xs in omega (arith, sum_by-cons (λ x. c) x xs, rest)
+    sum_after : (f : Part → ℕ) → sum_by f (values after.parts) ≡ sum_by f (values m.parts) + sum_by f units
+    sum_after f =
+        sum_parts f units m.parts units_apart unit_new
 
-  found_after : (name : Name) (p : Part) → part_at after name ≡ Some p → (IsIn p units × (p.name ≡ name)) ⊎ (part_at m name ≡ Some p)
-  found_after name p is =
-      elim (put_cases units m.parts name) [
-        | inl q ↦
-            let same : q.0 ≡ p = same_some q.0 p (sym q.3 ∙ is) in
-            inl (subst (λ (x : Part). IsIn x units) same q.1, ap (λ (x : Part). x.name) (sym same) ∙ q.2)
-        | inr q ↦ inr (sym q.1 ∙ is)
-      ]
+    -- each unit has the same number
+    sum_units : (f : Part → ℕ) (c : ℕ) → ((i : ℕ) → f (unit_part material batch size act i) ≡ c) → sum_by f units ≡ count * c
+    sum_units f c same =
+        sum_as f (λ x. c) units (λ x i. let r = unit_in x i in ap f r.1 ∙ same r.0) ∙ sum_constant c units
+        ∙ ap (λ n. n * c) (length-map (below count) (unit_part material batch size act) ∙ length-below count)
+      where
+        sum_constant : (c : ℕ) (xs : List Part) → sum_by (λ x. c) xs ≡ length xs * c
+        sum_constant c [] = omega arith
+        sum_constant c (x ∷ xs) = let rest = sum_constant c xs in omega (arith, sum_by-cons (λ x. c) x xs, rest)
 
-  other_after : (name : Name) → (name.act ≡ act → ⊥) → part_at after name ≡ part_at m name
-  other_after name other =
-      put_other units m.parts name (λ x i e. other (ap (λ (n : Name). n.act) (sym e) ∙ unit_act x i))
+    found_after : (name : Name) (p : Part) → part_at after name ≡ Some p → (IsIn p units × (p.name ≡ name)) ⊎ (part_at m name ≡ Some p)
+    found_after name p is =
+        elim (put_cases units m.parts name) [
+          | inl q ↦
+              let same : q.0 ≡ p = same_some q.0 p (sym q.3 ∙ is) in
+              inl (subst (λ (x : Part). IsIn x units) same q.1, ap (λ (x : Part). x.name) (sym same) ∙ q.2)
+          | inr q ↦ inr (sym q.1 ∙ is)
+        ]
 
-  grows : Grows m after
-  grows = record { materials = λ code x is. is; demands = λ number some. some; acts = omega arith }
+    other_after : (name : Name) → (name.act ≡ act → ⊥) → part_at after name ≡ part_at m name
+    other_after name other =
+        put_other units m.parts name (λ x i e. other (ap (λ (n : Name). n.act) (sym e) ∙ unit_act x i))
 
-  unit_received : (code : List ℕ) (b : Bool) → is_eq (code_cmp material code) ≡ b → (i : ℕ) → cells_as Received code (unit_part material batch size act i) ≡ (if b then w * h else 0)
-  unit_received code b e i =
-      ap (λ t. if t && same_name (record { act = act; node = i }) (record { act = act; node = i }) then w * h else 0) e
-      ∙ ap (λ t. if b && t then w * h else 0) (same_self (record { act = act; node = i })) ∙ by b
-    where
-      by : (b : Bool) → ◌≡◌ {A = ℕ} (if b && true then w * h else 0) (if b then w * h else 0)
-      by true = refl
-      by false = refl
+    grows : Grows m after
+    grows = record { materials = λ code x is. is; demands = λ number some. some; acts = omega arith }
 
-  unit_left : (code : List ℕ) (b : Bool) → is_eq (code_cmp material code) ≡ b → (i : ℕ) → cells_left code (unit_part material batch size act i) ≡ (if b then w * h else 0)
-  unit_left code b e i = ap (λ t. if t && true then w * h else 0) e ∙ by b
-    where
-      by : (b : Bool) → ◌≡◌ {A = ℕ} (if b && true then w * h else 0) (if b then w * h else 0)
-      by true = refl
-      by false = refl
+    unit_received : (code : List ℕ) (b : Bool) → is_eq (code_cmp material code) ≡ b → (i : ℕ) → cells_as Received code (unit_part material batch size act i) ≡ (if b then w * h else 0)
+    unit_received code b e i =
+        ap (λ t. if t && same_name (record { act = act; node = i }) (record { act = act; node = i }) then w * h else 0) e
+        ∙ ap (λ t. if b && t then w * h else 0) (same_self (record { act = act; node = i })) ∙ by b
+      where
+        by : (b : Bool) → ◌≡◌ {A = ℕ} (if b && true then w * h else 0) (if b then w * h else 0)
+        by true = refl
+        by false = refl
 
-  received_by : (code : List ℕ) (b : Bool) → is_eq (code_cmp material code) ≡ b → cells_in Received code (values after.parts) ≤ MOST_RECEIVED
-  received_by code true e =
-      let same : material ≡ code = codes_same material code (equal (code_cmp material code) e) in
-      let before : (totals_of m code).received ≡ (totals_of m material).received = ap (λ c. (totals_of m c).received) (sym same) in
-      let sum = sum_after (cells_as Received code) in
-      let new = sum_units (cells_as Received code) (w * h) (unit_received code true e) in
-      within (cells_in Received code (values after.parts)) (totals_of m code).received (totals_of m material).received (sum_by (cells_as Received code) units) (w * h) count sum before new receipt.room
-    where
-      within : (n r s p q c : ℕ) → n ≡ r + p → r ≡ s → p ≡ c * q → s + q * c ≤ MOST_RECEIVED → n ≤ MOST_RECEIVED
-      within n r s p q c a b d e = omega (arith, a, b, d, e)
-  received_by code false e =
-      let sum = sum_after (cells_as Received code) in
-      let new = sum_units (cells_as Received code) 0 (unit_received code false e) in
-      let old = stock.in_range.received code in
-      omega (arith, sum, new, old)
+    unit_left : (code : List ℕ) (b : Bool) → is_eq (code_cmp material code) ≡ b → (i : ℕ) → cells_left code (unit_part material batch size act i) ≡ (if b then w * h else 0)
+    unit_left code b e i = ap (λ t. if t && true then w * h else 0) e ∙ by b
+      where
+        by : (b : Bool) → ◌≡◌ {A = ℕ} (if b && true then w * h else 0) (if b then w * h else 0)
+        by true = refl
+        by false = refl
 
-  adds_up_after : (code : List ℕ) → AddsUp (totals_in code (values after.parts))
-  adds_up_after code =
-      let b = is_eq (code_cmp material code) in
-      let r = sum_after (cells_as Received code) in
-      let l = sum_after (cells_left code) in
-      let rn = sum_units (cells_as Received code) (if b then w * h else 0) (unit_received code b refl) in
-      let ln = sum_units (cells_left code) (if b then w * h else 0) (unit_left code b refl) in
-      let old = adds_up_so code (values m.parts) (stock.in_range.adds_up code) in
-      adds_up code (values after.parts) (r ∙ ap (λ n. n + sum_by (cells_as Received code) units) old ∙ ap (λ n. sum_by (cells_left code) (values m.parts) + n) (rn ∙ sym ln) ∙ sym l)
+    received_by : (code : List ℕ) (b : Bool) → is_eq (code_cmp material code) ≡ b → cells_in Received code (values after.parts) ≤ MOST_RECEIVED
+    received_by code true e =
+        let same : material ≡ code = codes_same material code (equal (code_cmp material code) e) in
+        let before : (totals_of m code).received ≡ (totals_of m material).received = ap (λ c. (totals_of m c).received) (sym same) in
+        let sum = sum_after (cells_as Received code) in
+        let new = sum_units (cells_as Received code) (w * h) (unit_received code true e) in
+        within (cells_in Received code (values after.parts)) (totals_of m code).received (totals_of m material).received (sum_by (cells_as Received code) units) (w * h) count sum before new receipt.room
+      where
+        within : (n r s p q c : ℕ) → n ≡ r + p → r ≡ s → p ≡ c * q → s + q * c ≤ MOST_RECEIVED → n ≤ MOST_RECEIVED
+        within n r s p q c a b d e = omega (arith, a, b, d, e)
+    received_by code false e =
+        let sum = sum_after (cells_as Received code) in
+        let new = sum_units (cells_as Received code) 0 (unit_received code false e) in
+        let old = stock.in_range.received code in
+        omega (arith, sum, new, old)
 
-  made_after : (number : ℕ) → made_in number after ≡ made_in number m
-  made_after number =
-      let sum = sum_after (λ (p : Part). if is_piece_for number p.state then 1 else 0) in
-      let none = sum_units (λ (p : Part). if is_piece_for number p.state then 1 else 0) 0 (λ i. refl) in
-      omega (arith, sum, none)
+    adds_up_after : (code : List ℕ) → AddsUp (totals_in code (values after.parts))
+    adds_up_after code =
+        let b = is_eq (code_cmp material code) in
+        let r = sum_after (cells_as Received code) in
+        let l = sum_after (cells_left code) in
+        let rn = sum_units (cells_as Received code) (if b then w * h else 0) (unit_received code b refl) in
+        let ln = sum_units (cells_left code) (if b then w * h else 0) (unit_left code b refl) in
+        let old = adds_up_so code (values m.parts) (stock.in_range.adds_up code) in
+        adds_up code (values after.parts) (r ∙ ap (λ n. n + sum_by (cells_as Received code) units) old ∙ ap (λ n. sum_by (cells_left code) (values m.parts) + n) (rn ∙ sym ln) ∙ sym l)
 
-  unit_placed : (name : Name) (p : Part) → IsIn p units → p.name ≡ name → IsPlaced after name p
-  unit_placed name p i e =
-      let r = unit_in p i in
-      subst (IsPlaced after name) (sym r.1)
-      (record {
-        named = sym (ap (λ (x : Part). x.name) r.1) ∙ e;
-        rooted = omega arith;
-        known = is_known (material_at m material) receipt.material receipt.is_known;
-        some_width = receipt.size.some_width;
-        some_height = receipt.size.some_height;
-        right = let less = receipt.size.width in omega (arith, less);
-        bottom = let less = receipt.size.height in omega (arith, less);
-        flat = λ x is bar. receipt.one_high (ap (λ (y : Material). y.kind) (same_some receipt.material x (sym receipt.is_known ∙ is)) ∙ bar);
-        asked = λ number never. absurd (let no : false ≡ true = never in cc);
-      })
+    made_after : (number : ℕ) → made_in number after ≡ made_in number m
+    made_after number =
+        let sum = sum_after (λ (p : Part). if is_piece_for number p.state then 1 else 0) in
+        let none = sum_units (λ (p : Part). if is_piece_for number p.state then 1 else 0) 0 (λ i. refl) in
+        omega (arith, sum, none)
 
-  pub receive_stock : IsStock after
-  receive_stock = record {
-    in_range = record {
-      acts = λ name p is.
+    unit_placed : (name : Name) (p : Part) → IsIn p units → p.name ≡ name → IsPlaced after name p
+    unit_placed name p i e =
+        let r = unit_in p i in
+        subst (IsPlaced after name) (sym r.1)
+        (record {
+          named = sym (ap (λ (x : Part). x.name) r.1) ∙ e;
+          rooted = omega arith;
+          known = is_known (material_at m material) receipt.material receipt.is_known;
+          some_width = receipt.size.some_width;
+          some_height = receipt.size.some_height;
+          right = let less = receipt.size.width in omega (arith, less);
+          bottom = let less = receipt.size.height in omega (arith, less);
+          flat = λ x is bar. receipt.one_high (ap (λ (y : Material). y.kind) (same_some receipt.material x (sym receipt.is_known ∙ is)) ∙ bar);
+          asked = λ number never. absurd (let no : false ≡ true = never in cc);
+        })
+
+    pub receive_stock : IsStock after
+    receive_stock = record {
+      in_range = record {
+        acts = λ name p is.
+            elim (found_after name p is) [
+              | inl q ↦ let one = unit_act p q.0 in let named = ap (λ (n : Name). n.act) q.1 in omega (arith, one, named)
+              | inr q ↦ let old = stock.in_range.acts name p q in omega (arith, old)
+            ];
+        last = receipt.number;
+        last_demand = stock.in_range.last_demand;
+        received = λ code. received_by code (is_eq (code_cmp material code)) refl;
+        adds_up = adds_up_after;
+      };
+      materials = stock.materials;
+      parts = λ name p is.
           elim (found_after name p is) [
-            | inl q ↦ let one = unit_act p q.0 in let named = ap (λ (n : Name). n.act) q.1 in omega (arith, one, named)
-            | inr q ↦ let old = stock.in_range.acts name p q in omega (arith, old)
+            | inl q ↦ unit_placed name p q.0 q.1
+            | inr q ↦ placed_more m after grows name p (stock.parts name p q)
           ];
-      last = receipt.number;
-      last_demand = stock.in_range.last_demand;
-      received = λ code. received_by code (is_eq (code_cmp material code)) refl;
-      adds_up = adds_up_after;
-    };
-    materials = stock.materials;
-    parts = λ name p is.
-        elim (found_after name p is) [
-          | inl q ↦ unit_placed name p q.0 q.1
-          | inr q ↦ placed_more m after grows name p (stock.parts name p q)
-        ];
-    jobs = λ number j is.
-        let old = stock.jobs number j is in
-        let named = old.numbered in
-        let so_far = old.so_far in
-        job_more m after grows number j
-        (λ w.
-        let older = w.older in
-        record {
-          same = other_after j.part (λ e. omega (arith, older, named, so_far, e));
-          none_yet = λ node. other_after (record { act = j.act; node = node }) (λ e. omega (arith, named, so_far, e)) ∙ w.none_yet node;
-        }) old;
-    demands = λ number d is.
-        let old = stock.demands number d is in
-        demand_more m after grows (omega arith) number d old
-        (record { few = old.counted.few; reserved = old.counted.reserved; made = old.counted.made ∙ sym (made_after number) });
-  }
+      jobs = λ number j is.
+          let old = stock.jobs number j is in
+          let named = old.numbered in
+          let so_far = old.so_far in
+          job_more m after grows number j
+          (λ w.
+          let older = w.older in
+          record {
+            same = other_after j.part (λ e. omega (arith, older, named, so_far, e));
+            none_yet = λ node. other_after (record { act = j.act; node = node }) (λ e. omega (arith, named, so_far, e)) ∙ w.none_yet node;
+          }) old;
+      demands = λ number d is.
+          let old = stock.demands number d is in
+          demand_more m after grows (omega arith) number d old
+          (record { few = old.counted.few; reserved = old.counted.reserved; made = old.counted.made ∙ sym (made_after number) });
+    }
 
-  -- whether a unit is counted in a column
-  abbrev of_units : Column → Bool
-  of_units Received = true
-  of_units Stock = true
-  of_units Rack = false
-  of_units Pieces = false
-  of_units Kerf = false
-  of_units Scrap = false
-  of_units Returned = false
+    -- whether a unit is counted in a column
+    abbrev of_units : Column → Bool
+    of_units Received = true
+    of_units Stock = true
+    of_units Rack = false
+    of_units Pieces = false
+    of_units Kerf = false
+    of_units Scrap = false
+    of_units Returned = false
 
-  unit_counted : (c : Column) (i : ℕ) → is_counted c (unit_part material batch size act i) ≡ of_units c
-  unit_counted Received i = same_self (record { act = act; node = i })
-  unit_counted Stock i = same_self (record { act = act; node = i })
-  unit_counted Rack i = ap not (same_self (record { act = act; node = i }))
-  unit_counted Pieces i = refl
-  unit_counted Kerf i = refl
-  unit_counted Scrap i = refl
-  unit_counted Returned i = refl
+    unit_counted : (c : Column) (i : ℕ) → is_counted c (unit_part material batch size act i) ≡ of_units c
+    unit_counted Received i = same_self (record { act = act; node = i })
+    unit_counted Stock i = same_self (record { act = act; node = i })
+    unit_counted Rack i = ap not (same_self (record { act = act; node = i }))
+    unit_counted Pieces i = refl
+    unit_counted Kerf i = refl
+    unit_counted Scrap i = refl
+    unit_counted Returned i = refl
 
-  column_after : (c : Column) (code : List ℕ) (b : Bool) → is_eq (code_cmp material code) ≡ b
-      → cells_in c code (values after.parts) ≡ cells_in c code (values m.parts) + count * (if b && of_units c then w * h else 0)
-  column_after c code b e =
-      let sum = sum_after (cells_as c code) in
-      let units = sum_units (cells_as c code) (if b && of_units c then w * h else 0)
-      (λ i. ap (λ t. if t && is_counted c (unit_part material batch size act i) then w * h else 0) e ∙ ap (λ t. if b && t then w * h else 0) (unit_counted c i)) in
-      sum ∙ ap (λ n. cells_in c code (values m.parts) + n) units
+    column_after : (c : Column) (code : List ℕ) (b : Bool) → is_eq (code_cmp material code) ≡ b
+        → cells_in c code (values after.parts) ≡ cells_in c code (values m.parts) + count * (if b && of_units c then w * h else 0)
+    column_after c code b e =
+        let sum = sum_after (cells_as c code) in
+        let units = sum_units (cells_as c code) (if b && of_units c then w * h else 0)
+        (λ i. ap (λ t. if t && is_counted c (unit_part material batch size act i) then w * h else 0) e ∙ ap (λ t. if b && t then w * h else 0) (unit_counted c i)) in
+        sum ∙ ap (λ n. cells_in c code (values m.parts) + n) units
 
-  stays : (c : Column) (code : List ℕ) → is_eq (code_cmp material code) ≡ false → cells_in c code (values after.parts) ≡ cells_in c code (values m.parts)
-  stays c code e = let sum = column_after c code false e in omega (arith, sum)
+    stays : (c : Column) (code : List ℕ) → is_eq (code_cmp material code) ≡ false → cells_in c code (values after.parts) ≡ cells_in c code (values m.parts)
+    stays c code e = let sum = column_after c code false e in omega (arith, sum)
 
-  gains : (c : Column) → of_units c ≡ true → cells_in c material (values after.parts) ≡ cells_in c material (values m.parts) + w * h * count
-  gains c e =
-      more (cells_in c material (values after.parts)) (cells_in c material (values m.parts)) (w * h) count
-      (column_after c material true (own material) ∙ ap (λ b. cells_in c material (values m.parts) + count * (if b then w * h else 0)) e)
-    where
-      more : (n r q c : ℕ) → n ≡ r + c * q → n ≡ r + q * c
-      more n r q c a = omega (arith, a)
+    gains : (c : Column) → of_units c ≡ true → cells_in c material (values after.parts) ≡ cells_in c material (values m.parts) + w * h * count
+    gains c e =
+        more (cells_in c material (values after.parts)) (cells_in c material (values m.parts)) (w * h) count
+        (column_after c material true (own material) ∙ ap (λ b. cells_in c material (values m.parts) + count * (if b then w * h else 0)) e)
+      where
+        more : (n r q c : ℕ) → n ≡ r + c * q → n ≡ r + q * c
+        more n r q c a = omega (arith, a)
 
-  keeps : (c : Column) → of_units c ≡ false → cells_in c material (values after.parts) ≡ cells_in c material (values m.parts)
-  keeps c e =
-      let sum = column_after c material true (own material) ∙ ap (λ b. cells_in c material (values m.parts) + count * (if b then w * h else 0)) e in
-      omega (arith, sum)
+    keeps : (c : Column) → of_units c ≡ false → cells_in c material (values after.parts) ≡ cells_in c material (values m.parts)
+    keeps c e =
+        let sum = column_after c material true (own material) ∙ ap (λ b. cells_in c material (values m.parts) + count * (if b then w * h else 0)) e in
+        omega (arith, sum)
 
-  sums_after : (code : List ℕ)
-      → totals_of after code ≡ with_totals (Some (record { material = material; totals = received_totals (w * h * count) (totals_of m material) })) code (totals_of m code)
-  sums_after code = by (is_eq (code_cmp material code)) refl
-    where
-      by : (b : Bool) → is_eq (code_cmp material code) ≡ b
-          → totals_of after code ≡ (if is_eq (code_cmp material code) then received_totals (w * h * count) (totals_of m material) else totals_of m code)
-      by true e =
-          ap (totals_of after) (sym (codes_same material code (equal (code_cmp material code) e)))
-          ∙ same_totals (totals_of after material) (received_totals (w * h * count) (totals_of m material)) (gains Received refl) (gains Stock refl) (keeps Rack refl) (keeps Pieces refl)
-          (keeps Kerf refl) (keeps Scrap refl) (keeps Returned refl)
-          ∙ sym (ap (λ b. if b then received_totals (w * h * count) (totals_of m material) else totals_of m code) e)
-      by false e =
-          same_sums code (values after.parts) (values m.parts) (λ c. stays c code e)
-          ∙ sym (ap (λ b. if b then received_totals (w * h * count) (totals_of m material) else totals_of m code) e)
+    sums_after : (code : List ℕ)
+        → totals_of after code ≡ with_totals (Some (record { material = material; totals = received_totals (w * h * count) (totals_of m material) })) code (totals_of m code)
+    sums_after code = by (is_eq (code_cmp material code)) refl
+      where
+        by : (b : Bool) → is_eq (code_cmp material code) ≡ b
+            → totals_of after code ≡ (if is_eq (code_cmp material code) then received_totals (w * h * count) (totals_of m material) else totals_of m code)
+        by true e =
+            ap (totals_of after) (sym (codes_same material code (equal (code_cmp material code) e)))
+            ∙ same_totals (totals_of after material) (received_totals (w * h * count) (totals_of m material)) (gains Received refl) (gains Stock refl) (keeps Rack refl) (keeps Pieces refl)
+            (keeps Kerf refl) (keeps Scrap refl) (keeps Returned refl)
+            ∙ sym (ap (λ b. if b then received_totals (w * h * count) (totals_of m material) else totals_of m code) e)
+        by false e =
+            same_sums code (values after.parts) (values m.parts) (λ c. stays c code e)
+            ∙ sym (ap (λ b. if b then received_totals (w * h * count) (totals_of m material) else totals_of m code) e)
 
-  pub receive_fits : kept_at m (pair_of message) ≡ None → Fits m (keeping texts message (receive_change material batch size act count (totals_of m material)))
-  receive_fits new = record {
+  pub receive_fits : (texts : Texts) (message : Message) → kept_at m (pair_of message) ≡ None → Fits m (keeping texts message (receive_change material batch size act count (totals_of m material)))
+  receive_fits texts message new = record {
     material = tt;
     parts = all_from (IsNewPart m) units
         (λ x i. record {
@@ -342,7 +345,7 @@ module _ (m : Content) (stock : IsStock m) (material batch : List ℕ) (w h coun
     once = no_pairs (λ (a b : Demand). a.number ≡ b.number → ⊥);
     lines = tt;
     totals = is_known (material_at m material) receipt.material receipt.is_known;
-    sums = sums_after;
+    sums = sums_after m.kept m.imports;
     act = (omega arith, receipt.number);
     demand = tt;
     import = tt;

@@ -20,7 +20,7 @@ use Rattle.shop_machine.specs.Reserving.{reserve_change, IsReading, IsReservatio
 use Rattle.shop_machine.specs.Machine.{Reads}
 use Rattle.shop_machine.specs.Recounts.{AreRecounted, with_reserved}
 use Rattle.shop_machine.specs.Soundness.{IsSound}
-use Rattle.shop_machine.specs.History.{Deed, Reserves, acts_of, ordered_lines, job_of, owner_of, is_cut, standing_as, deed}
+use Rattle.shop_machine.specs.History.{Deed, Reserves, acts_of, ordered_lines, job_of, owner_of, is_cut, standing_as, deeds}
 use Rattle.shop_machine.specs.Columns.{is_free}
 use Rattle.shop_machine.specs.Readings.{Reading, Plan}
 use Rattle.shop_machine.proofs.Basics.{nat_cases, same_some, get_same, get_other}
@@ -29,7 +29,7 @@ use Rattle.shop_machine.proofs.OrderedLines.{lines_recounted}
 use Rattle.shop_machine.proofs.Cells.{restated}
 use Rattle.shop_machine.proofs.Accounts.{reservation, Follows, if_yes, if_no}
 use Rattle.shop_machine.proofs.Allowed.{free_stands}
-use Rattle.shop_machine.proofs.Steps.{After, named, rows_restated, whole_restated}
+use Rattle.shop_machine.proofs.Steps.{After, AfterAll, named, rows_restated, whole_restated}
 
 module _ (texts : Texts) (message : Message) (earlier : List Deed) (old : Content) (sound : IsSound texts old) (f : Follows earlier old) where
   abbrev Next : Deed → Change → Type 0
@@ -67,12 +67,12 @@ module _ (texts : Texts) (message : Message) (earlier : List Deed) (old : Conten
     by_reservation recounted = subst (λ n. Next (Reserves part plan.tree) (reserve_change row plan (n + 1) rows)) (sym f.acts) (by_part recounted)
 
   abbrev Then : Command → Reading → Change → Type 0
-  Then command read change = After texts message earlier old sound f (deed command read) change
+  Then command read change = AfterAll texts message earlier old sound f (deeds command read) change
 
   pub reserves : (part : Name) (text : List ℕ) (read : Reading) (change : Change) (row : Part) (plan : Pattern) → part_at old part ≡ Some row → read ≡ Plan plan
-      → Reads old (Reserve part text) read → IsReservation row plan (demand_at old) (old.last_act + 1) change → Then (Reserve part text) read change
+      → Reads texts old (Reserve part text) read → IsReservation row plan (demand_at old) (old.last_act + 1) change → Then (Reserve part text) read change
   reserves part text read change row plan kept is_read reads made =
-      let reading : IsReading old part text plan = subst (Reads old (Reserve part text)) is_read reads in
+      let reading : IsReading old part text plan = subst (Reads texts old (Reserve part text)) is_read reads in
       let same : reading.row ≡ row = same_some reading.row row (sym reading.found ∙ kept) in
       let stands : row.state ≡ Standing = free_stands row.state (ap (λ (q : Part). is_free q.state) (sym same) ∙ reading.stands) in
       subst (λ r. Then (Reserve part text) r change) (sym is_read)

@@ -94,8 +94,8 @@ fitting_of row material plan at act e =
       number = ltb-false MOST_NUMBERS act last.0;
     }
 
-pub reading : (m : Content) (part : Name) (text : List ℕ) (read : Reading) (plan : Pattern) → read ≡ Plan plan → Reads m (Reserve part text) read → IsReading m part text plan
-reading m part text read plan is reads = subst (Reads m (Reserve part text)) is reads
+pub reading : (texts : Texts) (m : Content) (part : Name) (text : List ℕ) (read : Reading) (plan : Pattern) → read ≡ Plan plan → Reads texts m (Reserve part text) read → IsReading m part text plan
+reading texts m part text read plan is reads = subst (Reads texts m (Reserve part text)) is reads
 
 pub fitting : (m : Content) (part : Name) (text : List ℕ) (read : Reading) (row : Part) (plan : Pattern) → part_at m part ≡ Some row → read ≡ Plan plan
     → refusal_of m (Reserve part text) read ≡ None → IsFitting row (material_at m row.material) plan (demand_at m) (m.last_act + 1)

@@ -81,7 +81,7 @@ module _ (texts : Texts) (history : List Entry) (old new : Content) (message : M
   stays messages e same = record { history = history; same = sym e; given = subst (Gives texts history) (sym same) given }
 
   gives_new : (answer : Reply) (o : Option Refusal) → refusal_in answer ≡ o → kept_at old (pair_of message) ≡ None → has_pair (pair_of message) (messages_of history) ≡ false
-      → MatchOption o ((read : Reading) × Accepts texts old message read answer new) (λ refusal. Refuses old message.command refusal × (new ≡ old))
+      → MatchOption o ((read : Reading) × Accepts texts old message read answer new) (λ refusal. Refuses texts old message.command refusal × (new ≡ old))
       → IsLater texts (accepted_after (messages_of history) message answer) new
   gives_new answer (Some refusal) is none first step =
       stays (accepted_after (messages_of history) message answer)

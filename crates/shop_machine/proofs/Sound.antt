@@ -1,17 +1,22 @@
 -- Every history gives a sound content, and what is accepted on a sound content fits it.
-use Rattle.std.proofs.Common.{◌≡◌, ◌≢◌, ◌+◌, ◌≤◌, List, [], ◌∷◌, map, refl, sym, ap, subst, ◌∙◌, arith, inl, inr, length}
-use Rattle.std.specs.Prelude.{Some, None, length, IsSome}
-use Rattle.std.specs.FinMap.{entries, get-empty, len-entries, len-empty, empty, values}
-use Rattle.std.specs.Ordering.{nat_cmp}
+use Rattle.std.proofs.Common.{◌≡◌, ◌≢◌, ◌+◌, ◌≤◌, List, [], ◌∷◌, map, refl, sym, ap, subst, ◌∙◌, arith, inl, inr, length, ℕ, true}
+use Rattle.std.specs.Prelude.{Option, Some, None, length, IsSome, IfSome, ◌||◌}
+use Rattle.std.specs.Option.{option_map}
+use Rattle.std.proofs.Math.Bool.{or-true}
+use Rattle.std.specs.FinSet as set
+use Rattle.std.specs.FinMap.{get, entries, get-empty, len-entries, len-empty, empty, values}
+use Rattle.std.specs.Ordering.{nat_cmp, eq_by_cmp}
 use Rattle.cut_measure.specs.Codes.{code_cmp}
 use Rattle.cut_measure.specs.Names.{Name, IsName, name_cmp}
 use Rattle.cut_tree.specs.declared.halts.Stop.TheVariants as stop
 use Rattle.shop_machine.specs.declared.receiving.TheConstants.{MOST_RECEIVED}
+use Rattle.shop_machine.specs.declared.records.Material.{Material}
+use Rattle.shop_machine.specs.declared.imports.ImportRow.{ImportRow}
 use Rattle.shop_machine.specs.declared.records.Part.{Part}
 use Rattle.shop_machine.specs.declared.records.State.TheVariants as state
 use Rattle.shop_machine.specs.declared.changes.Change.{Change}
 use Rattle.shop_machine.specs.declared.messages.Command.{Command}
-use Rattle.shop_machine.specs.declared.messages.Command.TheVariants.{AddMaterial, Receive, AddOrder, Reserve, Done, Break, Release, Scrap, GiveBack}
+use Rattle.shop_machine.specs.declared.messages.Command.TheVariants.{AddMaterial, Receive, AddOrder, Reserve, Done, Break, Release, Scrap, GiveBack, Import}
 use Rattle.shop_machine.specs.declared.messages.Message.{Message}
 use Rattle.shop_machine.specs.declared.messages.Reply.TheVariants as reply
 use Rattle.shop_machine.specs.declared.refusals.Refusal.TheVariants.{StoreFault}
@@ -19,10 +24,13 @@ use Rattle.shop_machine.specs.declared.kept_texts.Pair.{Pair}
 use Rattle.shop_machine.specs.declared.kept_texts.Kept.{Kept}
 use Rattle.shop_machine.specs.Messages.{Texts, IsMessage, IsMade, pair_of, IsCommand}
 use Rattle.shop_machine.specs.Readings.{Reading, plan_in}
-use Rattle.shop_machine.specs.Content.{Content, fresh, pair_cmp, material_at, totals_in, AddsUp, has_order, kept_at, changed, part_at, demand_at, material_of, totals_of, totals_for}
+use Rattle.shop_machine.specs.Content.{Content, fresh, pair_cmp, material_at, totals_in, AddsUp, has_order, kept_at, import_at, with_order, with_import, changed, part_at, demand_at, material_of, totals_of, totals_for}
+use Rattle.shop_machine.specs.Adding.{material_change}
 use Rattle.shop_machine.specs.Machine.{Reads, refusal_of, Makes, keeping}
 use Rattle.shop_machine.specs.History.{Entry, Gives}
-use Rattle.shop_machine.specs.Soundness.{IsSound, Fits, IsKept}
+use Rattle.shop_machine.specs.Soundness.{IsSound, Fits, IsKept, IsImport}
+use Rattle.shop_machine.proofs.Basics.{codes_total, codes_same, tied}
+use Rattle.shop_machine.proofs.ImportingStep.{accepted, import_stock, import_fits, import_told, import_order, import_agrees}
 use Rattle.shop_machine.proofs.Puts.{not_both, found_one, pairs_total, pairs_exact}
 use Rattle.shop_machine.proofs.OrderingStep.{order_of, order_stock, order_fits, order_agrees}
 use Rattle.shop_machine.proofs.EndingStep.{job_waits, end_stock, end_fits, release_stock, release_fits, so_far, end_told, end_agrees}
@@ -34,51 +42,53 @@ use Rattle.shop_machine.proofs.AddingStep.{material_stock, material_fits, materi
 
 -- ---- by cases on the command
 
-fits_by : (texts : Texts) (message : Message) (m : Content) (stock : IsStock m) (command : Command) (read : Reading) (change : Change) → Reads m command read
+fits_by : (texts : Texts) (message : Message) (m : Content) (stock : IsStock m) (used : (code : List ℕ) (row : ImportRow) → import_at m code ≡ Some row → has_order m code ≡ true) (command : Command) (read : Reading) (change : Change) → Reads texts m command read
     → refusal_of m command read ≡ None → Makes m command read change → kept_at m (pair_of message) ≡ None → Fits m (keeping texts message change)
-fits_by texts message m stock (AddMaterial material kind kerf min_long min_short) read change reads allowed makes new =
+fits_by texts message m stock used (AddMaterial material kind kerf min_long min_short) read change reads allowed makes new =
     subst (λ (c : Change). Fits m (keeping texts message c)) (sym makes) (material_fits texts message m material kind _ stock (material_at m material) refl new)
-fits_by texts message m stock (Receive material batch w h count) read change reads allowed makes new =
+fits_by texts message m stock used (Receive material batch w h count) read change reads allowed makes new =
     subst (λ (c : Change). Fits m (keeping texts message c)) (sym makes)
     (receive_fits m stock material batch w h count (receipt m material batch w h count read allowed) texts message new)
-fits_by texts message m stock (AddOrder order lines) read change reads allowed makes new =
+fits_by texts message m stock used (AddOrder order lines) read change reads allowed makes new =
     subst (λ (c : Change). Fits m (keeping texts message c)) (sym makes)
     (order_fits m stock order lines (order_of (has_order m order) (material_at m) lines (m.last_demand + 1) allowed) texts message new)
-fits_by texts message m stock (Reserve part text) read change reads allowed makes new =
+fits_by texts message m stock used (Reserve part text) read change reads allowed makes new =
     subst (λ (c : Change). Fits m (keeping texts message c)) (sym makes.4.is)
-    (reserve_fits m stock part text makes.0 makes.1 makes.2 (reading m part text read makes.1 makes.3 reads) (fitting m part text read makes.0 makes.1 makes.2 makes.3 allowed)
+    (reserve_fits m stock part text makes.0 makes.1 makes.2 (reading texts m part text read makes.1 makes.3 reads) (fitting m part text read makes.0 makes.1 makes.2 makes.3 allowed)
     makes.4.rows makes.4.recounted texts message new)
-fits_by texts message m stock (Done number) read change reads allowed makes new =
+fits_by texts message m stock used (Done number) read change reads allowed makes new =
     subst (λ (c : Change). Fits m (keeping texts message c)) (sym makes.4.is)
     (end_fits m stock number makes.0 makes.1 makes.2 makes.3 (job_waits m stop.All number makes.0 makes.3.found allowed) stop.All makes.4.laid makes.4.is_laid
     makes.4.rows makes.4.recounted texts message new)
-fits_by texts message m stock (Break number halt) read change reads allowed makes new =
+fits_by texts message m stock used (Break number halt) read change reads allowed makes new =
     subst (λ (c : Change). Fits m (keeping texts message c)) (sym makes.4.is)
     (end_fits m stock number makes.0 makes.1 makes.2 makes.3 (job_waits m (stop.After halt) number makes.0 makes.3.found allowed) (stop.After halt) makes.4.laid makes.4.is_laid
     makes.4.rows makes.4.recounted texts message new)
-fits_by texts message m stock (Release number) read change reads allowed makes new =
+fits_by texts message m stock used (Release number) read change reads allowed makes new =
     subst (λ (c : Change). Fits m (keeping texts message c)) (sym makes.4.is)
     (release_fits m stock number makes.0 makes.1 makes.2 makes.3 (job_waits m stop.All number makes.0 makes.3.found allowed) makes.4.rows makes.4.recounted texts message new)
-fits_by texts message m stock (Scrap part) read change reads allowed makes new =
+fits_by texts message m stock used (Scrap part) read change reads allowed makes new =
     subst (λ (c : Change). Fits m (keeping texts message c)) (sym makes.2)
     (turn_fits m stock part makes.0 makes.1 (scrap_stands (part_at m part) makes.0 (totals_for m (part_at m part)) makes.1 allowed) state.Scrap refl (λ number. refl) texts message (reply.Scrap makes.0.name) new)
-fits_by texts message m stock (GiveBack part) read change reads allowed makes new =
+fits_by texts message m stock used (GiveBack part) read change reads allowed makes new =
     subst (λ (c : Change). Fits m (keeping texts message c)) (sym makes.2)
     (turn_fits m stock part makes.0 makes.1 (returned_stands (part_at m part) makes.0 (totals_for m (part_at m part)) makes.1 allowed) state.Returned refl (λ number. refl) texts message (reply.GiveBack makes.0.name) new)
+fits_by texts message m stock used (Import order form text) read change reads allowed makes new =
+    import_fits texts m order message form text read change stock (used order) (accepted texts m order form text read change reads allowed makes) new
 
-stock_by : (texts : Texts) (message : Message) (m : Content) (stock : IsStock m) (command : Command) (read : Reading) (change : Change) → Reads m command read
+stock_by : (texts : Texts) (message : Message) (m : Content) (stock : IsStock m) (command : Command) (read : Reading) (change : Change) → Reads texts m command read
     → refusal_of m command read ≡ None → Makes m command read change → IsStock (changed m (keeping texts message change))
 stock_by texts message m stock (AddMaterial material kind kerf min_long min_short) read change reads allowed makes =
     subst (λ (c : Change). IsStock (changed m (keeping texts message c))) (sym makes) (material_stock texts message m material kind _ (material_at m material) refl allowed stock)
 stock_by texts message m stock (Receive material batch w h count) read change reads allowed makes =
     subst (λ (c : Change). IsStock (changed m (keeping texts message c))) (sym makes)
-    (receive_stock m stock material batch w h count (receipt m material batch w h count read allowed) texts message)
+    (receive_stock m stock material batch w h count (receipt m material batch w h count read allowed) _ _)
 stock_by texts message m stock (AddOrder order lines) read change reads allowed makes =
     subst (λ (c : Change). IsStock (changed m (keeping texts message c))) (sym makes)
-    (order_stock m stock order lines (order_of (has_order m order) (material_at m) lines (m.last_demand + 1) allowed) texts message)
+    (order_stock m stock order lines (order_of (has_order m order) (material_at m) lines (m.last_demand + 1) allowed) _ _)
 stock_by texts message m stock (Reserve part text) read change reads allowed makes =
     subst (λ (c : Change). IsStock (changed m (keeping texts message c))) (sym makes.4.is)
-    (reserve_stock m stock part text makes.0 makes.1 makes.2 (reading m part text read makes.1 makes.3 reads) (fitting m part text read makes.0 makes.1 makes.2 makes.3 allowed)
+    (reserve_stock m stock part text makes.0 makes.1 makes.2 (reading texts m part text read makes.1 makes.3 reads) (fitting m part text read makes.0 makes.1 makes.2 makes.3 allowed)
     makes.4.rows makes.4.recounted texts message)
 stock_by texts message m stock (Done number) read change reads allowed makes =
     subst (λ (c : Change). IsStock (changed m (keeping texts message c))) (sym makes.4.is)
@@ -97,55 +107,82 @@ stock_by texts message m stock (Scrap part) read change reads allowed makes =
 stock_by texts message m stock (GiveBack part) read change reads allowed makes =
     subst (λ (c : Change). IsStock (changed m (keeping texts message c))) (sym makes.2)
     (turn_stock m stock part makes.0 makes.1 (returned_stands (part_at m part) makes.0 (totals_for m (part_at m part)) makes.1 allowed) state.Returned refl (λ number. refl) texts message (reply.GiveBack makes.0.name))
+stock_by texts message m stock (Import order form text) read change reads allowed makes =
+    import_stock texts m order message form text read change stock (accepted texts m order form text read change reads allowed makes)
 
 -- the reply to what is accepted is one that an accepted message can get
-told_by : (m : Content) (stock : IsStock m) (command : Command) (read : Reading) (change : Change) → Reads m command read → refusal_of m command read ≡ None
+told_by : (texts : Texts) (m : Content) (stock : IsStock m) (command : Command) (read : Reading) (change : Change) → Reads texts m command read → refusal_of m command read ≡ None
     → Makes m command read change → IsCommand command → IsMade change.reply
-told_by m stock (AddMaterial material kind kerf min_long min_short) read change reads allowed makes is =
+told_by texts m stock (AddMaterial material kind kerf min_long min_short) read change reads allowed makes is =
     subst (λ (c : Change). IsMade c.reply) (sym makes) (made_material (material_at m material) material kind _ is.0)
-told_by m stock (Receive material batch w h count) read change reads allowed makes is =
+told_by texts m stock (Receive material batch w h count) read change reads allowed makes is =
     let number = (receipt m material batch w h count read allowed).number in
     subst (λ (c : Change). IsMade c.reply) (sym makes) (omega (arith, number), is.4)
-told_by m stock (AddOrder order lines) read change reads allowed makes is =
+told_by texts m stock (AddOrder order lines) read change reads allowed makes is =
     let ordered = order_of (has_order m order) (material_at m) lines (m.last_demand + 1) allowed in
     let some = ordered.some in
     let few = ordered.few in
     let numbers = ordered.numbers in
     subst (λ (c : Change). IsMade c.reply) (sym makes) (omega (arith, few), omega (arith, some, numbers), is.0)
-told_by m stock (Reserve part text) read change reads allowed makes is =
-    let few = (reading m part text read makes.1 makes.3 reads).few_cuts in
+told_by texts m stock (Reserve part text) read change reads allowed makes is =
+    let few = (reading texts m part text read makes.1 makes.3 reads).few_cuts in
     let number = (fitting m part text read makes.0 makes.1 makes.2 makes.3 allowed).number in
     subst (λ (c : Change). IsMade c.reply) (sym makes.4.is) (omega (arith, few), omega (arith, number))
-told_by m stock (Done number) read change reads allowed makes is =
+told_by texts m stock (Done number) read change reads allowed makes is =
     subst (λ (c : Change). IsMade c.reply) (sym makes.4.is)
     (end_told m stock number makes.0 makes.1 makes.2 makes.3 (job_waits m stop.All number makes.0 makes.3.found allowed) stop.All makes.4.laid makes.4.is_laid)
-told_by m stock (Break number halt) read change reads allowed makes is =
+told_by texts m stock (Break number halt) read change reads allowed makes is =
     subst (λ (c : Change). IsMade c.reply) (sym makes.4.is)
     (end_told m stock number makes.0 makes.1 makes.2 makes.3 (job_waits m (stop.After halt) number makes.0 makes.3.found allowed) (stop.After halt) makes.4.laid makes.4.is_laid)
-told_by m stock (Release number) read change reads allowed makes is =
+told_by texts m stock (Release number) read change reads allowed makes is =
     let waits = job_waits m stop.All number makes.0 makes.3.found allowed in
     let le = so_far m stock number makes.0 makes.1 makes.2 makes.3 waits in
     let last = stock.in_range.last in
     subst (λ (c : Change). IsMade c.reply) (sym makes.4.is) (omega (arith, le, last))
-told_by m stock (Scrap part) read change reads allowed makes is =
+told_by texts m stock (Scrap part) read change reads allowed makes is =
     subst (λ (c : Change). IsMade c.reply) (sym makes.2) (subst IsName (sym (stock.parts part makes.0 makes.1).named) is)
-told_by m stock (GiveBack part) read change reads allowed makes is =
+told_by texts m stock (GiveBack part) read change reads allowed makes is =
     subst (λ (c : Change). IsMade c.reply) (sym makes.2) (subst IsName (sym (stock.parts part makes.0 makes.1).named) is)
+told_by texts m stock (Import order form text) read change reads allowed makes is =
+    import_told texts m order form text read change (accepted texts m order form text read change reads allowed makes) is.0
 
-agrees_by : (m : Content) (stock : IsStock m) (command : Command) (read : Reading) → refusal_of m command read ≢ Some StoreFault
-agrees_by m stock (AddMaterial material kind kerf min_long min_short) read = material_agrees (material_at m material) kind _
-agrees_by m stock (Receive material batch w h count) read =
+-- an import is kept with the order that it makes
+abbrev IsOrdered : Change → Type 0
+IsOrdered change = IfSome change.import (λ row. change.order ≡ Some row.order)
+
+ordered_by : (texts : Texts) (m : Content) (command : Command) (read : Reading) (change : Change) → Reads texts m command read → refusal_of m command read ≡ None
+    → Makes m command read change → IsOrdered change
+ordered_by texts m (AddMaterial material kind kerf min_long min_short) read change reads allowed makes = subst IsOrdered (sym makes) (by (material_at m material))
+  where
+    by : (known : Option Material) → IsOrdered (material_change known material kind (record { kerf = kerf; min_long = min_long; min_short = min_short }))
+    by None = tt
+    by (Some row) = tt
+ordered_by texts m (Receive material batch w h count) read change reads allowed makes = subst IsOrdered (sym makes) tt
+ordered_by texts m (AddOrder order lines) read change reads allowed makes = subst IsOrdered (sym makes) tt
+ordered_by texts m (Reserve part text) read change reads allowed makes = subst IsOrdered (sym makes.4.is) tt
+ordered_by texts m (Done number) read change reads allowed makes = subst IsOrdered (sym makes.4.is) tt
+ordered_by texts m (Break number halt) read change reads allowed makes = subst IsOrdered (sym makes.4.is) tt
+ordered_by texts m (Release number) read change reads allowed makes = subst IsOrdered (sym makes.4.is) tt
+ordered_by texts m (Scrap part) read change reads allowed makes = subst IsOrdered (sym makes.2) tt
+ordered_by texts m (GiveBack part) read change reads allowed makes = subst IsOrdered (sym makes.2) tt
+ordered_by texts m (Import order form text) read change reads allowed makes =
+    import_order texts m order form text read change (accepted texts m order form text read change reads allowed makes)
+
+agrees_by : (texts : Texts) (m : Content) (sound : IsSound texts m) (stock : IsStock m) (command : Command) (read : Reading) → Reads texts m command read → refusal_of m command read ≢ Some StoreFault
+agrees_by texts m sound stock (AddMaterial material kind kerf min_long min_short) read reads = material_agrees (material_at m material) kind _
+agrees_by texts m sound stock (Receive material batch w h count) read reads =
     let all = stock.in_range.adds_up material in
     receive_agrees (material_at m material) (totals_of m material) _ w h count (omega (arith, all))
-agrees_by m stock (AddOrder order lines) read = order_agrees _ (material_at m) lines _
-agrees_by m stock (Reserve part text) read =
+agrees_by texts m sound stock (AddOrder order lines) read reads = order_agrees _ (material_at m) lines _
+agrees_by texts m sound stock (Reserve part text) read reads =
     reserve_agrees (part_at m part) (material_of m (part_at m part)) (plan_in read) (demand_at m) (m.last_act + 1)
     (λ p there. subst (λ o. IsSome (material_of m o)) (sym there) (stock.parts part p there).known)
-agrees_by m stock (Done number) read = end_agrees m stock stop.All number
-agrees_by m stock (Break number halt) read = end_agrees m stock (stop.After halt) number
-agrees_by m stock (Release number) read = end_agrees m stock stop.All number
-agrees_by m stock (Scrap part) read = scrap_agrees (part_at m part) (totals_for m (part_at m part)) (held_for m stock part)
-agrees_by m stock (GiveBack part) read = return_agrees (part_at m part) (totals_for m (part_at m part)) (held_for m stock part)
+agrees_by texts m sound stock (Done number) read reads = end_agrees m stock stop.All number
+agrees_by texts m sound stock (Break number halt) read reads = end_agrees m stock (stop.After halt) number
+agrees_by texts m sound stock (Release number) read reads = end_agrees m stock stop.All number
+agrees_by texts m sound stock (Scrap part) read reads = scrap_agrees (part_at m part) (totals_for m (part_at m part)) (held_for m stock part)
+agrees_by texts m sound stock (GiveBack part) read reads = return_agrees (part_at m part) (totals_for m (part_at m part)) (held_for m stock part)
+agrees_by texts m sound stock (Import order form text) read reads = import_agrees texts m order stock (λ row is. let i = sound.imports order row is in (i.answer, i.tells)) form text read reads
 
 -- ---- what is kept
 
@@ -165,38 +202,77 @@ kept_after texts m message change is_message told old pair row is =
       | inr q ↦ old pair row q.1
     ]
 
+order_kept : (m : Content) (change : Option (List ℕ)) (code : List ℕ) → has_order m code ≡ true → set.contains (with_order change m.orders) code ≡ true
+order_kept m None code is = is
+order_kept m (Some new) code is = set.contains-insert codes_total m.orders new code ∙ ap (λ b. eq_by_cmp code_cmp code new || b) is ∙ or-true (eq_by_cmp code_cmp code new)
+
+order_there : (m : Content) (code : List ℕ) → set.contains (set.insert m.orders code) code ≡ true
+order_there m code = set.contains-insert codes_total m.orders code code ∙ ap (λ b. b || set.contains m.orders code) (tied codes_total codes_same code code refl)
+
+pub imports_after : (texts : Texts) (m : Content) (message : Message) (change : Change) → IsMade change.reply → IsOrdered change
+    → ((code : List ℕ) (row : ImportRow) → import_at m code ≡ Some row → IsImport texts m code row)
+    → (code : List ℕ) (row : ImportRow) → import_at (changed m (keeping texts message change)) code ≡ Some row → IsImport texts (changed m (keeping texts message change)) code row
+imports_after texts m message change told ordered old = by change.import refl ordered
+  where
+    after : Content
+    after = changed m (keeping texts message change)
+
+    told_row : ImportRow → ImportRow
+    told_row row = record row { reply = texts.of_reply change.reply }
+
+    earlier : (code : List ℕ) (row : ImportRow) → import_at m code ≡ Some row → IsImport texts after code row
+    earlier code row is =
+        let i = old code row is in
+        record { ordered = order_kept m change.order code i.ordered; answer = i.answer; tells = i.tells }
+
+    by : (o : Option ImportRow) → change.import ≡ o → IfSome o (λ row. change.order ≡ Some row.order)
+        → (code : List ℕ) (row : ImportRow) → get (with_import (option_map told_row o) m.imports) code ≡ Some row → IsImport texts after code row
+    by None e of code row is = earlier code row is
+    by (Some new) e of code row is =
+        elim (found_one codes_total codes_same m.imports new.order (told_row new) code row is) [
+          | inl q ↦
+              record {
+                ordered = ap (λ o. set.contains (with_order o m.orders) code) (of ∙ ap Some (sym q.0)) ∙ order_there m code;
+                answer = change.reply;
+                tells = (told, ap (λ (r : ImportRow). r.reply) q.1);
+              }
+          | inr q ↦ earlier code row q.1
+        ]
+
 -- ---- accepted changes
 
 -- what is accepted on a sound content fits it
-pub fits_accepted : (texts : Texts) (m : Content) (message : Message) (read : Reading) (change : Change) → IsSound texts m → Reads m message.command read
+pub fits_accepted : (texts : Texts) (m : Content) (message : Message) (read : Reading) (change : Change) → IsSound texts m → Reads texts m message.command read
     → refusal_of m message.command read ≡ None → Makes m message.command read change → kept_at m (pair_of message) ≡ None → Fits m (keeping texts message change)
 fits_accepted texts m message read change sound reads allowed makes new =
-    fits_by texts message m (stock_of texts m sound) message.command read change reads allowed makes new
+    fits_by texts message m (stock_of texts m sound) (λ code row is. (sound.imports code row is).ordered) message.command read change reads allowed makes new
 
 -- its reply is one that an accepted message can get
-pub told_accepted : (texts : Texts) (m : Content) (message : Message) (read : Reading) (change : Change) → IsSound texts m → Reads m message.command read
+pub told_accepted : (texts : Texts) (m : Content) (message : Message) (read : Reading) (change : Change) → IsSound texts m → Reads texts m message.command read
     → refusal_of m message.command read ≡ None → Makes m message.command read change → IsMessage message → IsMade change.reply
 told_accepted texts m message read change sound reads allowed makes is =
-    told_by m (stock_of texts m sound) message.command read change reads allowed makes is.command
+    told_by texts m (stock_of texts m sound) message.command read change reads allowed makes is.command
 
 -- it leaves a sound content
-pub sound_after : (texts : Texts) (m : Content) (message : Message) (read : Reading) (change : Change) → IsSound texts m → Reads m message.command read
+pub sound_after : (texts : Texts) (m : Content) (message : Message) (read : Reading) (change : Change) → IsSound texts m → Reads texts m message.command read
     → refusal_of m message.command read ≡ None → Makes m message.command read change → IsMessage message → IsSound texts (changed m (keeping texts message change))
 sound_after texts m message read change sound reads allowed makes is =
     let stock = stock_by texts message m (stock_of texts m sound) message.command read change reads allowed makes in
+    let told = told_accepted texts m message read change sound reads allowed makes is in
     record {
       in_range = stock.in_range;
       materials = stock.materials;
       parts = stock.parts;
       jobs = stock.jobs;
       demands = stock.demands;
-      kept = kept_after texts m message change is (told_accepted texts m message read change sound reads allowed makes is) sound.kept;
+      kept = kept_after texts m message change is told sound.kept;
+      imports = imports_after texts m message change told (ordered_by texts m message.command read change reads allowed makes) sound.imports;
     }
 
 -- its rows don't contradict each other
-pub agrees : (texts : Texts) (m : Content) (message : Message) (read : Reading) → IsSound texts m → Reads m message.command read
+pub agrees : (texts : Texts) (m : Content) (message : Message) (read : Reading) → IsSound texts m → Reads texts m message.command read
     → refusal_of m message.command read ≢ Some StoreFault
-agrees texts m message read sound reads = agrees_by m (stock_of texts m sound) message.command read
+agrees texts m message read sound reads = agrees_by texts m sound (stock_of texts m sound) message.command read reads
 
 -- ---- histories
 
@@ -224,6 +300,7 @@ fresh_sound texts = record {
   jobs = λ number job is. absurd (not_both _ job (get-empty nat_cmp number) is);
   demands = λ number demand is. absurd (not_both _ demand (get-empty nat_cmp number) is);
   kept = λ pair row is. absurd (not_both _ row (get-empty pair_cmp pair) is);
+  imports = λ code row is. absurd (not_both _ row (get-empty code_cmp code) is);
 }
 
 -- every history gives a sound content

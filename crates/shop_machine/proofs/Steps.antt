@@ -1,5 +1,5 @@
 -- What a history says of its content stays so with each message that is accepted.
-use Rattle.std.proofs.Common.{◌≡◌, ℕ, List, ◌∷◌, sym, ap, subst, ◌∙◌, inl, inr}
+use Rattle.std.proofs.Common.{◌≡◌, ℕ, List, ◌∷◌, ◌++◌, sym, ap, subst, ◌∙◌, inl, inr}
 use Rattle.std.specs.Prelude.{Some}
 use Rattle.std.specs.Cmp.{nat_cmp_total}
 use Rattle.std.specs.FinMap.{FinMap, get, insert, nat_cmp-IsAntisymmetric}
@@ -22,6 +22,10 @@ use Rattle.shop_machine.proofs.Accounts.{IsRow, IsWhole, reservation, Follows, r
 module _ (texts : Texts) (message : Message) (earlier : List Deed) (old : Content) (sound : IsSound texts old) (f : Follows earlier old) where
   abbrev pub After : Deed → Change → Type 0
   After done change = Follows (done ∷ earlier) (changed old (keeping texts message change))
+
+  -- the same of all that a command does
+  abbrev pub AfterAll : List Deed → Change → Type 0
+  AfterAll done change = Follows (done ++ earlier) (changed old (keeping texts message change))
 
   pub named : Named old.parts
   named n p k = (sound.parts n p k).named

@@ -17,10 +17,10 @@ use Rattle.shop_machine.specs.Readings.{Reading}
 use Rattle.shop_machine.specs.Content.{Content, part_at, totals_of, totals_for}
 use Rattle.shop_machine.specs.Turning.{scrap_refusal, return_refusal, turn_change}
 use Rattle.shop_machine.specs.Soundness.{IsSound}
-use Rattle.shop_machine.specs.History.{Deed, deed, Turns, turned_owner, acts_of, owner_of, is_cut, standing_as}
+use Rattle.shop_machine.specs.History.{Deed, deeds, Turns, turned_owner, acts_of, owner_of, is_cut, standing_as}
 use Rattle.shop_machine.proofs.Cells.{turned}
 use Rattle.shop_machine.proofs.Accounts.{Follows, stands_yes, stands_no}
-use Rattle.shop_machine.proofs.Steps.{After, named, rows_restated, whole_restated}
+use Rattle.shop_machine.proofs.Steps.{After, AfterAll, named, rows_restated, whole_restated}
 use Rattle.shop_machine.proofs.TurningStep.{scrap_stands, returned_stands}
 
 module _ (texts : Texts) (message : Message) (earlier : List Deed) (old : Content) (sound : IsSound texts old) (f : Follows earlier old) where
@@ -43,7 +43,7 @@ module _ (texts : Texts) (message : Message) (earlier : List Deed) (old : Conten
   }
 
   abbrev Then : Command → Reading → Change → Type 0
-  Then command read change = After texts message earlier old sound f (deed command read) change
+  Then command read change = AfterAll texts message earlier old sound f (deeds command read) change
 
   pub scraps : (part : Name) (read : Reading) (change : Change) (row : Part) → scrap_refusal (part_at old part) (totals_for old (part_at old part)) ≡ None → part_at old part ≡ Some row
       → change ≡ turn_change state.Scrap row (totals_of old row.material) (reply.Scrap row.name) → Then (Scrap part) read change

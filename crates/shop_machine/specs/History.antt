@@ -18,14 +18,17 @@ use Rattle.shop_machine.specs.declared.records.State.{State}
 use Rattle.shop_machine.specs.declared.records.State.TheVariants as state
 use Rattle.shop_machine.specs.declared.kept_texts.Pair.{Pair}
 use Rattle.shop_machine.specs.declared.messages.Command.{Command}
-use Rattle.shop_machine.specs.declared.messages.Command.TheVariants.{AddMaterial, Receive, AddOrder, Reserve, Done, Break, Release, Scrap as ScrapPart, GiveBack}
+use Rattle.shop_machine.specs.declared.messages.Command.TheVariants.{AddMaterial, Receive, AddOrder, Reserve, Done, Break, Release, Scrap as ScrapPart, GiveBack, Import}
+use Rattle.shop_machine.specs.declared.imports.Form.{Form}
+use Rattle.shop_machine.specs.declared.imports.Form.TheVariants.{Cgcut}
 use Rattle.shop_machine.specs.declared.messages.Message.{Message}
-use Rattle.shop_machine.specs.declared.messages.OrderLine.{OrderLine}
+use Rattle.shop_files.specs.declared.orders.OrderLine.{OrderLine}
 use Rattle.shop_machine.specs.declared.messages.Reply.{Reply}
 use Rattle.shop_machine.specs.Same.{same_pair, same_name, same_code}
 use Rattle.shop_machine.specs.Columns.{is_there, is_piece, is_kerf, is_scrap, is_returned, is_free}
 use Rattle.shop_machine.specs.Messages.{Texts, IsMessage, is_accepted, pair_of}
-use Rattle.shop_machine.specs.Readings.{Reading, Plan}
+use Rattle.shop_machine.specs.Readings.{Reading, Plan, Lines, Problem}
+use Rattle.shop_machine.specs.Importing.{problem_lines}
 use Rattle.shop_machine.specs.Content.{Content, fresh, part_at, demand_at, kept_at, totals_of, AddsUp}
 use Rattle.shop_machine.specs.Machine.{Accepts}
 use Rattle.shop_machine.specs.Ending.{fate}
@@ -84,23 +87,32 @@ pub data Deed : Type 0 where
   -- a standing part as a whole is in this state from now on
   Turns : (part : Name) (into : State) → Deed
 
--- by cases on a command, and on what its text was read as
-abbrev pub deed : Command → Reading → Deed
-deed (AddMaterial material kind kerf min_long min_short) read = Rules material (record { kerf = kerf; min_long = min_long; min_short = min_short })
-deed (Receive material batch w h count) read = Receives material batch (record { w = w; h = h }) count
-deed (AddOrder order lines) read = Orders order lines
-deed (Reserve part text) (Plan plan) = Reserves part plan.tree
-deed (Reserve part text) _ = nothing
-deed (Done job) read = Ends job all_made
-deed (Break job halt) read = Ends job (outcome_after halt)
-deed (Release job) read = nothing
-deed (ScrapPart part) read = Turns part state.Scrap
-deed (GiveBack part) read = Turns part state.Returned
+-- what an import does, the newest first: the lines of an order file are asked for; a unit of a problem's rectangle is
+-- received, and then its lines are asked for; and the same again does nothing
+abbrev pub import_deeds : List ℕ → Form → Reading → List Deed
+import_deeds order form (Lines lines) = Orders order lines ∷ []
+import_deeds order (Cgcut material) (Problem size pieces) = Orders order (problem_lines material pieces) ∷ Receives material order size 1 ∷ []
+import_deeds order form _ = nothing ∷ []
+
+-- by cases on a command, and on what its text was read as, the newest first
+abbrev pub deeds : Command → Reading → List Deed
+deeds (AddMaterial material kind kerf min_long min_short) read =
+    Rules material (record { kerf = kerf; min_long = min_long; min_short = min_short }) ∷ []
+deeds (Receive material batch w h count) read = Receives material batch (record { w = w; h = h }) count ∷ []
+deeds (AddOrder order lines) read = Orders order lines ∷ []
+deeds (Reserve part text) (Plan plan) = Reserves part plan.tree ∷ []
+deeds (Reserve part text) _ = nothing ∷ []
+deeds (Done job) read = Ends job all_made ∷ []
+deeds (Break job halt) read = Ends job (outcome_after halt) ∷ []
+deeds (Release job) read = nothing ∷ []
+deeds (ScrapPart part) read = Turns part state.Scrap ∷ []
+deeds (GiveBack part) read = Turns part state.Returned ∷ []
+deeds (Import order form text) read = import_deeds order form read
 
 -- what was done, the newest first
 abbrev pub deeds_of : List Entry → List Deed
 deeds_of [] = []
-deeds_of (entry ∷ earlier) = deed entry.message.command entry.read ∷ deeds_of earlier
+deeds_of (entry ∷ earlier) = deeds entry.message.command entry.read ++ deeds_of earlier
 
 abbrev pub acts_in : Deed → ℕ
 acts_in (Receives material batch size count) = 1

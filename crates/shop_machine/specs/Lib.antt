@@ -9,6 +9,7 @@ pub mod Recounts
 pub mod Adding
 pub mod Receiving
 pub mod Ordering
+pub mod Importing
 pub mod Reserving
 pub mod Moving
 pub mod Ending

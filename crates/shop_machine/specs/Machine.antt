@@ -1,5 +1,6 @@
 -- The shop as a machine: what it answers to a message, and what it contains afterwards.
 use Rattle.std.specs.Prelude.{◌≡◌, ◌≢◌, ℕ, ◌+◌, List, [], ◌∷◌, Option, Some, None, MatchOption}
+use Rattle.std.specs.Option.{option_map}
 use Rattle.cut_tree.specs.declared.halts.Stop.TheVariants as stop
 use Rattle.cut_tree.specs.Patterns.{Pattern}
 use Rattle.shop_machine.specs.declared.records.Material.{Material}
@@ -11,7 +12,8 @@ use Rattle.shop_machine.specs.declared.records.Totals.{Totals}
 use Rattle.shop_machine.specs.declared.kept_texts.Kept.{Kept}
 use Rattle.shop_machine.specs.declared.changes.Change.{Change}
 use Rattle.shop_machine.specs.declared.messages.Command.{Command}
-use Rattle.shop_machine.specs.declared.messages.Command.TheVariants.{AddMaterial, Receive, AddOrder, Reserve, Done, Break, Release, Scrap, GiveBack}
+use Rattle.shop_machine.specs.declared.messages.Command.TheVariants.{AddMaterial, Receive, AddOrder, Reserve, Done, Break, Release, Scrap, GiveBack, Import}
+use Rattle.shop_machine.specs.declared.imports.ImportRow.{ImportRow}
 use Rattle.shop_machine.specs.declared.messages.Message.{Message}
 use Rattle.shop_machine.specs.declared.messages.Query.{Query}
 use Rattle.shop_machine.specs.declared.messages.Query.TheVariants as query
@@ -22,10 +24,11 @@ use Rattle.shop_machine.specs.declared.messages.Reply.TheVariants as reply
 use Rattle.shop_machine.specs.Columns.{state_word, state_of}
 use Rattle.shop_machine.specs.Messages.{Texts, IsMade, refusal_in, pair_of}
 use Rattle.shop_machine.specs.Readings.{Reading, unread, Plan, plan_in}
-use Rattle.shop_machine.specs.Content.{Content, material_at, part_at, job_at, has_order, demand_at, kept_at, totals_of, totals_for, parts_of, rack_rows, changed, material_of}
+use Rattle.shop_machine.specs.Content.{Content, material_at, part_at, job_at, has_order, demand_at, kept_at, import_at, totals_of, totals_for, parts_of, rack_rows, changed, material_of}
 use Rattle.shop_machine.specs.Adding.{material_refusal, material_change}
 use Rattle.shop_machine.specs.Receiving.{receive_refusal, receive_change}
 use Rattle.shop_machine.specs.Ordering.{order_refusal, order_change}
+use Rattle.shop_machine.specs.Importing.{IsImportReading, import_refusal, ImportMakes}
 use Rattle.shop_machine.specs.Reserving.{IsReading, reserve_refusal, IsReservation}
 use Rattle.shop_machine.specs.Ending.{end_refusal, IsWork, IsDone, IsBroken, IsRelease}
 use Rattle.shop_machine.specs.Turning.{scrap_refusal, return_refusal, turn_change}
@@ -33,18 +36,21 @@ use Rattle.shop_machine.specs.Planning.{IsPlanAnswer, IsBoundAnswer}
 
 -- ---- commands
 
--- what a command's text stands for; a reservation's stands for a plan, or for nothing, and other commands have no text
-abbrev pub Reads : Content → Command → Reading → Type 0
-Reads old (Reserve part text) unread = (plan : Pattern) → IsReading old part text plan → ⊥
-Reads old (Reserve part text) (Plan plan) = IsReading old part text plan
-Reads old (AddMaterial material kind kerf min_long min_short) read = read ≡ unread
-Reads old (Receive material batch w h count) read = read ≡ unread
-Reads old (AddOrder order lines) read = read ≡ unread
-Reads old (Done number) read = read ≡ unread
-Reads old (Break number halt) read = read ≡ unread
-Reads old (Release number) read = read ≡ unread
-Reads old (Scrap part) read = read ≡ unread
-Reads old (GiveBack part) read = read ≡ unread
+-- what a command's text stands for; a reservation's stands for a plan, or for nothing, an import's for what is in its file,
+-- or it comes again, and other commands have no text
+abbrev pub Reads : Texts → Content → Command → Reading → Type 0
+Reads texts old (Reserve part text) unread = (plan : Pattern) → IsReading old part text plan → ⊥
+Reads texts old (Reserve part text) (Plan plan) = IsReading old part text plan
+Reads texts old (Reserve part text) _ = ⊥
+Reads texts old (Import order form text) read = IsImportReading texts (import_at old order) form text read
+Reads texts old (AddMaterial material kind kerf min_long min_short) read = read ≡ unread
+Reads texts old (Receive material batch w h count) read = read ≡ unread
+Reads texts old (AddOrder order lines) read = read ≡ unread
+Reads texts old (Done number) read = read ≡ unread
+Reads texts old (Break number halt) read = read ≡ unread
+Reads texts old (Release number) read = read ≡ unread
+Reads texts old (Scrap part) read = read ≡ unread
+Reads texts old (GiveBack part) read = read ≡ unread
 
 -- why a command is refused, if it is, what its text stands for being read
 abbrev pub refusal_of : Content → Command → Reading → Option Refusal
@@ -61,6 +67,8 @@ refusal_of old (Break number halt) read = end_refusal old (stop.After halt) (job
 refusal_of old (Release number) read = end_refusal old stop.All (job_at old number)
 refusal_of old (Scrap part) read = scrap_refusal (part_at old part) (totals_for old (part_at old part))
 refusal_of old (GiveBack part) read = return_refusal (part_at old part) (totals_for old (part_at old part))
+refusal_of old (Import order form text) read =
+    import_refusal (has_order old order) (material_at old) (totals_of old) (old.last_act + 1) (old.last_demand + 1) form read
 
 -- what a command changes where it is accepted, what its text stands for being read
 abbrev pub Makes : Content → Command → Reading → Change → Type 0
@@ -85,19 +93,22 @@ Makes old (Scrap part) read change =
     (row : Part) × (part_at old part ≡ Some row) × (change ≡ turn_change state.Scrap row (totals_of old row.material) (reply.Scrap row.name))
 Makes old (GiveBack part) read change =
     (row : Part) × (part_at old part ≡ Some row) × (change ≡ turn_change state.Returned row (totals_of old row.material) (reply.GiveBack row.name))
+Makes old (Import order form text) read change =
+    ImportMakes order form text (totals_of old) (old.last_act + 1) (old.last_demand + 1) read change
 
 -- ---- steps and runs
 
--- the change that also keeps the message, with both texts
+-- the change that also keeps the message, with both texts, and of an import the text of its reply
 abbrev pub keeping : Texts → Message → Change → Change
 keeping texts message change = record change {
+  import = option_map (λ (row : ImportRow). record row { reply = texts.of_reply change.reply }) change.import;
   kept = Some (record { pair = pair_of message; kept = record { command = texts.of_message message; reply = texts.of_reply change.reply } });
 }
 
 -- A message that isn't kept yet is accepted with this reply, what its text stands for being read: its command's change is
 -- made, and it is kept.
 pub record Accepts (texts : Texts) (old : Content) (message : Message) (read : Reading) (answer : Reply) (new : Content) : Type 0 where
-  pub reads : Reads old message.command read
+  pub reads : Reads texts old message.command read
   pub allowed : refusal_of old message.command read ≡ None
   pub change : Change
   pub makes : Makes old message.command read change
@@ -105,16 +116,16 @@ pub record Accepts (texts : Texts) (old : Content) (message : Message) (read : R
   pub becomes : new ≡ changed old (keeping texts message change)
 
 -- a command is refused so, memory and the store aside
-abbrev pub Refuses : Content → Command → Refusal → Type 0
-Refuses old command refusal =
-    refusal ≢ NoMemory → refusal ≢ StoreFault → (read : Reading) × Reads old command read × (refusal_of old command read ≡ Some refusal)
+abbrev pub Refuses : Texts → Content → Command → Refusal → Type 0
+Refuses texts old command refusal =
+    refusal ≢ NoMemory → refusal ≢ StoreFault → (read : Reading) × Reads texts old command read × (refusal_of old command read ≡ Some refusal)
 
 -- From old, what the machine may answer to a message whose pair isn't kept, and go on to new.
 abbrev pub StepNew : Texts → Content → Message → Reply → Content → Type 0
 StepNew texts old message answer new =
     MatchOption (refusal_in answer)
     ((read : Reading) × Accepts texts old message read answer new)
-    (λ refusal. Refuses old message.command refusal × (new ≡ old))
+    (λ refusal. Refuses texts old message.command refusal × (new ≡ old))
 
 -- the row keeps this message with this reply
 pub record KeepsReply (texts : Texts) (row : Kept) (message : Message) (answer : Reply) : Type 0 where

@@ -7,8 +7,10 @@ use Rattle.shop_machine.specs.declared.kept_texts.Pair.{Pair}
 use Rattle.cut_tree.specs.declared.halts.Halt.{Halt}
 use Rattle.cut_tree.specs.declared.halts.Halt.TheVariants.{First, Listed}
 use Rattle.shop_machine.specs.declared.messages.Command.{Command}
-use Rattle.shop_machine.specs.declared.messages.Command.TheVariants.{AddMaterial, Receive, AddOrder, Reserve, Done, Break, Release, Scrap, GiveBack}
-use Rattle.shop_machine.specs.declared.messages.OrderLine.{OrderLine}
+use Rattle.shop_machine.specs.declared.messages.Command.TheVariants.{AddMaterial, Receive, AddOrder, Reserve, Done, Break, Release, Scrap, GiveBack, Import}
+use Rattle.shop_machine.specs.declared.imports.Form.{Form}
+use Rattle.shop_machine.specs.declared.imports.Form.TheVariants.{Csv, Cgcut}
+use Rattle.shop_files.specs.declared.orders.OrderLine.{OrderLine}
 use Rattle.shop_machine.specs.declared.messages.Message.{Message}
 use Rattle.shop_machine.specs.declared.messages.Reply.{Reply}
 use Rattle.shop_machine.specs.declared.messages.Reply.TheVariants as reply
@@ -36,6 +38,11 @@ abbrev pub IsHalt : Halt → Type 0
 IsHalt (First cuts lost) = IsNumber cuts
 IsHalt (Listed cuts lost) = All IsNumber cuts × IfSome lost IsNumber
 
+-- what holds of every form
+abbrev pub IsForm : Form → Type 0
+IsForm Csv = Unit {0}
+IsForm (Cgcut material) = IsTrue (is_code material)
+
 -- what holds of every command: its codes are codes, its texts are UTF-8, and its numbers have 32 bits
 abbrev pub IsCommand : Command → Type 0
 IsCommand (AddMaterial material kind kerf min_long min_short) =
@@ -49,6 +56,7 @@ IsCommand (Break job halt) = IsNumber job × IsHalt halt
 IsCommand (Release job) = IsNumber job
 IsCommand (Scrap part) = IsName part
 IsCommand (GiveBack part) = IsName part
+IsCommand (Import order form text) = IsTrue (is_code order) × IsForm form × IsTrue (is_utf8 text)
 
 -- what holds of every message
 pub record IsMessage (message : Message) : Type 0 where
@@ -67,6 +75,7 @@ IsMade (reply.Break job kerf pieces rack scrap) = IsNumber job × IsWide kerf ×
 IsMade (reply.Release job) = IsNumber job
 IsMade (reply.Scrap part) = IsName part
 IsMade (reply.GiveBack part) = IsName part
+IsMade (reply.Import act count first order) = IsNumber act × IsNumber count × IsNumber first × IsTrue (is_code order)
 IsMade (reply.Totals material received stock rack pieces kerf scrap returned) = ⊥
 IsMade (reply.Rack material parts) = ⊥
 IsMade (reply.Trace batch h of part root state w x y) = ⊥

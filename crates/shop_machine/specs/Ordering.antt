@@ -5,11 +5,11 @@ use Rattle.cut_measure.specs.declared.ranges.TheConstants.{MOST_NUMBERS, MOST_CO
 use Rattle.cut_measure.specs.declared.sizes.Kind.{Kind}
 use Rattle.cut_measure.specs.declared.sizes.Kind.TheVariants.{Bar, Sheet}
 use Rattle.cut_measure.specs.Measures.{is_size}
-use Rattle.shop_machine.specs.declared.ordering.TheConstants.{MOST_LINES}
+use Rattle.shop_files.specs.declared.limits.TheConstants.{MOST_LINES}
 use Rattle.shop_machine.specs.declared.records.Material.{Material}
 use Rattle.shop_machine.specs.declared.records.Demand.{Demand}
 use Rattle.shop_machine.specs.declared.changes.Change.{Change}
-use Rattle.shop_machine.specs.declared.messages.OrderLine.{OrderLine}
+use Rattle.shop_files.specs.declared.orders.OrderLine.{OrderLine}
 use Rattle.shop_machine.specs.declared.refusals.Refusal.{Refusal}
 use Rattle.shop_machine.specs.declared.refusals.Refusal.TheVariants.{NoMaterial, NumbersSpent, OrderExists, BadLine}
 use Rattle.shop_machine.specs.declared.messages.Reply.TheVariants as reply

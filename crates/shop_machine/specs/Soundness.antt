@@ -16,6 +16,7 @@ use Rattle.shop_machine.specs.declared.records.Job.{Job}
 use Rattle.shop_machine.specs.declared.records.Demand.{Demand}
 use Rattle.shop_machine.specs.declared.kept_texts.Pair.{Pair}
 use Rattle.shop_machine.specs.declared.kept_texts.Kept.{Kept}
+use Rattle.shop_machine.specs.declared.imports.ImportRow.{ImportRow}
 use Rattle.shop_machine.specs.declared.messages.Message.{Message}
 use Rattle.shop_machine.specs.declared.messages.Reply.{Reply}
 use Rattle.shop_machine.specs.declared.changes.Change.{Change}
@@ -25,6 +26,7 @@ use Rattle.shop_machine.specs.Columns.{is_piece_for, is_waiting}
 use Rattle.shop_machine.specs.Messages.{Texts, IsMessage, pair_of}
 use Rattle.shop_machine.specs.Content.{Content, material_at, part_at, job_at, has_order, demand_at, kept_at, import_at, totals_of, AddsUp, in_state, changed}
 use Rattle.shop_machine.specs.Same.{same_code}
+use Rattle.shop_machine.specs.Importing.{Tells}
 use Rattle.shop_machine.specs.Machine.{KeepsReply}
 
 -- Each part is named after an act so far, the numbers aren't spent, and of each material no more was received than may be,
@@ -43,6 +45,12 @@ pub record IsKept (texts : Texts) (pair : Pair) (row : Kept) : Type 0 where
   pub is_message : IsMessage message
   pub of_pair : pair_of message ≡ pair
   pub keeps : KeepsReply texts row message answer
+
+-- a kept import's order is there, and its row tells a reply
+pub record IsImport (texts : Texts) (content : Content) (code : List ℕ) (row : ImportRow) : Type 0 where
+  pub ordered : has_order content code ≡ true
+  pub answer : Reply
+  pub tells : Tells texts row (Some answer)
 
 -- a material stands under its own code, and is cut by a rule that there may be
 pub record IsKnown (code : List ℕ) (material : Material) : Type 0 where
@@ -121,6 +129,7 @@ pub record IsSound (texts : Texts) (content : Content) : Type 0 where
   pub jobs : (number : ℕ) (job : Job) → job_at content number ≡ Some job → IsJob content number job
   pub demands : (number : ℕ) (demand : Demand) → demand_at content number ≡ Some demand → IsDemand content number demand
   pub kept : (pair : Pair) (row : Kept) → kept_at content pair ≡ Some row → IsKept texts pair row
+  pub imports : (code : List ℕ) (row : ImportRow) → import_at content code ≡ Some row → IsImport texts content code row
 
 -- a new part is of a known material, and no part has its name yet
 pub record IsNewPart (content : Content) (part : Part) : Type 0 where

@@ -31,16 +31,16 @@ pub fn histories_have_accounts()
 /// a sound content never contradict each other.
 pub fn accepted_changes_fit()
     ensures fits { (texts : Texts) (m : Content) (message : Message) (read : Reading) (change : Change) →
-        IsSound texts m → Reads m message.command read → refusal_of m message.command read ≡ None → Makes m message.command read change →
+        IsSound texts m → Reads texts m message.command read → refusal_of m message.command read ≡ None → Makes m message.command read change →
         kept_at m (pair_of message) ≡ None → Fits m (keeping texts message change) }
     ensures told { (texts : Texts) (m : Content) (message : Message) (read : Reading) (change : Change) →
-        IsSound texts m → Reads m message.command read → refusal_of m message.command read ≡ None → Makes m message.command read change →
+        IsSound texts m → Reads texts m message.command read → refusal_of m message.command read ≡ None → Makes m message.command read change →
         IsMessage message → IsMade change.reply }
     ensures sound { (texts : Texts) (m : Content) (message : Message) (read : Reading) (change : Change) →
-        IsSound texts m → Reads m message.command read → refusal_of m message.command read ≡ None → Makes m message.command read change →
+        IsSound texts m → Reads texts m message.command read → refusal_of m message.command read ≡ None → Makes m message.command read change →
         IsMessage message → IsSound texts (changed m (keeping texts message change)) }
     ensures agrees { (texts : Texts) (m : Content) (message : Message) (read : Reading) →
-        IsSound texts m → Reads m message.command read → refusal_of m message.command read ≢ Some StoreFault }
+        IsSound texts m → Reads texts m message.command read → refusal_of m message.command read ≢ Some StoreFault }
 {}
 
 /// The tree of a plan that is told for a part can be reserved on it, as long as nothing else happens: sent under a new pair

@@ -5,6 +5,7 @@ mod adding;
 mod changes;
 mod decisions;
 mod ending;
+mod importing;
 mod imports;
 mod kept_texts;
 mod laws;
@@ -24,10 +25,13 @@ pub use adding::decide_material;
 pub use changes::{Change, DemandList, MaterialTotals, PartList};
 pub use cut_measure::RowList;
 pub use ending::{decide_break, decide_done, decide_release};
+pub use importing::{
+    decide_again, decide_lines, decide_problem, problem_lines, repeats, unread_refusal,
+};
 pub use imports::{Form, ImportRow};
 pub use kept_texts::{Kept, KeptMessage, Pair, Text};
 pub use laws::{accepted_changes_fit, histories_have_accounts, told_plans_can_be_reserved};
-pub use messages::{Command, LineList, Message, NumberList, OrderLine, Query, RackList, Reply};
+pub use messages::{Command, LineList, Message, NumberList, Query, RackList, Reply};
 pub use moving::no_totals;
 pub use ordering::{FoundLine, decide_order};
 pub use planning::{FoundDemand, FoundList, answer_bound, answer_plan, can_be_planned};
@@ -38,5 +42,6 @@ pub use records::{
 pub use recounts::FoundLeaf;
 pub use refusals::Refusal;
 pub use reserving::decide_reserve;
+pub use shop_files::{MOST_LINES, OrderLine};
 pub use turning::{decide_give_back, decide_scrap};
 pub use visits::PartVisitor;

@@ -1,23 +1,10 @@
+use crate::imports::Form;
 use crate::kept_texts::Text;
 use crate::records::{RackRow, StateWord};
 use crate::refusals::Refusal;
 use cut_measure::{Code, Kind, PartName, RowList};
 use cut_tree::Halt;
-
-/// A line of an order: so many pieces of one size of a material.
-#[derive(Clone, Copy, Debug)]
-pub struct OrderLine {
-    pub line: u32,
-    pub material: Code,
-    /// The sides of a piece in tenths of a millimetre.
-    pub w: u32,
-    pub h: u32,
-    /// Whether a piece may be turned.
-    pub turn: bool,
-    pub count: u32,
-    /// What a piece is worth to the planners.
-    pub worth: u32,
-}
+use shop_files::OrderLine;
 
 /// Lines of an order, in order.
 pub type LineList = RowList<OrderLine>;
@@ -72,6 +59,12 @@ pub enum Command {
     /// Returns a standing unit to its supplier.
     GiveBack {
         part: PartName,
+    },
+    /// Makes an order from the text of a file; a problem's rectangle is received as a unit, too.
+    Import {
+        order: Code,
+        form: Form,
+        text: Text,
     },
 }
 
@@ -158,6 +151,14 @@ pub enum Reply {
     },
     GiveBack {
         part: PartName,
+    },
+    /// The act of the unit that was received, 0 for an order file; how many lines the order has, and the number of its
+    /// first demand.
+    Import {
+        act: u32,
+        count: u32,
+        first: u32,
+        order: Code,
     },
     /// Cells of a material.
     Totals {

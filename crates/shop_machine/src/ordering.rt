@@ -1,6 +1,7 @@
 ghost use Rattle.std.specs.Prelude.{◌≡◌, ◌≤◌, IfOk, IsTrue, ◌+◌, ℕ, List, Option, IfNone, All, length};
 ghost use Rattle.cut_measure.specs.declared.ranges.TheConstants.{MOST_NUMBERS};
 ghost use Rattle.cut_measure.specs.Measures.{is_size};
+ghost use Rattle.shop_files.specs.declared.limits.TheConstants.{MOST_LINES};
 ghost use Rattle.cut_measure.specs.declared.sizes.Kind.TheVariants.{Sheet};
 ghost use Rattle.shop_machine.specs.declared.records.Material.{Material as MaterialOf};
 ghost use Rattle.shop_machine.specs.Messages.{is_accepted};
@@ -9,14 +10,12 @@ ghost use Rattle.shop_machine.specs.Ordering.{is_good_line, line_refusal, lines_
 
 use crate::changes::{Change, DemandList};
 use crate::decisions::no_change;
-use crate::messages::{OrderLine, Reply};
+use crate::messages::Reply;
 use crate::records::{Demand, Material};
 use crate::refusals::Refusal;
 use cut_measure::{Code, Kind, MOST_COUNT, MOST_NUMBERS, MOST_WORTH, Size};
+use shop_files::{MOST_LINES, OrderLine};
 use std::alloc::{AllocError, Global};
-
-/// The most lines of an order.
-pub const MOST_LINES: usize = 200;
 
 /// A line of an order, with the row of its material.
 #[derive(Clone, Copy, Debug)]
@@ -56,8 +55,8 @@ fn line_refusal(last: u32, found: &FoundLine) -> Option<Refusal>
     }
 }
 
-// Why lines are refused behind the line of this number, if they are.
-fn lines_refusal(last: u32, lines: &[FoundLine]) -> Option<Refusal>
+/// Why lines are refused behind the line of this number, if they are.
+pub fn lines_refusal(last: u32, lines: &[FoundLine]) -> Option<Refusal>
     ensures refusal { (at : List ℕ → Option MaterialOf) → AreMaterialsFound at lines.now → result ≡ lines_refusal at last (lines_in lines.now) }
     ensures sized { IfNone result (All (λ f. IsTrue (is_size Sheet f.line.w f.line.h)) lines.now) }
 {
@@ -123,6 +122,7 @@ pub fn decide_order(
     ensures decision { (at : List ℕ → Option MaterialOf) → AreMaterialsFound at lines.now →
         Decides (order_refusal used at (lines_in lines.now) first) (λ change. change ≡ order_change order (lines_in lines.now) first) result }
     ensures told { IfOk result (λ change. IsTrue (is_accepted change.reply)) }
+    ensures few { IfOk result (λ _. length lines.now ≤ MOST_LINES) }
 {
     if used {
         return Err(Refusal::OrderExists);

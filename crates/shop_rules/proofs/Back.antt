@@ -8,9 +8,10 @@ use Rattle.cut_tree.specs.declared.halts.Halt.TheVariants.{First, Listed}
 use Rattle.std.specs.Option.{option_or}
 use Rattle.std.specs.Cmp.Derive.{both_true}
 use Rattle.shop_machine.specs.declared.messages.Command.{Command}
-use Rattle.shop_machine.specs.declared.messages.Command.TheVariants.{AddMaterial, Receive, AddOrder, Reserve, Done, Break, Release, Scrap, GiveBack}
+use Rattle.shop_machine.specs.declared.messages.Command.TheVariants.{AddMaterial, Receive, AddOrder, Reserve, Done, Break, Release, Scrap, GiveBack, Import}
+use Rattle.shop_machine.specs.declared.imports.Form.TheVariants.{Csv, Cgcut}
 use Rattle.shop_machine.specs.declared.messages.Message.{Message}
-use Rattle.shop_machine.specs.declared.messages.OrderLine.{OrderLine}
+use Rattle.shop_files.specs.declared.orders.OrderLine.{OrderLine}
 use Rattle.shop_machine.specs.declared.messages.Query.{Query}
 use Rattle.shop_machine.specs.declared.records.RackRow.{RackRow}
 use Rattle.shop_machine.specs.declared.messages.Reply.{Reply}
@@ -31,7 +32,7 @@ use Rattle.serde_json.specs.Written.{compact_text, outline, has_float, items_hav
 use Rattle.serde_json.proofs.Numbers.{number_of-decimal}
 use Rattle.json.specs.Token.{Token}
 use Rattle.serde_json.proofs.Texts.{print-outline}
-use Rattle.shop_rules.specs.Forms.{message_of, sent_head, sent_of, from_one, command_of, material_command, receive_command, order_command, reserve_command, query_of, asked_of, reply_of, made_of, order_made, reserve_made, ended_cells, first_cuts, listed_cuts, lost_cut, none_lost, list_data, break_command, has_few_cuts, lines_data, rack_row_data, message_data, reply_data, json_texts, kept_reply_of}
+use Rattle.shop_rules.specs.Forms.{message_of, sent_head, sent_of, from_one, command_of, material_command, receive_command, order_command, reserve_command, import_in, problem_command, import_by, import_command, query_of, asked_of, reply_of, made_of, order_made, reserve_made, ended_cells, first_cuts, listed_cuts, lost_cut, none_lost, list_data, break_command, has_few_cuts, lines_data, rack_row_data, message_data, reply_data, json_texts, kept_reply_of}
 use Rattle.shop_rules.specs.Fields.{kind_text, small, number_at, flag_at}
 use Rattle.shop_rules.proofs.FieldFacts.{number_there, wide_there, flag_there, code_there, kind_there, name_there, text_there}
 use Rattle.shop_rules.proofs.Cuts.{cuts_there, cuts_numbers, cuts_shallow, cuts_json, cuts_no_float}
@@ -93,6 +94,18 @@ read_sent : (d : Data) (word : List ℕ) (terminal n : ℕ) (command : Command)
 read_sent d word terminal n command none p q r small_terminal small_number is =
     rw (none, text_there (codes "do") d word p, number_there (codes "terminal") d terminal q small_terminal, number_there (codes "number") d n r small_number, is) refl
 
+read_lines : (d : Data) (order text : List ℕ) → get (codes "order") d ≡ Some (string order) → get (codes "text") d ≡ Some (string text)
+    → IsCommand (Import order Csv text) → import_in Csv d ≡ Some (Import order Csv text)
+read_lines d order text p q h = rw (code_there (codes "order") d order p h.0, text_there (codes "text") d text q) refl
+
+read_problem : (d : Data) (material order text : List ℕ) → get (codes "material") d ≡ Some (string material) → get (codes "order") d ≡ Some (string order)
+    → get (codes "text") d ≡ Some (string text) → IsCommand (Import order (Cgcut material) text) → problem_command d ≡ Some (Import order (Cgcut material) text)
+read_problem d material order text p q r h =
+    rw (code_there (codes "material") d material p h.1, code_there (codes "order") d order q h.0, text_there (codes "text") d text r) refl
+
+read_import : (d : Data) (word : List ℕ) (command : Command) → get (codes "form") d ≡ Some (string word) → import_by word d ≡ Some command → import_command d ≡ Some command
+read_import d word command p is = rw (text_there (codes "form") d word p) is
+
 sent_back_by : (terminal n : ℕ) (command : Command) → IsNumber terminal → IsNumber n → IsCommand command
     → sent_of (message_data (record { terminal = terminal; number = n; command = command })) ≡ Some (record { terminal = terminal; number = n; command = command })
 sent_back_by terminal n (AddMaterial material kind kerf min_long min_short) p q h =
@@ -133,6 +146,14 @@ sent_back_by terminal n (Scrap part) p q h =
 sent_back_by terminal n (GiveBack part) p q h =
     let d = message_data (record { terminal = terminal; number = n; command = GiveBack part }) in
     read_sent d (codes "return") terminal n (GiveBack part) refl refl refl refl p q (ap (option_map GiveBack) (name_there (codes "part") d part refl h))
+sent_back_by terminal n (Import order Csv text) p q h =
+    let d = message_data (record { terminal = terminal; number = n; command = Import order Csv text }) in
+    read_sent d (codes "import") terminal n (Import order Csv text) refl refl refl refl p q
+    (read_import d (codes "csv") (Import order Csv text) refl (read_lines d order text refl refl h))
+sent_back_by terminal n (Import order (Cgcut material) text) p q h =
+    let d = message_data (record { terminal = terminal; number = n; command = Import order (Cgcut material) text }) in
+    read_sent d (codes "import") terminal n (Import order (Cgcut material) text) refl refl refl refl p q
+    (read_import d (codes "cgcut") (Import order (Cgcut material) text) refl (read_problem d material order text refl refl refl h))
 
 pub sent_back : (message : Message) → IsMessage message → sent_of (message_data message) ≡ Some message
 sent_back message h = sent_back_by message.terminal message.number message.command h.terminal h.number h.command
@@ -179,6 +200,9 @@ reply_back (reply.Break job kerf pieces rack scrap) h =
 reply_back (reply.Release job) h = ap (option_map reply.Release) (number_there (codes "job") (reply_data (reply.Release job)) job refl h)
 reply_back (reply.Scrap part) h = ap (option_map reply.Scrap) (name_there (codes "part") (reply_data (reply.Scrap part)) part refl h)
 reply_back (reply.GiveBack part) h = ap (option_map reply.GiveBack) (name_there (codes "part") (reply_data (reply.GiveBack part)) part refl h)
+reply_back (reply.Import act count first order) h =
+    let d = reply_data (reply.Import act count first order) in
+    rw (number_there (codes "act") d act refl h.0, number_there (codes "count") d count refl h.1, number_there (codes "first") d first refl h.2, code_there (codes "order") d order refl h.3) refl
 reply_back (reply.Totals material received stock rack pieces kerf scrap returned) h = absurd h
 reply_back (reply.Rack material parts) h = absurd h
 reply_back (reply.Trace batch h of part root state w x y) made = absurd made
@@ -201,6 +225,8 @@ no_float_by terminal n (Break job (Listed cuts (Some cut))) = ap (λ (b : Bool).
 no_float_by terminal n (Release job) = refl
 no_float_by terminal n (Scrap part) = refl
 no_float_by terminal n (GiveBack part) = refl
+no_float_by terminal n (Import order Csv text) = refl
+no_float_by terminal n (Import order (Cgcut material) text) = refl
 
 rack_no_float : (parts : List RackRow) → items_have_float (items_of (map rack_row_data parts)) ≡ false
 rack_no_float [] = refl
@@ -216,6 +242,7 @@ reply_no_float (reply.Break job kerf pieces rack scrap) = refl
 reply_no_float (reply.Release job) = refl
 reply_no_float (reply.Scrap part) = refl
 reply_no_float (reply.GiveBack part) = refl
+reply_no_float (reply.Import act count first order) = refl
 reply_no_float (reply.Totals material received stock rack pieces kerf scrap returned) = refl
 reply_no_float (reply.Rack material parts) = ap (λ (b : Bool). b || false) (rack_no_float parts)
 reply_no_float (reply.Trace batch h of part root state w x y) = refl
@@ -310,6 +337,14 @@ text_read_by terminal n (GiveBack part) p q h =
     let d = message_data (record { terminal = terminal; number = n; command = GiveBack part }) in
     read-compact d (tt, (IsNumber-decimal n (wide n q), (tt, (IsNumber-decimal terminal (wide terminal p), tt)))) (omega arith)
     (rw (number_of-decimal n (wide n q), number_of-decimal terminal (wide terminal p)) refl)
+text_read_by terminal n (Import order Csv text) p q h =
+    let d = message_data (record { terminal = terminal; number = n; command = Import order Csv text }) in
+    read-compact d (tt, (tt, (IsNumber-decimal n (wide n q), (tt, (IsNumber-decimal terminal (wide terminal p), (tt, tt)))))) (omega arith)
+    (rw (number_of-decimal n (wide n q), number_of-decimal terminal (wide terminal p)) refl)
+text_read_by terminal n (Import order (Cgcut material) text) p q h =
+    let d = message_data (record { terminal = terminal; number = n; command = Import order (Cgcut material) text }) in
+    read-compact d (tt, (tt, (tt, (IsNumber-decimal n (wide n q), (tt, (IsNumber-decimal terminal (wide terminal p), (tt, tt))))))) (omega arith)
+    (rw (number_of-decimal n (wide n q), number_of-decimal terminal (wide terminal p)) refl)
 
 pub message_text_read : (message : Message) → IsMessage message → read (json_texts.of_message message) ≡ Some (message_data message)
 unfolding json_texts
@@ -339,6 +374,10 @@ reply_text_read (reply.Release job) h =
     read-compact (reply_data (reply.Release job)) (IsNumber-decimal job (wide job h), (tt, tt)) (omega arith) (rw (number_of-decimal job (wide job h)) refl)
 reply_text_read (reply.Scrap part) h = read-compact (reply_data (reply.Scrap part)) (tt, (tt, tt)) (omega arith) refl
 reply_text_read (reply.GiveBack part) h = read-compact (reply_data (reply.GiveBack part)) (tt, (tt, tt)) (omega arith) refl
+reply_text_read (reply.Import act count first order) h =
+    read-compact (reply_data (reply.Import act count first order))
+    (IsNumber-decimal act (wide act h.0), (IsNumber-decimal count (wide count h.1), (IsNumber-decimal first (wide first h.2), (tt, (tt, tt))))) (omega arith)
+    (rw (number_of-decimal act (wide act h.0), number_of-decimal count (wide count h.1), number_of-decimal first (wide first h.2)) refl)
 reply_text_read (reply.Totals material received stock rack pieces kerf scrap returned) h = absurd h
 reply_text_read (reply.Rack material parts) h = absurd h
 reply_text_read (reply.Trace batch h of part root state w x y) made = absurd made

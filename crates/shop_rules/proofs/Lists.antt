@@ -15,7 +15,7 @@ use Rattle.serde_json.specs.View.{view, items_of, items_view}
 use Rattle.serde_json.specs.Written.{outline, items_outline, items_have_float}
 use Rattle.serde_json.specs.declared.value.Value.{Value}
 use Rattle.serde_json.proofs.Numbers.{number_of-decimal}
-use Rattle.shop_machine.specs.declared.messages.OrderLine.{OrderLine}
+use Rattle.shop_files.specs.declared.orders.OrderLine.{OrderLine}
 use Rattle.shop_machine.specs.Messages.{IsLine}
 use Rattle.shop_rules.specs.Fields.{elements, all_of}
 use Rattle.shop_rules.specs.Forms.{line_fields, line_of, lines_at, line_data, lines_data}

@@ -7,9 +7,11 @@ use Rattle.cut_tree.specs.declared.halts.Halt.{Halt}
 use Rattle.cut_tree.specs.declared.halts.Halt.TheVariants.{First, Listed}
 use Rattle.cut_tree.specs.declared.token.TheConstants.{MOST_CUTS}
 use Rattle.shop_machine.specs.declared.messages.Command.{Command}
-use Rattle.shop_machine.specs.declared.messages.Command.TheVariants.{AddMaterial, Receive, AddOrder, Reserve, Done, Break, Release, Scrap, GiveBack}
+use Rattle.shop_machine.specs.declared.messages.Command.TheVariants.{AddMaterial, Receive, AddOrder, Reserve, Done, Break, Release, Scrap, GiveBack, Import}
+use Rattle.shop_machine.specs.declared.imports.Form.{Form}
+use Rattle.shop_machine.specs.declared.imports.Form.TheVariants.{Csv, Cgcut}
 use Rattle.shop_machine.specs.declared.messages.Message.{Message}
-use Rattle.shop_machine.specs.declared.messages.OrderLine.{OrderLine}
+use Rattle.shop_files.specs.declared.orders.OrderLine.{OrderLine}
 use Rattle.shop_machine.specs.declared.messages.Query.{Query}
 use Rattle.shop_machine.specs.declared.records.RackRow.{RackRow}
 use Rattle.shop_machine.specs.declared.messages.Query.TheVariants as query
@@ -236,6 +238,44 @@ abbrev pub return_told : Name → Data
 return_told part =
     object (text_member (codes "ok") (codes "return") (name_member (codes "part") part no_members))
 
+-- ---- importing an order
+
+-- an import in a form that was read
+abbrev pub import_in : Form → Data → Option Command
+import_in form d =
+    option_and_then (λ order. option_map (λ text. Import order form text) (text_at (codes "text") d)) (code_at (codes "order") d)
+
+-- a problem file is of a material
+abbrev pub problem_command : Data → Option Command
+problem_command d = option_and_then (λ material. import_in (Cgcut material) d) (code_at (codes "material") d)
+
+-- the rows by the word of `form`
+abbrev pub import_by : List ℕ → Data → Option Command
+import_by word d =
+    if bytes_eq word (codes "csv") then row 6 (import_in Csv) d
+    else (if bytes_eq word (codes "cgcut") then row 7 problem_command d else None)
+
+abbrev pub import_command : Data → Option Command
+import_command d = option_and_then (λ word. import_by word d) (text_at (codes "form") d)
+
+abbrev pub import_members : List ℕ → Form → List ℕ → Members
+import_members order Csv text =
+    text_member (codes "do") (codes "import") (text_member (codes "form") (codes "csv") (text_member (codes "order") order
+    (text_member (codes "text") text no_members)))
+import_members order (Cgcut material) text =
+    text_member (codes "do") (codes "import") (text_member (codes "form") (codes "cgcut") (text_member (codes "material") material
+    (text_member (codes "order") order (text_member (codes "text") text no_members))))
+
+abbrev pub import_made : Data → Option Reply
+import_made d =
+    option_and_then (λ act. option_and_then (λ count. option_and_then (λ first. option_map (λ order. reply.Import act count first order)
+    (code_at (codes "order") d)) (number_at (codes "first") d)) (number_at (codes "count") d)) (number_at (codes "act") d)
+
+abbrev pub import_told : (act count first : ℕ) → List ℕ → Data
+import_told act count first order =
+    object (number_member (codes "act") act (number_member (codes "count") count (number_member (codes "first") first
+    (text_member (codes "ok") (codes "import") (text_member (codes "order") order no_members)))))
+
 -- ---- queries, and the replies to them
 
 abbrev pub totals_query : Data → Option Query
@@ -330,7 +370,8 @@ command_of word d =
     else (if bytes_eq word (codes "break") then row 6 break_command d
     else (if bytes_eq word (codes "release") then row 4 release_command d
     else (if bytes_eq word (codes "scrap") then row 4 scrap_command d
-    else (if bytes_eq word (codes "return") then row 4 return_command d else None))))))))
+    else (if bytes_eq word (codes "return") then row 4 return_command d
+    else (if bytes_eq word (codes "import") then import_command d else None)))))))))
 
 -- the word of `do`, the terminal and the number
 abbrev pub sent_head : Data → Option (List ℕ × ℕ × ℕ)
@@ -366,6 +407,7 @@ command_members (Break job halt) = break_members job halt
 command_members (Release job) = release_members job
 command_members (Scrap part) = scrap_members part
 command_members (GiveBack part) = return_members part
+command_members (Import order form text) = import_members order form text
 
 -- a message as an object, its keys in byte order
 abbrev pub message_data : Message → Data
@@ -385,7 +427,8 @@ made_of word d =
     else (if bytes_eq word (codes "break") then row 6 break_made d
     else (if bytes_eq word (codes "release") then row 2 release_made d
     else (if bytes_eq word (codes "scrap") then row 2 scrap_made d
-    else (if bytes_eq word (codes "return") then row 2 return_made d else None))))))))
+    else (if bytes_eq word (codes "return") then row 2 return_made d
+    else (if bytes_eq word (codes "import") then row 5 import_made d else None)))))))))
 
 abbrev pub reply_of : Data → Option Reply
 reply_of d = option_and_then (λ word. made_of word d) (text_at (codes "ok") d)
@@ -401,6 +444,7 @@ reply_data (reply.Break job kerf pieces rack scrap) = ended_told (codes "break")
 reply_data (reply.Release job) = release_told job
 reply_data (reply.Scrap part) = scrap_told part
 reply_data (reply.GiveBack part) = return_told part
+reply_data (reply.Import act count first order) = import_told act count first order
 reply_data (reply.Totals material received stock rack pieces kerf scrap returned) = totals_told material received stock rack pieces kerf scrap returned
 reply_data (reply.Rack material parts) = rack_told material parts
 reply_data (reply.Trace batch h of part root state w x y) = trace_data batch (name_text part) (name_text root) (state_text state) h of w x y

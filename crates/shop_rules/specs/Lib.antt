@@ -14,6 +14,7 @@ pub use Rattle.shop_machine.specs.Recounts
 pub use Rattle.shop_machine.specs.Adding
 pub use Rattle.shop_machine.specs.Receiving
 pub use Rattle.shop_machine.specs.Ordering
+pub use Rattle.shop_machine.specs.Importing
 pub use Rattle.shop_machine.specs.Reserving
 pub use Rattle.shop_machine.specs.Ending
 pub use Rattle.shop_machine.specs.Machine

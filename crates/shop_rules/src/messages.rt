@@ -10,6 +10,7 @@ use crate::asking::asked;
 use crate::breaking::{break_command, break_value, has_few_cuts, see_halt};
 use crate::ending::{done_command, done_value, release_command, release_value};
 use crate::fields::{number_at, word_at};
+use crate::importing::{import_command, import_value, see_form};
 use crate::ordering::{order_command, order_value, see_lines};
 use crate::receiving::{receive_command, receive_value};
 use crate::reserving::{reserve_command, reserve_value};
@@ -41,6 +42,8 @@ fn command(alloc: Global, value: &Value, word: &str) -> Result<Option<Command>, 
         Ok(scrap_command(value))
     } else if word == "return" {
         Ok(return_command(value))
+    } else if word == "import" {
+        import_command(alloc, value)
     } else {
         Ok(None)
     }
@@ -149,6 +152,10 @@ pub fn message_value(alloc: Global, message: &Message) -> Result<Value, AllocErr
         Command::GiveBack { part } => {
             see_part(part);
             return_value(alloc, pair, part)
+        }
+        Command::Import { order, form, text } => {
+            see_form(form);
+            import_value(alloc, pair, order.as_str(), *form, text.as_str())
         }
     }
 }

@@ -14,6 +14,7 @@ use crate::asking::{
 use crate::breaking::break_made;
 use crate::ending::{done_made, ended_reply, release_made, release_reply};
 use crate::fields::text_at;
+use crate::importing::{import_made, import_reply};
 use crate::ordering::{order_made, order_reply};
 use crate::receiving::{receive_made, receive_reply};
 use crate::reserving::{reserve_made, reserve_reply};
@@ -46,6 +47,8 @@ fn made(value: &Value) -> Option<Reply>
         scrap_made(value)
     } else if word == "return" {
         return_made(value)
+    } else if word == "import" {
+        import_made(value)
     } else {
         None
     }
@@ -104,6 +107,18 @@ pub fn reply_value(alloc: Global, reply: &Reply) -> Result<Value, AllocError>
         Reply::Release { job } => { release_reply(alloc, wide(*job)) }
         Reply::Scrap { part } => scrap_reply(alloc, part),
         Reply::GiveBack { part } => return_reply(alloc, part),
+        Reply::Import {
+            act,
+            count,
+            first,
+            order,
+        } => import_reply(
+            alloc,
+            wide(*act),
+            wide(*count),
+            wide(*first),
+            order.as_str(),
+        ),
         Reply::Totals {
             material,
             received,

@@ -4,12 +4,13 @@ use Rattle.shop_machine.specs.declared.messages.Command.TheVariants.{AddOrder}
 use Rattle.shop_machine.specs.Readings.{unread}
 use Rattle.shop_machine.specs.Content.{material_at}
 use Rattle.shop_machine.specs.Ordering.{AreMaterialsFound, lines_in, order_change}
+use Rattle.shop_rules.specs.Forms.{json_texts}
 use Rattle.shop_desk.proofs.Deciding.{decided_by, same_order, order_by}
 use Rattle.shop_desk.proofs.decided.add_order.Goals as goal
 
 pub returns-clause-decision : goal.returns-clause-decision
 returns-clause-decision g c =
-    λ honest m held.
+    λ honest m held sound.
     let before_first = c.next_demand.ensures.keeps.honest honest in
     let before_lines = c.found_lines.ensures.keeps.honest before_first in
     let at_lines = c.order.ensures.keeps.stays before_lines m held in
@@ -19,7 +20,7 @@ returns-clause-decision g c =
     let is_first = c.in_ok-first.ensures.number honest m at_first in
     let lines : lines_in c.deref.result.now ≡ c.args.lines.now = rw c.deref.ensures.value is_lines in
     let found : AreMaterialsFound (material_at m) c.deref.result.now = rw c.deref.ensures.value (c.in_ok-found.ensures.found before_first m at_lines) in
-    decided_by m (AddOrder c.args.order c.args.lines.now) unread refl (g.B.Book.failed c.args.book.now) (g.B.Book.failed c.next_demand.new.self) _ (same_order m c.args.order c.args.lines.now (lines_in c.deref.result.now) c.in_ok-used.used c.in_ok-first.first is_used lines is_first)
+    decided_by json_texts m (AddOrder c.args.order c.args.lines.now) unread refl (g.B.Book.failed c.args.book.now) (g.B.Book.failed c.next_demand.new.self) _ (same_order m c.args.order c.args.lines.now (lines_in c.deref.result.now) c.in_ok-used.used c.in_ok-first.first is_used lines is_first)
     (λ (change : Change). change ≡ order_change c.args.order (lines_in c.deref.result.now) c.in_ok-first.first)
     (order_by m c.args.order c.args.lines.now (lines_in c.deref.result.now) c.in_ok-used.used c.in_ok-first.first is_used lines is_first)
     c.decide_order.result (c.decide_order.ensures.decision (material_at m) found)

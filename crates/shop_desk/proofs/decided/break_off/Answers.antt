@@ -4,15 +4,16 @@ use Rattle.shop_machine.specs.declared.messages.Command.TheVariants.{Break}
 use Rattle.shop_machine.specs.Content.{demand_at}
 use Rattle.shop_machine.specs.Recounts.{AreDemandsFound}
 use Rattle.shop_machine.specs.Ending.{IsBroken}
+use Rattle.shop_rules.specs.Forms.{json_texts}
 use Rattle.shop_desk.proofs.Deciding.{end_decided}
 use Rattle.shop_desk.proofs.decided.break_off.Goals as goal
 
 pub returns-clause-decision : goal.returns-clause-decision
 returns-clause-decision g c =
-    λ honest m held.
+    λ honest m held sound.
     let is = c.in_ok-job.field-0 in
     let rows = c.in_ok-job.ensures.rows honest m held in
     let found : AreDemandsFound (demand_at m) c.deref.result.now = rw c.deref.ensures.value rows.demands in
-    end_decided m c.args.number is.job is.part is.material is.totals is.leaves.items rows (After c.args.halt.now) (Break c.args.number c.args.halt.now) refl refl
+    end_decided m c.args.number is.job is.part is.material is.totals is.leaves.items rows (After c.args.halt.now) json_texts (Break c.args.number c.args.halt.now) refl refl
     (λ change totals j part material. IsBroken c.args.halt.now j part material.limits totals (demand_at m) change) (λ change it. it) (g.B.Book.failed c.args.book.now) (g.B.Book.failed c.job_rows.new.book) c.decide_break.result
     (c.decide_break.ensures.decision (demand_at m) found)

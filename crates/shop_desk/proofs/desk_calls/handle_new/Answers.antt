@@ -9,14 +9,14 @@ use Rattle.shop_machine.specs.declared.refusals.Refusal.TheVariants.{BadMessage}
 use Rattle.shop_machine.specs.declared.messages.Reply.TheVariants.{Refused}
 use Rattle.shop_desk.specs.Faults.{CountsReply}
 use Rattle.shop_desk.specs.Handled.{IsHandled}
-use Rattle.shop_desk.proofs.Steps.{decided, faulted, committed, failed, counts_made, counted_made, is_fault, fits_committed, blamed}
+use Rattle.shop_desk.proofs.Steps.{decided, faulted, committed, failed, counts_made, counted_made, is_fault, fits_committed, row_committed, blamed}
 use Rattle.shop_desk.proofs.desk_calls.handle_new.Goals as goal
 
 pub returns-in-Err-clause-step : goal.returns-in-Err-clause-step
 returns-in-Err-clause-step g c =
     λ _ is_message honest m held sound none.
     decided json_texts g.B.Book.stands (g.B.Book.may_leave c.args.book.now) (g.B.Book.may_leave c.decide.new.book) (g.B.Book.holds c.decide.new.book)
-    m c.args.message.now c.in-Err.refusal (c.in-Err.ensures.decision honest m held).decision none sound (c.decide.ensures.keeps.stays honest m held) (c.decide.ensures.keeps.crash honest m held)
+    m c.args.message.now c.in-Err.refusal (c.in-Err.ensures.decision honest m held sound).decision none sound (c.decide.ensures.keeps.stays honest m held) (c.decide.ensures.keeps.crash honest m held)
 
 pub returns-in_default-clause-step : goal.returns-in_default-clause-step
 returns-in_default-clause-step g c =
@@ -30,22 +30,21 @@ returns-in-Ok-commit-clause-step g c =
     λ text is_message honest m held sound none.
     let before = c.commit.ensures.honest honest in
     let kept = c.decide.ensures.keeps.stays before m held in
-    let decision = (c.in-Ok.ensures.decision before m held).decision in
-    let change = c.keeping_message-change.result.0 in
+    let decision = (c.in-Ok.ensures.decision before m held sound).decision in
+    let change = c.in-Ok-keeping_message.field-0 in
     let made = c.in-Ok.change in
     let row : changed m change ≡ changed m (keeping json_texts c.args.message.now made) =
-    ap (changed m) c.keeping_message-change.ensures.change
-    ∙ ap (λ t. changed m (record made { kept = Some (record { pair = pair_of c.args.message.now; kept = record { command = t; reply = c.in-Ok-reply_text.told } }) })) text
-    ∙ ap (λ t. changed m (record made { kept = Some (record { pair = pair_of c.args.message.now; kept = record { command = json_texts.of_message c.args.message.now; reply = t } }) })) c.in-Ok-reply_text.ensures in
-    let fits : Fits m change = subst (Fits m) (sym c.keeping_message-change.ensures.change) (fits_committed json_texts m c.args.message.now decision.0 made c.args.text c.in-Ok-reply_text.told (Refused BadMessage) none sound decision.1 decision.2 decision.3) in
+    ap (changed m) c.in-Ok-keeping_message.ensures.change
+    ∙ row_committed json_texts m c.args.message.now made c.args.text c.in-Ok-reply_text.told (Refused BadMessage) text c.in-Ok-reply_text.ensures in
+    let fits : Fits m change = subst (Fits m) (sym c.in-Ok-keeping_message.ensures.change) (fits_committed json_texts m c.args.message.now decision.0 made c.args.text c.in-Ok-reply_text.told (Refused BadMessage) c.in-Ok-reply_text.ensures none sound decision.1 decision.2 decision.3) in
     subst (λ answer. IsHandled json_texts g.B.Book.stands (g.B.Book.may_leave c.args.book.now) (g.B.Book.may_leave c.commit.new.self) (g.B.Book.holds c.commit.new.self) m c.args.message.now answer)
-    (sym c.keeping_message-change.ensures.reply)
+    (sym c.in-Ok-keeping_message.ensures.reply)
     (committed json_texts g.B.Book.stands (g.B.Book.may_leave c.args.book.now) (g.B.Book.may_leave c.decide.new.book) (g.B.Book.may_leave c.commit.new.self) (g.B.Book.holds c.commit.new.self)
     m c.args.message.now decision.0 change made is_message none sound decision.1 decision.2 decision.3 row (c.in-Ok-commit.ensures.ok honest m kept fits) (c.in-Ok-commit.ensures.lasts honest m kept fits))
 
 pub returns-in-Ok-commit-clause-failures : goal.returns-in-Ok-commit-clause-failures
 returns-in-Ok-commit-clause-failures g c =
-    inl (subst (λ answer. CountsReply answer (g.B.Book.failed c.args.book.now) (g.B.Book.failed c.commit.new.self)) (sym c.keeping_message-change.ensures.reply)
+    inl (subst (λ answer. CountsReply answer (g.B.Book.failed c.args.book.now) (g.B.Book.failed c.commit.new.self)) (sym c.in-Ok-keeping_message.ensures.reply)
     (counts_made (g.B.Book.failed c.args.book.now) (g.B.Book.failed c.commit.new.self) c.in-Ok.change.reply c.in-Ok.ensures.told (c.in-Ok-commit.ensures.failures ∙ counted_made (g.B.Book.failed c.args.book.now) (g.B.Book.failed c.decide.new.book) c.in-Ok.change c.in-Ok.ensures.keeps.failures)))
 
 pub returns-in-Err-commit-clause-step : goal.returns-in-Err-commit-clause-step
@@ -53,18 +52,17 @@ returns-in-Err-commit-clause-step g c =
     λ text is_message honest m held sound none.
     let before = c.commit.ensures.honest honest in
     let kept = c.decide.ensures.keeps.stays before m held in
-    let decision = (c.in-Ok.ensures.decision before m held).decision in
-    let change = c.keeping_message-change.result.0 in
+    let decision = (c.in-Ok.ensures.decision before m held sound).decision in
+    let change = c.in-Ok-keeping_message.field-0 in
     let made = c.in-Ok.change in
     let row : changed m change ≡ changed m (keeping json_texts c.args.message.now made) =
-    ap (changed m) c.keeping_message-change.ensures.change
-    ∙ ap (λ t. changed m (record made { kept = Some (record { pair = pair_of c.args.message.now; kept = record { command = t; reply = c.in-Ok-reply_text.told } }) })) text
-    ∙ ap (λ t. changed m (record made { kept = Some (record { pair = pair_of c.args.message.now; kept = record { command = json_texts.of_message c.args.message.now; reply = t } }) })) c.in-Ok-reply_text.ensures in
-    let fits : Fits m change = subst (Fits m) (sym c.keeping_message-change.ensures.change) (fits_committed json_texts m c.args.message.now decision.0 made c.args.text c.in-Ok-reply_text.told (Refused BadMessage) none sound decision.1 decision.2 decision.3) in
+    ap (changed m) c.in-Ok-keeping_message.ensures.change
+    ∙ row_committed json_texts m c.args.message.now made c.args.text c.in-Ok-reply_text.told (Refused BadMessage) text c.in-Ok-reply_text.ensures in
+    let fits : Fits m change = subst (Fits m) (sym c.in-Ok-keeping_message.ensures.change) (fits_committed json_texts m c.args.message.now decision.0 made c.args.text c.in-Ok-reply_text.told (Refused BadMessage) c.in-Ok-reply_text.ensures none sound decision.1 decision.2 decision.3) in
     failed json_texts g.B.Book.stands (g.B.Book.may_leave c.args.book.now) (g.B.Book.may_leave c.decide.new.book) (g.B.Book.may_leave c.commit.new.self) (g.B.Book.holds c.commit.new.self)
     m c.args.message.now decision.0 change made is_message none sound decision.1 decision.2 decision.3 row c.from.result (is_fault json_texts c.from.result c.in-Err-commit.fault c.from.ensures)
     (c.in-Err-commit.ensures.err honest m kept) (c.decide.ensures.keeps.crash before m held) (c.commit.ensures.crash honest m kept fits)
 
 pub returns-in-Err-clause-store_fault : goal.returns-in-Err-clause-store_fault
 returns-in-Err-clause-store_fault g c =
-    λ is_message honest m held sound is. blamed json_texts m c.args.message.now (g.B.Book.failed c.args.book.now) (g.B.Book.failed c.decide.new.book) c.in-Err.refusal sound (c.in-Err.ensures.decision honest m held).blame is
+    λ is_message honest m held sound is. blamed json_texts m c.args.message.now (g.B.Book.failed c.args.book.now) (g.B.Book.failed c.decide.new.book) c.in-Err.refusal sound (c.in-Err.ensures.decision honest m held sound).blame is

@@ -1,0 +1,186 @@
+ghost use Rattle.std.specs.Prelude.{◌≡◌, ℕ, List, Option, Some, IfOk, IfSome, IsTrue, MatchOption, false};
+ghost use Rattle.cut_measure.specs.Measures.{Extent};
+ghost use Rattle.shop_files.specs.declared.orders.OrderLine.{OrderLine as OrderLineOf};
+ghost use Rattle.shop_files.specs.declared.problems.Piece.{Piece as PieceOf};
+ghost use Rattle.shop_files.specs.Orders.{IsOrders};
+ghost use Rattle.shop_files.specs.Problems.{IsProblem, ArePieces};
+ghost use Rattle.shop_machine.specs.declared.imports.Form.{Form as FormOf};
+ghost use Rattle.shop_machine.specs.declared.imports.Form.TheVariants.{Csv, Cgcut};
+ghost use Rattle.shop_machine.specs.declared.messages.Command.TheVariants.{Import};
+ghost use Rattle.shop_machine.specs.declared.messages.Reply.{Reply as ReplyOf};
+ghost use Rattle.shop_machine.specs.Messages.{IsMade, is_accepted};
+ghost use Rattle.shop_machine.specs.Content.{Content, import_at};
+ghost use Rattle.shop_machine.specs.Importing.{IsRepeat, Tells};
+ghost use Rattle.shop_machine.specs.Soundness.{IsSound};
+ghost use Rattle.shop_rules.specs.Forms.{json_texts};
+ghost use Rattle.shop_store.specs.Kept.{KeepsBook, Says};
+ghost use Rattle.shop_desk.specs.Decided.{IsJudged, CountsOrDisagrees};
+
+use crate::found::found_lines;
+use cut_measure::Code;
+use shop_files::{OrdersFault, Problem, TextCause, read_cgcut, read_orders};
+use shop_rules::{
+    Change, Form, ImportRow, LineList, Refusal, Reply, Text, decide_again, decide_lines,
+    decide_problem, kept_reply, problem_lines, repeats, unread_refusal,
+};
+use shop_store::Book;
+use std::alloc::{AllocError, Global};
+
+// The lines of an order file, where the text is one.
+fn file_lines(alloc: Global, text: &Text) -> Result<Option<LineList>, AllocError>
+    ensures { IfOk result (λ read. MatchOption read ((lines : List OrderLineOf) → IsOrders text.now lines → ⊥) (λ lines. IsOrders text.now lines)) }
+{
+    match read_orders(alloc, text.as_str().as_bytes()) {
+        Ok(lines) => Ok(Some(lines)),
+        Err(OrdersFault::At { .. }) => Ok(None),
+        Err(OrdersFault::NoMemory) => Err(AllocError),
+    }
+}
+
+// The problem of a problem file, where the text is one.
+fn file_problem(alloc: Global, text: &Text) -> Result<Option<Problem>, AllocError>
+    ensures spelled { IfOk result (λ read. MatchOption read ((size : Extent) (pieces : List PieceOf) → IsProblem text.now size pieces → ⊥) (λ p. IsProblem text.now p.size p.pieces)) }
+    ensures in_range { IfOk result (λ read. IfSome read (λ p. ArePieces p.pieces)) }
+{
+    match read_cgcut(alloc, text.as_str().as_bytes()) {
+        Ok(problem) => Ok(Some(problem)),
+        Err(fault) => match fault.cause {
+            TextCause::NoMemory => Err(AllocError),
+            _ => Ok(None),
+        },
+    }
+}
+
+// Imports an order file whose import isn't kept.
+fn import_lines<B: Book>(
+    alloc: Global,
+    book: &mut B,
+    order: Code,
+    text: &Text,
+) -> Result<Change, Refusal>
+    ensures decision { Says B.Book book.old book.new (λ m. IfSome (import_at m order) (λ row. IsRepeat Csv text.now row → ⊥)
+        → IsJudged json_texts m (Import order Csv text.now) (B.failed book.old) result (B.failed book.new)) }
+    ensures keeps { KeepsBook B.Book (CountsOrDisagrees result) book.old book.new }
+    ensures told { IfOk result (λ change. IsTrue (is_accepted change.reply)) }
+{
+    let used = book.order(order)?;
+    let Some(lines) = file_lines(alloc, text)? else {
+        return Err(unread_refusal(used));
+    };
+    let found = found_lines(alloc, book, lines.as_slice())?;
+    let first = book.next_demand()?;
+    let body = text.copy(alloc)?;
+    decide_lines(alloc, used, order, body, &found, first)
+}
+
+// Imports a problem file whose import isn't kept.
+fn import_problem<B: Book>(
+    alloc: Global,
+    book: &mut B,
+    order: Code,
+    material: Code,
+    text: &Text,
+) -> Result<Change, Refusal>
+    ensures decision { Says B.Book book.old book.new (λ m. IfSome (import_at m order) (λ row. IsRepeat (Cgcut material) text.now row → ⊥)
+        → IsJudged json_texts m (Import order (Cgcut material) text.now) (B.failed book.old) result (B.failed book.new)) }
+    ensures keeps { KeepsBook B.Book (CountsOrDisagrees result) book.old book.new }
+    ensures told { IfOk result (λ change. IsTrue (is_accepted change.reply)) }
+{
+    let used = book.order(order)?;
+    let Some(problem) = file_problem(alloc, text)? else {
+        return Err(unread_refusal(used));
+    };
+    let lines = problem_lines(alloc, material, problem.pieces.as_slice())?;
+    let known = book.material(material)?;
+    let totals = book.totals(material)?;
+    let found = found_lines(alloc, book, lines.as_slice())?;
+    let act = book.next_act()?;
+    let first = book.next_demand()?;
+    let body = text.copy(alloc)?;
+    decide_problem(
+        alloc,
+        used,
+        known,
+        totals,
+        order,
+        material,
+        body,
+        problem.size,
+        &found,
+        act,
+        first,
+    )
+}
+
+// A reply that isn't a refusal, which no row of an import tells.
+fn accepted(told: Option<Reply>) -> Option<Reply>
+    ensures accepted { IfSome result (λ answer. IsTrue (is_accepted answer)) }
+    ensures made { (answer : ReplyOf) → IsMade answer → told ≡ Some answer → result ≡ Some answer }
+{
+    match told {
+        Some(Reply::Refused(_)) => None,
+        told => told,
+    }
+}
+
+// Imports once more what a kept row was imported from.
+fn import_again(alloc: Global, row: &ImportRow) -> Result<Change, Refusal>
+    ensures decision { (m : Content) → (order : List ℕ) → (form : FormOf) → (text : List ℕ) → (before after : ℕ) → IsSound json_texts m
+        → import_at m order ≡ Some row.now → IsRepeat form text row.now → IsJudged json_texts m (Import order form text) before result after }
+    ensures told { IfOk result (λ change. IsTrue (is_accepted change.reply)) }
+{
+    let earlier = accepted(kept_reply(alloc, row.reply.as_str())?);
+    decide_again(alloc, earlier)
+}
+
+// The row that an import repeats, where it repeats the one that is kept of its order.
+fn repeated(found: Option<ImportRow>, form: Form, text: &Text) -> Option<ImportRow>
+    ensures { MatchOption result (IfSome found (λ row. IsRepeat form text.now row → ⊥)) (λ row. (found ≡ Some row) × IsRepeat form text.now row) }
+{
+    let Some(row) = found else {
+        return None;
+    };
+    if repeats(&row, form, text) {
+        Some(row)
+    } else {
+        None
+    }
+}
+
+// Imports an order whose import isn't kept.
+fn import_new<B: Book>(
+    alloc: Global,
+    book: &mut B,
+    order: Code,
+    form: Form,
+    text: &Text,
+) -> Result<Change, Refusal>
+    ensures decision { Says B.Book book.old book.new (λ m. IfSome (import_at m order) (λ row. IsRepeat form text.now row → ⊥)
+        → IsJudged json_texts m (Import order form text.now) (B.failed book.old) result (B.failed book.new)) }
+    ensures keeps { KeepsBook B.Book (CountsOrDisagrees result) book.old book.new }
+    ensures told { IfOk result (λ change. IsTrue (is_accepted change.reply)) }
+{
+    match form {
+        Form::Csv => import_lines(alloc, book, order, text),
+        Form::Cgcut(material) => import_problem(alloc, book, order, material, text),
+    }
+}
+
+/// Imports an order.
+pub fn import_order<B: Book>(
+    alloc: Global,
+    book: &mut B,
+    order: Code,
+    form: Form,
+    text: &Text,
+) -> Result<Change, Refusal>
+    ensures decision { Says B.Book book.old book.new (λ m. IsSound json_texts m → IsJudged json_texts m (Import order form text.now) (B.failed book.old) result (B.failed book.new)) }
+    ensures keeps { KeepsBook B.Book (CountsOrDisagrees result) book.old book.new }
+    ensures told { IfOk result (λ change. IsTrue (is_accepted change.reply)) }
+{
+    let found = book.import(alloc, order)?;
+    match repeated(found, form, text) {
+        Some(row) => import_again(alloc, &row),
+        None => import_new(alloc, book, order, form, text),
+    }
+}
