@@ -2,7 +2,8 @@ use crate::wire_tests::replayed;
 use shop_store::MemBook;
 use std::test::Fail;
 
-const LONG_HEAD: &str = r#"{"do":"material","kerf":1,"kind":"sheet","material":"GLASS","min_long":5,"min_short":4,"number":1,"terminal":1}
+const LONG_HEAD: &str =
+    r#"{"do":"material","kerf":1,"kind":"sheet","material":"GLASS","min_long":5,"min_short":4,"number":1,"terminal":1}
 {"do":"import","form":"cgcut","material":"GLASS","number":2,"order":"P-1","terminal":1,"text":""#;
 
 const LONGEST_READ: &str = r#"{"material":"GLASS","ok":"material"}
