@@ -132,7 +132,8 @@ fn orders_are_imported(rt: HostRuntime) -> Result<(), Fail> {
     Ok(())
 }
 
-const LONG_HEAD: &str = r#"{"do":"material","kerf":1,"kind":"sheet","material":"GLASS","min_long":5,"min_short":4,"number":1,"terminal":1}
+const LONG_HEAD: &str =
+    r#"{"do":"material","kerf":1,"kind":"sheet","material":"GLASS","min_long":5,"min_short":4,"number":1,"terminal":1}
 {"do":"import","form":"cgcut","material":"GLASS","number":2,"order":"P-1","terminal":1,"text":""#;
 
 const LONGEST_READ: &str = r#"{"material":"GLASS","ok":"material"}
