@@ -1,6 +1,6 @@
 -- What is decided from rows that were found is what is decided over the content.
 use Rattle.std.proofs.Common.{◌≡◌, ℕ, ◌+◌, List, Option, Some, None, Ok, Err, inr, refl, sym, ap, subst, ◌∙◌}
-use Rattle.std.specs.Prelude.{Bool, Result, MatchOption}
+use Rattle.std.specs.Prelude.{Bool, true, false, Result, MatchOption}
 use Rattle.cut_measure.specs.Names.{Name}
 use Rattle.cut_tree.specs.declared.halts.Stop.{Stop}
 use Rattle.cut_tree.specs.Patterns.{Pattern}

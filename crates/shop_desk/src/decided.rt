@@ -18,9 +18,9 @@ use crate::importing::import_order;
 use cut_measure::{Kind, PartName};
 use cut_tree::{Halt, Plan};
 use shop_rules::{
-    Change, Code, Command, FoundLeaf, ImportRow, Job, KeptMessage, LineList, Material, Part, Refusal, Reply,
-    Text, Totals, decide_break, decide_done, decide_give_back, decide_material, decide_order,
-    decide_receive, decide_release, decide_reserve, decide_scrap,
+    Change, Code, Command, FoundLeaf, ImportRow, Job, KeptMessage, LineList, Material, Part,
+    Refusal, Reply, Text, Totals, decide_break, decide_done, decide_give_back, decide_material,
+    decide_order, decide_receive, decide_release, decide_reserve, decide_scrap,
 };
 use shop_store::{Book, BookFault};
 use std::alloc::{AllocError, Global};
@@ -266,7 +266,7 @@ pub fn decide<B: Book>(alloc: Global, book: &mut B, command: &Command) -> Result
         Command::Release { job } => release(alloc, book, *job),
         Command::Scrap { part } => scrap(alloc, book, *part),
         Command::GiveBack { part } => give_back(alloc, book, *part),
-        Command::Import { order, form, text } => import_order(alloc, book, *order, *form, text),
+        Command::Import { order, form, text } => import_order(alloc, book, *order, form, text),
     }
 }
 
@@ -294,9 +294,9 @@ pub fn keeping_message(
     message: KeptMessage,
 ) -> Result<(Change, Reply), AllocError>
     ensures change { IfOk result (λ kept. kept.0 ≡ record change {
-        import = option_map (λ (r : ImportRowOf). record r { reply = message.kept.reply }) change.import;
-        kept = Some message;
-        reply = Refused BadMessage;
+      import = option_map (λ (r : ImportRowOf). record r { reply = message.kept.reply }) change.import;
+      kept = Some message;
+      reply = Refused BadMessage;
     }) }
     ensures reply { IfOk result (λ kept. kept.1 ≡ change.reply) }
 {

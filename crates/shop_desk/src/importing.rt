@@ -133,36 +133,43 @@ fn import_again(alloc: Global, row: &ImportRow) -> Result<Change, Refusal>
     decide_again(alloc, earlier)
 }
 
-// The row that an import repeats, where it repeats the one that is kept of its order.
-fn repeated(found: Option<ImportRow>, form: Form, text: &Text) -> Option<ImportRow>
-    ensures { MatchOption result (IfSome found (λ row. IsRepeat form text.now row → ⊥)) (λ row. (found ≡ Some row) × IsRepeat form text.now row) }
-{
-    let Some(row) = found else {
-        return None;
-    };
-    if repeats(&row, form, text) {
-        Some(row)
-    } else {
-        None
-    }
-}
-
 // Imports an order whose import isn't kept.
 fn import_new<B: Book>(
     alloc: Global,
     book: &mut B,
     order: Code,
-    form: Form,
+    form: &Form,
     text: &Text,
 ) -> Result<Change, Refusal>
-    ensures decision { Says B.Book book.old book.new (λ m. IfSome (import_at m order) (λ row. IsRepeat form text.now row → ⊥)
-        → IsJudged json_texts m (Import order form text.now) (B.failed book.old) result (B.failed book.new)) }
+    ensures decision { Says B.Book book.old book.new (λ m. IfSome (import_at m order) (λ row. IsRepeat form.now text.now row → ⊥)
+        → IsJudged json_texts m (Import order form.now text.now) (B.failed book.old) result (B.failed book.new)) }
     ensures keeps { KeepsBook B.Book (CountsOrDisagrees result) book.old book.new }
     ensures told { IfOk result (λ change. IsTrue (is_accepted change.reply)) }
 {
     match form {
         Form::Csv => import_lines(alloc, book, order, text),
-        Form::Cgcut(material) => import_problem(alloc, book, order, material, text),
+        Form::Cgcut(material) => import_problem(alloc, book, order, *material, text),
+    }
+}
+
+// Imports an order of whose code an import is kept.
+fn import_known<B: Book>(
+    alloc: Global,
+    book: &mut B,
+    row: &ImportRow,
+    order: Code,
+    form: &Form,
+    text: &Text,
+) -> Result<Change, Refusal>
+    ensures decision { Says B.Book book.old book.new (λ m. IsSound json_texts m → import_at m order ≡ Some row.now
+        → IsJudged json_texts m (Import order form.now text.now) (B.failed book.old) result (B.failed book.new)) }
+    ensures keeps { KeepsBook B.Book (CountsOrDisagrees result) book.old book.new }
+    ensures told { IfOk result (λ change. IsTrue (is_accepted change.reply)) }
+{
+    if repeats(row, *form, text) {
+        import_again(alloc, row)
+    } else {
+        import_new(alloc, book, order, form, text)
     }
 }
 
@@ -171,16 +178,15 @@ pub fn import_order<B: Book>(
     alloc: Global,
     book: &mut B,
     order: Code,
-    form: Form,
+    form: &Form,
     text: &Text,
 ) -> Result<Change, Refusal>
-    ensures decision { Says B.Book book.old book.new (λ m. IsSound json_texts m → IsJudged json_texts m (Import order form text.now) (B.failed book.old) result (B.failed book.new)) }
+    ensures decision { Says B.Book book.old book.new (λ m. IsSound json_texts m → IsJudged json_texts m (Import order form.now text.now) (B.failed book.old) result (B.failed book.new)) }
     ensures keeps { KeepsBook B.Book (CountsOrDisagrees result) book.old book.new }
     ensures told { IfOk result (λ change. IsTrue (is_accepted change.reply)) }
 {
-    let found = book.import(alloc, order)?;
-    match repeated(found, form, text) {
-        Some(row) => import_again(alloc, &row),
+    match book.import(alloc, order)? {
+        Some(row) => import_known(alloc, book, &row, order, form, text),
         None => import_new(alloc, book, order, form, text),
     }
 }

@@ -2,8 +2,8 @@ ghost use Rattle.std.specs.Prelude.{◌≤◌};
 
 use shop_desk::*;
 use shop_rules::{
-    Change, Code, Command, Kind, Limits, Material, Message, Query, Refusal, Reply, Totals,
-    decide_material, decide_receive, no_totals,
+    Change, Code, Command, FoundLine, Kind, Limits, Material, Message, OrderLine, Query, Refusal,
+    Reply, Size, Text, Totals, decide_material, decide_problem, decide_receive, no_totals,
 };
 use shop_store::{Book, MemBook};
 use std::alloc::Global;
@@ -180,6 +180,68 @@ fn the_last_cell_of_a_material(rt: HostRuntime) -> Result<(), Fail> {
         added_again_told(rt.alloc(), row_of(steel)?, steel, 201),
     ];
     assert_eq!(rt; added, [0, 21, 22]);
+    Ok(())
+}
+
+// The refusal's number of a problem of one bar one tenth long, a piece as long, and 0 where it is accepted.
+fn imported_told(
+    alloc: Global,
+    steel: Code,
+    received: u64,
+    act: u32,
+    first: u32,
+) -> Result<u32, Fail>
+    requires act { 1 ≤ act }
+    requires first { 1 ≤ first }
+{
+    let totals = Totals {
+        received,
+        scrap: received,
+        ..no_totals()
+    };
+    let size = Size::new(Kind::Bar, 1, 1).ok_or("no size")?;
+    let line = OrderLine {
+        line: 1,
+        material: steel,
+        w: 1,
+        h: 1,
+        turn: false,
+        count: 1,
+        worth: 1,
+    };
+    let lines = [FoundLine {
+        line,
+        material: Some(row_of(steel)?),
+    }];
+    let text = Text::new(alloc);
+    let known = Some(row_of(steel)?);
+    match decide_problem(
+        alloc, false, known, totals, steel, steel, text, size, &lines, act, first,
+    ) {
+        Ok(change) => {
+            let Change { reply, .. } = change;
+            Ok(refused(&reply))
+        }
+        Err(refusal) => Ok(refusal.number()),
+    }
+}
+
+#[test]
+fn the_last_cell_of_a_problem(rt: HostRuntime) -> Result<(), Fail> {
+    let steel = code("STEEL")?;
+    let told = [
+        imported_told(
+            rt.alloc(),
+            steel,
+            999_999_999_999_999,
+            2_147_483_647,
+            2_147_483_647,
+        )?,
+        imported_told(rt.alloc(), steel, 1_000_000_000_000_000, 2_147_483_648, 1)?,
+        imported_told(rt.alloc(), steel, 0, 2_147_483_648, 1)?,
+        imported_told(rt.alloc(), steel, 0, 1, 2_147_483_648)?,
+    ];
+    assert_eq!(rt; told, [0, 32, 33, 33]);
     Ok(())
 }
 

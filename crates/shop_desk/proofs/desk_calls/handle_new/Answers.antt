@@ -24,6 +24,12 @@ returns-in_default-clause-step g c =
     faulted json_texts g.B.Book.stands (g.B.Book.may_leave c.args.book.now) (g.B.Book.may_leave c.decide.new.book) (g.B.Book.holds c.decide.new.book)
     m c.args.message.now _ (λ n s. n refl) sound (c.decide.ensures.keeps.stays honest m held) (c.decide.ensures.keeps.crash honest m held)
 
+pub returns-in_default-keeping_message-clause-step : goal.returns-in_default-keeping_message-clause-step
+returns-in_default-keeping_message-clause-step g c =
+    λ _ is_message honest m held sound none.
+    faulted json_texts g.B.Book.stands (g.B.Book.may_leave c.args.book.now) (g.B.Book.may_leave c.decide.new.book) (g.B.Book.holds c.decide.new.book)
+    m c.args.message.now _ (λ n s. n refl) sound (c.decide.ensures.keeps.stays honest m held) (c.decide.ensures.keeps.crash honest m held)
+
 -- the change that is committed keeps the message with both texts
 pub returns-in-Ok-commit-clause-step : goal.returns-in-Ok-commit-clause-step
 returns-in-Ok-commit-clause-step g c =
@@ -31,7 +37,7 @@ returns-in-Ok-commit-clause-step g c =
     let before = c.commit.ensures.honest honest in
     let kept = c.decide.ensures.keeps.stays before m held in
     let decision = (c.in-Ok.ensures.decision before m held sound).decision in
-    let change = c.in-Ok-keeping_message.field-0 in
+    let change = c.in-Ok-keeping_message.change in
     let made = c.in-Ok.change in
     let row : changed m change ≡ changed m (keeping json_texts c.args.message.now made) =
     ap (changed m) c.in-Ok-keeping_message.ensures.change
@@ -53,7 +59,7 @@ returns-in-Err-commit-clause-step g c =
     let before = c.commit.ensures.honest honest in
     let kept = c.decide.ensures.keeps.stays before m held in
     let decision = (c.in-Ok.ensures.decision before m held sound).decision in
-    let change = c.in-Ok-keeping_message.field-0 in
+    let change = c.in-Ok-keeping_message.change in
     let made = c.in-Ok.change in
     let row : changed m change ≡ changed m (keeping json_texts c.args.message.now made) =
     ap (changed m) c.in-Ok-keeping_message.ensures.change

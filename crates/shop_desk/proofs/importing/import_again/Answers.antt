@@ -1,0 +1,12 @@
+use Rattle.std.proofs.Common.{◌∙◌}
+use Rattle.shop_rules.specs.Forms.{json_texts}
+use Rattle.shop_desk.proofs.Deciding.{again_decided}
+use Rattle.shop_desk.proofs.importing.import_again.Goals as goal
+
+pub returns-clause-decision : goal.returns-clause-decision
+returns-clause-decision c =
+    λ m order form text before after sound is same.
+    let kept = sound.imports order c.args.row.now is in
+    let back = c.in_ok-kept_reply.ensures.back kept.answer kept.tells.0 (c.as_str.ensures.value ∙ kept.tells.1) in
+    again_decided json_texts m order text c.args.row.now form kept.answer c.accepted-earlier.result (c.accepted-earlier.ensures.made kept.answer kept.tells.0 back) is same kept.tells
+    before after c.decide_again.result c.decide_again.ensures.decision
