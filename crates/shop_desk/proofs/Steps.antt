@@ -107,6 +107,7 @@ module _ (texts : Texts) where
   pub is_fault : (refusal : Refusal) (fault : BookFault) → refusal ≡ refusal_for fault → (refusal ≢ NoMemory) → (refusal ≢ StoreFault) → ⊥
   is_fault refusal fault.NoMemory e n s = n e
   is_fault refusal fault.Store e n s = s e
+  is_fault refusal fault.WrongVersion e n s = s e
 
   -- the change that is committed fits, whatever reply and texts it holds
   pub fits_committed : (m : Content) (message : Message) (read : Reading) (made : Change) (text told : List ℕ) (answer : Reply)

@@ -4,6 +4,7 @@
 mod books;
 mod keys;
 mod memory;
+mod reopening;
 mod rows;
 mod sql;
 #[cfg(test)]
@@ -15,5 +16,6 @@ mod tests;
 
 pub use books::{Book, BookFault, MOST_FAILURES};
 pub use memory::MemBook;
+pub use reopening::reopen_book;
 pub use shop_machine::PartVisitor;
 pub use sql::SqlBook;
