@@ -1,29 +1,13 @@
 use crate::books_tests::{bar, demand, iron, ordered, receipt};
 use cut_measure::{Code, PartName};
 use shop_store::{Book, BookFault, SqlBook};
-use shop_tables::lay_tables;
-use sqlite::{Connection, MemStore};
+use sqlite::MemStore;
 use std::alloc::Global;
 use std::test::Fail;
 
-// A book over new tables in memory.
-fn laid(alloc: Global) -> Result<SqlBook<MemStore>, Fail> {
-    let mut conn = Connection::open_in_memory(alloc)?;
-    if !conn.is_autocommit() {
-        return Err(Fail::from("in a transaction"));
-    }
-    let mut tx = conn.transaction();
-    lay_tables(&mut tx)?;
-    tx.commit()?;
-    if !conn.is_autocommit() {
-        return Err(Fail::from("not laid"));
-    }
-    Ok(SqlBook::over(alloc, conn))
-}
-
 // A book with the rows of a receipt.
 fn received(alloc: Global) -> Result<SqlBook<MemStore>, Fail> {
-    let mut book = laid(alloc)?;
+    let mut book = SqlBook::in_memory(alloc)?;
     let material = iron()?;
     let code = material.code;
     book.commit(receipt(alloc, material, bar(code, 0)?, bar(code, 1)?)?)?;

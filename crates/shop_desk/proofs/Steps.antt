@@ -110,6 +110,7 @@ module _ (texts : Texts) where
   pub is_fault : (refusal : Refusal) (fault : BookFault) → refusal ≡ refusal_for fault → (refusal ≢ NoMemory) → (refusal ≢ StoreFault) → ⊥
   is_fault refusal fault.NoMemory e n s = n e
   is_fault refusal fault.Store e n s = s e
+  is_fault refusal fault.WrongVersion e n s = s e
 
   -- the change that is committed fits, whatever reply it holds
   abbrev pub to_commit : Message → Change → (text told : List ℕ) → Reply → Change

@@ -1,5 +1,6 @@
 //! The worked examples of the shop, as lines: the file `stdin` has the messages and queries, `stdout` each with its reply.
-//! A line that begins with `#` is the title of an example, which begins with fresh books.
+//! A line that begins with `#` is the title of an example, which begins with fresh books. Each line is answered over a book
+//! in memory and over one in tables, which have to give the same bytes.
 #![tactic(auto)]
 
 #[cfg(test)]
@@ -26,7 +27,7 @@ mod visiting_tests;
 mod wire_tests;
 
 use anyhow::{Error, Result};
-use shop_store::{Book, MemBook};
+use shop_store::{Book, MemBook, SqlBook};
 use shop_text::Counted;
 use shop_wire::replay;
 use std::alloc::Global;
@@ -48,15 +49,20 @@ fn answered<B: Book>(alloc: Global, book: &mut B, line: &str) -> Result<Vec<u8>>
 fn main(rt: HostRuntime) -> Result<()> {
     let alloc = rt.alloc();
     let mut output = BufWriter::new(alloc, io::writer(&rt))?;
-    let mut book = MemBook::new(alloc);
+    let mut memory = MemBook::new(alloc);
+    let mut tables = SqlBook::in_memory(alloc)?;
     for line in BufReader::new(alloc, rt.reader())?.lines(alloc) {
         let line = line?;
         if line.starts_with('#') {
-            book = MemBook::new(alloc);
+            memory = MemBook::new(alloc);
+            tables = SqlBook::in_memory(alloc)?;
             output.write_all(line.as_str().as_bytes())?;
             output.write_all(b"\n")?;
         } else {
-            let reply = answered(alloc, &mut book, line.as_str())?;
+            let reply = answered(alloc, &mut memory, line.as_str())?;
+            if answered(alloc, &mut tables, line.as_str())? != reply {
+                return Err(Error::msg("the books differ"));
+            }
             output.write_all(b"> ")?;
             output.write_all(line.as_str().as_bytes())?;
             output.write_all(b"\n")?;

@@ -9,3 +9,4 @@ pub mod Handed
 -- what a book in SQL tables answers and keeps
 pub mod Telling
 pub mod Taking
+pub mod Adopting

@@ -23,6 +23,8 @@ pub enum BookFault {
     NoMemory,
     /// The store failed; the book counts it.
     Store,
+    /// The database is no book's, or of another version. No call of a book answers it.
+    WrongVersion,
 }
 
 impl fmt::Display for BookFault {
@@ -35,6 +37,7 @@ impl fmt::Display for BookFault {
         f.write_str(match self {
             BookFault::NoMemory => "fault memory",
             BookFault::Store => "fault store",
+            BookFault::WrongVersion => "fault version",
         })
     }
 }
@@ -51,6 +54,7 @@ impl From<BookFault> for Refusal {
         match fault {
             BookFault::NoMemory => Refusal::NoMemory,
             BookFault::Store => Refusal::StoreFault,
+            BookFault::WrongVersion => Refusal::StoreFault,
         }
     }
 }

@@ -4,6 +4,7 @@
 mod books;
 mod keys;
 mod memory;
+mod reopening;
 mod rows;
 mod sql;
 mod sums;
@@ -11,5 +12,6 @@ mod takers;
 
 pub use books::{Book, BookFault, MOST_FAILURES};
 pub use memory::MemBook;
+pub use reopening::reopen_book;
 pub use shop_machine::PartVisitor;
 pub use sql::SqlBook;

@@ -1,10 +1,16 @@
-ghost use Rattle.std.specs.Prelude.{◌≡◌, ◌+◌, ◌≤◌, false, IfOk, OnOk, OnErr, unwrap_or};
+ghost use Rattle.std.specs.Prelude.{◌≡◌, ◌≢◌, ◌+◌, ◌≤◌, false, IfOk, IfErr, OnOk, OnErr, unwrap_or};
 ghost use Rattle.std.specs.FinMap.{get};
 ghost use Rattle.sqlite.specs.Held.{state};
-ghost use Rattle.shop_machine.specs.Content.{no_totals as nothing, parts_of};
+ghost use Rattle.sqlite.specs.State.{HasCleanDisk, Survives};
+ghost use Rattle.sqlite.specs.Steps.{over_memory};
+ghost use Rattle.shop_machine.specs.Content.{Content, no_totals as nothing, parts_of, fresh};
+ghost use Rattle.shop_tables.specs.Adopting.{IsVacant};
+ghost use Rattle.shop_tables.specs.Held.{HoldsContent, IsSettledAt, LeavesOnly, StandsFor};
+ghost use Rattle.shop_tables.specs.Layout.{no_schema, IsShop};
 ghost use Rattle.shop_tables.specs.Shown.{Leaves, Says};
 ghost use Rattle.shop_store.specs.Failures.{CountsFailure};
-ghost use Rattle.shop_store.specs.SqlBooks.{told as as_told};
+ghost use Rattle.shop_store.specs.SqlBooks.{adopt_fault, told as as_told, EitherWay};
+ghost use Rattle.shop_store.specs.declared.books.BookFault.TheVariants.{WrongVersion};
 
 use crate::books::{Book, BookFault};
 use crate::takers::PartTaker;
@@ -14,10 +20,11 @@ use shop_machine::{
     no_totals,
 };
 use shop_tables::{
-    TableFault, commit_change, find_demand, find_import, find_job, find_kept, find_last_act,
-    find_last_demand, find_material, find_order, find_part, find_totals, lend_parts,
+    AdoptFault, TableFault, adopt_tables, commit_change, find_demand, find_import, find_job,
+    find_kept, find_last_act, find_last_demand, find_material, find_order, find_part, find_totals,
+    lend_parts,
 };
-use sqlite::{Alter, Connection};
+use sqlite::{Alter, Connection, MemStore};
 use std::alloc::Global;
 
 /// A book in SQL tables, over any store of `sqlite`.
@@ -90,9 +97,76 @@ fn listed_parts<S: Alter>(
     }
 }
 
+// What the tables' fault is to a book.
+fn fault_of_adopt(fault: AdoptFault) -> BookFault
+    ensures { result ≡ adopt_fault fault }
+{
+    match fault {
+        AdoptFault::NoMemory => BookFault::NoMemory,
+        AdoptFault::Store => BookFault::Store,
+        AdoptFault::WrongVersion => BookFault::WrongVersion,
+    }
+}
+
+// A book over an empty database.
+fn fresh_book<S: Alter + Drop>(alloc: Global, conn: Connection<S>) -> Result<SqlBook<S>, BookFault>
+    requires outside { conn.in_transaction ≡ false }
+    requires vacant { conn.schema ≡ no_schema }
+    ensures fresh { IfOk result (λ book. HoldsContent (state S.Store book.conn) fresh) }
+    ensures after { IfOk result (λ book. LeavesOnly (state S.Store book.conn) fresh) }
+    ensures failures { IfOk result (λ book. book.failures ≡ 0) }
+    ensures version { IfErr result (λ fault. fault ≢ WrongVersion) }
+{
+    match SqlBook::adopt(alloc, conn) {
+        Ok(book) => Ok(book),
+        Err((fault, _)) => Err(fault),
+    }
+}
+
+impl SqlBook<MemStore> {
+    /// A book in memory, in which nothing was done yet.
+    pub fn in_memory(alloc: Global) -> Result<SqlBook<MemStore>, BookFault>
+        ensures fresh { IfOk result (λ book. HoldsContent (state over_memory book.conn) fresh) }
+        ensures after { IfOk result (λ book. LeavesOnly (state over_memory book.conn) fresh) }
+        ensures failures { IfOk result (λ book. book.failures ≡ 0) }
+        ensures version { IfErr result (λ fault. fault ≢ WrongVersion) }
+    {
+        let conn = Connection::open_in_memory(alloc)?;
+        fresh_book(alloc, conn)
+    }
+}
+
 impl<S: Alter> SqlBook<S> {
-    /// Over a connection outside a transaction; no failure is counted yet.
-    pub(crate) fn over(alloc: Global, conn: Connection<S>) -> SqlBook<S>
+    /// Takes over the database of a connection that is outside a transaction. It makes the tables where no table, index or
+    /// view has one of their names, in one transaction, and goes on with tables of version 2. It hands the connection back
+    /// beside its fault, which is `WrongVersion` where a name is taken and the tables aren't there, or are of another
+    /// version; nothing is written then.
+    pub fn adopt(
+        alloc: Global,
+        mut conn: Connection<S>,
+    ) -> Result<SqlBook<S>, (BookFault, Connection<S>)>
+        requires outside { conn.in_transaction ≡ false }
+        ensures mode { IfErr result (λ back. back.1.in_transaction ≡ false) }
+        ensures failures { IfOk result (λ book. book.failures ≡ 0) }
+        ensures earlier { EitherWay (λ book. book.conn) (λ after. HasCleanDisk (state S.Store after) → HasCleanDisk (state S.Store conn)) result }
+        ensures fresh { conn.schema ≡ no_schema → IfOk result (λ book. HoldsContent (state S.Store book.conn) fresh) }
+        ensures vacant { conn.schema ≡ no_schema → IfErr result (λ back. IsVacant (state S.Store back.1)) }
+        ensures crash { conn.schema ≡ no_schema → EitherWay (λ book. book.conn) (λ after. Survives (state S.Store conn) (state S.Store after) (λ db. StandsFor db fresh)) result }
+        ensures after { conn.schema ≡ no_schema → IfOk result (λ book. LeavesOnly (state S.Store book.conn) fresh) }
+        ensures held { (m : Content) → IsSettledAt (state S.Store conn) m → EitherWay (λ book. book.conn) (λ after. HoldsContent (state S.Store after) m) result }
+        ensures still { IsShop conn.schema → EitherWay (λ book. book.conn) (λ after. Survives (state S.Store conn) (state S.Store after) (λ _. ⊥)) result }
+        ensures strange { IfErr result (λ back. back.0 ≡ WrongVersion → conn.schema ≢ no_schema) }
+        ensures unwritten { IfErr result (λ back. back.0 ≡ WrongVersion → Leaves (state S.Store conn) (state S.Store back.1)) }
+        ensures neither { IfErr result (λ back. back.0 ≡ WrongVersion → HasCleanDisk (state S.Store back.1) → (m : Content) → IsSettledAt (state S.Store conn) m → ⊥) }
+    {
+        match adopt_tables(&mut conn) {
+            Ok(()) => Ok(SqlBook::over(alloc, conn)),
+            Err(fault) => Err((fault_of_adopt(fault), conn)),
+        }
+    }
+
+    // Over a connection outside a transaction; no failure is counted yet.
+    fn over(alloc: Global, conn: Connection<S>) -> SqlBook<S>
         requires { conn.in_transaction ≡ false }
         ensures conn { result.conn ≡ conn }
         ensures failures { result.failures ≡ 0 }

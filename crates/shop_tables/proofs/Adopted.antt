@@ -1,5 +1,5 @@
 -- The transaction that makes the tables of an empty database.
-use Rattle.std.proofs.Common.{◌≡◌, ◌⊎◌, inl, inr, true, false, true≢false, Ok, Err, Result, IsTrue, OnOk, sym, ap, subst, ◌∙◌, arith, refl}
+use Rattle.std.proofs.Common.{◌≡◌, inl, inr, true, false, true≢false, Ok, Err, Result, IsTrue, OnOk, sym, ap, subst, ◌∙◌}
 use Rattle.sqlite_trees.specs.declared.store.Store.{Ghosts}
 use Rattle.sqlite.specs.Effect.{Database}
 use Rattle.sqlite.specs.State.{State, HasCleanDisk, KeepsCommit, IsRolledBack, Survives}
@@ -11,7 +11,7 @@ use Rattle.sqlite.proofs.StateLemmas.{survives_then}
 use Rattle.sqlite.proofs.Callers.{survives_begin}
 use Rattle.shop_tables.specs.Adopting.{IsVacant}
 use Rattle.shop_tables.specs.Layout.{no_schema}
-use Rattle.shop_tables.specs.Shown.{Holds, Lays, Shows, StandsIn, Within, fresh_books}
+use Rattle.shop_tables.specs.Shown.{Holds, Lays, StandsIn, Within, fresh_books}
 use Rattle.shop_tables.proofs.Commits.{shows_along, stands_in}
 
 pub on_ok_from : {A B C X E : Type 0} (r : Result X E) → (C → OnOk r A) → ((C → A) → B) → OnOk r B

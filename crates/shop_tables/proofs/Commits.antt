@@ -1,5 +1,5 @@
 -- The end of a transaction in which a change was written.
-use Rattle.std.proofs.Common.{◌≡◌, ◌⊎◌, inl, inr, true, false, true≢false, IsTrue, refl, sym, ap, subst, ◌∙◌, arith}
+use Rattle.std.proofs.Common.{◌≡◌, inl, inr, true, false, true≢false, refl, sym, subst, ◌∙◌, arith}
 use Rattle.sqlite_trees.specs.declared.store.Store.{Ghosts}
 use Rattle.sqlite_trees.specs.Tree.{Trees}
 use Rattle.sqlite.specs.Effect.{Database, IsDatabase}
@@ -8,15 +8,15 @@ use Rattle.sqlite.specs.State as sql
 use Rattle.sqlite.specs.Held.{Held, state}
 use Rattle.sqlite.specs.Steps.{FailsToCommit}
 use Rattle.sqlite.specs.declared.error.Error.{Error}
-use Rattle.sqlite.proofs.StateLemmas.{survives_then, survives_weaker}
+use Rattle.sqlite.proofs.StateLemmas.{survives_then}
 use Rattle.sqlite.proofs.Callers.{survives_begin}
 use Rattle.shop_machine.specs.Content.{Content, changed}
 use Rattle.shop_machine.specs.Soundness.{Fits}
 use Rattle.shop_machine.specs.declared.changes.Change.{Change}
 use Rattle.shop_tables.specs.Layout.{IsShop}
 use Rattle.shop_tables.specs.Rows.{Stands}
-use Rattle.shop_tables.specs.Shown.{Books, Shows, IsSettled, Holds, Ran, Makes, Within, StandsIn}
-use Rattle.shop_tables.specs.Changing.{HasSums, with_row, with_change}
+use Rattle.shop_tables.specs.Shown.{Books, Shows, Holds, Ran, Makes, Within, StandsIn}
+use Rattle.shop_tables.specs.Changing.{HasSums, with_change}
 use Rattle.shop_tables.specs.Held.{books, HoldsContent, StandsFor}
 use Rattle.shop_tables.proofs.Fitting.{sums_kept}
 

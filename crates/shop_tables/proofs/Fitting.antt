@@ -1,9 +1,9 @@
 -- What a change that fits is row by row.
 use Rattle.std.proofs.Common.{◌≡◌, ℕ, true, false, List, [], ◌∷◌, inl, inr, refl, sym, ap, subst, ◌∙◌, cond}
-use Rattle.std.specs.Prelude.{◌≢◌, not, Bool, Option, Some, None, IfSome, IsSome, All, AllPairs, MatchOption, is_some, unwrap_or, if◌then◌else◌}
+use Rattle.std.specs.Prelude.{◌≢◌, not, Bool, Option, Some, None, IfSome, All, MatchOption, is_some, unwrap_or, if◌then◌else◌}
 use Rattle.std.specs.declared.cmp.Ordering.{Ordering}
-use Rattle.std.specs.declared.cmp.Ordering.TheVariants.{Less, Equal}
-use Rattle.std.specs.Ordering.{nat_cmp, is_eq, eq_by_cmp}
+use Rattle.std.specs.declared.cmp.Ordering.TheVariants.{Less}
+use Rattle.std.specs.Ordering.{nat_cmp, eq_by_cmp}
 use Rattle.std.specs.Cmp.{IsTotalOrder, nat_cmp_total, tied_itself}
 use Rattle.std.specs.FinMap.{FinMap, IsAntisymmetric, get, insert, get-insert, nat_cmp-IsAntisymmetric}
 use Rattle.cut_measure.specs.Codes.{code_cmp}
@@ -11,7 +11,6 @@ use Rattle.cut_measure.specs.Names.{Name, name_cmp}
 use Rattle.shop_machine.specs.Content as content
 use Rattle.shop_machine.specs.Content.{Content, material_at, part_at, import_at, totals_of, no_totals, changed}
 use Rattle.shop_machine.specs.History.{IsIn}
-use Rattle.shop_machine.specs.Same.{same_code}
 use Rattle.shop_machine.specs.Soundness.{Fits, TotalsFit, with_totals, IsNewPart, IsMovedPart, IsNewJob, IsMovedJob, IsNewDemand, IsMovedDemand}
 use Rattle.shop_machine.specs.declared.changes.Change.{Change}
 use Rattle.shop_machine.specs.declared.changes.MaterialTotals.{MaterialTotals}
@@ -21,7 +20,6 @@ use Rattle.shop_machine.specs.declared.records.Job.{Job}
 use Rattle.shop_machine.specs.declared.records.Material.{Material}
 use Rattle.shop_machine.specs.declared.records.Part.{Part}
 use Rattle.shop_machine.specs.declared.records.Demand.{Demand}
-use Rattle.shop_machine.specs.declared.records.Totals.{Totals}
 use Rattle.shop_machine.proofs.Basics.{names_total, names_same, codes_total, codes_same, none_some, key_cases, tied, untied, get_other, all_in}
 use Rattle.shop_machine.proofs.Puts.{Pairwise, pairs_in, pairs_more}
 use Rattle.shop_tables.specs.Shown.{Books}

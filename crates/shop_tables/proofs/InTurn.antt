@@ -1,5 +1,5 @@
 -- One row that is written, and the others after it.
-use Rattle.std.proofs.Common.{◌≡◌, ℕ, ◌≤◌, ◌-◌, List, [], ◌∷◌, length, take, drop, get_or, refl, Ok, Err, Result, OnOk, ap, ◌∙◌, subst, arith}
+use Rattle.std.proofs.Common.{◌≡◌, ◌≤◌, ◌-◌, List, [], ◌∷◌, length, take, drop, get_or, refl, Ok, Err, Result, OnOk, ap, ◌∙◌, subst, arith}
 use Rattle.sqlite.specs.State.{State}
 use Rattle.shop_tables.specs.Shown.{Books, Makes, Went}
 use Rattle.shop_tables.proofs.Steps.{makes_then}

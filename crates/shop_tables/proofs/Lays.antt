@@ -189,7 +189,7 @@ no_length : {A : Type 0} (xs : List A) → length xs ≡ 0 → xs ≡ []
 no_length [] h = refl
 no_length (x ∷ xs) h = absurd (cc)
 
-no_entries : {K : Type 0} (R : K → K → Ordering) (X : Type 0) → entries (empty {X = X} {R = R}) ≡ []
+pub no_entries : {K : Type 0} (R : K → K → Ordering) (X : Type 0) → entries (empty {X = X} {R = R}) ≡ []
 no_entries R X = no_length _ (sym (len-entries (empty {X = X} {R = R})) ∙ len-empty R X)
 
 none : {E : Type 0} (skip : ℕ) (row_of : E → Row) (es : List E) (stored : List Row) → es ≡ [] → stored ≡ [] → AreRows skip (map row_of es) stored

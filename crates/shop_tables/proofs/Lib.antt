@@ -27,3 +27,4 @@ pub mod Listed
 pub mod Taken
 pub mod Adopted
 pub mod Reopened
+pub mod FreshBooks

@@ -1,9 +1,9 @@
 -- The standing parts of a material, in order.
-use Rattle.std.proofs.Common.{◌≡◌, ℕ, suc, ◌+◌, ◌<◌, ◌≤◌, pos, Bool, true, false, ◌&&◌, ◌||◌, ◌==◌, List, [], ◌∷◌, ◌++◌, length, map, drop, filter, get_or, Some, refl, sym, ap, subst, ◌∙◌, arith, IsPermutation, IsSorted, inl, inr, append-nil, Ok, Err, Result, IfOk}
+use Rattle.std.proofs.Common.{◌≡◌, ℕ, suc, ◌+◌, ◌<◌, pos, Bool, true, false, ◌&&◌, ◌||◌, ◌==◌, List, [], ◌∷◌, ◌++◌, length, map, drop, filter, get_or, Some, refl, sym, ap, subst, ◌∙◌, arith, IsSorted, inl, inr, append-nil, Ok, Err, Result, IfOk}
 use Rattle.std.specs.List.{AllByRecursion, list_all}
 use Rattle.std.specs.Ordering.{is_eq, is_lt, int_cmp, nat_cmp, ordering_then}
 use Rattle.std.specs.declared.cmp.Ordering.TheVariants.{Equal}
-use Rattle.std.specs.FinMap.{FinMap, entries, entries_sorted, get-entries, values}
+use Rattle.std.specs.FinMap.{FinMap, entries, entries_sorted, get-entries}
 use Rattle.std.proofs.lemmas.List.Sorted.{sorted_far, ranks_by, IsPermutation-trans}
 use Rattle.std.proofs.lemmas.Int.{ints}
 use Rattle.std.proofs.lemmas.Bool.Decides.{nat_tests}
@@ -41,14 +41,14 @@ use Rattle.shop_tables.specs.Lending.{AreReadOf, IsLent}
 use Rattle.shop_tables.specs.declared.faults.TableFault.{TableFault}
 use Rattle.shop_tables.specs.declared.lending.Lent.{Lent}
 use Rattle.shop_tables.specs.declared.lending.Lent.TheVariants as lent
-use Rattle.shop_tables.specs.Rows.{AreRows, IsKeyed, part_columns, part_row, state_number}
+use Rattle.shop_tables.specs.Rows.{AreRows, IsKeyed, part_row, state_number}
 use Rattle.shop_tables.specs.Shown.{Books, Shows, Holds, Says}
 use Rattle.shop_tables.proofs.Finding.{name_total, name_same}
 use Rattle.shop_tables.proofs.Keys.{equal, equal-Text, and_true, as_number, same_number, shown_as}
 use Rattle.shop_tables.proofs.Lists.{filter-map, map-map}
 use Rattle.shop_tables.proofs.Maps.{one_order, sorted_filter, Rises}
 use Rattle.shop_tables.proofs.Selects.{selects}
-use Rattle.shop_tables.proofs.Terms.{from_table, Reads}
+use Rattle.shop_tables.proofs.Terms.{from_table}
 use Rattle.shop_tables.proofs.Texts.{shop, shop_is, parts_of_text, parts_of_tests, parts_of_terms, parts_of_order, parts_of_is}
 
 -- from places to each earlier and later element

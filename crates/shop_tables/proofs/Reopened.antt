@@ -1,5 +1,6 @@
 -- What was committed is found again, with the schema that its trees list.
-use Rattle.std.proofs.Common.{◌≡◌, IsTrue, refl, sym, ap, subst, ◌∙◌}
+use Rattle.std.proofs.Common.{◌≡◌, IsTrue, sym, ap, subst, ◌∙◌}
+use Rattle.std.proofs.Math.Logic.{∥∥₁_map}
 use Rattle.sqlite_disk.specs.declared.Disk.{Ghosts}
 use Rattle.sqlite_disk.specs.declared.Files.{Files}
 use Rattle.sqlite_wal.specs.Reads.{AreClean}
@@ -8,16 +9,21 @@ use Rattle.sqlite_catalog.proofs.ReadLemmas.{lists_once}
 use Rattle.sqlite_catalog.specs.Listing.{Lists}
 use Rattle.sqlite_trees.specs.Objects.{catalog_tree}
 use Rattle.sqlite.specs.Tree.{Trees}
-use Rattle.sqlite.specs.Schema.{Schema}
 use Rattle.sqlite.specs.Effect.{Database, IsDatabase}
-use Rattle.sqlite.specs.State.{State, HasCleanDisk}
-use Rattle.sqlite.specs.Held.{Held}
-use Rattle.sqlite.specs.Files.{file_state, IsOpened, Finds}
+use Rattle.sqlite.specs.State.{HasCleanDisk}
+use Rattle.sqlite.specs.Held.{Held, AreDatabases}
+use Rattle.sqlite.specs.Files.{file_state, image_of, HoldsDatabase, IsOpened, Finds}
 use Rattle.sqlite.specs.Closing.{IsCopied}
 use Rattle.sqlite.proofs.Callers.{finds_again}
+use Rattle.sqlite.proofs.Theorems.{opens_again}
+use Rattle.sqlite_store.specs.FileStore.{view, recovers}
+use Rattle.sqlite_store.specs.FileStore as store
+use Rattle.sqlite_wal.specs.Recovery.{Image}
+use Rattle.shop_machine.specs.Content.{Content}
 use Rattle.shop_tables.specs.Layout.{IsShop}
 use Rattle.shop_tables.specs.Rows.{Stands}
 use Rattle.shop_tables.specs.Shown.{Books, IsSettled, Holds, StandsIn}
+use Rattle.shop_tables.specs.Held.{books, IsSettledAt, StandsFor}
 
 -- trees list one schema at most
 pub one_schema : (a b : Database) → IsDatabase a → IsDatabase b → b.trees ≡ a.trees → b.schema ≡ a.schema
@@ -49,3 +55,15 @@ left_settled new b opened left =
       shows = record { schema = subst IsShop (sym schema) left.0.1; sound = live; stands = subst (λ (t : Trees). Stands t b.content b.totals) (sym trees) left.1; keyed = left.2 };
       committed = opened.0.clean;
     }
+
+-- An open finds one of the databases that a crash could leave, and is settled at the content for which it stands.
+pub left_is_found : {D : Type 0} {g : Ghosts D} (it : FileStore D g) → IsTrue (view it).is_numbered → AreDatabases (recovers it) → (left : Image) → (store.state it).may_leave left
+    → (files : Files D) → image_of g files ≡ left → (new : Held (FileStore D g)) → IsOpened new → Finds files new
+    → ∥ ((db : Trees) × recovers it db × ((m : Content) → StandsFor db m → IsSettledAt (file_state new) m)) ∥₁
+left_is_found {D} {g} it numbered sound left may files seen new opened found = ∥∥₁_map (opens_again it numbered sound left may) (λ x.
+    let trees : (file_state new).committed.trees ≡ x.0 = found.holds x.0 (subst (λ i. HoldsDatabase i x.0) (sym seen) x.2) in
+    let r : (db : Trees) × recovers it db × ((m : Content) → StandsFor db m → IsSettledAt (file_state new) m) = (
+      x.0,
+      x.1,
+      λ m stands. record { totals = stands.totals; sums = stands.sums; settled = left_settled new (books m stands.totals) opened (subst (λ db. StandsIn db (books m stands.totals)) (sym trees) stands.stands) },
+    ) in r)

@@ -1,5 +1,5 @@
 -- Which names a schema of ours takes.
-use Rattle.std.proofs.Common.{◌≡◌, ℕ, true, false, codes, Some, refl, sym, subst}
+use Rattle.std.proofs.Common.{◌≡◌, true, false, codes, Some, refl, sym, subst}
 use Rattle.sqlite.specs.Schema.{Schema}
 use Rattle.sqlite_schema.specs.Names.{same_name, table_named}
 use Rattle.shop_tables.specs.Adopting.{names_are_free, names_are_tables}

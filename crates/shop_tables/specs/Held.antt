@@ -5,7 +5,7 @@ use Rattle.sqlite.specs.State.{State, HasCleanDisk}
 use Rattle.cut_measure.specs.Codes.{code_cmp}
 use Rattle.shop_machine.specs.Content.{Content}
 use Rattle.shop_machine.specs.declared.records.Totals.{Totals}
-use Rattle.shop_tables.specs.Shown.{Books, Holds, StandsIn}
+use Rattle.shop_tables.specs.Shown.{Books, IsSettled, Holds, StandsIn}
 use Rattle.shop_tables.specs.Changing.{HasSums}
 
 -- the books of a content and rows of totals
@@ -17,6 +17,12 @@ pub record HoldsContent (s : State) (m : Content) : Type 0 where
   pub totals : FinMap code_cmp Totals
   pub sums : HasSums (books m totals)
   pub holds : Holds s (books m totals)
+
+-- The connection sees the content, with the sums of its parts as totals, and the last commit is what it sees.
+pub record IsSettledAt (s : State) (m : Content) : Type 0 where
+  pub totals : FinMap code_cmp Totals
+  pub sums : HasSums (books m totals)
+  pub settled : IsSettled s (books m totals)
 
 -- The trees stand for the content, and for the sums of its parts as totals.
 pub record StandsFor (db : Trees) (m : Content) : Type 0 where

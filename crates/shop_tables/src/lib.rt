@@ -35,6 +35,6 @@ pub use materials::{find_material, put_material};
 pub use numbers::{find_last_act, find_last_demand, find_version, set_last_act, set_last_demand};
 pub use orders::{find_order, put_order};
 pub use parts::{find_part, move_part, put_part};
-pub use reopening::reopen_tables;
+pub use reopening::left_contents_are_found;
 pub use sums::{find_totals, put_totals, set_totals};
 

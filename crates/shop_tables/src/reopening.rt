@@ -1,43 +1,24 @@
-//! A connection over files that is closed and opened again.
+//! Files that are opened after a crash.
 
-ghost use Rattle.std.specs.Prelude.{◌≡◌, IfSome, IsTrue};
-ghost use Rattle.sqlite.specs.Closing.{IsCopied};
-ghost use Rattle.sqlite.specs.Files.{file_state};
-ghost use Rattle.sqlite_wal.specs.Reads.{AreClean};
-ghost use Rattle.shop_tables.specs.Shown.{Books, Holds};
+ghost use Rattle.std.specs.Prelude.{◌≡◌, IsTrue};
+ghost use Rattle.sqlite.specs.Files.{file_state, image_of, IsOpened, Finds};
+ghost use Rattle.sqlite.specs.Held.{Held, AreDatabases};
+ghost use Rattle.sqlite_disk.specs.declared.Files.{Files};
+ghost use Rattle.sqlite_store.specs.FileStore as store;
+ghost use Rattle.sqlite_store.specs.declared.store.FileStore.{FileStore};
+ghost use Rattle.sqlite_trees.specs.Tree.{Trees};
+ghost use Rattle.sqlite_wal.specs.Recovery.{Image};
+ghost use Rattle.shop_machine.specs.Content.{Content};
+ghost use Rattle.shop_tables.specs.Held.{IsSettledAt, StandsFor};
 
-use crate::adopting::adopt_tables;
-use sqlite::{Connection, FileStore, Files, Options};
 use sqlite_disk::Disk;
-use std::alloc::Global;
 
-fn close<D: Disk + Drop>(conn: Connection<FileStore<D>>) -> Option<Files<D>>
-    ensures copied { IfSome result (λ files. AreClean D.Disk files.log files.db → IsCopied conn files) }
-    ensures usable { IfSome result (λ files. IsTrue (D.Disk.is_usable files.log) × IsTrue (D.Disk.is_usable files.db)) }
-{
-    match conn.close_files() {
-        Ok(files) => Some(files),
-        Err((_, store)) => {
-            drop(store.close());
-            None
-        }
-    }
-}
-
-/// Closes the files, opens them and takes the tables over again. It holds the books that it held, kept replies included.
-pub fn reopen_tables<D: Disk + Drop>(
-    alloc: Global,
-    conn: Connection<FileStore<D>>,
-    options: Options,
-) -> Option<Connection<FileStore<D>>>
-    ensures { IfSome result (λ again. (b : Books) → Holds (file_state conn) b → Holds (file_state again) b) }
-{
-    let files = close(conn)?;
-    let Ok(mut again) = Connection::open_files(alloc, files, options) else {
-        return None;
-    };
-    match adopt_tables(&mut again) {
-        Ok(()) => Some(again),
-        Err(_) => None,
-    }
-}
+/// What a crash leaves is found again: a connection that opened on files with what a crash of a store of `into_store` may
+/// leave sees one of the databases that the store allows, and is settled at the content for which that stands. So
+/// `adopt_tables` goes on with it.
+pub fn left_contents_are_found<D: Disk>()
+    ensures { (it : FileStore D D.Disk) → IsTrue (store.view it).is_numbered → AreDatabases (store.recovers it)
+        → (left : Image) → (store.state it).may_leave left → (files : Files D) → image_of D.Disk files ≡ left
+        → (new : Held (FileStore D D.Disk)) → IsOpened new → Finds files new
+        → ∥ ((db : Trees) × store.recovers it db × ((m : Content) → StandsFor db m → IsSettledAt (file_state new) m)) ∥₁ }
+{}

@@ -1,4 +1,4 @@
-use Rattle.std.proofs.Common.{◌≡◌, ◌∙◌, true, false, true≢false, sym, ap}
+use Rattle.std.proofs.Common.{◌∙◌, true≢false, sym, ap}
 use Rattle.shop_tables.specs.Adopting.{names_are_free, names_are_tables}
 use Rattle.shop_tables.proofs.Taken.{taken, stand}
 use Rattle.shop_tables.proofs.adopting.adopt_tables.Goals as goal

@@ -1,7 +1,6 @@
 use Rattle.std.proofs.Common.{◌≡◌, ◌∙◌, true, rules, arith, sym, subst, ap, OnOk}
 use Rattle.sqlite.specs.Effect.{Database}
 use Rattle.sqlite.specs.Held.{state}
-use Rattle.sqlite.specs.State.{State, HasCleanDisk}
 use Rattle.shop_tables.specs.Adopting.{LeavesBooks}
 use Rattle.shop_tables.specs.Layout.{no_schema}
 use Rattle.shop_tables.specs.Shown.{Holds, Lays, StandsIn, fresh_books}

@@ -1,5 +1,4 @@
 use Rattle.std.proofs.Common.{refl, sym, subst}
-use Rattle.shop_machine.specs.declared.records.Demand.{Demand}
 use Rattle.shop_tables.specs.Changes.{with_demand}
 use Rattle.shop_tables.specs.Changing.{IsCounted, AreCounted, with_demands}
 use Rattle.sqlite.specs.Held.{state}

@@ -1,12 +1,9 @@
 use Rattle.std.proofs.Common.{◌≡◌, None, sym, subst}
 use Rattle.std.specs.Prelude.{IfSome, is_some, not}
 use Rattle.std.specs.FinMap.{get}
-use Rattle.sqlite.specs.State.{State}
-use Rattle.sqlite.specs.Held.{state}
 use Rattle.shop_machine.specs.Content as content
-use Rattle.shop_tables.specs.Shown.{Books, Went}
 use Rattle.shop_tables.specs.Changing.{AreNew, with_materials, with_moved, with_parts, with_sums}
-use Rattle.shop_tables.proofs.Steps.{went_then, makes_then, within_then}
+use Rattle.shop_tables.proofs.Steps.{went_then, makes_then}
 use Rattle.shop_tables.proofs.Fitting.{parts_new, totals_fit}
 use Rattle.shop_tables.proofs.changing.write_stock.Goals as goal
 

@@ -1,9 +1,8 @@
-use Rattle.std.proofs.Common.{◌≡◌, ◌∙◌, true, false, Some, None, Ok, IfOk, [], inl, inr, refl, sym, subst, rules, arith}
+use Rattle.std.proofs.Common.{◌≡◌, ◌∙◌, Some, None, Ok, inl, inr, refl, sym, subst, rules, arith}
 use Rattle.sqlite.specs.Given.{Advances, row_if}
-use Rattle.sqlite.specs.Held.{Held, state}
-use Rattle.sqlite.specs.State.{HasCleanDisk}
+use Rattle.sqlite.specs.Held.{state}
 use Rattle.sqlite.specs.Values.{bound}
-use Rattle.shop_tables.specs.Lending.{IsLent, IsReadOf}
+use Rattle.shop_tables.specs.Lending.{IsLent}
 use Rattle.shop_tables.specs.declared.lending.Lent.TheVariants as lent
 use Rattle.shop_tables.specs.Shown.{Leaves}
 use Rattle.shop_tables.proofs.Going.{started, leaves_stays, none_lent, broken_off, all_lent, stopped_at, went_to}
