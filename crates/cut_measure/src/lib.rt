@@ -22,4 +22,3 @@ pub use ranges::{
     LONGEST_CODE, MOST_COUNT, MOST_HEIGHT, MOST_KERF, MOST_NUMBERS, MOST_WIDTH, MOST_WORTH,
 };
 pub use sizes::{Axis, Kind, Size};
-

@@ -11,4 +11,3 @@ pub use limits::{LONGEST_TEXT, MOST_ENTRIES, MOST_LINES, MOST_PIECES};
 pub use orders::{OrderLine, OrdersFault, read_orders};
 pub use problems::{Piece, Problem, TextCause, TextFault, read_cgcut};
 pub use shops::{MaterialEntry, ShopFault, read_shop};
-

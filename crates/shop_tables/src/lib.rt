@@ -37,4 +37,3 @@ pub use orders::{find_order, put_order};
 pub use parts::{find_part, move_part, put_part};
 pub use reopening::left_contents_are_found;
 pub use sums::{find_totals, put_totals, set_totals};
-
