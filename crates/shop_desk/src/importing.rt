@@ -112,7 +112,7 @@ fn import_problem<B: Book>(
     )
 }
 
-// A reply that isn't a refusal, which no row of an import tells.
+// The reply, unless it is a refusal: no kept import tells of one.
 fn accepted(told: Option<Reply>) -> Option<Reply>
     ensures accepted { IfSome result (λ answer. IsTrue (is_accepted answer)) }
     ensures made { (answer : ReplyOf) → IsMade answer → told ≡ Some answer → result ≡ Some answer }

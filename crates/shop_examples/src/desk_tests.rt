@@ -256,19 +256,30 @@ fn an_empty_shop(rt: HostRuntime) -> Result<(), Fail> {
     Ok(())
 }
 
+// A receipt that comes again, and then with another count.
+fn send_again(sent: &mut Vec<Message>) -> Result<(), Fail> {
+    sent.push(material(1, "STEEL", Kind::Bar)?)?;
+    sent.push(receive(2, "STEEL", 100, 1, 2)?)?;
+    sent.push(receive(2, "STEEL", 100, 1, 2)?)?;
+    sent.push(receive(2, "STEEL", 100, 1, 3)?)?;
+    Ok(())
+}
+
+// A receipt before its material is there, and after.
+fn send_early(sent: &mut Vec<Message>) -> Result<(), Fail> {
+    sent.push(receive(9, "IRON", 100, 1, 1)?)?;
+    sent.push(material(3, "IRON", Kind::Bar)?)?;
+    sent.push(receive(9, "IRON", 100, 1, 1)?)?;
+    sent.push(material(1, "STEEL", Kind::Bar)?)?;
+    Ok(())
+}
+
 #[test]
 fn each_message_once(rt: HostRuntime) -> Result<(), Fail> {
     let mut book = MemBook::new(rt.alloc());
-    let asked = [
-        material(1, "STEEL", Kind::Bar)?,
-        receive(2, "STEEL", 100, 1, 2)?,
-        receive(2, "STEEL", 100, 1, 2)?,
-        receive(2, "STEEL", 100, 1, 3)?,
-        receive(9, "IRON", 100, 1, 1)?,
-        material(3, "IRON", Kind::Bar)?,
-        receive(9, "IRON", 100, 1, 1)?,
-        material(1, "STEEL", Kind::Bar)?,
-    ];
+    let mut asked = Vec::new(rt.alloc());
+    send_again(&mut asked)?;
+    send_early(&mut asked)?;
     let replies = run(rt.alloc(), &mut book, &asked)?;
     assert_eq!(rt; replies.len(), 8);
     let told = [
