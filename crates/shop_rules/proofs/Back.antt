@@ -1,6 +1,6 @@
 -- What is printed is read back.
-use Rattle.std.proofs.Common.{◌≡◌, ℕ, suc, ◌<◌, ◌≤◌, ◌^◌, List, [], ◌∷◌, map, append-nil, All, Bool, true, false, Option, Some, None, refl, sym, ap, ◌∙◌, arith, le-leb, codes}
-use Rattle.std.specs.Prelude.{◌||◌, max, option_map, option_and_then, if◌then◌else◌, is_some}
+use Rattle.std.proofs.Common.{◌≡◌, ℕ, suc, ◌<◌, ◌≤◌, ◌^◌, List, [], append-nil, All, Bool, true, false, Option, Some, None, refl, sym, ap, ◌∙◌, arith, le-leb, codes}
+use Rattle.std.specs.Prelude.{max, option_map, option_and_then, if◌then◌else◌, is_some}
 use Rattle.cut_measure.specs.declared.sizes.Kind.{Kind}
 use Rattle.cut_measure.specs.Names.{Name, name_text}
 use Rattle.cut_tree.specs.declared.halts.Halt.{Halt}
@@ -13,30 +13,32 @@ use Rattle.shop_machine.specs.declared.imports.Form.TheVariants.{Csv, Cgcut}
 use Rattle.shop_machine.specs.declared.messages.Message.{Message}
 use Rattle.shop_files.specs.declared.orders.OrderLine.{OrderLine}
 use Rattle.shop_machine.specs.declared.messages.Query.{Query}
-use Rattle.shop_machine.specs.declared.records.RackRow.{RackRow}
 use Rattle.shop_machine.specs.declared.messages.Reply.{Reply}
 use Rattle.shop_machine.specs.declared.messages.Reply.TheVariants as reply
-use Rattle.shop_machine.specs.Messages.{IsMessage, IsCommand, IsHalt, IsMade, IsNumber, IsWide}
+use Rattle.shop_machine.specs.Messages.{IsMessage, IsCommand, IsMade, IsNumber}
 use Rattle.std.proofs.Math.Nat.{max-le}
 use Rattle.json.proofs.Printed.Decimals.{IsNumber-decimal}
 use Rattle.json.proofs.Printed.Tokens.{tokens-print}
 use Rattle.json.proofs.Printed.Trees.{value-json_tokens, ArePrintable-json_tokens}
 use Rattle.json.specs.Json as json
 use Rattle.json.specs.Lex.{tokens}
+use Rattle.json.specs.Print.{print}
 use Rattle.json.specs.Tree.{HasNumbers, depth, json_tokens}
 use Rattle.serde_json.specs.Data.{Data, boolean, number, string, unsigned}
-use Rattle.serde_json.specs.Find.{get, as_bool, as_number, as_str, as_u64}
+use Rattle.serde_json.specs.Find.{get, as_number, as_str, as_u64}
 use Rattle.serde_json.specs.Read.{read, of_json, max_depth}
-use Rattle.serde_json.specs.View.{items_of}
-use Rattle.serde_json.specs.Written.{compact_text, outline, has_float, items_have_float}
+use Rattle.serde_json.specs.Written.{compact_text, outline}
 use Rattle.serde_json.proofs.Numbers.{number_of-decimal}
 use Rattle.json.specs.Token.{Token}
 use Rattle.serde_json.proofs.Texts.{print-outline}
-use Rattle.shop_rules.specs.Forms.{message_of, sent_head, sent_of, from_one, command_of, material_command, receive_command, order_command, reserve_command, import_in, problem_command, import_by, import_command, query_of, asked_of, reply_of, made_of, order_made, reserve_made, ended_cells, first_cuts, listed_cuts, lost_cut, none_lost, list_data, break_command, has_few_cuts, lines_data, rack_row_data, message_data, reply_data, json_texts, kept_reply_of}
-use Rattle.shop_rules.specs.Fields.{kind_text, small, number_at, flag_at}
+use Rattle.shop_rules.specs.Forms.{message_of, sent_head, sent_of, from_one, command_of, material_command, receive_command, order_command, reserve_command, import_in, problem_command, import_by, import_command, query_of, asked_of, reply_of, made_of, order_made, reserve_made, ended_cells, first_cuts, listed_cuts, lost_cut, list_data, break_command, has_few_cuts, lines_data, message_data, reply_data, json_texts, kept_reply_of}
+use Rattle.shop_rules.specs.Told.{HasWideNumbers}
+use Rattle.shop_machine.specs.Refusals.{refusal_number}
+use Rattle.shop_rules.proofs.Racks.{rack_numbers, rack_shallow, rack_json}
+use Rattle.shop_rules.specs.Fields.{kind_text, small, number_at}
 use Rattle.shop_rules.proofs.FieldFacts.{number_there, wide_there, flag_there, code_there, kind_there, name_there, text_there}
-use Rattle.shop_rules.proofs.Cuts.{cuts_there, cuts_numbers, cuts_shallow, cuts_json, cuts_no_float}
-use Rattle.shop_rules.proofs.Lists.{lines_there, lines_numbers, lines_shallow, lines_json, lines_no_float}
+use Rattle.shop_rules.proofs.Cuts.{cuts_there, cuts_numbers, cuts_shallow, cuts_json}
+use Rattle.shop_rules.proofs.Lists.{lines_there, lines_numbers, lines_shallow, lines_json}
 
 -- ---- values
 
@@ -213,46 +215,13 @@ reply_back (reply.Refused refusal) h = absurd h
 
 -- ---- texts
 
-no_float_by : (terminal n : ℕ) (command : Command) → has_float (message_data (record { terminal = terminal; number = n; command = command })) ≡ false
-no_float_by terminal n (AddMaterial material kind kerf min_long min_short) = refl
-no_float_by terminal n (Receive material batch w h count) = refl
-no_float_by terminal n (AddOrder order lines) = ap (λ (b : Bool). b || false) (lines_no_float lines)
-no_float_by terminal n (Reserve part tree) = refl
-no_float_by terminal n (Done job) = refl
-no_float_by terminal n (Break job (First cuts lost)) = refl
-no_float_by terminal n (Break job (Listed cuts None)) = ap (λ (b : Bool). b || false) (cuts_no_float cuts)
-no_float_by terminal n (Break job (Listed cuts (Some cut))) = ap (λ (b : Bool). b || false) (cuts_no_float cuts)
-no_float_by terminal n (Release job) = refl
-no_float_by terminal n (Scrap part) = refl
-no_float_by terminal n (GiveBack part) = refl
-no_float_by terminal n (Import order Csv text) = refl
-no_float_by terminal n (Import order (Cgcut material) text) = refl
+pub message_text_printed : (message : Message) → print (json_tokens (outline (message_data message))) ≡ json_texts.of_message message
+unfolding json_texts
+message_text_printed message = print-outline (message_data message)
 
-rack_no_float : (parts : List RackRow) → items_have_float (items_of (map rack_row_data parts)) ≡ false
-rack_no_float [] = refl
-rack_no_float (row ∷ parts) = rack_no_float parts
-
-pub reply_no_float : (answer : Reply) → has_float (reply_data answer) ≡ false
-reply_no_float (reply.AddMaterial material) = refl
-reply_no_float (reply.Receive act count) = refl
-reply_no_float (reply.AddOrder count first order) = refl
-reply_no_float (reply.Reserve cuts job) = refl
-reply_no_float (reply.Done job kerf pieces rack scrap) = refl
-reply_no_float (reply.Break job kerf pieces rack scrap) = refl
-reply_no_float (reply.Release job) = refl
-reply_no_float (reply.Scrap part) = refl
-reply_no_float (reply.GiveBack part) = refl
-reply_no_float (reply.Import act count first order) = refl
-reply_no_float (reply.Totals material received stock rack pieces kerf scrap returned) = refl
-reply_no_float (reply.Rack material parts) = ap (λ (b : Bool). b || false) (rack_no_float parts)
-reply_no_float (reply.Trace batch h of part root state w x y) = refl
-reply_no_float (reply.Demand demand line made material order reserved wanted) = refl
-reply_no_float (reply.Plan ceiling dropped tree worth) = refl
-reply_no_float (reply.Bound best units) = refl
-reply_no_float (reply.Refused refusal) = refl
-
-pub message_no_float : (message : Message) → has_float (message_data message) ≡ false
-message_no_float message = no_float_by message.terminal message.number message.command
+pub reply_text_printed : (answer : Reply) → print (json_tokens (outline (reply_data answer))) ≡ json_texts.of_reply answer
+unfolding json_texts
+reply_text_printed answer = print-outline (reply_data answer)
 
 -- the text of a value whose numbers are read back is read as the value
 read-compact : (d : Data) → HasNumbers (outline d) → depth (outline d) ≤ max_depth → of_json (outline d) ≡ Some d → read (compact_text d) ≡ Some d
@@ -271,6 +240,10 @@ shallow n h = let e : max 0 (max (suc n) (max 0 (max 0 (max 0 0)))) ≤ 126 = ma
 -- an object with a list of numbers first
 shallow_first : (n : ℕ) → n ≤ 1 → suc (max (suc n) (max 0 (max 0 (max 0 (max 0 (max 0 0)))))) ≤ 127
 shallow_first n h = let e : max (suc n) (max 0 (max 0 (max 0 (max 0 (max 0 0))))) ≤ 126 = max-le (omega (arith, h)) (omega arith) in omega (arith, e)
+
+-- an object with a list of objects last
+shallow_last : (n : ℕ) → n ≤ 1 → suc (max 0 (max 0 (max (suc n) 0))) ≤ 127
+shallow_last n h = let e : max 0 (max 0 (max (suc n) 0)) ≤ 126 = max-le (omega arith) (max-le (omega arith) (omega (arith, h))) in omega (arith, e)
 
 text_read_by : (terminal n : ℕ) (command : Command) → IsNumber terminal → IsNumber n → IsCommand command
     → let d = message_data (record { terminal = terminal; number = n; command = command }) in read (compact_text d) ≡ Some d
@@ -350,43 +323,71 @@ pub message_text_read : (message : Message) → IsMessage message → read (json
 unfolding json_texts
 message_text_read message h = text_read_by message.terminal message.number message.command h.terminal h.number h.command
 
-pub reply_text_read : (answer : Reply) → IsMade answer → read (json_texts.of_reply answer) ≡ Some (reply_data answer)
-unfolding json_texts
-reply_text_read (reply.AddMaterial material) h = read-compact (reply_data (reply.AddMaterial material)) (tt, (tt, tt)) (omega arith) refl
-reply_text_read (reply.Receive act count) h =
-    read-compact (reply_data (reply.Receive act count)) (IsNumber-decimal act (wide act h.0), (IsNumber-decimal count (wide count h.1), (tt, tt))) (omega arith)
-    (rw (number_of-decimal act (wide act h.0), number_of-decimal count (wide count h.1)) refl)
-reply_text_read (reply.AddOrder count first order) h =
-    read-compact (reply_data (reply.AddOrder count first order)) (IsNumber-decimal count (wide count h.0), (IsNumber-decimal first (wide first h.1), (tt, (tt, tt)))) (omega arith)
-    (rw (number_of-decimal count (wide count h.0), number_of-decimal first (wide first h.1)) refl)
-reply_text_read (reply.Reserve cuts job) h =
-    read-compact (reply_data (reply.Reserve cuts job)) (IsNumber-decimal cuts (wide cuts h.0), (IsNumber-decimal job (wide job h.1), (tt, tt))) (omega arith)
-    (rw (number_of-decimal cuts (wide cuts h.0), number_of-decimal job (wide job h.1)) refl)
-reply_text_read (reply.Done job kerf pieces rack scrap) h =
-    read-compact (reply_data (reply.Done job kerf pieces rack scrap))
-    (IsNumber-decimal job (wide job h.0), (IsNumber-decimal kerf h.1, (tt, (IsNumber-decimal pieces h.2, (IsNumber-decimal rack h.3, (IsNumber-decimal scrap h.4, tt)))))) (omega arith)
-    (rw (number_of-decimal job (wide job h.0), number_of-decimal kerf h.1, number_of-decimal pieces h.2, number_of-decimal rack h.3, number_of-decimal scrap h.4) refl)
-reply_text_read (reply.Break job kerf pieces rack scrap) h =
-    read-compact (reply_data (reply.Break job kerf pieces rack scrap))
-    (IsNumber-decimal job (wide job h.0), (IsNumber-decimal kerf h.1, (tt, (IsNumber-decimal pieces h.2, (IsNumber-decimal rack h.3, (IsNumber-decimal scrap h.4, tt)))))) (omega arith)
-    (rw (number_of-decimal job (wide job h.0), number_of-decimal kerf h.1, number_of-decimal pieces h.2, number_of-decimal rack h.3, number_of-decimal scrap h.4) refl)
-reply_text_read (reply.Release job) h =
-    read-compact (reply_data (reply.Release job)) (IsNumber-decimal job (wide job h), (tt, tt)) (omega arith) (rw (number_of-decimal job (wide job h)) refl)
-reply_text_read (reply.Scrap part) h = read-compact (reply_data (reply.Scrap part)) (tt, (tt, tt)) (omega arith) refl
-reply_text_read (reply.GiveBack part) h = read-compact (reply_data (reply.GiveBack part)) (tt, (tt, tt)) (omega arith) refl
-reply_text_read (reply.Import act count first order) h =
-    read-compact (reply_data (reply.Import act count first order))
-    (IsNumber-decimal act (wide act h.0), (IsNumber-decimal count (wide count h.1), (IsNumber-decimal first (wide first h.2), (tt, (tt, tt))))) (omega arith)
-    (rw (number_of-decimal act (wide act h.0), number_of-decimal count (wide count h.1), number_of-decimal first (wide first h.2)) refl)
-reply_text_read (reply.Totals material received stock rack pieces kerf scrap returned) h = absurd h
-reply_text_read (reply.Rack material parts) h = absurd h
-reply_text_read (reply.Trace batch h of part root state w x y) made = absurd made
-reply_text_read (reply.Demand demand line made material order reserved wanted) h = absurd h
-reply_text_read (reply.Plan ceiling dropped tree worth) h = absurd h
-reply_text_read (reply.Bound best units) h = absurd h
-reply_text_read (reply.Refused refusal) h = absurd h
+-- a reply is read back from its text
+pub reply_read : (answer : Reply) → HasWideNumbers answer → read (compact_text (reply_data answer)) ≡ Some (reply_data answer)
+reply_read (reply.AddMaterial material) wide_ones =
+    read-compact (reply_data (reply.AddMaterial material)) (tt, (tt, tt)) (omega arith) refl
+reply_read (reply.Receive act count) wide_ones =
+    read-compact (reply_data (reply.Receive act count)) (IsNumber-decimal act wide_ones.0, (IsNumber-decimal count wide_ones.1, (tt, tt))) (omega arith) (rw (number_of-decimal act wide_ones.0, number_of-decimal count wide_ones.1) refl)
+reply_read (reply.AddOrder count first order) wide_ones =
+    read-compact (reply_data (reply.AddOrder count first order)) (IsNumber-decimal count wide_ones.0, (IsNumber-decimal first wide_ones.1, (tt, (tt, tt)))) (omega arith) (rw (number_of-decimal count wide_ones.0, number_of-decimal first wide_ones.1) refl)
+reply_read (reply.Reserve cuts job) wide_ones =
+    read-compact (reply_data (reply.Reserve cuts job)) (IsNumber-decimal cuts wide_ones.0, (IsNumber-decimal job wide_ones.1, (tt, tt))) (omega arith) (rw (number_of-decimal cuts wide_ones.0, number_of-decimal job wide_ones.1) refl)
+reply_read (reply.Done job kerf pieces rack scrap) wide_ones =
+    read-compact (reply_data (reply.Done job kerf pieces rack scrap)) (IsNumber-decimal job wide_ones.0, (IsNumber-decimal kerf wide_ones.1, (tt, (IsNumber-decimal pieces wide_ones.2, (IsNumber-decimal rack wide_ones.3, (IsNumber-decimal scrap wide_ones.4, tt)))))) (omega arith) (rw (number_of-decimal job wide_ones.0, number_of-decimal kerf wide_ones.1, number_of-decimal pieces wide_ones.2, number_of-decimal rack wide_ones.3, number_of-decimal scrap wide_ones.4) refl)
+reply_read (reply.Break job kerf pieces rack scrap) wide_ones =
+    read-compact (reply_data (reply.Break job kerf pieces rack scrap)) (IsNumber-decimal job wide_ones.0, (IsNumber-decimal kerf wide_ones.1, (tt, (IsNumber-decimal pieces wide_ones.2, (IsNumber-decimal rack wide_ones.3, (IsNumber-decimal scrap wide_ones.4, tt)))))) (omega arith) (rw (number_of-decimal job wide_ones.0, number_of-decimal kerf wide_ones.1, number_of-decimal pieces wide_ones.2, number_of-decimal rack wide_ones.3, number_of-decimal scrap wide_ones.4) refl)
+reply_read (reply.Release job) wide_ones =
+    read-compact (reply_data (reply.Release job)) (IsNumber-decimal job wide_ones, (tt, tt)) (omega arith) (rw (number_of-decimal job wide_ones) refl)
+reply_read (reply.Scrap part) wide_ones =
+    read-compact (reply_data (reply.Scrap part)) (tt, (tt, tt)) (omega arith) refl
+reply_read (reply.GiveBack part) wide_ones =
+    read-compact (reply_data (reply.GiveBack part)) (tt, (tt, tt)) (omega arith) refl
+reply_read (reply.Import act count first order) wide_ones =
+    read-compact (reply_data (reply.Import act count first order)) (IsNumber-decimal act wide_ones.0, (IsNumber-decimal count wide_ones.1, (IsNumber-decimal first wide_ones.2, (tt, (tt, tt))))) (omega arith) (rw (number_of-decimal act wide_ones.0, number_of-decimal count wide_ones.1, number_of-decimal first wide_ones.2) refl)
+reply_read (reply.Totals material received stock rack pieces kerf scrap returned) wide_ones =
+    read-compact (reply_data (reply.Totals material received stock rack pieces kerf scrap returned)) (IsNumber-decimal kerf wide_ones.0, (tt, (tt, (IsNumber-decimal pieces wide_ones.1, (IsNumber-decimal rack wide_ones.2, (IsNumber-decimal received wide_ones.3, (IsNumber-decimal returned wide_ones.4, (IsNumber-decimal scrap wide_ones.5, (IsNumber-decimal stock wide_ones.6, tt))))))))) (omega arith) (rw (number_of-decimal kerf wide_ones.0, number_of-decimal pieces wide_ones.1, number_of-decimal rack wide_ones.2, number_of-decimal received wide_ones.3, number_of-decimal returned wide_ones.4, number_of-decimal scrap wide_ones.5, number_of-decimal stock wide_ones.6) refl)
+reply_read (reply.Rack material parts) wide_ones =
+    read-compact (reply_data (reply.Rack material parts)) (tt, (tt, (rack_numbers parts wide_ones, tt))) (shallow_last _ (rack_shallow parts)) (rw (rack_json parts wide_ones) refl)
+reply_read (reply.Trace batch h of part root state w x y) wide_ones =
+    read-compact (reply_data (reply.Trace batch h of part root state w x y)) (tt, (IsNumber-decimal h wide_ones.0, (IsNumber-decimal of wide_ones.1, (tt, (tt, (tt, (tt, (IsNumber-decimal w wide_ones.2, (IsNumber-decimal x wide_ones.3, (IsNumber-decimal y wide_ones.4, tt)))))))))) (omega arith) (rw (number_of-decimal h wide_ones.0, number_of-decimal of wide_ones.1, number_of-decimal w wide_ones.2, number_of-decimal x wide_ones.3, number_of-decimal y wide_ones.4) refl)
+reply_read (reply.Demand demand line made material order reserved wanted) wide_ones =
+    read-compact (reply_data (reply.Demand demand line made material order reserved wanted)) (IsNumber-decimal demand wide_ones.0, (IsNumber-decimal line wide_ones.1, (IsNumber-decimal made wide_ones.2, (tt, (tt, (tt, (IsNumber-decimal reserved wide_ones.3, (IsNumber-decimal wanted wide_ones.4, tt)))))))) (omega arith) (rw (number_of-decimal demand wide_ones.0, number_of-decimal line wide_ones.1, number_of-decimal made wide_ones.2, number_of-decimal reserved wide_ones.3, number_of-decimal wanted wide_ones.4) refl)
+reply_read (reply.Plan ceiling dropped tree worth) wide_ones =
+    read-compact (reply_data (reply.Plan ceiling dropped tree worth)) (IsNumber-decimal ceiling wide_ones.0, (IsNumber-decimal dropped wide_ones.1, (tt, (tt, (IsNumber-decimal worth wide_ones.2, tt))))) (omega arith) (rw (number_of-decimal ceiling wide_ones.0, number_of-decimal dropped wide_ones.1, number_of-decimal worth wide_ones.2) refl)
+reply_read (reply.Bound best units) wide_ones =
+    read-compact (reply_data (reply.Bound best units)) (IsNumber-decimal best wide_ones.0, (tt, (IsNumber-decimal units wide_ones.1, tt))) (omega arith) (rw (number_of-decimal best wide_ones.0, number_of-decimal units wide_ones.1) refl)
+reply_read (reply.Refused refusal) wide_ones =
+    read-compact (reply_data (reply.Refused refusal)) (tt, (IsNumber-decimal (refusal_number refusal) wide_ones, tt)) (omega arith) (rw (number_of-decimal (refusal_number refusal) wide_ones) refl)
 
-same_some : {A : Type 0} (a b : A) → Some a ≡ Some b → a ≡ b
+-- a reply that an accepted message can get is one
+made_wide : (answer : Reply) → IsMade answer → HasWideNumbers answer
+made_wide (reply.AddMaterial material) h = tt
+made_wide (reply.Receive act count) h = (wide act h.0, wide count h.1)
+made_wide (reply.AddOrder count first order) h = (wide count h.0, wide first h.1)
+made_wide (reply.Reserve cuts job) h = (wide cuts h.0, wide job h.1)
+made_wide (reply.Done job kerf pieces rack scrap) h = (wide job h.0, h.1, h.2, h.3, h.4)
+made_wide (reply.Break job kerf pieces rack scrap) h = (wide job h.0, h.1, h.2, h.3, h.4)
+made_wide (reply.Release job) h = wide job h
+made_wide (reply.Scrap part) h = tt
+made_wide (reply.GiveBack part) h = tt
+made_wide (reply.Import act count first order) h = (wide act h.0, wide count h.1, wide first h.2)
+made_wide (reply.Totals material received stock rack pieces kerf scrap returned) h = absurd h
+made_wide (reply.Rack material parts) h = absurd h
+made_wide (reply.Trace batch h of part root state w x y) made = absurd made
+made_wide (reply.Demand demand line made material order reserved wanted) h = absurd h
+made_wide (reply.Plan ceiling dropped tree worth) h = absurd h
+made_wide (reply.Bound best units) h = absurd h
+made_wide (reply.Refused refusal) h = absurd h
+
+pub told_text_read : (answer : Reply) → HasWideNumbers answer → read (json_texts.of_reply answer) ≡ Some (reply_data answer)
+unfolding json_texts
+told_text_read answer wide_ones = reply_read answer wide_ones
+
+pub reply_text_read : (answer : Reply) → IsMade answer → read (json_texts.of_reply answer) ≡ Some (reply_data answer)
+reply_text_read answer h = told_text_read answer (made_wide answer h)
+
+pub same_some : {A : Type 0} (a b : A) → Some a ≡ Some b → a ≡ b
 same_some a b e = cc
 
 pub one_message : (m n : Message) → IsMessage m → IsMessage n → json_texts.of_message m ≡ json_texts.of_message n → m ≡ n

@@ -1,5 +1,5 @@
 -- Listed cuts as values and as text.
-use Rattle.std.proofs.Common.{◌≡◌, ℕ, ◌<◌, ◌≤◌, ◌^◌, List, [], ◌∷◌, map, Option, Some, None, false, refl, ap, ◌∙◌, arith}
+use Rattle.std.proofs.Common.{◌≡◌, ℕ, ◌<◌, ◌≤◌, ◌^◌, List, [], ◌∷◌, map, Some, refl, ap, ◌∙◌, arith}
 use Rattle.std.specs.Prelude.{All, option_map, option_and_then}
 use Rattle.std.specs.List.{AllByRecursion}
 use Rattle.std.proofs.lemmas.List.Elements.{recursion_from_All}
@@ -10,7 +10,7 @@ use Rattle.serde_json.specs.Data.{Data, item, number, unsigned}
 use Rattle.serde_json.specs.Find.{get, as_array}
 use Rattle.serde_json.specs.Read.{of_items}
 use Rattle.serde_json.specs.View.{items_of}
-use Rattle.serde_json.specs.Written.{items_outline, items_have_float}
+use Rattle.serde_json.specs.Written.{items_outline}
 use Rattle.serde_json.proofs.Numbers.{number_of-decimal}
 use Rattle.shop_machine.specs.Messages.{IsNumber}
 use Rattle.shop_rules.specs.Fields.{elements, all_of, number_of, numbers_at}
@@ -18,7 +18,7 @@ use Rattle.shop_rules.specs.Forms.{list_data}
 use Rattle.shop_rules.proofs.FieldFacts.{small_is}
 use Rattle.shop_rules.proofs.Lists.{all_some, all_empty}
 
-abbrev cut_data : ℕ → Data
+abbrev pub cut_data : ℕ → Data
 cut_data cut = number (unsigned cut)
 
 cuts_back : (cuts : List ℕ) → AllByRecursion IsNumber cuts → all_of number_of (elements (items_of (map cut_data cuts))) ≡ Some cuts
@@ -51,7 +51,3 @@ json_by (c ∷ cuts) h =
 
 pub cuts_json : (cuts : List ℕ) → All IsNumber cuts → of_items (items_outline (items_of (map cut_data cuts))) ≡ Some (items_of (map cut_data cuts))
 cuts_json cuts h = json_by cuts (recursion_from_All IsNumber cuts h)
-
-pub cuts_no_float : (cuts : List ℕ) → items_have_float (items_of (map cut_data cuts)) ≡ false
-cuts_no_float [] = refl
-cuts_no_float (c ∷ cuts) = cuts_no_float cuts

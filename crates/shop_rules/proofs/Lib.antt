@@ -1,4 +1,6 @@
 pub mod FieldFacts
 pub mod Lists
 pub mod Cuts
+pub mod Racks
 pub mod Back
+pub mod Pieces

@@ -12,7 +12,7 @@ use Rattle.serde_json.specs.Data.{Data, Items, item, boolean, string, number, un
 use Rattle.serde_json.specs.Find.{get, as_array}
 use Rattle.serde_json.specs.Read.{of_json, of_items}
 use Rattle.serde_json.specs.View.{view, items_of, items_view}
-use Rattle.serde_json.specs.Written.{outline, items_outline, items_have_float}
+use Rattle.serde_json.specs.Written.{outline, items_outline}
 use Rattle.serde_json.specs.declared.value.Value.{Value}
 use Rattle.serde_json.proofs.Numbers.{number_of-decimal}
 use Rattle.shop_files.specs.declared.orders.OrderLine.{OrderLine}
@@ -74,7 +74,7 @@ read_all read done = ap (option_map (λ more. done ++ more)) (all_empty read) �
 
 -- ---- the loops over them
 
-next : (i : ℕ) → suc i ≡ i + 1
+pub next : (i : ℕ) → suc i ≡ i + 1
 next i = omega arith
 
 pub values_more : (vs : List Value) (i : ℕ) (v : Value) → i < length vs → v ≡ get_or vs i v → map view (drop i vs) ≡ view v ∷ map view (drop (i + 1) vs)
@@ -84,13 +84,14 @@ values_more vs i v lt is =
 pub values_end : (vs : List Value) (i : ℕ) → length vs ≤ i → map view (drop i vs) ≡ []
 values_end vs i past = ap (map view) (drop_all i vs past)
 
-pub seen_more : (ls : List OrderLine) (i : ℕ) (l : OrderLine) → i < length ls → l ≡ get_or ls i l → IsLine l → All IsLine (take i ls) → All IsLine (take (i + 1) ls)
-seen_more ls i l lt is h before =
-    let more : take i ls ++ l ∷ [] ≡ take (i + 1) ls = ap (λ x. take i ls ++ x ∷ []) is ∙ sym (take-suc ls i l lt) ∙ ap (λ n. take n ls) (next i) in
-    subst (All IsLine) more (All-append IsLine (take i ls) (l ∷ []) before (All-from_recursion IsLine (l ∷ []) (h, tt)))
+module _ {T : Type 0} (P : T → Type 0) where
+  pub seen_more : (xs : List T) (i : ℕ) (x : T) → i < length xs → x ≡ get_or xs i x → P x → All P (take i xs) → All P (take (i + 1) xs)
+  seen_more xs i x lt is h before =
+      let more : take i xs ++ x ∷ [] ≡ take (i + 1) xs = ap (λ y. take i xs ++ y ∷ []) is ∙ sym (take-suc xs i x lt) ∙ ap (λ n. take n xs) (next i) in
+      subst (All P) more (All-append P (take i xs) (x ∷ []) before (All-from_recursion P (x ∷ []) (h, tt)))
 
-pub seen_all : (ls : List OrderLine) (i : ℕ) → length ls ≤ i → All IsLine (take i ls) → All IsLine ls
-seen_all ls i past h = subst (All IsLine) (take_all i ls past) h
+  pub seen_all : (xs : List T) (i : ℕ) → length xs ≤ i → All P (take i xs) → All P xs
+  seen_all xs i past h = subst (All P) (take_all i xs past) h
 
 -- ---- lines
 
@@ -154,7 +155,3 @@ lines_json_by (l ∷ ls) h =
 
 pub lines_json : (ls : List OrderLine) → All IsLine ls → of_items (items_outline (items_of (map line_data ls))) ≡ Some (items_of (map line_data ls))
 lines_json ls h = lines_json_by ls (recursion_from_All IsLine ls h)
-
-pub lines_no_float : (ls : List OrderLine) → items_have_float (items_of (map line_data ls)) ≡ false
-lines_no_float [] = refl
-lines_no_float (l ∷ ls) = lines_no_float ls

@@ -1,5 +1,7 @@
 pub mod Fields
 pub mod Forms
+pub mod Tokens
+pub mod Told
 pub use Rattle.cut_measure.specs.Codes
 pub use Rattle.cut_measure.specs.Measures
 pub use Rattle.cut_measure.specs.Names

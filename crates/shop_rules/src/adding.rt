@@ -1,17 +1,20 @@
-ghost use Rattle.std.specs.Prelude.{◌≡◌, IfOk};
+ghost use Rattle.std.specs.Prelude.{◌≡◌, OnOk};
 ghost use Rattle.serde_json.specs.View.{view};
 ghost use Rattle.shop_machine.specs.declared.messages.Command.TheVariants.{AddMaterial};
 ghost use Rattle.shop_machine.specs.declared.messages.Reply.TheVariants as reply;
 ghost use Rattle.shop_rules.specs.Fields.{row};
 ghost use Rattle.shop_rules.specs.Forms as form;
 ghost use Rattle.shop_rules.specs.Forms.{message_data, reply_data};
+ghost use Rattle.shop_rules.specs.Tokens.{AddsValue};
 
 use crate::fields::{code_at, has_keys, kind_at, number_at};
 use crate::words::kind_word;
+use crate::writing::{write_number, write_text};
 use cut_measure::Kind;
-use serde_json::{Value, json};
+use json::Writer;
+use serde_json::Value;
 use shop_machine::{Command, Reply};
-use std::alloc::{AllocError, Global};
+use std::alloc::AllocError;
 
 // The command to add a material.
 pub(crate) fn material_command(value: &Value) -> Option<Command>
@@ -34,28 +37,29 @@ pub(crate) fn material_command(value: &Value) -> Option<Command>
     })
 }
 
-// The object of a message that adds a material.
-pub(crate) fn material_value(
-    alloc: Global,
+// Writes a message that adds a material.
+pub(crate) fn write_material(
+    writer: &mut Writer,
     pair: (u64, u64),
     material: &str,
     kind: Kind,
     kerf: u64,
     min_long: u64,
     min_short: u64,
-) -> Result<Value, AllocError>
-    ensures { IfOk result (λ value. view value ≡ message_data (record { terminal = pair.0; number = pair.1; command = AddMaterial material.now kind kerf min_long min_short })) }
+) -> Result<(), AllocError>
+    ensures { OnOk result (AddsValue writer.old writer.new (message_data (record { terminal = pair.0; number = pair.1; command = AddMaterial material.now kind kerf min_long min_short }))) }
 {
-    json!(in alloc; {
-        "do": "material",
-        "kerf": kerf,
-        "kind": kind_word(kind),
-        "material": material,
-        "min_long": min_long,
-        "min_short": min_short,
-        "number": pair.1,
-        "terminal": pair.0
-    })
+    writer.begin_object()?;
+    write_text(writer, "do", "material")?;
+    write_number(writer, "kerf", kerf)?;
+    write_text(writer, "kind", kind_word(kind))?;
+    write_text(writer, "material", material)?;
+    write_number(writer, "min_long", min_long)?;
+    write_number(writer, "min_short", min_short)?;
+    write_number(writer, "number", pair.1)?;
+    write_number(writer, "terminal", pair.0)?;
+    writer.end_object()?;
+    Ok(())
 }
 
 // The reply to it.
@@ -69,9 +73,13 @@ pub(crate) fn material_made(value: &Value) -> Option<Reply>
     Some(Reply::AddMaterial { material })
 }
 
-// The object of the reply.
-pub(crate) fn material_reply(alloc: Global, material: &str) -> Result<Value, AllocError>
-    ensures { IfOk result (λ value. view value ≡ reply_data (reply.AddMaterial material.now)) }
+// Writes the reply to it.
+pub(crate) fn tell_material(writer: &mut Writer, material: &str) -> Result<(), AllocError>
+    ensures { OnOk result (AddsValue writer.old writer.new (reply_data (reply.AddMaterial material.now))) }
 {
-    json!(in alloc; {"material": material, "ok": "material"})
+    writer.begin_object()?;
+    write_text(writer, "material", material)?;
+    write_text(writer, "ok", "material")?;
+    writer.end_object()?;
+    Ok(())
 }

@@ -1,14 +1,18 @@
-ghost use Rattle.std.specs.Prelude.{◌≡◌, IfOk};
+ghost use Rattle.std.specs.Prelude.{◌≡◌, IfOk, OnOk, All};
 ghost use Rattle.serde_json.specs.View.{view};
 ghost use Rattle.shop_machine.specs.declared.messages.Reply.TheVariants as reply;
 ghost use Rattle.shop_rules.specs.Fields.{row};
 ghost use Rattle.shop_rules.specs.Forms as form;
-ghost use Rattle.shop_rules.specs.Forms.{reply_data, trace_data};
+ghost use Rattle.shop_rules.specs.Forms.{reply_data};
+ghost use Rattle.shop_rules.specs.Told.{HasWideNumbers, HasWideSides};
+ghost use Rattle.shop_rules.specs.Tokens.{AddsValue};
 
 use crate::fields::{code_at, has_keys, name_at, number_at, numbers_at, word_at};
-use crate::words::{part_text, state_word, wide};
+use crate::words::{state_word, wide};
+use crate::writing::{write_name, write_number, write_text};
 use cut_measure::PartName;
-use serde_json::{Value, json};
+use json::Writer;
+use serde_json::Value;
 use shop_machine::{Query, RackRow, StateWord};
 use std::alloc::{AllocError, Global};
 
@@ -20,9 +24,9 @@ fn totals_query(value: &Value) -> Option<Query>
     Some(Query::Totals { material })
 }
 
-// The object of the reply to it.
-pub(crate) fn totals_reply(
-    alloc: Global,
+// Writes the reply to it.
+pub(crate) fn tell_totals(
+    writer: &mut Writer,
     material: &str,
     received: u64,
     stock: u64,
@@ -31,20 +35,22 @@ pub(crate) fn totals_reply(
     kerf: u64,
     scrap: u64,
     returned: u64,
-) -> Result<Value, AllocError>
-    ensures { IfOk result (λ value. view value ≡ reply_data (reply.Totals material.now received stock rack pieces kerf scrap returned)) }
+) -> Result<(), AllocError>
+    ensures value { OnOk result (AddsValue writer.old writer.new (reply_data (reply.Totals material.now received stock rack pieces kerf scrap returned))) }
+    ensures wide { OnOk result (HasWideNumbers (reply.Totals material.now received stock rack pieces kerf scrap returned)) }
 {
-    json!(in alloc; {
-        "kerf": kerf,
-        "material": material,
-        "ok": "totals",
-        "pieces": pieces,
-        "rack": rack,
-        "received": received,
-        "returned": returned,
-        "scrap": scrap,
-        "stock": stock
-    })
+    writer.begin_object()?;
+    write_number(writer, "kerf", kerf)?;
+    write_text(writer, "material", material)?;
+    write_text(writer, "ok", "totals")?;
+    write_number(writer, "pieces", pieces)?;
+    write_number(writer, "rack", rack)?;
+    write_number(writer, "received", received)?;
+    write_number(writer, "returned", returned)?;
+    write_number(writer, "scrap", scrap)?;
+    write_number(writer, "stock", stock)?;
+    writer.end_object()?;
+    Ok(())
 }
 
 // The query for a material's parts on the rack.
@@ -55,39 +61,50 @@ fn rack_query(value: &Value) -> Option<Query>
     Some(Query::Rack { material })
 }
 
-// A part on the rack as an object.
-fn rack_row_value(alloc: Global, row: &RackRow) -> Result<Value, AllocError>
-    ensures { IfOk result (λ value. view value ≡ form.rack_row_data row.now) }
+// Writes a part on the rack.
+fn write_rack_row(alloc: Global, writer: &mut Writer, row: &RackRow) -> Result<(), AllocError>
+    ensures value { OnOk result (AddsValue writer.old writer.new (form.rack_row_data row.now)) }
+    ensures wide { OnOk result (HasWideSides row.now) }
 {
-    let h = wide(row.h);
-    let w = wide(row.w);
-    let part = part_text(alloc, &row.part)?;
-    let state = state_word(row.state);
-    let value = json!(in alloc; {"h": h, "part": part.as_str(), "state": state, "w": w})?;
-    Ok(value)
+    writer.begin_object()?;
+    write_number(writer, "h", wide(row.h))?;
+    write_name(alloc, writer, "part", &row.part)?;
+    write_text(writer, "state", state_word(row.state))?;
+    write_number(writer, "w", wide(row.w))?;
+    writer.end_object()?;
+    Ok(())
 }
 
-// The parts on the rack as a list of objects.
-fn rack_value(alloc: Global, parts: &[RackRow]) -> Result<Value, AllocError>
-    ensures { IfOk result (λ value. view value ≡ form.rack_data parts.now) }
+// Writes the parts on the rack.
+fn write_rack(alloc: Global, writer: &mut Writer, parts: &[RackRow]) -> Result<(), AllocError>
+    ensures value { OnOk result (AddsValue writer.old writer.new (form.rack_data parts.now)) }
+    ensures wide { OnOk result (All HasWideSides parts.now) }
 {
-    let mut values: Vec<Value> = Vec::new(alloc);
+    writer.begin_array()?;
     for row in parts {
-        values.push(rack_row_value(alloc, row)?)?;
+        write_rack_row(alloc, writer, row)?;
     }
-    Ok(Value::Array(values))
+    writer.end_array()?;
+    Ok(())
 }
 
-// The object of the reply to it.
-pub(crate) fn rack_reply(
+// Writes the reply to it.
+pub(crate) fn tell_rack(
     alloc: Global,
+    writer: &mut Writer,
     material: &str,
     parts: &[RackRow],
-) -> Result<Value, AllocError>
-    ensures { IfOk result (λ value. view value ≡ reply_data (reply.Rack material.now parts.now)) }
+) -> Result<(), AllocError>
+    ensures value { OnOk result (AddsValue writer.old writer.new (reply_data (reply.Rack material.now parts.now))) }
+    ensures wide { OnOk result (HasWideNumbers (reply.Rack material.now parts.now)) }
 {
-    let parts = rack_value(alloc, parts)?;
-    json!(in alloc; {"material": material, "ok": "rack", "parts": parts})
+    writer.begin_object()?;
+    write_text(writer, "material", material)?;
+    write_text(writer, "ok", "rack")?;
+    writer.key("parts")?;
+    write_rack(alloc, writer, parts)?;
+    writer.end_object()?;
+    Ok(())
 }
 
 // The query for a part.
@@ -107,56 +124,33 @@ pub(crate) struct Place {
     pub(crate) y: u64,
 }
 
-// The object that tells of a part, by the texts of its names and its state.
-fn trace_value(
+// Writes the reply to the query.
+pub(crate) fn tell_trace(
     alloc: Global,
-    batch: &str,
-    of: u64,
-    part: &str,
-    root: &str,
-    state: &str,
-    place: Place,
-) -> Result<Value, AllocError>
-    ensures { IfOk result (λ value. view value ≡ trace_data batch.now part.now root.now state.now place.h of place.w place.x place.y) }
-{
-    json!(in alloc; {
-        "batch": batch,
-        "h": place.h,
-        "of": of,
-        "ok": "trace",
-        "part": part,
-        "root": root,
-        "state": state,
-        "w": place.w,
-        "x": place.x,
-        "y": place.y
-    })
-}
-
-// The object of the reply to the query.
-pub(crate) fn trace_reply(
-    alloc: Global,
+    writer: &mut Writer,
     batch: &str,
     of: u64,
     part: &PartName,
     root: &PartName,
     state: StateWord,
     place: Place,
-) -> Result<Value, AllocError>
-    ensures { IfOk result (λ value. view value ≡ reply_data (reply.Trace batch.now place.h of part.now root.now state place.w place.x place.y)) }
+) -> Result<(), AllocError>
+    ensures value { OnOk result (AddsValue writer.old writer.new (reply_data (reply.Trace batch.now place.h of part.now root.now state place.w place.x place.y))) }
+    ensures wide { OnOk result (HasWideNumbers (reply.Trace batch.now place.h of part.now root.now state place.w place.x place.y)) }
 {
-    let part = part_text(alloc, part)?;
-    let root = part_text(alloc, root)?;
-    let value = trace_value(
-        alloc,
-        batch,
-        of,
-        part.as_str(),
-        root.as_str(),
-        state_word(state),
-        place,
-    )?;
-    Ok(value)
+    writer.begin_object()?;
+    write_text(writer, "batch", batch)?;
+    write_number(writer, "h", place.h)?;
+    write_number(writer, "of", of)?;
+    write_text(writer, "ok", "trace")?;
+    write_name(alloc, writer, "part", part)?;
+    write_name(alloc, writer, "root", root)?;
+    write_text(writer, "state", state_word(state))?;
+    write_number(writer, "w", place.w)?;
+    write_number(writer, "x", place.x)?;
+    write_number(writer, "y", place.y)?;
+    writer.end_object()?;
+    Ok(())
 }
 
 // The query for a demand.
@@ -175,27 +169,29 @@ pub(crate) struct Counts {
     pub(crate) made: u64,
 }
 
-// The object of the reply to it.
-pub(crate) fn demand_reply(
-    alloc: Global,
+// Writes the reply to it.
+pub(crate) fn tell_demand(
+    writer: &mut Writer,
     demand: u64,
     line: u64,
     material: &str,
     order: &str,
     counts: Counts,
-) -> Result<Value, AllocError>
-    ensures { IfOk result (λ value. view value ≡ reply_data (reply.Demand demand line counts.made material.now order.now counts.reserved counts.wanted)) }
+) -> Result<(), AllocError>
+    ensures value { OnOk result (AddsValue writer.old writer.new (reply_data (reply.Demand demand line counts.made material.now order.now counts.reserved counts.wanted))) }
+    ensures wide { OnOk result (HasWideNumbers (reply.Demand demand line counts.made material.now order.now counts.reserved counts.wanted)) }
 {
-    json!(in alloc; {
-        "demand": demand,
-        "line": line,
-        "made": counts.made,
-        "material": material,
-        "ok": "demand",
-        "order": order,
-        "reserved": counts.reserved,
-        "wanted": counts.wanted
-    })
+    writer.begin_object()?;
+    write_number(writer, "demand", demand)?;
+    write_number(writer, "line", line)?;
+    write_number(writer, "made", counts.made)?;
+    write_text(writer, "material", material)?;
+    write_text(writer, "ok", "demand")?;
+    write_text(writer, "order", order)?;
+    write_number(writer, "reserved", counts.reserved)?;
+    write_number(writer, "wanted", counts.wanted)?;
+    writer.end_object()?;
+    Ok(())
 }
 
 // The query for a plan.
@@ -219,23 +215,25 @@ fn plan_query(alloc: Global, value: &Value) -> Result<Option<Query>, AllocError>
     }))
 }
 
-// The object of the reply to it.
-pub(crate) fn plan_reply(
-    alloc: Global,
+// Writes the reply to it.
+pub(crate) fn tell_plan(
+    writer: &mut Writer,
     ceiling: u64,
     dropped: u64,
     tree: &str,
     worth: u64,
-) -> Result<Value, AllocError>
-    ensures { IfOk result (λ value. view value ≡ reply_data (reply.Plan ceiling dropped tree.now worth)) }
+) -> Result<(), AllocError>
+    ensures value { OnOk result (AddsValue writer.old writer.new (reply_data (reply.Plan ceiling dropped tree.now worth))) }
+    ensures wide { OnOk result (HasWideNumbers (reply.Plan ceiling dropped tree.now worth)) }
 {
-    json!(in alloc; {
-        "ceiling": ceiling,
-        "dropped": dropped,
-        "ok": "plan",
-        "tree": tree,
-        "worth": worth
-    })
+    writer.begin_object()?;
+    write_number(writer, "ceiling", ceiling)?;
+    write_number(writer, "dropped", dropped)?;
+    write_text(writer, "ok", "plan")?;
+    write_text(writer, "tree", tree)?;
+    write_number(writer, "worth", worth)?;
+    writer.end_object()?;
+    Ok(())
 }
 
 // The query for a bound.
@@ -267,11 +265,17 @@ fn bound_query(alloc: Global, value: &Value) -> Result<Option<Query>, AllocError
     }))
 }
 
-// The object of the reply to it.
-pub(crate) fn bound_reply(alloc: Global, best: u64, units: u64) -> Result<Value, AllocError>
-    ensures { IfOk result (λ value. view value ≡ reply_data (reply.Bound best units)) }
+// Writes the reply to it.
+pub(crate) fn tell_bound(writer: &mut Writer, best: u64, units: u64) -> Result<(), AllocError>
+    ensures value { OnOk result (AddsValue writer.old writer.new (reply_data (reply.Bound best units))) }
+    ensures wide { OnOk result (HasWideNumbers (reply.Bound best units)) }
 {
-    json!(in alloc; {"best": best, "ok": "bound", "units": units})
+    writer.begin_object()?;
+    write_number(writer, "best", best)?;
+    write_text(writer, "ok", "bound")?;
+    write_number(writer, "units", units)?;
+    writer.end_object()?;
+    Ok(())
 }
 
 // The query with one key beside `ask` that a value stands for.

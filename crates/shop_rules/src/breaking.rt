@@ -1,16 +1,19 @@
-ghost use Rattle.std.specs.Prelude.{◌≡◌, IfOk, All};
+ghost use Rattle.std.specs.Prelude.{◌≡◌, IfOk, OnOk, All};
 ghost use Rattle.serde_json.specs.View.{view};
 ghost use Rattle.shop_machine.specs.declared.messages.Command.TheVariants.{Break};
 ghost use Rattle.shop_machine.specs.Messages.{IsNumber, IsHalt};
 ghost use Rattle.shop_rules.specs.Fields.{row};
 ghost use Rattle.shop_rules.specs.Forms as form;
 ghost use Rattle.shop_rules.specs.Forms.{message_data};
+ghost use Rattle.shop_rules.specs.Tokens.{AddsValue};
 
 use crate::ending::ended_cells;
 use crate::fields::{flag_at, has_keys, number_at, numbers_at};
 use crate::words::wide;
+use crate::writing::{write_number, write_text};
 use cut_tree::{Halt, MOST_CUTS};
-use serde_json::{Value, json};
+use json::Writer;
+use serde_json::Value;
 use shop_machine::{Command, Reply};
 use std::alloc::{AllocError, Global};
 
@@ -81,59 +84,61 @@ pub(crate) fn has_few_cuts(command: &Command) -> bool
     }
 }
 
-// Listed cuts as a list of numbers.
-fn list_value(alloc: Global, cuts: &[u32]) -> Result<Value, AllocError>
-    ensures { IfOk result (λ value. view value ≡ form.list_data cuts.now) }
+// Writes listed cuts.
+fn write_list(writer: &mut Writer, cuts: &[u32]) -> Result<(), AllocError>
+    ensures { OnOk result (AddsValue writer.old writer.new (form.list_data cuts.now)) }
 {
-    let mut values: Vec<Value> = Vec::new(alloc);
+    writer.begin_array()?;
     for cut in cuts {
-        values.push(Value::from(*cut))?;
+        writer.u64(wide(*cut))?;
     }
-    Ok(Value::Array(values))
+    writer.end_array()?;
+    Ok(())
 }
 
-// The cuts that were made: their number, or a list.
-fn cuts_value(alloc: Global, halt: &Halt) -> Result<Value, AllocError>
-    ensures { IfOk result (λ value. view value ≡ form.cuts_data halt.now) }
+// Writes the cuts that were made: their number, or a list.
+fn write_cuts(writer: &mut Writer, halt: &Halt) -> Result<(), AllocError>
+    ensures { OnOk result (AddsValue writer.old writer.new (form.cuts_data halt.now)) }
 {
     match halt {
-        Halt::First { cuts, .. } => Ok(Value::from(*cuts)),
-        Halt::Listed { cuts, .. } => list_value(alloc, cuts.as_slice()),
+        Halt::First { cuts, .. } => writer.u64(wide(*cuts)),
+        Halt::Listed { cuts, .. } => write_list(writer, cuts.as_slice()),
     }
 }
 
-// Whether a cut went wrong, or which.
-fn lost_value(halt: &Halt) -> Value
-    ensures { view result ≡ form.lost_data halt.now }
+// Writes whether a cut went wrong, or which.
+fn write_lost(writer: &mut Writer, halt: &Halt) -> Result<(), AllocError>
+    ensures { OnOk result (AddsValue writer.old writer.new (form.lost_data halt.now)) }
 {
     match halt {
-        Halt::First { lost, .. } => Value::from(*lost),
+        Halt::First { lost, .. } => writer.boolean(*lost),
         Halt::Listed { lost, .. } => match lost {
-            Some(cut) => Value::from(*cut),
-            None => Value::from(false),
+            Some(cut) => writer.u64(wide(*cut)),
+            None => writer.boolean(false),
         },
     }
 }
 
-// The object of a message that breaks a job off.
-pub(crate) fn break_value(
-    alloc: Global,
+// Writes a message that breaks a job off.
+pub(crate) fn write_break(
+    writer: &mut Writer,
     pair: (u64, u64),
     job: u64,
     halt: &Halt,
-) -> Result<Value, AllocError>
-    ensures { IfOk result (λ value. view value ≡ message_data (record { terminal = pair.0; number = pair.1; command = Break job halt.now })) }
+) -> Result<(), AllocError>
+    ensures { OnOk result (AddsValue writer.old writer.new (message_data (record { terminal = pair.0; number = pair.1; command = Break job halt.now }))) }
 {
-    let cuts = cuts_value(alloc, halt)?;
-    let lost = lost_value(halt);
-    json!(in alloc; {
-        "cuts": cuts,
-        "do": "break",
-        "job": job,
-        "lost": lost,
-        "number": pair.1,
-        "terminal": pair.0
-    })
+    writer.begin_object()?;
+    writer.key("cuts")?;
+    write_cuts(writer, halt)?;
+    write_text(writer, "do", "break")?;
+    write_number(writer, "job", job)?;
+    writer.key("lost")?;
+    write_lost(writer, halt)?;
+    write_number(writer, "number", pair.1)?;
+    write_number(writer, "terminal", pair.0)?;
+    writer.end_object()?;
+    Ok(())
 }
 
 // Reads each cut, so that all are known to be in range.

@@ -1,15 +1,20 @@
-ghost use Rattle.std.specs.Prelude.{◌≡◌, IfOk};
+ghost use Rattle.std.specs.Prelude.{◌≡◌, OnOk};
 ghost use Rattle.serde_json.specs.View.{view};
 ghost use Rattle.shop_machine.specs.declared.messages.Command.TheVariants.{Done, Release};
 ghost use Rattle.shop_machine.specs.declared.messages.Reply.TheVariants as reply;
+ghost use Rattle.shop_machine.specs.Messages.{IsWide};
 ghost use Rattle.shop_rules.specs.Fields.{row};
 ghost use Rattle.shop_rules.specs.Forms as form;
 ghost use Rattle.shop_rules.specs.Forms.{message_data, reply_data};
+ghost use Rattle.shop_rules.specs.Told.{HasWideNumbers};
+ghost use Rattle.shop_rules.specs.Tokens.{AddsValue};
 
 use crate::fields::{has_keys, number_at, wide_at};
-use serde_json::{Value, json};
+use crate::writing::{write_number, write_text};
+use json::Writer;
+use serde_json::Value;
 use shop_machine::{Command, Reply};
-use std::alloc::{AllocError, Global};
+use std::alloc::AllocError;
 
 // The command that a job is done.
 pub(crate) fn done_command(value: &Value) -> Option<Command>
@@ -22,11 +27,17 @@ pub(crate) fn done_command(value: &Value) -> Option<Command>
     Some(Command::Done { job })
 }
 
-// The object of a message that ends a job.
-pub(crate) fn done_value(alloc: Global, pair: (u64, u64), job: u64) -> Result<Value, AllocError>
-    ensures { IfOk result (λ value. view value ≡ message_data (record { terminal = pair.0; number = pair.1; command = Done job })) }
+// Writes a message that ends a job.
+pub(crate) fn write_done(writer: &mut Writer, pair: (u64, u64), job: u64) -> Result<(), AllocError>
+    ensures { OnOk result (AddsValue writer.old writer.new (message_data (record { terminal = pair.0; number = pair.1; command = Done job }))) }
 {
-    json!(in alloc; {"do": "done", "job": job, "number": pair.1, "terminal": pair.0})
+    writer.begin_object()?;
+    write_text(writer, "do", "done")?;
+    write_number(writer, "job", job)?;
+    write_number(writer, "number", pair.1)?;
+    write_number(writer, "terminal", pair.0)?;
+    writer.end_object()?;
+    Ok(())
 }
 
 // What is told of a job that ended: its number, and the cells of kerf, pieces, rack and scrap.
@@ -58,26 +69,28 @@ pub(crate) fn done_made(value: &Value) -> Option<Reply>
     })
 }
 
-// The object of the reply to a job's end, by its word.
-pub(crate) fn ended_reply(
-    alloc: Global,
+// Writes the reply to a job's end, by its word.
+pub(crate) fn tell_ended(
+    writer: &mut Writer,
     word: &str,
     job: u64,
     kerf: u64,
     pieces: u64,
     rack: u64,
     scrap: u64,
-) -> Result<Value, AllocError>
-    ensures { IfOk result (λ value. view value ≡ form.ended_told word.now job kerf pieces rack scrap) }
+) -> Result<(), AllocError>
+    ensures value { OnOk result (AddsValue writer.old writer.new (form.ended_told word.now job kerf pieces rack scrap)) }
+    ensures wide { OnOk result (IsWide job × IsWide kerf × IsWide pieces × IsWide rack × IsWide scrap) }
 {
-    json!(in alloc; {
-        "job": job,
-        "kerf": kerf,
-        "ok": word,
-        "pieces": pieces,
-        "rack": rack,
-        "scrap": scrap
-    })
+    writer.begin_object()?;
+    write_number(writer, "job", job)?;
+    write_number(writer, "kerf", kerf)?;
+    write_text(writer, "ok", word)?;
+    write_number(writer, "pieces", pieces)?;
+    write_number(writer, "rack", rack)?;
+    write_number(writer, "scrap", scrap)?;
+    writer.end_object()?;
+    Ok(())
 }
 
 // The command to release a job's part.
@@ -91,11 +104,21 @@ pub(crate) fn release_command(value: &Value) -> Option<Command>
     Some(Command::Release { job })
 }
 
-// The object of a message that releases a job's part.
-pub(crate) fn release_value(alloc: Global, pair: (u64, u64), job: u64) -> Result<Value, AllocError>
-    ensures { IfOk result (λ value. view value ≡ message_data (record { terminal = pair.0; number = pair.1; command = Release job })) }
+// Writes a message that releases a job's part.
+pub(crate) fn write_release(
+    writer: &mut Writer,
+    pair: (u64, u64),
+    job: u64,
+) -> Result<(), AllocError>
+    ensures { OnOk result (AddsValue writer.old writer.new (message_data (record { terminal = pair.0; number = pair.1; command = Release job }))) }
 {
-    json!(in alloc; {"do": "release", "job": job, "number": pair.1, "terminal": pair.0})
+    writer.begin_object()?;
+    write_text(writer, "do", "release")?;
+    write_number(writer, "job", job)?;
+    write_number(writer, "number", pair.1)?;
+    write_number(writer, "terminal", pair.0)?;
+    writer.end_object()?;
+    Ok(())
 }
 
 // The reply to it.
@@ -109,9 +132,14 @@ pub(crate) fn release_made(value: &Value) -> Option<Reply>
     Some(Reply::Release { job })
 }
 
-// The object of the reply.
-pub(crate) fn release_reply(alloc: Global, job: u64) -> Result<Value, AllocError>
-    ensures { IfOk result (λ value. view value ≡ reply_data (reply.Release job)) }
+// Writes the reply to it.
+pub(crate) fn tell_release(writer: &mut Writer, job: u64) -> Result<(), AllocError>
+    ensures value { OnOk result (AddsValue writer.old writer.new (reply_data (reply.Release job))) }
+    ensures wide { OnOk result (HasWideNumbers (reply.Release job)) }
 {
-    json!(in alloc; {"job": job, "ok": "release"})
+    writer.begin_object()?;
+    write_number(writer, "job", job)?;
+    write_text(writer, "ok", "release")?;
+    writer.end_object()?;
+    Ok(())
 }

@@ -1,15 +1,18 @@
-ghost use Rattle.std.specs.Prelude.{◌≡◌, IfOk};
+ghost use Rattle.std.specs.Prelude.{◌≡◌, IfOk, OnOk};
 ghost use Rattle.serde_json.specs.View.{view};
-ghost use Rattle.shop_machine.specs.Messages.{IsForm};
 ghost use Rattle.shop_machine.specs.declared.messages.Command.TheVariants.{Import};
 ghost use Rattle.shop_machine.specs.declared.messages.Reply.TheVariants as reply;
-ghost use Rattle.shop_machine.specs.declared.imports.Form.TheVariants.{Csv};
+ghost use Rattle.shop_machine.specs.declared.imports.Form.TheVariants.{Csv, Cgcut};
 ghost use Rattle.shop_rules.specs.Fields.{row};
 ghost use Rattle.shop_rules.specs.Forms as forms;
 ghost use Rattle.shop_rules.specs.Forms.{message_data, reply_data};
+ghost use Rattle.shop_rules.specs.Told.{HasWideNumbers};
+ghost use Rattle.shop_rules.specs.Tokens.{AddsValue};
 
 use crate::fields::{code_at, has_keys, number_at, text_at};
-use serde_json::{Value, json};
+use crate::writing::{write_number, write_text};
+use json::Writer;
+use serde_json::Value;
 use shop_machine::{Command, Form, Reply, Text};
 use std::alloc::{AllocError, Global};
 
@@ -69,51 +72,46 @@ pub(crate) fn import_command(alloc: Global, value: &Value) -> Result<Option<Comm
     }
 }
 
-// The object of a message that imports an order.
-pub(crate) fn import_value(
-    alloc: Global,
+// Writes a message that imports an order file.
+pub(crate) fn write_csv(
+    writer: &mut Writer,
     pair: (u64, u64),
     order: &str,
-    form: Form,
     text: &str,
-) -> Result<Value, AllocError>
-    ensures { IfOk result (λ value. view value ≡ message_data (record { terminal = pair.0; number = pair.1; command = Import order.now form text.now })) }
+) -> Result<(), AllocError>
+    ensures { OnOk result (AddsValue writer.old writer.new (message_data (record { terminal = pair.0; number = pair.1; command = Import order.now Csv text.now }))) }
 {
-    match form {
-        Form::Csv => {
-            json!(in alloc; {
-                "do": "import",
-                "form": "csv",
-                "number": pair.1,
-                "order": order,
-                "terminal": pair.0,
-                "text": text
-            })
-        }
-        Form::Cgcut(material) => {
-            json!(in alloc; {
-                "do": "import",
-                "form": "cgcut",
-                "material": material.as_str(),
-                "number": pair.1,
-                "order": order,
-                "terminal": pair.0,
-                "text": text
-            })
-        }
-    }
+    writer.begin_object()?;
+    write_text(writer, "do", "import")?;
+    write_text(writer, "form", "csv")?;
+    write_number(writer, "number", pair.1)?;
+    write_text(writer, "order", order)?;
+    write_number(writer, "terminal", pair.0)?;
+    write_text(writer, "text", text)?;
+    writer.end_object()?;
+    Ok(())
 }
 
-// Reads a form's material, which so is known to be a code.
-pub(crate) fn see_form(form: &Form)
-    ensures { IsForm form.now }
+// Writes a message that imports a problem file, for a material.
+pub(crate) fn write_problem(
+    writer: &mut Writer,
+    pair: (u64, u64),
+    material: &str,
+    order: &str,
+    text: &str,
+) -> Result<(), AllocError>
+    ensures { OnOk result (AddsValue writer.old writer.new (message_data (record { terminal = pair.0; number = pair.1; command = Import order.now (Cgcut material.now) text.now }))) }
 {
-    match form {
-        Form::Csv => {}
-        Form::Cgcut(material) => {
-            let _code = material.as_str();
-        }
-    }
+    writer.begin_object()?;
+    write_text(writer, "do", "import")?;
+    write_text(writer, "form", "cgcut")?;
+    write_text(writer, "material", material)?;
+    write_number(writer, "number", pair.1)?;
+    write_text(writer, "order", order)?;
+    write_number(writer, "terminal", pair.0)?;
+    write_text(writer, "text", text)?;
+    writer.end_object()?;
+    Ok(())
 }
 
 // The reply to it.
@@ -135,15 +133,23 @@ pub(crate) fn import_made(value: &Value) -> Option<Reply>
     })
 }
 
-// The object of the reply.
-pub(crate) fn import_reply(
-    alloc: Global,
+// Writes the reply to it.
+pub(crate) fn tell_import(
+    writer: &mut Writer,
     act: u64,
     count: u64,
     first: u64,
     order: &str,
-) -> Result<Value, AllocError>
-    ensures { IfOk result (λ value. view value ≡ reply_data (reply.Import act count first order.now)) }
+) -> Result<(), AllocError>
+    ensures value { OnOk result (AddsValue writer.old writer.new (reply_data (reply.Import act count first order.now))) }
+    ensures wide { OnOk result (HasWideNumbers (reply.Import act count first order.now)) }
 {
-    json!(in alloc; {"act": act, "count": count, "first": first, "ok": "import", "order": order})
+    writer.begin_object()?;
+    write_number(writer, "act", act)?;
+    write_number(writer, "count", count)?;
+    write_number(writer, "first", first)?;
+    write_text(writer, "ok", "import")?;
+    write_text(writer, "order", order)?;
+    writer.end_object()?;
+    Ok(())
 }

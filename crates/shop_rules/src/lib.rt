@@ -15,6 +15,7 @@ mod replies;
 mod reserving;
 mod turning;
 mod words;
+mod writing;
 
 pub use cut_measure::{Axis, Code, Kind, Limits, PartName, Size};
 pub use cut_tree::{CutList, Halt};

@@ -1,23 +1,26 @@
-ghost use Rattle.std.specs.Prelude.{◌≡◌, ◌≢◌, ◌⊎◌, IfOk, IfErr, Some, None, option_map};
+ghost use Rattle.std.specs.Prelude.{◌≡◌, ◌≢◌, ◌⊎◌, IfOk, IfErr, OnOk, Some, None, option_map};
 ghost use Rattle.serde_json.specs.View.{view};
 ghost use Rattle.shop_machine.specs.Messages.{IsMessage};
 ghost use Rattle.shop_machine.specs.declared.refusals.Refusal.TheVariants.{BadMessage, NoMemory};
 ghost use Rattle.shop_rules.specs.Forms as form;
 ghost use Rattle.shop_rules.specs.Forms.{message_data, json_texts};
+ghost use Rattle.shop_rules.specs.Tokens.{AddsValue};
 
-use crate::adding::{material_command, material_value};
+use crate::adding::{material_command, write_material};
 use crate::asking::asked;
-use crate::breaking::{break_command, break_value, has_few_cuts, see_halt};
-use crate::ending::{done_command, done_value, release_command, release_value};
+use crate::breaking::{break_command, has_few_cuts, see_halt, write_break};
+use crate::ending::{done_command, release_command, write_done, write_release};
 use crate::fields::{number_at, word_at};
-use crate::importing::{import_command, import_value, see_form};
-use crate::ordering::{order_command, order_value, see_lines};
-use crate::receiving::{receive_command, receive_value};
-use crate::reserving::{reserve_command, reserve_value};
-use crate::turning::{return_command, return_value, scrap_command, scrap_value};
+use crate::importing::{import_command, write_csv, write_problem};
+use crate::ordering::{order_command, see_lines, write_order};
+use crate::receiving::{receive_command, write_receive};
+use crate::reserving::{reserve_command, write_reserve};
+use crate::turning::{return_command, scrap_command, write_return, write_scrap};
 use crate::words::{see_part, wide};
+use crate::writing::{new_writer, value_of, written_text};
+use json::Writer;
 use serde_json::Value;
-use shop_machine::{Command, Message, Query, Refusal, Text};
+use shop_machine::{Command, Form, Message, Query, Refusal, Text};
 use std::alloc::{AllocError, Global};
 
 // The command that a value stands for, by the word of `do`.
@@ -94,9 +97,9 @@ pub fn read_message(alloc: Global, value: &Value) -> Result<Message, Refusal>
     }
 }
 
-/// A message as an object.
-pub fn message_value(alloc: Global, message: &Message) -> Result<Value, AllocError>
-    ensures value { IfOk result (λ value. view value ≡ message_data message.now) }
+// Writes a message.
+fn write_message(alloc: Global, writer: &mut Writer, message: &Message) -> Result<(), AllocError>
+    ensures value { OnOk result (AddsValue writer.old writer.new (message_data message.now)) }
     ensures message { IsMessage message.now }
 {
     let pair = (wide(message.terminal), wide(message.number));
@@ -107,8 +110,8 @@ pub fn message_value(alloc: Global, message: &Message) -> Result<Value, AllocErr
             kerf,
             min_long,
             min_short,
-        } => material_value(
-            alloc,
+        } => write_material(
+            writer,
             pair,
             material.as_str(),
             *kind,
@@ -122,8 +125,8 @@ pub fn message_value(alloc: Global, message: &Message) -> Result<Value, AllocErr
             w,
             h,
             count,
-        } => receive_value(
-            alloc,
+        } => write_receive(
+            writer,
             pair,
             material.as_str(),
             batch.as_str(),
@@ -133,42 +136,64 @@ pub fn message_value(alloc: Global, message: &Message) -> Result<Value, AllocErr
         ),
         Command::AddOrder { order, lines } => {
             see_lines(lines.as_slice());
-            order_value(alloc, pair, order.as_str(), lines.as_slice())
+            write_order(writer, pair, order.as_str(), lines.as_slice())
         }
         Command::Reserve { part, tree } => {
             see_part(part);
-            reserve_value(alloc, pair, part, tree.as_str())
+            write_reserve(alloc, writer, pair, part, tree.as_str())
         }
-        Command::Done { job } => done_value(alloc, pair, wide(*job)),
+        Command::Done { job } => write_done(writer, pair, wide(*job)),
         Command::Break { job, halt } => {
             see_halt(halt);
-            break_value(alloc, pair, wide(*job), halt)
+            write_break(writer, pair, wide(*job), halt)
         }
-        Command::Release { job } => release_value(alloc, pair, wide(*job)),
+        Command::Release { job } => write_release(writer, pair, wide(*job)),
         Command::Scrap { part } => {
             see_part(part);
-            scrap_value(alloc, pair, part)
+            write_scrap(alloc, writer, pair, part)
         }
         Command::GiveBack { part } => {
             see_part(part);
-            return_value(alloc, pair, part)
+            write_return(alloc, writer, pair, part)
         }
-        Command::Import { order, form, text } => {
-            see_form(form);
-            import_value(alloc, pair, order.as_str(), *form, text.as_str())
-        }
+        Command::Import {
+            order,
+            form: Form::Csv,
+            text,
+        } => write_csv(writer, pair, order.as_str(), text.as_str()),
+        Command::Import {
+            order,
+            form: Form::Cgcut(material),
+            text,
+        } => write_problem(
+            writer,
+            pair,
+            material.as_str(),
+            order.as_str(),
+            text.as_str(),
+        ),
     }
 }
 
-#[tactic(auto, using(crate::proofs::Back::message_no_float), unfolding(crate::specs::Forms::json_texts))]
+#[tactic(auto, using(crate::proofs::Back::message_text_printed))]
 /// The canonical text of a message: compact, with its keys in byte order.
 pub fn message_text(alloc: Global, message: &Message) -> Result<Text, AllocError>
     ensures text { IfOk result (λ text. text ≡ json_texts.of_message message.now) }
     ensures message { IsMessage message.now }
 {
-    let value = message_value(alloc, message)?;
-    let text = value.to_string(alloc)?;
-    Ok(Text::of(text))
+    let mut writer = new_writer(alloc);
+    write_message(alloc, &mut writer, message)?;
+    Ok(written_text(writer))
+}
+
+/// A message as an object.
+pub fn message_value(alloc: Global, message: &Message) -> Result<Value, AllocError>
+    ensures value { IfOk result (λ value. view value ≡ message_data message.now) }
+    ensures message { IsMessage message.now }
+{
+    let text = message_text(alloc, message)?;
+    let value = value_of(alloc, &text)?;
+    Ok(value)
 }
 
 /// The query that a value stands for; refused `BadMessage` where it stands for none, and `NoMemory` where memory runs out.

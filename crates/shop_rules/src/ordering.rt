@@ -1,4 +1,4 @@
-ghost use Rattle.std.specs.Prelude.{◌≡◌, IfOk, All, map};
+ghost use Rattle.std.specs.Prelude.{◌≡◌, IfOk, OnOk, All, map};
 ghost use Rattle.serde_json.specs.View.{view};
 ghost use Rattle.shop_machine.specs.declared.messages.Command.TheVariants.{AddOrder};
 ghost use Rattle.shop_machine.specs.declared.messages.Reply.TheVariants as reply;
@@ -6,10 +6,14 @@ ghost use Rattle.shop_machine.specs.Messages.{IsLine};
 ghost use Rattle.shop_rules.specs.Fields.{all_of, row};
 ghost use Rattle.shop_rules.specs.Forms as form;
 ghost use Rattle.shop_rules.specs.Forms.{message_data, reply_data};
+ghost use Rattle.shop_rules.specs.Told.{HasWideNumbers};
+ghost use Rattle.shop_rules.specs.Tokens.{AddsValue};
 
 use crate::fields::{code_at, elements_at, flag_at, has_keys, number_at};
 use crate::words::wide;
-use serde_json::{Value, json};
+use crate::writing::{write_number, write_text};
+use json::Writer;
+use serde_json::Value;
 use shop_machine::{Command, LineList, OrderLine, Reply};
 use std::alloc::{AllocError, Global};
 
@@ -84,54 +88,53 @@ pub(crate) fn order_command(alloc: Global, value: &Value) -> Result<Option<Comma
     }
 }
 
-// An order's line as an object.
-fn line_value(alloc: Global, line: &OrderLine) -> Result<Value, AllocError>
-    ensures { IfOk result (λ value. view value ≡ form.line_data line.now) }
+// Writes an order's line.
+fn write_line(writer: &mut Writer, line: &OrderLine) -> Result<(), AllocError>
+    ensures { OnOk result (AddsValue writer.old writer.new (form.line_data line.now)) }
 {
-    let count = wide(line.count);
-    let h = wide(line.h);
-    let number = wide(line.line);
-    let w = wide(line.w);
-    let worth = wide(line.worth);
-    json!(in alloc; {
-        "count": count,
-        "h": h,
-        "line": number,
-        "material": line.material.as_str(),
-        "turn": line.turn,
-        "w": w,
-        "worth": worth
-    })
+    writer.begin_object()?;
+    write_number(writer, "count", wide(line.count))?;
+    write_number(writer, "h", wide(line.h))?;
+    write_number(writer, "line", wide(line.line))?;
+    write_text(writer, "material", line.material.as_str())?;
+    writer.key("turn")?;
+    writer.boolean(line.turn)?;
+    write_number(writer, "w", wide(line.w))?;
+    write_number(writer, "worth", wide(line.worth))?;
+    writer.end_object()?;
+    Ok(())
 }
 
-// An order's lines as a list of objects.
-fn lines_value(alloc: Global, lines: &[OrderLine]) -> Result<Value, AllocError>
-    ensures { IfOk result (λ value. view value ≡ form.lines_data lines.now) }
+// Writes an order's lines.
+fn write_lines(writer: &mut Writer, lines: &[OrderLine]) -> Result<(), AllocError>
+    ensures { OnOk result (AddsValue writer.old writer.new (form.lines_data lines.now)) }
 {
-    let mut values: Vec<Value> = Vec::new(alloc);
+    writer.begin_array()?;
     for line in lines {
-        values.push(line_value(alloc, line)?)?;
+        write_line(writer, line)?;
     }
-    Ok(Value::Array(values))
+    writer.end_array()?;
+    Ok(())
 }
 
-// The object of a message that adds an order.
-pub(crate) fn order_value(
-    alloc: Global,
+// Writes a message that adds an order.
+pub(crate) fn write_order(
+    writer: &mut Writer,
     pair: (u64, u64),
     order: &str,
     lines: &[OrderLine],
-) -> Result<Value, AllocError>
-    ensures { IfOk result (λ value. view value ≡ message_data (record { terminal = pair.0; number = pair.1; command = AddOrder order.now lines.now })) }
+) -> Result<(), AllocError>
+    ensures { OnOk result (AddsValue writer.old writer.new (message_data (record { terminal = pair.0; number = pair.1; command = AddOrder order.now lines.now }))) }
 {
-    let lines = lines_value(alloc, lines)?;
-    json!(in alloc; {
-        "do": "order",
-        "lines": lines,
-        "number": pair.1,
-        "order": order,
-        "terminal": pair.0
-    })
+    writer.begin_object()?;
+    write_text(writer, "do", "order")?;
+    writer.key("lines")?;
+    write_lines(writer, lines)?;
+    write_number(writer, "number", pair.1)?;
+    write_text(writer, "order", order)?;
+    write_number(writer, "terminal", pair.0)?;
+    writer.end_object()?;
+    Ok(())
 }
 
 // Reads a line, which so is known to be in range.
@@ -174,14 +177,21 @@ pub(crate) fn order_made(value: &Value) -> Option<Reply>
     })
 }
 
-// The object of the reply.
-pub(crate) fn order_reply(
-    alloc: Global,
+// Writes the reply to it.
+pub(crate) fn tell_order(
+    writer: &mut Writer,
     count: u64,
     first: u64,
     order: &str,
-) -> Result<Value, AllocError>
-    ensures { IfOk result (λ value. view value ≡ reply_data (reply.AddOrder count first order.now)) }
+) -> Result<(), AllocError>
+    ensures value { OnOk result (AddsValue writer.old writer.new (reply_data (reply.AddOrder count first order.now))) }
+    ensures wide { OnOk result (HasWideNumbers (reply.AddOrder count first order.now)) }
 {
-    json!(in alloc; {"count": count, "first": first, "ok": "order", "order": order})
+    writer.begin_object()?;
+    write_number(writer, "count", count)?;
+    write_number(writer, "first", first)?;
+    write_text(writer, "ok", "order")?;
+    write_text(writer, "order", order)?;
+    writer.end_object()?;
+    Ok(())
 }

@@ -1,15 +1,19 @@
-ghost use Rattle.std.specs.Prelude.{◌≡◌, IfOk};
+ghost use Rattle.std.specs.Prelude.{◌≡◌, OnOk};
 ghost use Rattle.serde_json.specs.View.{view};
 ghost use Rattle.shop_machine.specs.declared.messages.Command.TheVariants.{Receive};
 ghost use Rattle.shop_machine.specs.declared.messages.Reply.TheVariants as reply;
 ghost use Rattle.shop_rules.specs.Fields.{row};
 ghost use Rattle.shop_rules.specs.Forms as form;
 ghost use Rattle.shop_rules.specs.Forms.{message_data, reply_data};
+ghost use Rattle.shop_rules.specs.Told.{HasWideNumbers};
+ghost use Rattle.shop_rules.specs.Tokens.{AddsValue};
 
 use crate::fields::{code_at, has_keys, number_at};
-use serde_json::{Value, json};
+use crate::writing::{write_number, write_text};
+use json::Writer;
+use serde_json::Value;
 use shop_machine::{Command, Reply};
-use std::alloc::{AllocError, Global};
+use std::alloc::AllocError;
 
 // The command to receive units.
 pub(crate) fn receive_command(value: &Value) -> Option<Command>
@@ -32,28 +36,29 @@ pub(crate) fn receive_command(value: &Value) -> Option<Command>
     })
 }
 
-// The object of a message that receives units.
-pub(crate) fn receive_value(
-    alloc: Global,
+// Writes a message that receives units.
+pub(crate) fn write_receive(
+    writer: &mut Writer,
     pair: (u64, u64),
     material: &str,
     batch: &str,
     w: u64,
     h: u64,
     count: u64,
-) -> Result<Value, AllocError>
-    ensures { IfOk result (λ value. view value ≡ message_data (record { terminal = pair.0; number = pair.1; command = Receive material.now batch.now w h count })) }
+) -> Result<(), AllocError>
+    ensures { OnOk result (AddsValue writer.old writer.new (message_data (record { terminal = pair.0; number = pair.1; command = Receive material.now batch.now w h count }))) }
 {
-    json!(in alloc; {
-        "batch": batch,
-        "count": count,
-        "do": "receive",
-        "h": h,
-        "material": material,
-        "number": pair.1,
-        "terminal": pair.0,
-        "w": w
-    })
+    writer.begin_object()?;
+    write_text(writer, "batch", batch)?;
+    write_number(writer, "count", count)?;
+    write_text(writer, "do", "receive")?;
+    write_number(writer, "h", h)?;
+    write_text(writer, "material", material)?;
+    write_number(writer, "number", pair.1)?;
+    write_number(writer, "terminal", pair.0)?;
+    write_number(writer, "w", w)?;
+    writer.end_object()?;
+    Ok(())
 }
 
 // The reply to it.
@@ -68,9 +73,15 @@ pub(crate) fn receive_made(value: &Value) -> Option<Reply>
     Some(Reply::Receive { act, count })
 }
 
-// The object of the reply.
-pub(crate) fn receive_reply(alloc: Global, act: u64, count: u64) -> Result<Value, AllocError>
-    ensures { IfOk result (λ value. view value ≡ reply_data (reply.Receive act count)) }
+// Writes the reply to it.
+pub(crate) fn tell_receive(writer: &mut Writer, act: u64, count: u64) -> Result<(), AllocError>
+    ensures value { OnOk result (AddsValue writer.old writer.new (reply_data (reply.Receive act count))) }
+    ensures wide { OnOk result (HasWideNumbers (reply.Receive act count)) }
 {
-    json!(in alloc; {"act": act, "count": count, "ok": "receive"})
+    writer.begin_object()?;
+    write_number(writer, "act", act)?;
+    write_number(writer, "count", count)?;
+    write_text(writer, "ok", "receive")?;
+    writer.end_object()?;
+    Ok(())
 }

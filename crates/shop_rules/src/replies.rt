@@ -1,26 +1,31 @@
-ghost use Rattle.std.specs.Prelude.{◌≡◌, IfOk, Some};
+ghost use Rattle.std.specs.Prelude.{◌≡◌, IfOk, OnOk, Some};
 ghost use Rattle.std.specs.Option.{ok_or};
 ghost use Rattle.serde_json.specs.View.{view};
 ghost use Rattle.shop_machine.specs.Messages.{IsMade};
 ghost use Rattle.shop_machine.specs.declared.messages.Reply.{Reply as ReplyOf};
+ghost use Rattle.shop_machine.specs.declared.messages.Reply.TheVariants as answer;
 ghost use Rattle.shop_machine.specs.declared.refusals.Refusal.TheVariants.{BadMessage};
 ghost use Rattle.shop_rules.specs.Forms as form;
 ghost use Rattle.shop_rules.specs.Forms.{reply_data, json_texts};
+ghost use Rattle.shop_rules.specs.Told.{HasWideNumbers};
+ghost use Rattle.shop_rules.specs.Tokens.{AddsValue};
 
-use crate::adding::{material_made, material_reply};
+use crate::adding::{material_made, tell_material};
 use crate::asking::{
-    Counts, Place, bound_reply, demand_reply, plan_reply, rack_reply, totals_reply, trace_reply,
+    Counts, Place, tell_bound, tell_demand, tell_plan, tell_rack, tell_totals, tell_trace,
 };
 use crate::breaking::break_made;
-use crate::ending::{done_made, ended_reply, release_made, release_reply};
+use crate::ending::{done_made, release_made, tell_ended, tell_release};
 use crate::fields::text_at;
-use crate::importing::{import_made, import_reply};
-use crate::ordering::{order_made, order_reply};
-use crate::receiving::{receive_made, receive_reply};
-use crate::reserving::{reserve_made, reserve_reply};
-use crate::turning::{return_made, return_reply, scrap_made, scrap_reply};
+use crate::importing::{import_made, tell_import};
+use crate::ordering::{order_made, tell_order};
+use crate::receiving::{receive_made, tell_receive};
+use crate::reserving::{reserve_made, tell_reserve};
+use crate::turning::{return_made, scrap_made, tell_turned};
 use crate::words::wide;
-use serde_json::{Value, json};
+use crate::writing::{new_writer, value_of, write_number, write_text, written_text};
+use json::Writer;
+use serde_json::Value;
 use shop_machine::{Refusal, Reply, Text};
 use std::alloc::{AllocError, Global};
 
@@ -77,43 +82,57 @@ pub fn kept_reply(alloc: Global, text: &str) -> Result<Option<Reply>, AllocError
     }
 }
 
-/// A reply as an object.
-pub fn reply_value(alloc: Global, reply: &Reply) -> Result<Value, AllocError>
-    ensures { IfOk result (λ value. view value ≡ reply_data reply.now) }
+// Writes the reply of a refused message or query.
+fn tell_refusal(writer: &mut Writer, refusal: Refusal) -> Result<(), AllocError>
+    ensures value { OnOk result (AddsValue writer.old writer.new (reply_data (answer.Refused refusal))) }
+    ensures wide { OnOk result (HasWideNumbers (answer.Refused refusal)) }
+{
+    let number = wide(refusal.number());
+    writer.begin_object()?;
+    write_text(writer, "name", refusal.name())?;
+    write_number(writer, "refused", number)?;
+    writer.end_object()?;
+    Ok(())
+}
+
+// Writes a reply.
+fn write_reply(alloc: Global, writer: &mut Writer, reply: &Reply) -> Result<(), AllocError>
+    ensures value { OnOk result (AddsValue writer.old writer.new (reply_data reply.now)) }
+    ensures wide { OnOk result (HasWideNumbers reply.now) }
 {
     match reply {
-        Reply::AddMaterial { material } => { material_reply(alloc, material.as_str()) }
-        Reply::Receive { act, count } => { receive_reply(alloc, wide(*act), wide(*count)) }
+        Reply::AddMaterial { material } => { tell_material(writer, material.as_str()) }
+        Reply::Receive { act, count } => { tell_receive(writer, wide(*act), wide(*count)) }
         Reply::AddOrder {
             count,
             first,
             order,
-        } => order_reply(alloc, wide(*count), wide(*first), order.as_str()),
-        Reply::Reserve { cuts, job } => { reserve_reply(alloc, wide(*cuts), wide(*job)) }
+        } => tell_order(writer, wide(*count), wide(*first), order.as_str()),
+        Reply::Reserve { cuts, job } => { tell_reserve(writer, wide(*cuts), wide(*job)) }
         Reply::Done {
             job,
             kerf,
             pieces,
             rack,
             scrap,
-        } => ended_reply(alloc, "done", wide(*job), *kerf, *pieces, *rack, *scrap),
+        } => tell_ended(writer, "done", wide(*job), *kerf, *pieces, *rack, *scrap),
         Reply::Break {
             job,
             kerf,
             pieces,
             rack,
             scrap,
-        } => ended_reply(alloc, "break", wide(*job), *kerf, *pieces, *rack, *scrap),
-        Reply::Release { job } => { release_reply(alloc, wide(*job)) }
-        Reply::Scrap { part } => scrap_reply(alloc, part),
-        Reply::GiveBack { part } => return_reply(alloc, part),
+        } => tell_ended(writer, "break", wide(*job), *kerf, *pieces, *rack, *scrap),
+        Reply::Release { job } => { tell_release(writer, wide(*job)) }
+        Reply::Scrap { part } => tell_turned(alloc, writer, "scrap", part),
+        Reply::GiveBack { part } => tell_turned(alloc, writer, "return", part),
         Reply::Import {
             act,
             count,
             first,
             order,
-        } => import_reply(
-            alloc,
+        } => tell_import(
+            writer,
             wide(*act),
             wide(*count),
             wide(*first),
@@ -128,8 +147,8 @@ pub fn reply_value(alloc: Global, reply: &Reply) -> Result<Value, AllocError>
             kerf,
             scrap,
             returned,
-        } => totals_reply(
-            alloc,
+        } => tell_totals(
+            writer,
             material.as_str(),
             *received,
             *stock,
@@ -140,7 +159,7 @@ pub fn reply_value(alloc: Global, reply: &Reply) -> Result<Value, AllocError>
             *returned,
         ),
         Reply::Rack { material, parts } => {
-            rack_reply(alloc, material.as_str(), parts.as_slice())
+            tell_rack(alloc, writer, material.as_str(), parts.as_slice())
         }
         Reply::Trace {
             batch,
@@ -159,7 +178,16 @@ pub fn reply_value(alloc: Global, reply: &Reply) -> Result<Value, AllocError>
                 x: wide(*x),
                 y: wide(*y),
             };
-            trace_reply(alloc, batch.as_str(), wide(*of), part, root, *state, place)
+            tell_trace(
+                alloc,
+                writer,
+                batch.as_str(),
+                wide(*of),
+                part,
+                root,
+                *state,
+                place,
+            )
         }
         Reply::Demand {
             demand,
@@ -175,8 +203,8 @@ pub fn reply_value(alloc: Global, reply: &Reply) -> Result<Value, AllocError>
                 reserved: wide(*reserved),
                 made: wide(*made),
             };
-            demand_reply(
-                alloc,
+            tell_demand(
+                writer,
                 wide(*demand),
                 wide(*line),
                 material.as_str(),
@@ -189,21 +217,28 @@ pub fn reply_value(alloc: Global, reply: &Reply) -> Result<Value, AllocError>
             dropped,
             tree,
             worth,
-        } => plan_reply(alloc, *ceiling, wide(*dropped), tree.as_str(), *worth),
-        Reply::Bound { best, units } => { bound_reply(alloc, *best, *units) }
-        Reply::Refused(refusal) => {
-            let number = wide(refusal.number());
-            json!(in alloc; {"name": refusal.name(), "refused": number})
-        }
+        } => tell_plan(writer, *ceiling, wide(*dropped), tree.as_str(), *worth),
+        Reply::Bound { best, units } => { tell_bound(writer, *best, *units) }
+        Reply::Refused(refusal) => tell_refusal(writer, *refusal),
     }
 }
 
-#[tactic(auto, using(crate::proofs::Back::reply_no_float), unfolding(crate::specs::Forms::json_texts))]
+#[tactic(auto, using(crate::proofs::Back::reply_text_printed))]
 /// The text of a reply: compact, with its keys in byte order.
 pub fn reply_text(alloc: Global, reply: &Reply) -> Result<Text, AllocError>
     ensures { IfOk result (λ text. text ≡ json_texts.of_reply reply.now) }
 {
-    let value = reply_value(alloc, reply)?;
-    let text = value.to_string(alloc)?;
-    Ok(Text::of(text))
+    let mut writer = new_writer(alloc);
+    write_reply(alloc, &mut writer, reply)?;
+    Ok(written_text(writer))
+}
+
+/// A reply as an object.
+pub fn reply_value(alloc: Global, reply: &Reply) -> Result<Value, AllocError>
+    ensures { IfOk result (λ value. view value ≡ reply_data reply.now) }
+{
+    let mut writer = new_writer(alloc);
+    write_reply(alloc, &mut writer, reply)?;
+    let value = value_of(alloc, &written_text(writer))?;
+    Ok(value)
 }

@@ -1,15 +1,18 @@
-ghost use Rattle.std.specs.Prelude.{◌≡◌, IfOk};
+ghost use Rattle.std.specs.Prelude.{◌≡◌, IfOk, OnOk};
 ghost use Rattle.serde_json.specs.View.{view};
 ghost use Rattle.shop_machine.specs.declared.messages.Command.TheVariants.{Reserve};
 ghost use Rattle.shop_machine.specs.declared.messages.Reply.TheVariants as reply;
 ghost use Rattle.shop_rules.specs.Fields.{row};
 ghost use Rattle.shop_rules.specs.Forms as form;
 ghost use Rattle.shop_rules.specs.Forms.{message_data, reply_data};
+ghost use Rattle.shop_rules.specs.Told.{HasWideNumbers};
+ghost use Rattle.shop_rules.specs.Tokens.{AddsValue};
 
 use crate::fields::{has_keys, name_at, number_at, text_at};
-use crate::words::part_text;
+use crate::writing::{write_name, write_number, write_text};
 use cut_measure::PartName;
-use serde_json::{Value, json};
+use json::Writer;
+use serde_json::Value;
 use shop_machine::{Command, Reply, Text};
 use std::alloc::{AllocError, Global};
 
@@ -32,23 +35,24 @@ pub(crate) fn reserve_command(alloc: Global, value: &Value) -> Result<Option<Com
     }
 }
 
-// The object of a message that reserves a part.
-pub(crate) fn reserve_value(
+// Writes a message that reserves a part.
+pub(crate) fn write_reserve(
     alloc: Global,
+    writer: &mut Writer,
     pair: (u64, u64),
     part: &PartName,
     tree: &str,
-) -> Result<Value, AllocError>
-    ensures { IfOk result (λ value. view value ≡ message_data (record { terminal = pair.0; number = pair.1; command = Reserve part.now tree.now })) }
+) -> Result<(), AllocError>
+    ensures { OnOk result (AddsValue writer.old writer.new (message_data (record { terminal = pair.0; number = pair.1; command = Reserve part.now tree.now }))) }
 {
-    let part = part_text(alloc, part)?;
-    json!(in alloc; {
-        "do": "reserve",
-        "number": pair.1,
-        "part": part.as_str(),
-        "terminal": pair.0,
-        "tree": tree
-    })
+    writer.begin_object()?;
+    write_text(writer, "do", "reserve")?;
+    write_number(writer, "number", pair.1)?;
+    write_name(alloc, writer, "part", part)?;
+    write_number(writer, "terminal", pair.0)?;
+    write_text(writer, "tree", tree)?;
+    writer.end_object()?;
+    Ok(())
 }
 
 // The reply to it.
@@ -63,9 +67,15 @@ pub(crate) fn reserve_made(value: &Value) -> Option<Reply>
     Some(Reply::Reserve { cuts, job })
 }
 
-// The object of the reply.
-pub(crate) fn reserve_reply(alloc: Global, cuts: u64, job: u64) -> Result<Value, AllocError>
-    ensures { IfOk result (λ value. view value ≡ reply_data (reply.Reserve cuts job)) }
+// Writes the reply to it.
+pub(crate) fn tell_reserve(writer: &mut Writer, cuts: u64, job: u64) -> Result<(), AllocError>
+    ensures value { OnOk result (AddsValue writer.old writer.new (reply_data (reply.Reserve cuts job))) }
+    ensures wide { OnOk result (HasWideNumbers (reply.Reserve cuts job)) }
 {
-    json!(in alloc; {"cuts": cuts, "job": job, "ok": "reserve"})
+    writer.begin_object()?;
+    write_number(writer, "cuts", cuts)?;
+    write_number(writer, "job", job)?;
+    write_text(writer, "ok", "reserve")?;
+    writer.end_object()?;
+    Ok(())
 }

@@ -1,15 +1,18 @@
-ghost use Rattle.std.specs.Prelude.{◌≡◌, IfOk};
+ghost use Rattle.std.specs.Prelude.{◌≡◌, OnOk, codes};
+ghost use Rattle.serde_json.specs.Data.{object, no_members};
 ghost use Rattle.serde_json.specs.View.{view};
 ghost use Rattle.shop_machine.specs.declared.messages.Command.TheVariants.{Scrap, GiveBack};
 ghost use Rattle.shop_machine.specs.declared.messages.Reply.TheVariants as reply;
-ghost use Rattle.shop_rules.specs.Fields.{row};
+ghost use Rattle.shop_rules.specs.Fields.{row, text_member, name_member};
 ghost use Rattle.shop_rules.specs.Forms as form;
-ghost use Rattle.shop_rules.specs.Forms.{message_data, reply_data};
+ghost use Rattle.shop_rules.specs.Forms.{message_data};
+ghost use Rattle.shop_rules.specs.Tokens.{AddsValue};
 
 use crate::fields::{has_keys, name_at};
-use crate::words::part_text;
+use crate::writing::{write_name, write_number, write_text};
 use cut_measure::PartName;
-use serde_json::{Value, json};
+use json::Writer;
+use serde_json::Value;
 use shop_machine::{Command, Reply};
 use std::alloc::{AllocError, Global};
 
@@ -24,16 +27,22 @@ pub(crate) fn scrap_command(value: &Value) -> Option<Command>
     Some(Command::Scrap { part })
 }
 
-// The object of a message that makes a part scrap.
-pub(crate) fn scrap_value(
+// Writes a message that makes a part scrap.
+pub(crate) fn write_scrap(
     alloc: Global,
+    writer: &mut Writer,
     pair: (u64, u64),
     part: &PartName,
-) -> Result<Value, AllocError>
-    ensures { IfOk result (λ value. view value ≡ message_data (record { terminal = pair.0; number = pair.1; command = Scrap part.now })) }
+) -> Result<(), AllocError>
+    ensures { OnOk result (AddsValue writer.old writer.new (message_data (record { terminal = pair.0; number = pair.1; command = Scrap part.now }))) }
 {
-    let part = part_text(alloc, part)?;
-    json!(in alloc; {"do": "scrap", "number": pair.1, "part": part.as_str(), "terminal": pair.0})
+    writer.begin_object()?;
+    write_text(writer, "do", "scrap")?;
+    write_number(writer, "number", pair.1)?;
+    write_name(alloc, writer, "part", part)?;
+    write_number(writer, "terminal", pair.0)?;
+    writer.end_object()?;
+    Ok(())
 }
 
 // The reply to it.
@@ -47,12 +56,20 @@ pub(crate) fn scrap_made(value: &Value) -> Option<Reply>
     Some(Reply::Scrap { part })
 }
 
-// The object of the reply.
-pub(crate) fn scrap_reply(alloc: Global, part: &PartName) -> Result<Value, AllocError>
-    ensures { IfOk result (λ value. view value ≡ reply_data (reply.Scrap part.now)) }
+// Writes the reply about a part that was turned, by its word.
+pub(crate) fn tell_turned(
+    alloc: Global,
+    writer: &mut Writer,
+    word: &str,
+    part: &PartName,
+) -> Result<(), AllocError>
+    ensures { OnOk result (AddsValue writer.old writer.new (object (text_member (codes "ok") word.now (name_member (codes "part") part.now no_members)))) }
 {
-    let part = part_text(alloc, part)?;
-    json!(in alloc; {"ok": "scrap", "part": part.as_str()})
+    writer.begin_object()?;
+    write_text(writer, "ok", word)?;
+    write_name(alloc, writer, "part", part)?;
+    writer.end_object()?;
+    Ok(())
 }
 
 // The command that returns a unit.
@@ -66,16 +83,22 @@ pub(crate) fn return_command(value: &Value) -> Option<Command>
     Some(Command::GiveBack { part })
 }
 
-// The object of a message that returns a unit.
-pub(crate) fn return_value(
+// Writes a message that returns a unit.
+pub(crate) fn write_return(
     alloc: Global,
+    writer: &mut Writer,
     pair: (u64, u64),
     part: &PartName,
-) -> Result<Value, AllocError>
-    ensures { IfOk result (λ value. view value ≡ message_data (record { terminal = pair.0; number = pair.1; command = GiveBack part.now })) }
+) -> Result<(), AllocError>
+    ensures { OnOk result (AddsValue writer.old writer.new (message_data (record { terminal = pair.0; number = pair.1; command = GiveBack part.now }))) }
 {
-    let part = part_text(alloc, part)?;
-    json!(in alloc; {"do": "return", "number": pair.1, "part": part.as_str(), "terminal": pair.0})
+    writer.begin_object()?;
+    write_text(writer, "do", "return")?;
+    write_number(writer, "number", pair.1)?;
+    write_name(alloc, writer, "part", part)?;
+    write_number(writer, "terminal", pair.0)?;
+    writer.end_object()?;
+    Ok(())
 }
 
 // The reply to it.
@@ -87,12 +110,4 @@ pub(crate) fn return_made(value: &Value) -> Option<Reply>
     }
     let part = name_at(value, "part")?;
     Some(Reply::GiveBack { part })
-}
-
-// The object of the reply.
-pub(crate) fn return_reply(alloc: Global, part: &PartName) -> Result<Value, AllocError>
-    ensures { IfOk result (λ value. view value ≡ reply_data (reply.GiveBack part.now)) }
-{
-    let part = part_text(alloc, part)?;
-    json!(in alloc; {"ok": "return", "part": part.as_str()})
 }

@@ -1,11 +1,10 @@
-ghost use Rattle.std.specs.Prelude.{◌≡◌, IfOk, string_bytes};
-ghost use Rattle.cut_measure.specs.Names.{IsName, name_text};
+ghost use Rattle.std.specs.Prelude.{◌≡◌};
+ghost use Rattle.cut_measure.specs.Names.{IsName};
 ghost use Rattle.shop_machine.specs.Messages.{IsNumber};
 ghost use Rattle.shop_rules.specs.Fields.{kind_text, state_text};
 
 use cut_measure::{Kind, PartName};
 use shop_machine::StateWord;
-use std::alloc::{AllocError, Global};
 
 pub(crate) fn kind_word(kind: Kind) -> &'static str
     ensures { result.now ≡ kind_text kind }
@@ -30,21 +29,12 @@ pub(crate) fn state_word(state: StateWord) -> &'static str
     }
 }
 
-// A number of 32 bits as `json!` takes it.
+// A number of 32 bits as one of 64.
 pub(crate) fn wide(n: u32) -> u64
     ensures value { result ≡ n }
     ensures range { IsNumber n }
 {
     u64::from(n)
-}
-
-// A part's name as text.
-pub(crate) fn part_text(alloc: Global, part: &PartName) -> Result<String, AllocError>
-    ensures { IfOk result (λ text. string_bytes text ≡ name_text part.now) }
-{
-    let mut text = String::new(alloc);
-    part.write(&mut text)?;
-    Ok(text)
 }
 
 // Reads a name, which so is known to be one.

@@ -1,15 +1,8 @@
+use Rattle.std.proofs.Common.{sym, ap, ◌∙◌}
+use Rattle.serde_json.specs.Read.{read}
+use Rattle.shop_rules.proofs.Back.{same_some, message_text_read}
 use Rattle.shop_rules.proofs.messages.message_value.Goals as goal
 
-pub returns-in-AddMaterial-clause-message : goal.returns-in-AddMaterial-clause-message
-returns-in-AddMaterial-clause-message c = record {
-  terminal = c.wide.ensures.range;
-  number = c.wide-2.ensures.range;
-  command = rw c.in-AddMaterial.is (c.as_str.ensures.code, c.wide-in-AddMaterial.ensures.range, c.wide-in-AddMaterial-2.ensures.range, c.wide-in-AddMaterial-3.ensures.range);
-}
-
-pub returns-in-Receive-clause-message : goal.returns-in-Receive-clause-message
-returns-in-Receive-clause-message c = record {
-  terminal = c.wide.ensures.range;
-  number = c.wide-2.ensures.range;
-  command = rw c.in-Receive.is (c.as_str-in-Receive.ensures.code, c.as_str-in-Receive-2.ensures.code, c.wide-in-Receive.ensures.range, c.wide-in-Receive-2.ensures.range, c.wide-in-Receive-3.ensures.range);
-}
+pub returns-clause-value : goal.returns-clause-value
+returns-clause-value c =
+    same_some _ _ (sym c.in_ok-value.ensures ∙ ap read c.in_ok-text.ensures.text ∙ message_text_read c.args.message.now c.message_text.ensures.message)

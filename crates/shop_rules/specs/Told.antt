@@ -1,0 +1,32 @@
+-- What a reply's text needs to be read back.
+use Rattle.std.specs.Prelude.{All}
+use Rattle.shop_machine.specs.declared.messages.Reply.{Reply}
+use Rattle.shop_machine.specs.declared.messages.Reply.TheVariants as reply
+use Rattle.shop_machine.specs.declared.records.RackRow.{RackRow}
+use Rattle.shop_machine.specs.Messages.{IsWide}
+use Rattle.shop_machine.specs.Refusals.{refusal_number}
+
+abbrev pub HasWideSides : RackRow → Type 0
+HasWideSides row = IsWide row.h × IsWide row.w
+
+-- each number of a reply has 64 bits
+abbrev pub HasWideNumbers : Reply → Type 0
+HasWideNumbers (reply.AddMaterial material) = Unit {0}
+HasWideNumbers (reply.Receive act count) = IsWide act × IsWide count
+HasWideNumbers (reply.AddOrder count first order) = IsWide count × IsWide first
+HasWideNumbers (reply.Reserve cuts job) = IsWide cuts × IsWide job
+HasWideNumbers (reply.Done job kerf pieces rack scrap) = IsWide job × IsWide kerf × IsWide pieces × IsWide rack × IsWide scrap
+HasWideNumbers (reply.Break job kerf pieces rack scrap) = IsWide job × IsWide kerf × IsWide pieces × IsWide rack × IsWide scrap
+HasWideNumbers (reply.Release job) = IsWide job
+HasWideNumbers (reply.Scrap part) = Unit {0}
+HasWideNumbers (reply.GiveBack part) = Unit {0}
+HasWideNumbers (reply.Import act count first order) = IsWide act × IsWide count × IsWide first
+HasWideNumbers (reply.Totals material received stock rack pieces kerf scrap returned) =
+    IsWide kerf × IsWide pieces × IsWide rack × IsWide received × IsWide returned × IsWide scrap × IsWide stock
+HasWideNumbers (reply.Rack material parts) = All HasWideSides parts
+HasWideNumbers (reply.Trace batch h of part root state w x y) = IsWide h × IsWide of × IsWide w × IsWide x × IsWide y
+HasWideNumbers (reply.Demand demand line made material order reserved wanted) =
+    IsWide demand × IsWide line × IsWide made × IsWide reserved × IsWide wanted
+HasWideNumbers (reply.Plan ceiling dropped tree worth) = IsWide ceiling × IsWide dropped × IsWide worth
+HasWideNumbers (reply.Bound best units) = IsWide best × IsWide units
+HasWideNumbers (reply.Refused refusal) = IsWide (refusal_number refusal)
