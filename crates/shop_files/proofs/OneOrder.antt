@@ -15,10 +15,10 @@ use Rattle.shop_files.specs.Orders.{Fields, FieldSays, SaysFrom, IsLineRecord, I
 none-of : {A : Type 0} {o : Option A} {x : A} → o ≡ None → o ≡ Some x → ⊥
 none-of {A} {o} {x} p q = none-some x (sym p ∙ q)
 
-one_of : {o : Option Read} (p q : Read) → o ≡ Some p → o ≡ Some q → p ≡ q
+pub one_of : {o : Option Read} (p q : Read) → o ≡ Some p → o ≡ Some q → p ≡ q
 one_of p q a b = ap (λ r. unwrap_or r p) (sym a ∙ b)
 
-first_rows : (cfg : Config) (s : State) (xs : List ℕ) (front rows : List Fields) (s1 : State) (y1 : List ℕ) → Reached cfg s xs front s1 y1 → AreRecords cfg s xs rows → (more : List Fields) × (rows ≡ front ++ more)
+pub first_rows : (cfg : Config) (s : State) (xs : List ℕ) (front rows : List Fields) (s1 : State) (y1 : List ℕ) → Reached cfg s xs front s1 y1 → AreRecords cfg s xs rows → (more : List Fields) × (rows ≡ front ++ more)
 unfolding Reached
 first_rows cfg s xs [] rows s1 y1 h all = (rows, refl)
 first_rows cfg s xs (r ∷ front) [] s1 y1 h all =
@@ -99,7 +99,7 @@ line_behind [] fields more (line ∷ lines) h = (line, h.0)
 line_behind (f ∷ front) fields more [] h = absurd h
 line_behind (f ∷ front) fields more (line ∷ lines) h = line_behind front fields more lines h.1
 
-line_not_bad : (fields : Fields) (line : OrderLine) → IsLineRecord fields line → (i : ℕ) → IsBadLine fields i → ⊥
+pub line_not_bad : (fields : Fields) (line : OrderLine) → IsLineRecord fields line → (i : ℕ) → IsBadLine fields i → ⊥
 line_not_bad fields line is i bad =
     elim bad [
       | inl h ↦ h.0 (let e = says_length line 0 fields is in omega (arith, e))
@@ -109,7 +109,7 @@ line_not_bad fields line is i bad =
           h.2 line (subst (λ n. FieldSays line n (get_or fields i [])) same says)
     ]
 
-header_not_bad : (i : ℕ) → IsBadHeader header i → ⊥
+pub header_not_bad : (i : ℕ) → IsBadHeader header i → ⊥
 header_not_bad i bad = elim bad [ inl h ↦ h.0 refl | inr h ↦ h.2 refl ]
 
 no_rows : {r : Fields} {xs : List Fields} → [] ≡ r ∷ xs → ⊥

@@ -1,12 +1,14 @@
 //! The files of a cutting shop: problems, orders and materials, read from their texts.
 #![tactic(auto)]
 
+mod laws;
 mod limits;
 mod orders;
 mod problems;
 mod shops;
 
 pub use cut_measure::RowList;
+pub use laws::one_first_fault;
 pub use limits::{LONGEST_TEXT, MOST_ENTRIES, MOST_LINES, MOST_PIECES};
 pub use orders::{OrderLine, OrdersFault, read_orders};
 pub use problems::{Piece, Problem, TextCause, TextFault, read_cgcut};
