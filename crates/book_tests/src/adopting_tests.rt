@@ -1,3 +1,4 @@
+use shop_store::{BookFault, SqlBook};
 use shop_tables::*;
 use sqlite::{Connection, MemStore};
 use std::alloc::Global;
@@ -9,7 +10,7 @@ fn adopted(conn: &mut Connection<MemStore>) -> Result<Option<AdoptFault>, TableF
         return Err(TableFault::Store);
     }
     match adopt_tables(conn) {
-        Ok(()) => Ok(None),
+        Ok(_) => Ok(None),
         Err(fault) => Ok(Some(fault)),
     }
 }
@@ -119,6 +120,44 @@ fn other_tables_are_a_wrong_version(rt: HostRuntime) -> Result<(), TableFault> {
         let mut conn = shop(rt.alloc(), batch)?;
         assert!(rt; adopted(&mut conn)? == Some(AdoptFault::WrongVersion));
         assert!(rt; number(&mut conn, "SELECT count(*) FROM parts")? == 0);
+    }
+    Ok(())
+}
+
+const BAR: &str = "INSERT INTO materials (code, kind, kerf, min_long, min_short) VALUES ('STEEL', 0, 3, 20, 1);INSERT INTO parts (act, node, material, batch, root_act, root_node, x, y, w, h, state, detail) VALUES (1, 0, 'STEEL', 'B-1', 1, 0, 0, 0, 100, 1, 0, 0)";
+
+const ITS_TOTALS: &str = "INSERT INTO totals2 (material, received, stock, rack, pieces, kerf, scrap, returned) VALUES ('STEEL', 100, 100, 0, 0, 0, 0, 0)";
+
+// The fault of a book that is made of a shop with a bar, in which this was done, if there is one.
+fn fault_of_book(alloc: Global, batch: &str) -> Result<Option<BookFault>, TableFault> {
+    let mut conn = shop(alloc, BAR)?;
+    conn.execute_batch(batch)?;
+    if !conn.is_autocommit() {
+        return Err(TableFault::Store);
+    }
+    match SqlBook::adopt(alloc, conn) {
+        Ok(_) => Ok(None),
+        Err((fault, _)) => Ok(Some(fault)),
+    }
+}
+
+#[test]
+fn totals_that_are_sums_are_adopted(rt: HostRuntime) -> Result<(), TableFault> {
+    assert!(rt; fault_of_book(rt.alloc(), ITS_TOTALS)?.is_none());
+    Ok(())
+}
+
+// Stock one cell short, a returned cell that no part has, and no totals.
+const WRONG_TOTALS: &[&str] = &[
+    "INSERT INTO totals2 (material, received, stock, rack, pieces, kerf, scrap, returned) VALUES ('STEEL', 100, 99, 0, 0, 0, 0, 0)",
+    "INSERT INTO totals2 (material, received, stock, rack, pieces, kerf, scrap, returned) VALUES ('STEEL', 100, 100, 0, 0, 0, 0, 1)",
+    "UPDATE meta SET value = 2 WHERE name = 'version'",
+];
+
+#[test]
+fn totals_that_are_no_sums_are_a_wrong_version(rt: HostRuntime) -> Result<(), TableFault> {
+    'wrong: for batch in WRONG_TOTALS {
+        assert!(rt; fault_of_book(rt.alloc(), batch)? == Some(BookFault::WrongVersion));
     }
     Ok(())
 }

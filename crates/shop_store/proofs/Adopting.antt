@@ -1,5 +1,5 @@
 -- What is known of the tables that an adopt found or made is known of a content.
-use Rattle.std.proofs.Common.{◌≡◌, ℕ, List, true, false, Option, Some, None, is_some, unwrap_or, IsTrue, refl, sym, ap, subst, ◌∙◌}
+use Rattle.std.proofs.Common.{◌≡◌, Option, Some, None, is_some, unwrap_or, IsTrue, refl, sym, ap, subst, ◌∙◌}
 use Rattle.std.specs.FinMap.{FinMap, empty, get, same_map}
 use Rattle.sqlite.specs.State.{State, HasCleanDisk, Survives}
 use Rattle.sqlite.proofs.StateLemmas.{survives_weaker}

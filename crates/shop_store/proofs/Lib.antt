@@ -3,6 +3,7 @@ pub mod Places
 pub mod Orders
 -- sums of parts
 pub mod Summed
+pub mod Counting
 -- what a book in memory holds, and hands out
 pub mod Held
 pub mod Handed
@@ -10,3 +11,4 @@ pub mod Handed
 pub mod Telling
 pub mod Taking
 pub mod Adopting
+pub mod Checked

@@ -94,7 +94,7 @@ cells-put column code part old new up is_put =
 
 -- ---- sums are bounded
 
-cells_le : (b : Bool) (n : ℕ) → (if b then n else 0) ≤ n
+pub cells_le : (b : Bool) (n : ℕ) → (if b then n else 0) ≤ n
 cells_le true n = omega arith
 cells_le false n = omega arith
 

@@ -1,7 +1,7 @@
 -- What a book makes of the tables' answers, and what it keeps.
 use Rattle.std.proofs.Common.{◌≡◌, ℕ, Result, Ok, Err, OnOk, OnErr, IfOk, inl, inr, subst, sym, arith}
 use Rattle.sqlite_trees.specs.declared.store.Store.{Ghosts}
-use Rattle.sqlite.specs.State.{State, HasCleanDisk}
+use Rattle.sqlite.specs.State.{HasCleanDisk}
 use Rattle.sqlite.specs.Held.{Held, state}
 use Rattle.shop_machine.specs.Content.{Content}
 use Rattle.shop_tables.specs.Shown.{Books, Leaves, Says}

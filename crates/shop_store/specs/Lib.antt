@@ -11,3 +11,4 @@ pub mod MemBooks
 -- a book in SQL tables
 pub mod SqlBooks
 pub mod Takers
+pub mod Adding

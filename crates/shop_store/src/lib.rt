@@ -1,7 +1,9 @@
 //! Books, which keep what the shop contains.
 #![tactic(auto)]
 
+mod adders;
 mod books;
+mod checking;
 mod keys;
 mod memory;
 mod reopening;

@@ -7,12 +7,14 @@ ghost use Rattle.shop_machine.specs.Content.{Content, no_totals as nothing, part
 ghost use Rattle.shop_tables.specs.Adopting.{IsVacant};
 ghost use Rattle.shop_tables.specs.Held.{HoldsContent, IsSettledAt, LeavesOnly, StandsFor};
 ghost use Rattle.shop_tables.specs.Layout.{no_schema, IsShop};
-ghost use Rattle.shop_tables.specs.Shown.{Leaves, Says};
+ghost use Rattle.shop_tables.specs.Changing.{HasSums};
+ghost use Rattle.shop_tables.specs.Shown.{Books, Holds, IsSettled, Leaves, Says};
 ghost use Rattle.shop_store.specs.Failures.{CountsFailure};
-ghost use Rattle.shop_store.specs.SqlBooks.{adopt_fault, told as as_told, EitherWay};
+ghost use Rattle.shop_store.specs.SqlBooks.{adopt_fault, book_fault, told as as_told, EitherWay};
 ghost use Rattle.shop_store.specs.declared.books.BookFault.TheVariants.{WrongVersion};
 
 use crate::books::{Book, BookFault};
+use crate::checking::have_sums;
 use crate::takers::PartTaker;
 use cut_measure::{Code, PartName};
 use shop_machine::{
@@ -20,9 +22,9 @@ use shop_machine::{
     no_totals,
 };
 use shop_tables::{
-    AdoptFault, TableFault, adopt_tables, commit_change, find_demand, find_import, find_job,
-    find_kept, find_last_act, find_last_demand, find_material, find_order, find_part, find_totals,
-    lend_parts,
+    AdoptFault, Adopted, TableFault, adopt_tables, commit_change, find_demand, find_import,
+    find_job, find_kept, find_last_act, find_last_demand, find_material, find_order, find_part,
+    find_totals, lend_parts,
 };
 use sqlite::{Alter, Connection, MemStore};
 use std::alloc::Global;
@@ -108,6 +110,15 @@ fn fault_of_adopt(fault: AdoptFault) -> BookFault
     }
 }
 
+fn fault_of_tables(fault: TableFault) -> BookFault
+    ensures { result ≡ book_fault fault }
+{
+    match fault {
+        TableFault::NoMemory => BookFault::NoMemory,
+        TableFault::Store => BookFault::Store,
+    }
+}
+
 // A book over an empty database.
 fn fresh_book<S: Alter + Drop>(alloc: Global, conn: Connection<S>) -> Result<SqlBook<S>, BookFault>
     requires outside { conn.in_transaction ≡ false }
@@ -154,14 +165,35 @@ impl<S: Alter> SqlBook<S> {
         ensures crash { conn.schema ≡ no_schema → EitherWay (λ book. book.conn) (λ after. Survives (state S.Store conn) (state S.Store after) (λ db. StandsFor db fresh)) result }
         ensures after { conn.schema ≡ no_schema → IfOk result (λ book. LeavesOnly (state S.Store book.conn) fresh) }
         ensures held { (m : Content) → IsSettledAt (state S.Store conn) m → EitherWay (λ book. book.conn) (λ after. HoldsContent (state S.Store after) m) result }
+        ensures sums { IfOk result (λ book. HasCleanDisk (state S.Store book.conn) → (b : Books) → IsSettled (state S.Store conn) b → HasSums b × Holds (state S.Store book.conn) b) }
         ensures still { IsShop conn.schema → EitherWay (λ book. book.conn) (λ after. Survives (state S.Store conn) (state S.Store after) (λ _. ⊥)) result }
         ensures strange { IfErr result (λ back. back.0 ≡ WrongVersion → conn.schema ≢ no_schema) }
         ensures unwritten { IfErr result (λ back. back.0 ≡ WrongVersion → Leaves (state S.Store conn) (state S.Store back.1)) }
         ensures neither { IfErr result (λ back. back.0 ≡ WrongVersion → HasCleanDisk (state S.Store back.1) → (m : Content) → IsSettledAt (state S.Store conn) m → ⊥) }
     {
         match adopt_tables(&mut conn) {
-            Ok(()) => Ok(SqlBook::over(alloc, conn)),
+            Ok(Adopted::Made) => Ok(SqlBook::over(alloc, conn)),
+            Ok(Adopted::Found) => SqlBook::checked(alloc, conn),
             Err(fault) => Err((fault_of_adopt(fault), conn)),
+        }
+    }
+
+    // Over tables of version 2, where their totals are the sums of their parts.
+    fn checked(
+        alloc: Global,
+        mut conn: Connection<S>,
+    ) -> Result<SqlBook<S>, (BookFault, Connection<S>)>
+        requires outside { conn.in_transaction ≡ false }
+        ensures mode { IfErr result (λ back. back.1.in_transaction ≡ false) }
+        ensures failures { IfOk result (λ book. book.failures ≡ 0) }
+        ensures leaves { EitherWay (λ book. book.conn) (λ after. Leaves (state S.Store conn) (state S.Store after)) result }
+        ensures sums { IfOk result (λ book. HasCleanDisk (state S.Store book.conn) → (b : Books) → Holds (state S.Store conn) b → HasSums b) }
+        ensures neither { IfErr result (λ back. back.0 ≡ WrongVersion → HasCleanDisk (state S.Store back.1) → (b : Books) → Holds (state S.Store conn) b → ¬ HasSums b) }
+    {
+        match have_sums(alloc, &mut conn) {
+            Ok(true) => Ok(SqlBook::over(alloc, conn)),
+            Ok(false) => Err((BookFault::WrongVersion, conn)),
+            Err(fault) => Err((fault_of_tables(fault), conn)),
         }
     }
 

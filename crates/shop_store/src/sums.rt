@@ -2,14 +2,19 @@ ghost use Rattle.std.specs.Prelude.{◌≡◌, ◌+◌, ◌*◌, ◌<◌, ◌≤
 ghost use Rattle.cut_measure.specs.Codes.{code_cmp};
 ghost use Rattle.shop_machine.specs.declared.records.Column.{Column as ColumnOf};
 ghost use Rattle.shop_store.specs.Rows.{rise};
+ghost use Rattle.std.specs.Bool.{Decides};
 ghost use Rattle.std.specs.Option.{ForSome};
 ghost use Rattle.shop_machine.specs.Content.{of_found};
+ghost use Rattle.shop_store.specs.Adding.{IsAdded};
 ghost use Rattle.shop_store.specs.Sums.{totals_from, sum_in, sums_key, sum_at, counted_cells, cells_for};
 
 use crate::rows::{Row, find, put};
 use cut_measure::Code;
-use shop_machine::{Column, Part, Totals};
+use shop_machine::{Column, MaterialTotals, Part, Totals};
 use std::cmp::Ordering;
+
+// The least number that 64 bits don't hold.
+const TOO_LARGE: u128 = 18_446_744_073_709_551_616;
 
 /// The sums of one material's parts, in cells.
 #[derive(Clone, Copy, Debug)]
@@ -49,8 +54,8 @@ impl Row for Sums {
     ghost exact = { slice_cmp-IsAntisymmetric nat_cmp-IsAntisymmetric };
 }
 
-// The sums of a material without parts.
-fn no_sums(code: Code) -> Sums
+/// The sums of a material without parts.
+pub fn no_sums(code: Code) -> Sums
     ensures code { result.code ≡ code }
     ensures none { (column : ColumnOf) → sum_in column result ≡ 0 }
 {
@@ -153,6 +158,38 @@ pub fn add_part(rows: &mut Vec<Sums>, part: &Part)
     let _ = put(rows, sums);
 }
 
+// Whether 64 bits hold each sum with a part more.
+fn have_room(sums: &Sums, part: &Part) -> bool
+    ensures { IsTrue result → (column : ColumnOf) → sum_in column sums.now + part.now.size.w * part.now.size.h < 2 ^ 64 }
+{
+    let room = TOO_LARGE - u128::from(part.size.cells());
+    sums.received < room
+        && (sums.stock < room
+            && (sums.rack < room
+                && (sums.pieces < room
+                    && (sums.kerf < room && (sums.scrap < room && sums.returned < room)))))
+}
+
+/// Adds a part's cells to the sums of its material, where these are there and 64 bits hold them.
+pub fn count_part(rows: &mut Vec<Sums>, part: &Part) -> bool
+    requires rising { IsTrue (rise sums_key code_cmp rows.old.items) }
+    requires room { vec_len rows.old < vec_capacity rows.old }
+    requires small { (column : ColumnOf) (code : List ℕ) → sum_at column code rows.old.items < 2 ^ 64 }
+    ensures small { (column : ColumnOf) (code : List ℕ) → sum_at column code rows.new.items < 2 ^ 64 }
+    ensures adds { IsTrue result → IsAdded part.now rows.old.items rows.new.items }
+    ensures rising { IsTrue (rise sums_key code_cmp rows.new.items) }
+    ensures room { vec_len rows.new < vec_capacity rows.new }
+{
+    let Some(sums) = find(rows, part.material) else {
+        return false;
+    };
+    if !have_room(&sums, part) {
+        return false;
+    }
+    let _ = put(rows, with_part(sums, part));
+    true
+}
+
 // Takes a part's cells from the sums of its material.
 fn take_part(rows: &mut Vec<Sums>, part: &Part)
     requires rising { IsTrue (rise sums_key code_cmp rows.old.items) }
@@ -188,10 +225,22 @@ fn narrow(sum: u128) -> Option<u64>
     ensures value { IfSome result (λ n. n ≡ sum) }
     ensures wide { IfNone result (2 ^ 64 ≤ sum) }
 {
-    if sum < 18_446_744_073_709_551_616 {
+    if sum < TOO_LARGE {
         Some(sum as u64)
     } else {
         None
+    }
+}
+
+/// Whether these are the totals of their material.
+pub fn has_totals(rows: &[Sums], row: &MaterialTotals) -> bool
+    requires rising { IsTrue (rise sums_key code_cmp rows.now) }
+    requires small { (column : ColumnOf) → sum_at column row.now.material rows.now < 2 ^ 64 }
+    ensures { Decides result (totals_from row.now.material rows.now ≡ row.now.totals) }
+{
+    match totals_in(rows, row.material) {
+        Some(totals) => totals == row.totals,
+        None => false,
     }
 }
 

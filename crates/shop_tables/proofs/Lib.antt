@@ -24,7 +24,9 @@ pub mod Fitting
 pub mod Commits
 pub mod Going
 pub mod Listed
+pub mod Ordered
+pub mod AllTotals
 pub mod Taken
-pub mod Adopted
+pub mod LaidTables
 pub mod Reopened
 pub mod FreshBooks

@@ -1,14 +1,11 @@
 -- The standing parts of a material, in order.
-use Rattle.std.proofs.Common.{◌≡◌, ℕ, suc, ◌+◌, ◌<◌, pos, Bool, true, false, ◌&&◌, ◌||◌, ◌==◌, List, [], ◌∷◌, ◌++◌, length, map, drop, filter, get_or, Some, refl, sym, ap, subst, ◌∙◌, arith, IsSorted, inl, inr, append-nil, Ok, Err, Result, IfOk}
-use Rattle.std.specs.List.{AllByRecursion, list_all}
-use Rattle.std.specs.Ordering.{is_eq, is_lt, int_cmp, nat_cmp, ordering_then}
+use Rattle.std.proofs.Common.{◌≡◌, ℕ, pos, Bool, true, false, ◌&&◌, ◌||◌, ◌==◌, List, [], ◌∷◌, ◌++◌, map, drop, filter, Some, refl, sym, ap, ◌∙◌, arith, inl, inr, append-nil, Ok, Err, Result, IfOk}
+use Rattle.std.specs.List.{AllByRecursion}
+use Rattle.std.specs.Ordering.{is_eq, int_cmp, nat_cmp, ordering_then}
 use Rattle.std.specs.declared.cmp.Ordering.TheVariants.{Equal}
-use Rattle.std.specs.FinMap.{FinMap, entries, entries_sorted, get-entries}
-use Rattle.std.proofs.lemmas.List.Sorted.{sorted_far, ranks_by, IsPermutation-trans}
+use Rattle.std.specs.FinMap.{entries, entries_sorted, get-entries, values}
 use Rattle.std.proofs.lemmas.Int.{ints}
 use Rattle.std.proofs.lemmas.Bool.Decides.{nat_tests}
-use Rattle.std.specs.List.Sorted.{IsSortedBy}
-use Rattle.std.proofs.lemmas.List.{length-map, get_or-map}
 use Rattle.sqlite_value.specs.declared.value.Value.TheVariants.{Int, Text}
 use Rattle.sqlite_value.specs.declared.keys.Collation.TheVariants.{Binary}
 use Rattle.sqlite_value.specs.Order.{Row, column, value_cmp}
@@ -16,13 +13,11 @@ use Rattle.sqlite_value.proofs.OrderLemmas.{value_cmp-Int, then-Equal}
 use Rattle.sqlite_sql.specs.declared.ops.BinaryOp.TheVariants.{Compare, Or}
 use Rattle.sqlite_sql.specs.declared.ops.CompareOp.TheVariants.{Eq}
 use Rattle.sqlite_sql.specs.Ops.{binary, is_true, from_truth, truth, or3}
-use Rattle.sqlite_trees.specs.Tree.{IsAscending}
-use Rattle.sqlite_trees.proofs.ListLemmas.{all-filter, pull_back}
+use Rattle.sqlite_trees.proofs.ListLemmas.{all-filter}
 use Rattle.sqlite.specs.Schema.{Schema}
-use Rattle.sqlite.specs.Tree.{Trees}
-use Rattle.sqlite.specs.Term.{Term, holds}
+use Rattle.sqlite.specs.Term.{Term}
 use Rattle.sqlite.specs.Query.{Output, output_cmp}
-use Rattle.sqlite.specs.Program.{overlay, IsProgramAnswer}
+use Rattle.sqlite.specs.Program.{IsProgramAnswer}
 use Rattle.sqlite_trees.specs.declared.store.Store.{Ghosts}
 use Rattle.sqlite.specs.Held.{Held, state}
 use Rattle.sqlite.specs.State.{State, HasCleanDisk, Shown, Begins}
@@ -37,32 +32,18 @@ use Rattle.shop_machine.specs.declared.records.Part.{Part}
 use Rattle.shop_machine.specs.declared.records.State.{State as PartState}
 use Rattle.shop_machine.specs.declared.records.State.TheVariants as stands
 use Rattle.shop_machine.proofs.Marks.{found_in}
-use Rattle.shop_tables.specs.Lending.{AreReadOf, IsLent}
+use Rattle.shop_tables.specs.Lending.{AreReadOf, IsLent, gone_through}
 use Rattle.shop_tables.specs.declared.faults.TableFault.{TableFault}
 use Rattle.shop_tables.specs.declared.lending.Lent.{Lent}
 use Rattle.shop_tables.specs.declared.lending.Lent.TheVariants as lent
-use Rattle.shop_tables.specs.Rows.{AreRows, IsKeyed, part_row, state_number}
+use Rattle.shop_tables.specs.Rows.{IsKeyed, part_row, state_number}
 use Rattle.shop_tables.specs.Shown.{Books, Shows, Holds, Says}
 use Rattle.shop_tables.proofs.Finding.{name_total, name_same}
-use Rattle.shop_tables.proofs.Keys.{equal, equal-Text, and_true, as_number, same_number, shown_as}
-use Rattle.shop_tables.proofs.Lists.{filter-map, map-map}
-use Rattle.shop_tables.proofs.Maps.{one_order, sorted_filter, Rises}
-use Rattle.shop_tables.proofs.Selects.{selects}
+use Rattle.shop_tables.proofs.Keys.{equal, equal-Text, and_true, as_number, same_number}
+use Rattle.shop_tables.proofs.Lists.{filter-map}
+use Rattle.shop_tables.proofs.Ordered.{filter_true, in_order}
 use Rattle.shop_tables.proofs.Terms.{from_table}
-use Rattle.shop_tables.proofs.Texts.{shop, shop_is, parts_of_text, parts_of_tests, parts_of_terms, parts_of_order, parts_of_is}
-
--- from places to each earlier and later element
-module _ {A : Type 0} (P : A → A → Type 0) where
-  each : (x : A) (xs : List A) → ((j : ℕ) → j < length xs → P x (get_or xs j x)) → AllByRecursion (P x) xs
-  each x xs h = go xs h
-    where
-      go : (ys : List A) → ((j : ℕ) → j < length ys → P x (get_or ys j x)) → AllByRecursion (P x) ys
-      go [] h = tt
-      go (y ∷ ys) h = (h 0 (omega arith), go ys (λ j lt. h (suc j) (omega arith)))
-
-  ascends : (xs : List A) → ((i j : ℕ) (d : A) → i < j → j < length xs → P (get_or xs i d) (get_or xs j d)) → IsAscending P xs
-  ascends [] h = tt
-  ascends (x ∷ xs) h = (each x xs (λ j lt. h 0 (suc j) x (omega arith) (omega arith)), ascends xs (λ i j d lt up. h (suc i) (suc j) d (omega arith) (omega arith)))
+use Rattle.shop_tables.proofs.Texts.{shop, shop_is, parts_of_text, parts_of_tests, parts_of_terms, parts_of_order, parts_of_is, all_parts_text, all_parts_is}
 
 -- ---- the order of the rows
 
@@ -82,32 +63,8 @@ as_nat m n = grind (arith, ints, nat_tests)
 ranked : (m n : ℕ) → value_cmp (Int (pos m)) (Int (pos n)) ≡ nat_cmp m n
 ranked m n = value_cmp-Int (pos m) (pos n) ∙ as_nat m n
 
-module _ (tests : List Term) where
-  by_output : (a b : Name × Part) → output_cmp (from_table 4 tests parts_of_terms parts_of_order) (part_out a) (part_out b) ≡ name_cmp a.0 b.0
-  by_output a b = (λ i. ordering_then (ranked a.0.act b.0.act i) (ordering_then (ranked a.0.node b.0.node i) Equal)) ∙ ap (ordering_then (nat_cmp a.0.act b.0.act)) (then-Equal (nat_cmp a.0.node b.0.node))
-
-  adjacent : (to : List (Name × Part)) → IsSorted (output_cmp (from_table 4 tests parts_of_terms parts_of_order)) (map part_out to) → IsSortedBy (λ a b. is_lt (name_cmp a.0 b.0)) to
-  adjacent to up k d low within =
-      let inside : k + 1 < length (map part_out to) = rw length-map within in
-      let first = up k (part_out d) low inside in
-      ap is_lt (sym (by_output (get_or to (k + 1) d) (get_or to k d))) ∙ rw (get_or-map part_out to (k + 1) d (part_out d) within, get_or-map part_out to k d (part_out d) (omega arith)) at first
-
-  rises : (to : List (Name × Part)) → IsSorted (output_cmp (from_table 4 tests parts_of_terms parts_of_order)) (map part_out to) → Rises Part name_total name_same to
-  rises to up = ascends (λ a b. is_lt (name_cmp b.0 a.0) ≡ false) to (λ i j d lt within. sorted_far (λ a b. is_lt (name_cmp a.0 b.0)) (ranks_by name_total (λ (e : Name × Part). e.0)) to (adjacent to up) i j d (omega arith) within)
-
--- what a query answers that shows parts whole, in their order
-module _ (tests : List Term) (db : Trees) (params : Row) (low : overlay db [] 4 ≡ db 4) (t : Name × Part → Bool) (q : Row → Bool)
-    (later : (r : Row) → list_all (holds (params ∷ r ∷ [])) tests ≡ q (drop 1 r)) (passes : (e : Name × Part) → q (part_row e) ≡ t e) where
-  in_order : (rows : List Row) (parts : FinMap name_cmp Part) → AreRows 1 (map part_row (entries parts)) (db 4) → IsProgramAnswer [] (from_table 4 tests parts_of_terms parts_of_order) db params rows → rows ≡ map part_row (filter t (entries parts))
-  in_order rows parts are a =
-      let s = selects 4 tests parts_of_terms parts_of_order db params low rows a in
-      let mine = filter t (entries parts) in
-      let out = shown_as 1 part_row t _ q later passes _ (λ d. (column d 0 ∷ column d 1 ∷ [], whole d)) part_out shown_later (λ e. refl) (entries parts) (db 4) are in
-      let back = pull_back part_out _ s.ordered (IsPermutation-trans _ _ _ out s.same) mine refl in
-      let to = back.0 in
-      let same : mine ≡ to = one_order Part name_total name_same mine to (sorted_filter Part name_total name_same t (entries parts) (entries_sorted parts))
-      (rises tests to (subst (IsSorted (output_cmp (from_table 4 tests parts_of_terms parts_of_order))) back.2 s.sorted)) back.1 in
-      s.shown ∙ ap (map (λ (o : Output). o.1)) back.2 ∙ map-map (λ (o : Output). o.1) part_out to ∙ ap (map part_row) (sym same)
+by_output : (tests : List Term) (a b : Name × Part) → output_cmp (from_table 4 tests parts_of_terms parts_of_order) (part_out a) (part_out b) ≡ name_cmp a.0 b.0
+by_output tests a b = (λ i. ordering_then (ranked a.0.act b.0.act i) (ordering_then (ranked a.0.node b.0.node i) Equal)) ∙ ap (ordering_then (nat_cmp a.0.act b.0.act)) (then-Equal (nat_cmp a.0.node b.0.node))
 
 -- ---- from rows to parts
 
@@ -178,7 +135,9 @@ module _ (old : State) (code : List ℕ) (b : Books) (has : Shows old b) where
   over = shop old.now.schema has.schema
 
   mine : (rows : List Row) → IsProgramAnswer [] (from_table 4 parts_of_tests parts_of_terms parts_of_order) old.now.trees (Text code ∷ []) rows → rows ≡ map part_row (filter (λ e. is_listed code e.1) (entries b.content.parts))
-  mine rows a = in_order parts_of_tests old.now.trees (Text code ∷ []) refl (λ e. is_listed code e.1) (stands_of code) (listed_later code) (listed code) rows b.content.parts has.stands.parts a
+  mine rows a =
+      in_order name_total name_same 4 parts_of_tests parts_of_terms parts_of_order part_out (by_output parts_of_tests) old.now.trees (Text code ∷ []) refl part_row (λ e. is_listed code e.1) (stands_of code) (listed_later code) (listed code)
+      (λ d. (column d 0 ∷ column d 1 ∷ [], whole d)) shown_later (λ e. refl) rows b.content.parts has.stands.parts a
 
   listed_named : AllByRecursion (λ (e : Name × Part). e.1.name ≡ e.0) (filter (λ e. is_listed code e.1) (entries b.content.parts))
   listed_named = all-filter (λ (e : Name × Part). e.1.name ≡ e.0) _ (entries b.content.parts) (all_named b.content has.keyed)
@@ -203,24 +162,54 @@ module _ (old : State) (code : List ℕ) (b : Books) (has : Shows old b) where
       let f = first_parts _ listed_named given more.0 parts (mine (given ++ more.0) more.1) read in
       (f.0, sym as_listed ∙ f.1)
 
+-- ---- all parts
+
+module _ (old : State) (b : Books) (has : Shows old b) where
+  every : (rows : List Row) → IsProgramAnswer [] (from_table 4 [] parts_of_terms parts_of_order) old.now.trees [] rows → rows ≡ map part_row (entries b.content.parts)
+  every rows a =
+      in_order name_total name_same 4 [] parts_of_terms parts_of_order part_out (by_output []) old.now.trees [] refl part_row (λ _. true) (λ _. true) (λ r. refl) (λ e. refl)
+      (λ d. (column d 0 ∷ column d 1 ∷ [], whole d)) shown_later (λ e. refl) rows b.content.parts has.stands.parts a
+      ∙ ap (map part_row) (filter_true (entries b.content.parts))
+
+  -- all rows were lent
+  pub all_there : (new : State) (given : List Row) (parts : List Part) → Shown all_parts_text [] old new given → AreReadOf given parts → values b.content.parts ≡ parts
+  all_there new given parts shown read =
+      let is = all_parts_is old.now.schema has.schema in
+      let a = (reads_as all_parts_text [] old new (shop old.now.schema has.schema) (shop_is old.now.schema has.schema) _ is.command is.plain is.listing given shown).answer in
+      let f = first_parts _ (all_named b.content has.keyed) given [] parts (append-nil given ∙ every given a) read in
+      f.1 ∙ ap (λ l. parts ++ l) (f.2 refl) ∙ append-nil parts
+
+  -- the first of them were
+  pub first_there : (given : List Row) (parts : List Part) → Begins all_parts_text [] old given → AreReadOf given parts → (rest : List Part) × (values b.content.parts ≡ parts ++ rest)
+  first_there given parts begins read =
+      let is = all_parts_is old.now.schema has.schema in
+      let first = begins_as all_parts_text [] old old (shop old.now.schema has.schema) (shop_is old.now.schema has.schema) _ is.command is.plain is.listing given begins in
+      let more = first.1 in
+      let f = first_parts _ (all_named b.content has.keyed) given more.0 parts (every (given ++ more.0) more.1) read in
+      (f.0, f.1)
+
 -- ---- what a visitor was handed of them
 
 none_read : (parts : List Part) → AreReadOf [] parts → parts ≡ []
 none_read [] h = refl
 none_read (p ∷ parts) h = absurd h
 
-module _ {S : Type 0} (g : Ghosts S) (code : List ℕ) (old new : Held S) {V : Type 0} (looks : V → Part → Bool → V → Type 0) (before after : V) where
+-- of a query whose rows are those of a list of parts
+module _ {S : Type 0} (g : Ghosts S) (sql : List ℕ) (params : Row) (list : Books → List Part)
+    (whole_list : (s t : State) (b : Books) → Shows s b → (given : List Row) (parts : List Part) → Shown sql params s t given → AreReadOf given parts → list b ≡ parts)
+    (first_of : (s : State) (b : Books) → Shows s b → (given : List Row) (parts : List Part) → Begins sql params s given → AreReadOf given parts → (rest : List Part) × (list b ≡ parts ++ rest))
+    (old new : Held S) {V : Type 0} (looks : V → Part → Bool → V → Type 0) (before after : V) where
   abbrev Handed : Result Lent TableFault → Type 0
-  Handed r = IsLent g parts_of_text (Text code ∷ []) old looks new before r after
+  Handed r = IsLent g sql params old looks new before r after
 
   abbrev Visited : Result Bool TableFault → Type 0
-  Visited told = IsVisit looks {Fault = TableFault} (λ what. Says (state g old) (state g new) (λ b. what (parts_of b.content code))) before told after
+  Visited told = IsVisit looks {Fault = TableFault} (λ what. Says (state g old) (state g new) (λ b. what (list b))) before told after
 
   -- the parts that were handed out begin the list
-  begin_listed : (r : Result Lent TableFault) (h : Handed r) → HasCleanDisk (state g new) → (b : Books) → Holds (state g old) b → (rest : List Part) × (parts_of b.content code ≡ h.parts ++ rest)
+  begin_listed : (r : Result Lent TableFault) (h : Handed r) → HasCleanDisk (state g new) → (b : Books) → Holds (state g old) b → (rest : List Part) × (list b ≡ h.parts ++ rest)
   begin_listed r h clean b was = elim (h.begins clean) [
-    | inl none ↦ (parts_of b.content code, ap (λ l. l ++ parts_of b.content code) (sym (none_read h.parts (rw none at h.read))))
-    | inr some ↦ first_listed (state g some.0) code b (some.1.stays b was some.1.clean some.1.is_open).shows h.given h.parts some.2 h.read
+    | inl none ↦ (list b, ap (λ l. l ++ list b) (sym (none_read h.parts (rw none at h.read))))
+    | inr some ↦ first_of (state g some.0) b (some.1.stays b was some.1.clean some.1.is_open).shows h.given h.parts some.2 h.read
   ]
 
   pub visited_all : (r : Result Lent TableFault) → r ≡ Ok lent.All → Handed r → Visited (Ok true)
@@ -234,7 +223,7 @@ module _ {S : Type 0} (g : Ghosts S) (code : List ℕ) (old new : Held S) {V : T
         begins = λ clean b was.
             let whole = it.whole clean refl in
             let held = whole.2 in
-            ([], all_listed (state g whole.0) code b (held.stays b was held.clean held.is_open).shows (state g whole.1) it.given it.parts whole.3 it.read ∙ sym (append-nil it.parts), λ _. refl);
+            ([], whole_list (state g whole.0) (state g whole.1) b (held.stays b was held.clean held.is_open).shows it.given it.parts whole.3 it.read ∙ sym (append-nil it.parts), λ _. refl);
       }
 
   pub visited_some : (r : Result Lent TableFault) → r ≡ Ok lent.Stopped → Handed r → Visited (Ok false)
@@ -257,3 +246,10 @@ module _ {S : Type 0} (g : Ghosts S) (code : List ℕ) (old new : Held S) {V : T
     answer = tt;
     begins = λ clean b was. let first = begin_listed r h clean b was in (first.0, first.1, tt);
   }
+
+  -- as it is told of all parts
+  pub visited : (r : Result Lent TableFault) → Handed r → Visited (gone_through r)
+  visited (Ok lent.All) h = visited_all (Ok lent.All) refl h
+  visited (Ok lent.Stopped) h = visited_some (Ok lent.Stopped) refl h
+  visited (Ok lent.Strange) h = visited_till (Ok lent.Strange) (gone_through (Ok lent.Strange)) tt h
+  visited (Err e) h = visited_till (Err e) (gone_through (Err e)) tt h

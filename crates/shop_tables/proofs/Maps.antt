@@ -55,7 +55,7 @@ module _ {K : Type 0} (X : Type 0) {R : K → K → Ordering} (o : IsTotalOrder 
       let other : eq_by_cmp R e.0 k ≡ false = ap is_eq (o.antisymm e.0 k ∙ ap ordering_reverse less) in
       rw other (none_above k x es tie parts.1)
 
-  none_found : (k x : K) (es : List (K × X)) → R x k ≡ Equal → T (below_all R x es) → find R k es ≡ None
+  pub none_found : (k x : K) (es : List (K × X)) → R x k ≡ Equal → T (below_all R x es) → find R k es ≡ None
   none_found k x [] tie h = refl
   none_found k x (e ∷ es) tie h =
       let parts = both _ _ h in

@@ -106,6 +106,24 @@ parts_of_terms = col 1 1 ∷ col 1 2 ∷ col 1 3 ∷ col 1 4 ∷ col 1 5 ∷ col
 abbrev pub parts_of_order : List (Term × Key)
 parts_of_order = (col 1 1, ascending Binary) ∷ (col 1 2, ascending Binary) ∷ []
 
+abbrev pub all_parts_text : List ℕ
+all_parts_text = codes "SELECT act, node, material, batch, root_act, root_node, x, y, w, h, state, detail FROM parts ORDER BY act, node"
+
+abbrev pub all_codes_text : List ℕ
+all_codes_text = codes "SELECT code FROM materials ORDER BY code"
+
+abbrev pub all_codes_terms : List Term
+all_codes_terms = col 1 1 ∷ []
+
+abbrev pub by_code : List (Term × Key)
+by_code = (col 1 1, ascending Binary) ∷ []
+
+abbrev pub all_totals_text : List ℕ
+all_totals_text = codes "SELECT received, stock, rack, pieces, kerf, scrap, returned, material FROM totals2 ORDER BY material"
+
+abbrev pub all_totals_terms : List Term
+all_totals_terms = col 1 2 ∷ col 1 3 ∷ col 1 4 ∷ col 1 5 ∷ col 1 6 ∷ col 1 7 ∷ col 1 8 ∷ col 1 1 ∷ []
+
 abbrev pub put_material_text : List ℕ
 put_material_text = codes "INSERT INTO materials (code, kind, kerf, min_long, min_short) VALUES (?1, ?2, ?3, ?4, ?5)"
 
@@ -225,6 +243,18 @@ module _ (schema : Schema) (h : IsShop schema) where
   unfolding understood everything
   parts_of_is = record { command = refl; listing = refl; plain = (refl, refl) }
 
+  pub all_parts_is : Reads (shop schema h) all_parts_text (from_table 4 [] parts_of_terms parts_of_order) (codes "act" ∷ codes "node" ∷ codes "material" ∷ codes "batch" ∷ codes "root_act" ∷ codes "root_node" ∷ codes "x" ∷ codes "y" ∷ codes "w" ∷ codes "h" ∷ codes "state" ∷ codes "detail" ∷ [])
+  unfolding understood everything
+  all_parts_is = record { command = refl; listing = refl; plain = (refl, refl) }
+
+  pub all_codes_is : Reads (shop schema h) all_codes_text (from_table 2 [] all_codes_terms by_code) (codes "code" ∷ [])
+  unfolding understood everything
+  all_codes_is = record { command = refl; listing = refl; plain = (refl, refl) }
+
+  pub all_totals_is : Reads (shop schema h) all_totals_text (from_table 17 [] all_totals_terms by_code) (codes "received" ∷ codes "stock" ∷ codes "rack" ∷ codes "pieces" ∷ codes "kerf" ∷ codes "scrap" ∷ codes "returned" ∷ codes "material" ∷ [])
+  unfolding understood everything
+  all_totals_is = record { command = refl; listing = refl; plain = (refl, refl) }
+
   pub put_material_is : Writes (shop schema h) put_material_text (Insert 1 (Values put_material_terms 6))
   unfolding understood everything
   put_material_is = record { command = refl; plain = (refl, refl) }
@@ -318,3 +348,15 @@ get_totals_selects = refl
 pub parts_of_selects : is_select parts_of_text ≡ true
 unfolding everything
 parts_of_selects = refl
+
+pub all_parts_selects : is_select all_parts_text ≡ true
+unfolding everything
+all_parts_selects = refl
+
+pub all_codes_selects : is_select all_codes_text ≡ true
+unfolding everything
+all_codes_selects = refl
+
+pub all_totals_selects : is_select all_totals_text ≡ true
+unfolding everything
+all_totals_selects = refl

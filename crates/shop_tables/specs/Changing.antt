@@ -1,5 +1,5 @@
 -- What the rows of a change make of the books.
-use Rattle.std.specs.Prelude.{◌≡◌, ℕ, ⊤, List, [], ◌∷◌, Option, Some, None, is_some, unwrap_or}
+use Rattle.std.specs.Prelude.{◌≡◌, ℕ, ⊤, List, [], ◌∷◌, Option, Some, None, unwrap_or}
 use Rattle.std.specs.declared.cmp.Ordering.{Ordering}
 use Rattle.std.specs.Ordering.{nat_cmp}
 use Rattle.std.specs.FinMap.{FinMap, get, insert}
@@ -15,11 +15,12 @@ use Rattle.shop_machine.specs.declared.records.Job.{Job}
 use Rattle.shop_machine.specs.declared.records.Material.{Material}
 use Rattle.shop_machine.specs.declared.records.Part.{Part}
 use Rattle.shop_machine.specs.declared.records.Totals.{Totals}
+use Rattle.shop_tables.specs.Listing.{HaveTotals}
 use Rattle.shop_tables.specs.Shown.{Books}
 
--- Each known material has a row of totals, and no other code has one. A code's totals are the sums of its parts.
+-- The rows of totals are those of the known materials, and a code's totals are the sums of its parts.
 pub record HasSums (b : Books) : Type 0 where
-  pub there : (code : List ℕ) → is_some (get b.totals code) ≡ is_some (material_at b.content code)
+  pub there : HaveTotals b
   pub sums : (code : List ℕ) → unwrap_or (get b.totals code) no_totals ≡ totals_of b.content code
 
 -- the totals with a material's row

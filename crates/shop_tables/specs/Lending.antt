@@ -1,5 +1,5 @@
 -- Parts that are lent one row at a time.
-use Rattle.std.specs.Prelude.{◌≡◌, ◌⊎◌, ℕ, Bool, true, false, List, [], ◌∷◌, ⊤, IsTrue, IfOk, Result}
+use Rattle.std.specs.Prelude.{◌≡◌, ◌⊎◌, ℕ, Bool, true, false, List, [], ◌∷◌, ⊤, IsTrue, IfOk, Result, Ok, Err}
 use Rattle.sqlite_value.specs.Order.{Row}
 use Rattle.sqlite_trees.specs.declared.store.Store.{Ghosts}
 use Rattle.sqlite.specs.Held.{Held, state}
@@ -8,6 +8,7 @@ use Rattle.cut_measure.specs.Names.{Name}
 use Rattle.shop_machine.specs.declared.records.Part.{Part}
 use Rattle.shop_machine.specs.Visits.{HasSeen}
 use Rattle.shop_tables.specs.declared.faults.TableFault.{TableFault}
+use Rattle.shop_tables.specs.declared.faults.TableFault.TheVariants as fault
 use Rattle.shop_tables.specs.declared.lending.Lent.{Lent}
 use Rattle.shop_tables.specs.declared.lending.Lent.TheVariants as lent
 use Rattle.shop_tables.specs.Rows.{part_row}
@@ -29,6 +30,13 @@ abbrev pub went_on : Lent → Bool
 went_on lent.All = true
 went_on lent.Stopped = false
 went_on lent.Strange = true
+
+-- how far the parts were handed out; a row that is no part is a fault
+abbrev pub gone_through : Result Lent TableFault → Result Bool TableFault
+gone_through (Ok lent.All) = Ok true
+gone_through (Ok lent.Stopped) = Ok false
+gone_through (Ok lent.Strange) = Err fault.Store
+gone_through (Err e) = Err e
 
 module _ {S : Type 0} (g : Ghosts S) (sql : List ℕ) (params : Row) (old : Held S) where
   -- an open connection that holds what was held

@@ -7,4 +7,5 @@ pub mod Changes
 pub mod Changing
 pub mod Held
 pub mod Lending
+pub mod Listing
 pub mod Adopting

@@ -1,12 +1,13 @@
 //! From a connection to one that holds books.
 
-ghost use Rattle.std.specs.Prelude.{◌≡◌, ◌≢◌, true, false, Err, IfOk, IsTrue, OnOk, OnErr};
+ghost use Rattle.std.specs.Prelude.{◌≡◌, ◌≢◌, true, false, Ok, Err, IfOk, IsTrue, OnOk, OnErr};
 ghost use Rattle.sqlite.specs.State.{HasCleanDisk, Survives};
 ghost use Rattle.sqlite.specs.Held.{state};
 ghost use Rattle.sqlite_catalog.specs.Change.{is_used};
 ghost use Rattle.shop_tables.specs.Adopting.{IsVacant, LeavesBooks, is_table, names_are_free, names_are_tables};
 ghost use Rattle.shop_tables.specs.Layout.{no_schema, IsShop};
 ghost use Rattle.shop_tables.specs.Shown.{Books, Holds, IsSettled, Leaves, Says, StandsIn, fresh_books};
+ghost use Rattle.shop_tables.specs.declared.adopting.Adopted.TheVariants.{Made, Found};
 ghost use Rattle.shop_tables.specs.declared.adopting.AdoptFault.TheVariants.{WrongVersion};
 
 use crate::TableFault;
@@ -15,6 +16,15 @@ use crate::laying::lay_tables;
 use crate::numbers::number_row;
 use sqlite::{Alter, Connection, Error, ErrorCode};
 use sqlite_schema::schema::Schema;
+
+/// How a connection was taken over.
+#[derive(Clone, Copy, Debug, PartialEq, Eq)]
+pub enum Adopted {
+    /// The tables of a new shop were made.
+    Made,
+    /// There were tables of version 2.
+    Found,
+}
 
 /// Why a connection wasn't taken over.
 #[derive(Clone, Copy, Debug, PartialEq, Eq)]
@@ -123,7 +133,7 @@ fn fault_of_tables(fault: TableFault) -> AdoptFault
 
 /// Makes the tables where none of their names is taken, in one transaction, and goes on with tables of version 2. It answers
 /// `WrongVersion` where a name is taken and they aren't there, or are of another version, and writes nothing then.
-pub fn adopt_tables<S: Alter>(conn: &mut Connection<S>) -> Result<(), AdoptFault>
+pub fn adopt_tables<S: Alter>(conn: &mut Connection<S>) -> Result<Adopted, AdoptFault>
     requires outside { conn.old.in_transaction ≡ false }
     ensures mode { conn.new.in_transaction ≡ false }
     ensures earlier { HasCleanDisk (state S.Store conn.new) → HasCleanDisk (state S.Store conn.old) }
@@ -132,6 +142,8 @@ pub fn adopt_tables<S: Alter>(conn: &mut Connection<S>) -> Result<(), AdoptFault
     ensures crash { conn.old.schema ≡ no_schema → Survives (state S.Store conn.old) (state S.Store conn.new) (λ db. StandsIn db fresh_books) }
     ensures after { conn.old.schema ≡ no_schema → OnOk result (LeavesBooks (state S.Store conn.new) fresh_books) }
     ensures held { (b : Books) → IsSettled (state S.Store conn.old) b → Holds (state S.Store conn.new) b }
+    ensures made { result ≡ Ok Made → (b : Books) → IsSettled (state S.Store conn.old) b → ⊥ }
+    ensures found { result ≡ Ok Found → (conn.old.schema ≢ no_schema) × Leaves (state S.Store conn.old) (state S.Store conn.new) }
     ensures still { IsShop conn.old.schema → Survives (state S.Store conn.old) (state S.Store conn.new) (λ _. ⊥) }
     ensures strange { result ≡ Err WrongVersion → conn.old.schema ≢ no_schema }
     ensures unwritten { result ≡ Err WrongVersion → Leaves (state S.Store conn.old) (state S.Store conn.new) }
@@ -140,7 +152,7 @@ pub fn adopt_tables<S: Alter>(conn: &mut Connection<S>) -> Result<(), AdoptFault
     let _outside = conn.is_autocommit();
     if are_free(conn.schema()) {
         return match lay(conn) {
-            Ok(()) => Ok(()),
+            Ok(()) => Ok(Adopted::Made),
             Err(error) => Err(fault_of_store(error)),
         };
     }
@@ -148,7 +160,7 @@ pub fn adopt_tables<S: Alter>(conn: &mut Connection<S>) -> Result<(), AdoptFault
         return Err(AdoptFault::WrongVersion);
     }
     match has_version(conn) {
-        Ok(true) => Ok(()),
+        Ok(true) => Ok(Adopted::Found),
         Ok(false) => Err(AdoptFault::WrongVersion),
         Err(fault) => Err(fault_of_tables(fault)),
     }

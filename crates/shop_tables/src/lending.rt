@@ -3,7 +3,8 @@
 ghost use Rattle.std.specs.Prelude.{◌≡◌, true, false, IfOk, IfSome};
 ghost use Rattle.sqlite.specs.Held.{state};
 ghost use Rattle.sqlite.specs.Values.{bound};
-ghost use Rattle.shop_tables.specs.Lending.{IsLent, IsReadOf};
+ghost use Rattle.std.specs.FinMap.{values};
+ghost use Rattle.shop_tables.specs.Lending.{IsLent, IsReadOf, gone_through};
 ghost use Rattle.shop_tables.specs.Selecting.{is_select};
 ghost use Rattle.shop_tables.specs.Shown.{Leaves, Says};
 ghost use Rattle.shop_machine.specs.Content.{parts_of};
@@ -20,8 +21,8 @@ use sqlite::{Alter, Connection, Row, params};
 const MOST_ROWS: u64 = 18446744073709551615;
 
 /// How the rows of a query were gone through.
-#[derive(Clone, Copy)]
-pub(crate) enum Lent {
+#[derive(Clone, Copy, Debug, PartialEq, Eq)]
+pub enum Lent {
     /// To the end.
     All,
     /// Up to the part at which the visitor stopped.
@@ -108,4 +109,22 @@ pub fn lend_parts<S: Alter, V: PartVisitor>(
         Lent::Stopped => Ok(false),
         Lent::Strange => Err(TableFault::Store),
     }
+}
+
+/// Hands every part to a visitor, by rising act and then node, for as long as it answers true. What is told is how far it
+/// came; after an `Err` and before a strange row too the parts that were handed out begin all parts.
+pub fn lend_all_parts<S: Alter, V: PartVisitor>(
+    conn: &mut Connection<S>,
+    visitor: &mut V,
+) -> Result<Lent, TableFault>
+    ensures visit { IsVisit V.looks (λ what. Says (state S.Store conn.old) (state S.Store conn.new) (λ books. what (values books.content.parts))) visitor.old (gone_through result) visitor.new }
+    ensures leaves { Leaves (state S.Store conn.old) (state S.Store conn.new) }
+    ensures mode { conn.old.in_transaction ≡ false → conn.new.in_transaction ≡ false }
+{
+    lend(
+        conn,
+        "SELECT act, node, material, batch, root_act, root_node, x, y, w, h, state, detail FROM parts ORDER BY act, node",
+        &[],
+        visitor,
+    )
 }

@@ -1,7 +1,7 @@
-//! The row that a query gives that gives one at most. No query takes a transaction of its own: a SELECT commits nothing.
+//! The rows of a query, and the row of one that gives one at most. No query takes a transaction of its own: a SELECT commits nothing.
 
 ghost use Rattle.std.specs.Prelude.{◌≡◌, true, false, pos, [], ◌∷◌, IfOk};
-ghost use Rattle.sqlite.specs.State.{HasCleanDisk};
+ghost use Rattle.sqlite.specs.State.{HasCleanDisk, Shown};
 ghost use Rattle.sqlite.specs.Held.{state};
 ghost use Rattle.sqlite.specs.Values.{bound};
 ghost use Rattle.sqlite_value.specs.declared.value.Value.TheVariants.{Int, Text as Word};
@@ -10,6 +10,20 @@ ghost use Rattle.shop_tables.specs.Shown.{Leaves, GivesRow};
 
 use sqlite::types::ValueRef;
 use sqlite::{Alter, Connection, Error, Row, params};
+
+/// All rows of a query.
+pub(crate) fn all_rows<S: Alter>(
+    conn: &mut Connection<S>,
+    sql: &str,
+    params: &[ValueRef<'_>],
+) -> Result<Vec<Row>, Error>
+    ensures rows { HasCleanDisk (state S.Store conn.new) → IfOk result (λ rows. Shown sql.now (bound params.now) (state S.Store conn.old) (state S.Store conn.new) rows.items) }
+    ensures leaves { is_select sql.now ≡ true → Leaves (state S.Store conn.old) (state S.Store conn.new) }
+    ensures mode { conn.old.in_transaction ≡ false → conn.new.in_transaction ≡ false }
+{
+    let rows = conn.query_all(sql, params)?;
+    Ok(rows)
+}
 
 fn one_row<S: Alter>(
     conn: &mut Connection<S>,
@@ -20,7 +34,7 @@ fn one_row<S: Alter>(
     ensures leaves { is_select sql.now ≡ true → Leaves (state S.Store conn.old) (state S.Store conn.new) }
     ensures mode { conn.old.in_transaction ≡ false → conn.new.in_transaction ≡ false }
 {
-    let mut rows = conn.query_all(sql, params)?;
+    let mut rows = all_rows(conn, sql, params)?;
     Ok(rows.pop())
 }
 

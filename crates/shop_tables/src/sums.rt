@@ -1,7 +1,8 @@
-ghost use Rattle.std.specs.Prelude.{◌≡◌, false, IfOk};
+ghost use Rattle.std.specs.Prelude.{◌≡◌, ◌++◌, false, IfOk};
 ghost use Rattle.std.specs.FinMap.{get};
 ghost use Rattle.sqlite.specs.Held.{state};
 ghost use Rattle.sqlite_value.specs.declared.value.Value.TheVariants.{Int};
+ghost use Rattle.sqlite_value.specs.Order.{Row as Values};
 ghost use Rattle.shop_machine.specs.declared.records.Totals.{Totals as TotalsRecord};
 ghost use Rattle.shop_tables.specs.Rows.{totals_columns};
 ghost use Rattle.shop_tables.specs.Shown.{Leaves, Says, IsRowOf};
@@ -18,8 +19,9 @@ use shop_machine::Totals;
 use sqlite::types::Value;
 use sqlite::{Alter, Connection, Error, Row, Transaction, params};
 
-fn read_totals(row: &Row) -> Result<Totals, TableFault>
-    ensures { (totals : TotalsRecord) → row.now ≡ totals_columns totals → IfOk result (λ read. read ≡ totals) }
+// The columns behind them don't matter.
+pub(crate) fn read_totals(row: &Row) -> Result<Totals, TableFault>
+    ensures { (totals : TotalsRecord) (behind : Values) → row.now ≡ totals_columns totals ++ behind → IfOk result (λ read. read ≡ totals) }
 {
     Ok(Totals {
         received: count_in(row, 0)?,

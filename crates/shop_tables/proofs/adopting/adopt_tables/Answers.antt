@@ -6,6 +6,9 @@ use Rattle.shop_tables.proofs.adopting.adopt_tables.Goals as goal
 pub returns-in-Ok-clause-held : goal.returns-in-Ok-clause-held
 returns-in-Ok-clause-held g c b was = absurd (true≢false (sym c.if-are_free.true ∙ c.are_free.ensures ∙ ap names_are_free c.schema.ensures.value ∙ taken c.args.conn.now.schema was.shows.schema))
 
+pub returns-in-Ok-clause-made : goal.returns-in-Ok-clause-made
+returns-in-Ok-clause-made g c is b was = absurd (true≢false (sym c.if-are_free.true ∙ c.are_free.ensures ∙ ap names_are_free c.schema.ensures.value ∙ taken c.args.conn.now.schema was.shows.schema))
+
 pub returns-in-Ok-clause-still : goal.returns-in-Ok-clause-still
 returns-in-Ok-clause-still g c it = absurd (true≢false (sym c.if-are_free.true ∙ c.are_free.ensures ∙ ap names_are_free c.schema.ensures.value ∙ taken c.args.conn.now.schema it))
 

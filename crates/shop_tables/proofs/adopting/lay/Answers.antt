@@ -4,7 +4,7 @@ use Rattle.sqlite.specs.Held.{state}
 use Rattle.shop_tables.specs.Adopting.{LeavesBooks}
 use Rattle.shop_tables.specs.Layout.{no_schema}
 use Rattle.shop_tables.specs.Shown.{Holds, Lays, StandsIn, fresh_books}
-use Rattle.shop_tables.proofs.Adopted.{on_ok_from, commits_fresh}
+use Rattle.shop_tables.proofs.LaidTables.{on_ok_from, commits_fresh}
 use Rattle.shop_tables.proofs.Commits.{stands_in}
 use Rattle.shop_tables.proofs.adopting.lay.Goals as goal
 

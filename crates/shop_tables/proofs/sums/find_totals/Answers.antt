@@ -1,3 +1,4 @@
+use Rattle.std.proofs.Common.{[]}
 use Rattle.std.specs.FinMap.{get}
 use Rattle.shop_machine.specs.declared.records.Totals.{Totals}
 use Rattle.shop_tables.specs.Rows.{totals_columns}
@@ -10,4 +11,4 @@ returns-in_default-clause-row g c clean b was = none_as (λ (totals : Totals). U
 pub returns-clause-row : goal.returns-clause-row
 returns-clause-row g c clean b was =
     read_as (λ (totals : Totals). Unit {0}) totals_columns (get b.totals c.args.material) c.in-Some.row c.in_ok-totals.totals (rw c.in-Some.is at (c.in_ok-row.ensures.row clean b was))
-    (λ y _. c.in_ok-totals.ensures y)
+    (λ y _ is. c.in_ok-totals.ensures y [] is)

@@ -1,24 +1,78 @@
-use Rattle.std.proofs.Common.{Err, ap, sym, subst, ◌∙◌}
+use Rattle.std.proofs.Common.{Err, Ok, ap, sym, subst, ◌∙◌, arith}
+use Rattle.sqlite.proofs.StateLemmas.{survives_then}
 use Rattle.sqlite.specs.State.{Survives}
 use Rattle.sqlite.specs.Held.{state}
 use Rattle.shop_machine.specs.Content.{fresh}
 use Rattle.shop_tables.specs.Held.{books, HoldsContent, LeavesOnly, StandsFor}
+use Rattle.shop_tables.proofs.Reading.{leaves_then}
 use Rattle.shop_store.proofs.Adopting.{holds_fresh, survives_fresh, leaves_fresh, holds_settled, wrong_version}
+use Rattle.shop_store.proofs.Checked.{either_way, if_back, if_book}
 use Rattle.shop_store.proofs.sql.SqlBook.adopt.Goals as goal
 
-pub returns-in-Ok-clause-fresh : goal.returns-in-Ok-clause-fresh
-returns-in-Ok-clause-fresh g c has = subst (λ h. HoldsContent (state g.S.Store h) fresh) (sym c.over.ensures.conn) (holds_fresh (state g.S.Store c.adopt_tables.new.conn) (c.in-Ok.ensures.fresh has))
+-- ---- tables were made
 
-pub returns-in-Ok-clause-crash : goal.returns-in-Ok-clause-crash
-returns-in-Ok-clause-crash g c has =
+pub returns-in-Ok-Made-clause-fresh : goal.returns-in-Ok-Made-clause-fresh
+returns-in-Ok-Made-clause-fresh g c has = subst (λ h. HoldsContent (state g.S.Store h) fresh) (sym c.over.ensures.conn) (holds_fresh (state g.S.Store c.adopt_tables.new.conn) (c.in-Ok-Made.ensures.fresh has))
+
+pub returns-in-Ok-Made-clause-crash : goal.returns-in-Ok-Made-clause-crash
+returns-in-Ok-Made-clause-crash g c has =
     subst (λ h. Survives (state g.S.Store c.args.conn) (state g.S.Store h) (λ db. StandsFor db fresh)) (sym c.over.ensures.conn)
-    (survives_fresh (state g.S.Store c.args.conn) (state g.S.Store c.adopt_tables.new.conn) (c.in-Ok.ensures.crash has))
+    (survives_fresh (state g.S.Store c.args.conn) (state g.S.Store c.adopt_tables.new.conn) (c.in-Ok-Made.ensures.crash has))
 
-pub returns-in-Ok-clause-after : goal.returns-in-Ok-clause-after
-returns-in-Ok-clause-after g c has = subst (λ h. LeavesOnly (state g.S.Store h) fresh) (sym c.over.ensures.conn) (leaves_fresh (state g.S.Store c.adopt_tables.new.conn) (c.in-Ok.ensures.after has))
+pub returns-in-Ok-Made-clause-after : goal.returns-in-Ok-Made-clause-after
+returns-in-Ok-Made-clause-after g c has = subst (λ h. LeavesOnly (state g.S.Store h) fresh) (sym c.over.ensures.conn) (leaves_fresh (state g.S.Store c.adopt_tables.new.conn) (c.in-Ok-Made.ensures.after has))
 
-pub returns-in-Ok-clause-held : goal.returns-in-Ok-clause-held
-returns-in-Ok-clause-held g c m was = subst (λ h. HoldsContent (state g.S.Store h) m) (sym c.over.ensures.conn) (holds_settled (state g.S.Store c.args.conn) (state g.S.Store c.adopt_tables.new.conn) m was c.in-Ok.ensures.held)
+pub returns-in-Ok-Made-clause-held : goal.returns-in-Ok-Made-clause-held
+returns-in-Ok-Made-clause-held g c m was = absurd (c.in-Ok-Made.ensures.made (ap Ok c.in-Ok-Made.field-0-is) (books m was.totals) was.settled)
+
+pub returns-in-Ok-Made-clause-sums : goal.returns-in-Ok-Made-clause-sums
+returns-in-Ok-Made-clause-sums g c clean b was = absurd (c.in-Ok-Made.ensures.made (ap Ok c.in-Ok-Made.field-0-is) b was)
+
+-- ---- tables were found
+
+pub returns-in-Ok-Found-clause-earlier : goal.returns-in-Ok-Found-clause-earlier
+returns-in-Ok-Found-clause-earlier g c =
+    let before = c.in-Ok-Found.ensures.earlier in
+    either_way (λ book. book.conn) _ (λ h leaves clean. before (let l = leaves.survives.clean in omega (arith, l, clean))) c.checked.result c.checked.ensures.leaves
+
+pub returns-in-Ok-Found-clause-fresh : goal.returns-in-Ok-Found-clause-fresh
+returns-in-Ok-Found-clause-fresh g c has = absurd ((c.in-Ok-Found.ensures.found (ap Ok c.in-Ok-Found.field-0-is)).0 has)
+
+pub returns-in-Ok-Found-clause-vacant : goal.returns-in-Ok-Found-clause-vacant
+returns-in-Ok-Found-clause-vacant g c has = absurd ((c.in-Ok-Found.ensures.found (ap Ok c.in-Ok-Found.field-0-is)).0 has)
+
+pub returns-in-Ok-Found-clause-crash : goal.returns-in-Ok-Found-clause-crash
+returns-in-Ok-Found-clause-crash g c has = absurd ((c.in-Ok-Found.ensures.found (ap Ok c.in-Ok-Found.field-0-is)).0 has)
+
+pub returns-in-Ok-Found-clause-after : goal.returns-in-Ok-Found-clause-after
+returns-in-Ok-Found-clause-after g c has = absurd ((c.in-Ok-Found.ensures.found (ap Ok c.in-Ok-Found.field-0-is)).0 has)
+
+pub returns-in-Ok-Found-clause-held : goal.returns-in-Ok-Found-clause-held
+returns-in-Ok-Found-clause-held g c m was =
+    either_way (λ book. book.conn) _ (λ h leaves. holds_settled (state g.S.Store c.args.conn) (state g.S.Store h) m was (λ b settled. leaves.stays b (c.in-Ok-Found.ensures.held b settled))) c.checked.result c.checked.ensures.leaves
+
+pub returns-in-Ok-Found-clause-sums : goal.returns-in-Ok-Found-clause-sums
+returns-in-Ok-Found-clause-sums g c =
+    if_book (λ book. book.conn) _ (λ book leaves sums clean b was. let held = c.in-Ok-Found.ensures.held b was in (sums clean b held, leaves.stays b held)) c.checked.result c.checked.ensures.leaves c.checked.ensures.sums
+
+pub returns-in-Ok-Found-clause-still : goal.returns-in-Ok-Found-clause-still
+returns-in-Ok-Found-clause-still g c it =
+    either_way (λ book. book.conn) _ (λ h leaves. survives_then (state g.S.Store c.args.conn) (state g.S.Store c.adopt_tables.new.conn) (state g.S.Store h) (λ _. ⊥) (λ _. ⊥) (λ _. ⊥) (λ _ db none. none) (λ _ db none. none) (c.in-Ok-Found.ensures.still it) leaves.survives)
+    c.checked.result c.checked.ensures.leaves
+
+pub returns-in-Ok-Found-clause-strange : goal.returns-in-Ok-Found-clause-strange
+returns-in-Ok-Found-clause-strange g c = if_back (λ book. book.conn) _ (λ back leaves outside is. (c.in-Ok-Found.ensures.found (ap Ok c.in-Ok-Found.field-0-is)).0) c.checked.result c.checked.ensures.leaves c.checked.ensures.mode
+
+pub returns-in-Ok-Found-clause-unwritten : goal.returns-in-Ok-Found-clause-unwritten
+returns-in-Ok-Found-clause-unwritten g c =
+    if_back (λ book. book.conn) _ (λ back leaves outside is. leaves_then _ _ _ (c.in-Ok-Found.ensures.found (ap Ok c.in-Ok-Found.field-0-is)).1 leaves) c.checked.result c.checked.ensures.leaves c.checked.ensures.mode
+
+pub returns-in-Ok-Found-clause-neither : goal.returns-in-Ok-Found-clause-neither
+returns-in-Ok-Found-clause-neither g c =
+    if_back (λ book. book.conn) _ (λ back leaves neither is clean m was. neither is clean (books m was.totals) (c.in-Ok-Found.ensures.held (books m was.totals) was.settled) was.sums) c.checked.result c.checked.ensures.leaves
+    c.checked.ensures.neither
+
+-- ---- they weren't taken over
 
 pub returns-in-Err-clause-crash : goal.returns-in-Err-clause-crash
 returns-in-Err-clause-crash g c has = survives_fresh (state g.S.Store c.args.conn) (state g.S.Store c.adopt_tables.new.conn) (c.in-Err.ensures.crash has)

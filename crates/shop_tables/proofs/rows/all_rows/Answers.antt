@@ -1,7 +1,7 @@
 use Rattle.std.proofs.Common.{arith}
 use Rattle.sqlite.specs.Held.{state}
 use Rattle.shop_tables.proofs.Kept.{query_keeps, query_survives}
-use Rattle.shop_tables.proofs.rows.one_row.Goals as goal
+use Rattle.shop_tables.proofs.rows.all_rows.Goals as goal
 
 pub returns-in_err-rows-clause-leaves : goal.returns-in_err-rows-clause-leaves
 returns-in_err-rows-clause-leaves g c is = record {

@@ -1,0 +1,6 @@
+use Rattle.std.proofs.Common.{take}
+use Rattle.shop_store.specs.Adding.{AreSumsIn}
+use Rattle.shop_store.proofs.checking.are_sums.Given as goal
+
+abbrev pub invariant-loop-row : goal.invariant-loop-row
+invariant-loop-row l = AreSumsIn l.sums (take l.row-index l.totals)

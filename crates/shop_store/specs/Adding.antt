@@ -1,0 +1,35 @@
+-- What adding up the parts that are handed out makes of sums.
+use Rattle.std.specs.Prelude.{◌≡◌, ℕ, ◌+◌, ⊤, List, [], ◌∷◌, Bool, true, false, cond, is_some}
+use Rattle.std.specs.Ordering.{eq_by_cmp}
+use Rattle.cut_measure.specs.Codes.{code_cmp}
+use Rattle.shop_machine.specs.declared.changes.MaterialTotals.{MaterialTotals}
+use Rattle.shop_machine.specs.declared.records.Column.{Column}
+use Rattle.shop_machine.specs.declared.records.Part.{Part}
+use Rattle.shop_store.specs.Rows.{row_at}
+use Rattle.shop_store.specs.Sums.{cells_for, sum_at, sums_key, totals_from}
+use Rattle.shop_store.specs.declared.adders.PartAdder.{PartAdder}
+use Rattle.shop_store.specs.declared.sums.Sums.{Sums}
+
+-- whether there are sums for the material
+abbrev pub has_sums : List ℕ → List Sums → Bool
+has_sums code sums = is_some (row_at sums_key code_cmp code sums)
+
+-- the part's cells are added, and there are sums for the same materials
+pub record IsAdded (part : Part) (old new : List Sums) : Type 0 where
+  pub adds : (column : Column) (code : List ℕ) → sum_at column code new ≡ sum_at column code old + cells_for column code part
+  pub there : (code : List ℕ) → has_sums code new ≡ has_sums code old
+
+-- a part is added where there are sums for its material, and 64 bits hold them
+abbrev pub AddsPart : PartAdder → Part → Bool → PartAdder → Type 0
+AddsPart old part true new = IsAdded part old.sums.items new.sums.items
+AddsPart old part false new = ⊤
+
+-- whether some of these totals are the material's
+abbrev pub are_totals_for : List ℕ → List MaterialTotals → Bool
+are_totals_for code [] = false
+are_totals_for code (row ∷ rows) = cond (eq_by_cmp code_cmp code row.material) true (are_totals_for code rows)
+
+-- each of these totals is the material's sums
+abbrev pub AreSumsIn : List Sums → List MaterialTotals → Type 0
+AreSumsIn sums [] = ⊤
+AreSumsIn sums (row ∷ rows) = (totals_from row.material sums ≡ row.totals) × AreSumsIn sums rows

@@ -1,0 +1,17 @@
+ghost use Rattle.std.specs.Prelude.{◌<◌, ◌^◌, ℕ, List, IsTrue, vec_len, vec_capacity};
+ghost use Rattle.cut_measure.specs.Codes.{code_cmp};
+ghost use Rattle.shop_machine.specs.declared.records.Column.{Column};
+ghost use Rattle.shop_store.specs.Rows.{rise};
+ghost use Rattle.shop_store.specs.Sums.{sum_at, sums_key};
+
+use crate::sums::Sums;
+
+/// Adds up the parts that are handed out, for the materials that it was made for. It stops at a part of another material,
+/// and where 64 bits don't hold a sum.
+#[derive(Drop)]
+pub struct PartAdder {
+    pub sums: Vec<Sums>,
+    ghost rising: { IsTrue (rise sums_key code_cmp sums.items) },
+    ghost room: { vec_len sums < vec_capacity sums },
+    ghost small: { (column : Column) (code : List ℕ) → sum_at column code sums.items < 2 ^ 64 },
+}

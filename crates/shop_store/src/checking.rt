@@ -1,0 +1,73 @@
+//! Whether the totals of tables are the sums of their parts.
+
+ghost use Rattle.std.specs.Prelude.{◌≡◌, ◌<◌, ◌^◌, ℕ, List, false, true, IfOk, IsTrue};
+ghost use Rattle.std.specs.Bool.{Decides};
+ghost use Rattle.sqlite.specs.Held.{state};
+ghost use Rattle.cut_measure.specs.Codes.{code_cmp};
+ghost use Rattle.shop_machine.specs.declared.records.Column.{Column as ColumnOf};
+ghost use Rattle.shop_tables.specs.Changing.{HasSums};
+ghost use Rattle.shop_tables.specs.Shown.{Leaves, Says};
+ghost use Rattle.shop_store.specs.Adding.{AddsPart, AreSumsIn, are_totals_for, has_sums};
+ghost use Rattle.shop_store.specs.Rows.{rise};
+ghost use Rattle.shop_store.specs.Sums.{sum_at, sums_key};
+
+use crate::adders::PartAdder;
+use crate::rows::put;
+use crate::sums::{Sums, count_part, has_totals, no_sums};
+use shop_machine::{MaterialTotals, Part, PartVisitor};
+use shop_tables::{Lent, TableFault, lend_all_parts, list_totals};
+use sqlite::{Alter, Connection};
+use std::alloc::{AllocError, Global};
+
+impl PartVisitor for PartAdder {
+    ghost looks = { AddsPart };
+
+    fn part(&mut self, part: &Part) -> bool {
+        count_part(&mut self.sums, part)
+    }
+}
+
+// Sums of nothing for each of these materials.
+fn adder_for(alloc: Global, totals: &[MaterialTotals]) -> Result<PartAdder, AllocError>
+    ensures none { IfOk result (λ adder. (column : ColumnOf) (code : List ℕ) → sum_at column code adder.sums.items ≡ 0) }
+    ensures there { IfOk result (λ adder. (code : List ℕ) → has_sums code adder.sums.items ≡ are_totals_for code totals.now) }
+{
+    let mut sums = Vec::new(alloc);
+    for row in totals {
+        sums.reserve(1)?;
+        let _ = put(&mut sums, no_sums(row.material));
+    }
+    sums.reserve(1)?;
+    Ok(PartAdder { sums })
+}
+
+// Whether these totals are the sums.
+fn are_sums(sums: &[Sums], totals: &[MaterialTotals]) -> bool
+    requires rising { IsTrue (rise sums_key code_cmp sums.now) }
+    requires small { (column : ColumnOf) (code : List ℕ) → sum_at column code sums.now < 2 ^ 64 }
+    ensures { Decides result (AreSumsIn sums.now totals.now) }
+{
+    for row in totals {
+        if !has_totals(sums, row) {
+            return false;
+        }
+    }
+    true
+}
+
+/// Goes through all parts once, and tells whether the totals are their sums: those of each material, and of nothing else.
+pub fn have_sums<S: Alter>(alloc: Global, conn: &mut Connection<S>) -> Result<bool, TableFault>
+    ensures sums { Says (state S.Store conn.old) (state S.Store conn.new) (λ books. IfOk result (λ good. Decides good (HasSums books))) }
+    ensures leaves { Leaves (state S.Store conn.old) (state S.Store conn.new) }
+    ensures mode { conn.old.in_transaction ≡ false → conn.new.in_transaction ≡ false }
+{
+    let Some(totals) = list_totals(alloc, conn)? else {
+        return Ok(false);
+    };
+    let mut adder = adder_for(alloc, &totals)?;
+    match lend_all_parts(conn, &mut adder)? {
+        Lent::All => Ok(are_sums(&adder.sums, &totals)),
+        Lent::Stopped => Err(TableFault::Store),
+        Lent::Strange => Err(TableFault::Store),
+    }
+}

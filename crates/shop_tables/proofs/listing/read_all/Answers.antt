@@ -1,0 +1,21 @@
+use Rattle.std.proofs.Common.{◌∙◌, arith, rules}
+use Rattle.shop_tables.proofs.AllTotals.{row_is, one_more, apart, all_read, other_codes, equal_codes}
+use Rattle.shop_tables.proofs.listing.read_all.Goals as goal
+
+pub returns-then-ne : goal.returns-then-ne
+returns-then-ne c cs es codes rows =
+    (tt, λ _. apart c.args.codes.now c.args.rows.now cs es codes rows c.loop-i.i c.loop-i-test.true (search rules) c.index-codes-i.result c.in_ok-code_in.field-0 c.in_ok-totals.totals c.index-codes-i.is c.in_ok-code_in.ensures
+    (c.in_ok-totals.ensures _ (row_is c.args.codes.now c.args.rows.now cs es codes rows c.loop-i.i c.loop-i-test.true (search rules) c.index-rows-i.result c.index-rows-i.is)) (other_codes _ _ _ c.ne.ensures c.if-ne.true))
+
+pub loop-i-preserved : goal.loop-i-preserved
+loop-i-preserved c cs es codes rows =
+    let was = c.loop-i.invariant cs es codes rows in
+    let more = one_more c.args.codes.now c.args.rows.now cs es codes rows c.loop-i.i c.loop-i-test.true (search rules) c.index-codes-i.result c.in_ok-code_in.field-0 c.in_ok-totals.totals c.index-codes-i.is c.in_ok-code_in.ensures
+    (c.in_ok-totals.ensures _ (row_is c.args.codes.now c.args.rows.now cs es codes rows c.loop-i.i c.loop-i-test.true (search rules) c.index-rows-i.result c.index-rows-i.is))
+    c.loop-i.list.items (equal_codes _ _ _ c.ne.ensures c.if-ne.false) was.0 was.1 in
+    (search rules ∙ more.0, more.1)
+
+pub returns : goal.returns
+returns c cs es codes rows =
+    let was = c.loop-i.invariant cs es codes rows in
+    (all_read c.args.codes.now c.args.rows.now cs es codes rows c.loop-i.i c.loop-i.list.items (omega (arith, c.loop-i-test.false)) (search rules) was.0 was.1, λ none. absurd (cc))

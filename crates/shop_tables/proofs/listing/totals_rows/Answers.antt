@@ -1,0 +1,13 @@
+use Rattle.sqlite.specs.Held.{state}
+use Rattle.shop_tables.proofs.Ordered.{lists_totals, rows_given}
+use Rattle.shop_tables.proofs.Texts.{all_totals_text, all_totals_selects}
+use Rattle.shop_tables.proofs.listing.totals_rows.Goals as goal
+
+pub returns-clause-rows : goal.returns-clause-rows
+returns-clause-rows g c clean b was =
+    let old = state g.S.Store c.args.conn.now in
+    let new = state g.S.Store c.all_rows.new.conn in
+    rows_given all_totals_text old new all_totals_selects c.all_rows.ensures.leaves b _ c.all_rows.result clean was (λ rows has. lists_totals old new b has rows) (c.all_rows.ensures.rows clean)
+
+pub returns-clause-leaves : goal.returns-clause-leaves
+returns-clause-leaves g c = c.all_rows.ensures.leaves all_totals_selects

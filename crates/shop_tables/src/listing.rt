@@ -1,0 +1,85 @@
+//! The totals of all materials, in order.
+
+ghost use Rattle.std.specs.Prelude.{◌≡◌, ◌≢◌, [], ◌∷◌, ℕ, List, map, false, true, IfOk, IfSome, IsNone};
+ghost use Rattle.std.specs.FinMap.{entries};
+ghost use Rattle.sqlite.specs.Held.{state};
+ghost use Rattle.shop_machine.specs.declared.records.Totals.{Totals as TotalsRecord};
+ghost use Rattle.shop_tables.specs.Listing.{AreAllTotals, code_row, key_of, listed_row, named};
+ghost use Rattle.shop_tables.specs.Shown.{Leaves, Says};
+
+use crate::TableFault;
+use crate::columns::code_in;
+use crate::rows::all_rows;
+use crate::sums::read_totals;
+use shop_machine::MaterialTotals;
+use sqlite::{Alter, Connection, Error, Row};
+use std::alloc::Global;
+
+fn material_rows<S: Alter>(conn: &mut Connection<S>) -> Result<Vec<Row>, Error>
+    ensures rows { Says (state S.Store conn.old) (state S.Store conn.new) (λ books. IfOk result (λ rows. rows.items ≡ map (λ e. code_row (key_of e)) (entries books.content.materials))) }
+    ensures leaves { Leaves (state S.Store conn.old) (state S.Store conn.new) }
+    ensures mode { conn.old.in_transaction ≡ false → conn.new.in_transaction ≡ false }
+{
+    all_rows(conn, "SELECT code FROM materials ORDER BY code", &[])
+}
+
+fn totals_rows<S: Alter>(conn: &mut Connection<S>) -> Result<Vec<Row>, Error>
+    ensures rows { Says (state S.Store conn.old) (state S.Store conn.new) (λ books. IfOk result (λ rows. rows.items ≡ map listed_row (entries books.totals))) }
+    ensures leaves { Leaves (state S.Store conn.old) (state S.Store conn.new) }
+    ensures mode { conn.old.in_transaction ≡ false → conn.new.in_transaction ≡ false }
+{
+    all_rows(
+        conn,
+        "SELECT received, stock, rack, pieces, kerf, scrap, returned, material FROM totals2 ORDER BY material",
+        &[],
+    )
+}
+
+// The totals of a row, their material behind them.
+fn read_named(row: &Row) -> Result<MaterialTotals, TableFault>
+    ensures { (e : List ℕ × TotalsRecord) → row.now ≡ listed_row e → IfOk result (λ read. read ≡ named e) }
+{
+    Ok(MaterialTotals {
+        material: code_in(row, 7)?,
+        totals: read_totals(row)?,
+    })
+}
+
+// The totals of these rows, where their codes are these, in this order.
+fn read_all(
+    alloc: Global,
+    codes: &[Row],
+    rows: &[Row],
+) -> Result<Option<Vec<MaterialTotals>>, TableFault>
+    ensures { (cs : List (List ℕ)) (es : List (List ℕ × TotalsRecord)) → codes.now ≡ map code_row cs → rows.now ≡ map listed_row es
+        → IfOk result (λ read. IfSome read (λ list. (list.items ≡ map named es) × (cs ≡ map key_of es)) × (IsNone read → cs ≢ map key_of es)) }
+{
+    if codes.len() != rows.len() {
+        return Ok(None);
+    }
+    let mut list = Vec::new(alloc);
+    for i in 0..rows.len() {
+        let totals = read_named(&rows[i])?;
+        if code_in(&codes[i], 0)? != totals.material {
+            return Ok(None);
+        }
+        if list.push(totals).is_err() {
+            return Err(TableFault::NoMemory);
+        }
+    }
+    Ok(Some(list))
+}
+
+/// The totals of all materials, by rising code; None where a material has none, or another code has some.
+pub fn list_totals<S: Alter>(
+    alloc: Global,
+    conn: &mut Connection<S>,
+) -> Result<Option<Vec<MaterialTotals>>, TableFault>
+    ensures rows { Says (state S.Store conn.old) (state S.Store conn.new) (λ books. IfOk result (AreAllTotals books)) }
+    ensures leaves { Leaves (state S.Store conn.old) (state S.Store conn.new) }
+    ensures mode { conn.old.in_transaction ≡ false → conn.new.in_transaction ≡ false }
+{
+    let materials = material_rows(conn)?;
+    let totals = totals_rows(conn)?;
+    read_all(alloc, &materials, &totals)
+}
