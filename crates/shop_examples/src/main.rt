@@ -20,6 +20,8 @@ mod request_tests;
 #[cfg(test)]
 mod rules_tests;
 #[cfg(test)]
+mod serving_tests;
+#[cfg(test)]
 mod text_tests;
 #[cfg(test)]
 mod visiting_tests;

@@ -9,11 +9,11 @@ use std::test::Fail;
 
 // Gives one byte a read, and fails once its reads are used up.
 #[derive(Drop)]
-struct Given<'a> {
-    rest: &'a [u8],
-    reads_left: u32,
-    reads: u64,
-    failures: u64,
+pub struct Given<'a> {
+    pub rest: &'a [u8],
+    pub reads_left: u32,
+    pub reads: u64,
+    pub failures: u64,
 }
 
 impl Source for Given<'_> {
@@ -45,10 +45,10 @@ impl Source for Given<'_> {
 
 // Takes one byte a write, and fails once its writes are used up.
 #[derive(Drop)]
-struct Taken {
-    bytes: Vec<u8>,
-    writes_left: u32,
-    failures: u64,
+pub struct Taken {
+    pub bytes: Vec<u8>,
+    pub writes_left: u32,
+    pub failures: u64,
 }
 
 impl Sink for Taken {

@@ -4,3 +4,4 @@ pub mod Named
 pub mod Routing
 pub mod Behind
 pub mod Uniqueness
+pub mod Counting

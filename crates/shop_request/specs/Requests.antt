@@ -1,5 +1,5 @@
 -- The request or the fault that an input stands for.
-use Rattle.std.specs.Prelude.{◌≡◌, ℕ, ◌<◌, ◌⊎◌, List, [], length, take, drop, Result, Ok, Err, nat_lt, if◌then◌else◌}
+use Rattle.std.specs.Prelude.{◌≡◌, ℕ, ◌+◌, ◌<◌, ◌⊎◌, List, [], length, take, drop, Result, Ok, Err, nat_lt, if◌then◌else◌}
 use Rattle.httparse.specs.Grammar.{RequestHead, print_request}
 use Rattle.shop_request.specs.declared.faults.Fault.{Fault}
 use Rattle.shop_request.specs.declared.faults.Fault.TheVariants.{BadRequest}
@@ -7,7 +7,7 @@ use Rattle.shop_request.specs.declared.routes.Route.{Route}
 use Rattle.shop_request.specs.declared.requests.Inbound.{Inbound}
 use Rattle.shop_request.specs.declared.requests.Inbound.TheVariants.{Silence, Faulty, Asks}
 use Rattle.shop_request.specs.Routes.{takes_body}
-use Rattle.shop_request.specs.Heads.{Plea, HasHead, judged}
+use Rattle.shop_request.specs.Heads.{Plea, HasHead, judged, most_head, most_body}
 
 -- What an input stands for: nothing, where no byte comes; a fault; or a request: its route, and beside it the body where the
 -- route takes one, else what the path says.
@@ -34,6 +34,10 @@ abbrev pub HasSense : List ℕ → Sense → Type 0
 HasSense input s =
     ((input ≡ []) × (s ≡ silent))
     ⊎ ((0 < length input) × (head : Result RequestHead Fault) × HasHead input head × (s ≡ on_head head input))
+
+-- the most reads of a request: each but the last brings a byte of its head or its body
+abbrev pub most_request_reads : ℕ
+most_request_reads = most_head + most_body
 
 -- what was read
 abbrev pub sense_of : Inbound → Sense

@@ -1,6 +1,6 @@
-ghost use Rattle.std.specs.Prelude.{◌≡◌, ◌⊎◌, ℕ, List, length, IfOk, IfErr, OnOk, []};
+ghost use Rattle.std.specs.Prelude.{◌≡◌, ◌⊎◌, ◌+◌, ◌≤◌, ℕ, List, length, IfOk, IfErr, OnOk, []};
 ghost use Rattle.shop_text.specs.Streams.{HasFailed};
-ghost use Rattle.shop_request.specs.Heads.{front};
+ghost use Rattle.shop_request.specs.Heads.{front, most_head};
 ghost use Rattle.shop_request.specs.Reading.{IsFaultOf, IsHeadRead, IsParsed};
 ghost use Rattle.shop_request.specs.declared.faults.StreamFault.TheVariants.{Read, NoMemory};
 
@@ -72,6 +72,7 @@ pub(crate) fn read_head<S: Source>(
     ensures read { IfOk result (λ read. IsHeadRead (S.left source.old) (S.left source.new) came.new.items headers.new read) }
     ensures fault { IfErr result (λ fault. (fault ≡ NoMemory) ⊎ (fault ≡ Read) × HasFailed (S.failed source.old) (S.failed source.new)) }
     ensures worked { OnOk result (S.failed source.new ≡ S.failed source.old) }
+    ensures reads { S.reads source.new ≤ S.reads source.old + most_head }
 {
     while came.len() < LONGEST_HEAD {
         if !read_piece(source, came)? {

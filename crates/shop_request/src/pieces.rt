@@ -1,4 +1,4 @@
-ghost use Rattle.std.specs.Prelude.{◌≡◌, ◌⊎◌, ◌++◌, ◌<◌, ◌≤◌, ℕ, List, length, IfErr, OnOk, Ok, [], true, false};
+ghost use Rattle.std.specs.Prelude.{◌≡◌, ◌⊎◌, ◌+◌, ◌++◌, ◌<◌, ◌≤◌, ℕ, List, length, IfErr, OnOk, Ok, [], true, false};
 ghost use Rattle.std.specs.Io.KnownBytes.{Consumes, IsAtEnd};
 ghost use Rattle.shop_text.specs.Streams.{HasFailed};
 ghost use Rattle.shop_request.specs.declared.faults.StreamFault.TheVariants.{Read, NoMemory};
@@ -15,6 +15,7 @@ pub(crate) fn read_piece<S: Source>(source: &mut S, came: &mut Vec<u8>) -> Resul
     ensures none { result ≡ Ok false → (came.new.items ≡ came.old.items) × IsAtEnd (S.left source.new) × Consumes (S.left source.old) (S.left source.new) [] }
     ensures fault { IfErr result (λ fault. (fault ≡ NoMemory) ⊎ (fault ≡ Read) × HasFailed (S.failed source.old) (S.failed source.new)) }
     ensures worked { OnOk result (S.failed source.new ≡ S.failed source.old) }
+    ensures reads { S.reads source.new ≤ S.reads source.old + 1 }
 {
     let mut piece = [0; ROOM];
     let Ok(count) = source.read(&mut piece) else {

@@ -1,8 +1,8 @@
-ghost use Rattle.std.specs.Prelude.{◌≡◌, ◌⊎◌, ◌≤◌, ◌<◌, ◌-◌, length, true, false, Ok, IfOk, IfSome, IfErr, OnOk};
+ghost use Rattle.std.specs.Prelude.{◌≡◌, ◌⊎◌, ◌+◌, ◌≤◌, ◌<◌, ◌-◌, length, true, false, Ok, IfOk, IfSome, IfErr, OnOk};
 ghost use Rattle.std.specs.Io.KnownBytes.{IsAtEnd};
 ghost use Rattle.shop_request.specs.Reading.{IsReadOn};
 ghost use Rattle.shop_text.specs.Streams.{HasFailed};
-ghost use Rattle.shop_request.specs.Requests.{HasSense, sense_of};
+ghost use Rattle.shop_request.specs.Requests.{HasSense, most_request_reads, sense_of};
 ghost use Rattle.shop_request.specs.declared.faults.StreamFault.TheVariants.{Read, NoMemory};
 
 use crate::faults::{Fault, StreamFault};
@@ -39,6 +39,7 @@ fn read_to<S: Source>(
     ensures short { result ≡ Ok false → (length came.new.items - start < count) × IsAtEnd (S.left source.new) }
     ensures fault { IfErr result (λ fault. (fault ≡ NoMemory) ⊎ (fault ≡ Read) × HasFailed (S.failed source.old) (S.failed source.new)) }
     ensures worked { OnOk result (S.failed source.new ≡ S.failed source.old) }
+    ensures reads { S.reads source.new ≤ S.reads source.old + count }
 {
     while came.len() - start < count {
         if !read_piece(source, came)? {
@@ -52,7 +53,7 @@ fn read_to<S: Source>(
 ///
 /// The first fault in this order is answered: a bad head, or a large one; the hosts; a transfer coding; the lengths that are
 /// said; the path; the method; no length; a large body; a body that ends early. An `Err` is want of memory, or comes where
-/// the source failed.
+/// the source failed. At most 139264 reads are made.
 pub fn read_request<S: Source>(
     alloc: Global,
     routes: &Routes,
@@ -61,6 +62,7 @@ pub fn read_request<S: Source>(
     ensures sense { IfOk result (λ inbound. IfSome (S.left source.old) (λ input. HasSense input (sense_of inbound))) }
     ensures fault { IfErr result (λ fault. (fault ≡ NoMemory) ⊎ (fault ≡ Read) × HasFailed (S.failed source.old) (S.failed source.new)) }
     ensures worked { OnOk result (S.failed source.new ≡ S.failed source.old) }
+    ensures reads { S.reads source.new ≤ S.reads source.old + most_request_reads }
 {
     let Ok(mut came) = Vec::with_capacity(alloc, LONGEST_HEAD) else {
         return Err(StreamFault::NoMemory);

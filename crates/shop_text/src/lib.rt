@@ -11,6 +11,6 @@ mod yields;
 pub use counted::Counted;
 pub use printing::PrintFault;
 pub use streams::{Failed, Sink, Source};
-pub use tickets::ticket;
+pub use tickets::{ticket, ticket_text};
 pub use writer::write_all;
-pub use yields::yield_report;
+pub use yields::{report_text, yield_report};

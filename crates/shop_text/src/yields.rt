@@ -120,8 +120,9 @@ impl PartVisitor for PartLines {
     }
 }
 
-// The report of a material.
-fn report_text<B: Book>(alloc: Global, book: &mut B, code: Code) -> Result<String, Refusal>
+/// The yield report of a material as text. An unknown material is refused 20; 98 is want of memory, and 99 comes where the
+/// store failed.
+pub fn report_text<B: Book>(alloc: Global, book: &mut B, code: Code) -> Result<String, Refusal>
     ensures told { Says B.Book book.old book.new (λ m. IsTold (B.failed book.old) (B.failed book.new) result (yield_of m code)) }
     ensures keeps { KeepsBook B.Book (CountsRefusal result) book.old book.new }
 {

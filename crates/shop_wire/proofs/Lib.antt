@@ -5,3 +5,6 @@ pub mod LineLemmas
 pub mod Reading
 pub mod Replayed
 pub mod Fresh
+pub mod Meant
+pub mod Acted
+pub mod Written

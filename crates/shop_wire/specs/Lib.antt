@@ -2,6 +2,9 @@ pub mod Lines
 pub mod Streams
 pub mod Replays
 pub mod FaultTexts
+pub mod AnswerBytes
+pub mod Serves
+pub mod Tellings
 pub use Rattle.shop_desk.specs.Faults
 pub use Rattle.shop_desk.specs.Handled
 pub use Rattle.shop_store.specs.Kept

@@ -4,7 +4,8 @@ ghost use Rattle.shop_machine.specs.Soundness.{IsSound};
 ghost use Rattle.shop_rules.specs.Forms.{message_of, json_texts};
 ghost use Rattle.shop_store.specs.Kept.{Says};
 ghost use Rattle.shop_desk.specs.Faults.{CountsUp};
-ghost use Rattle.shop_wire.specs.Replays.{HasAnswered, LineStep, ValueStep, line_message, reply_line};
+ghost use Rattle.shop_wire.specs.Replays.{HasAnswered, LineStep, ValueStep, data_of, line_message, reply_line};
+ghost use Rattle.shop_wire.specs.Tellings.{IsRead};
 
 use crate::limits::LONGEST_LINE;
 use serde_json::Value;
@@ -40,6 +41,24 @@ fn reply_to<B: Book>(alloc: Global, book: &mut B, value: &Value) -> Reply
     }
 }
 
+/// The value that a line or a body is. Refused `BadMessage` where it is none, and `NoMemory` where memory runs out.
+pub(crate) fn value_in(alloc: Global, line: &[u8]) -> Result<Value, Refusal>
+    ensures { IsRead view result (data_of line.now) }
+{
+    if line.len() > LONGEST_LINE {
+        return Err(Refusal::BadMessage);
+    }
+    match Value::from_slice(alloc, line) {
+        Ok(value) => Ok(value),
+        Err(error) => {
+            if error.is_memory() {
+                return Err(Refusal::NoMemory);
+            }
+            Err(Refusal::BadMessage)
+        }
+    }
+}
+
 /// The reply to a line.
 pub(crate) fn answer<B: Book>(alloc: Global, book: &mut B, line: &[u8]) -> Result<Reply, AllocError>
     ensures ok { IfOk result (λ reply. Says B.Book book.old book.new (λ m. IsSound json_texts m → HasAnswered LineStep line_message B.Book book.old book.new m (line.now ∷ []) (reply ∷ []))) }
@@ -47,17 +66,12 @@ pub(crate) fn answer<B: Book>(alloc: Global, book: &mut B, line: &[u8]) -> Resul
     ensures honest { B.is_honest book.new → B.is_honest book.old }
     ensures failures { CountsUp (B.failed book.old) (B.failed book.new) }
 {
-    if line.len() > LONGEST_LINE {
-        return Ok(Reply::Refused(Refusal::BadMessage));
-    }
-    match Value::from_slice(alloc, line) {
+    match value_in(alloc, line) {
         Ok(value) => Ok(reply_to(alloc, book, &value)),
-        Err(error) => {
-            if error.is_memory() {
-                return Err(AllocError);
-            }
-            Ok(Reply::Refused(Refusal::BadMessage))
-        }
+        Err(refusal) => match refusal {
+            Refusal::NoMemory => Err(AllocError),
+            _ => Ok(Reply::Refused(Refusal::BadMessage)),
+        },
     }
 }
 

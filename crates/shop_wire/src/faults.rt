@@ -28,3 +28,31 @@ impl fmt::Display for ReplayFault {
 }
 
 impl Error for ReplayFault {}
+
+/// Why a request wasn't answered.
+#[derive(Clone, Copy, Debug, PartialEq, Eq)]
+pub enum WireFault {
+    /// The source failed.
+    Read,
+    /// The sink failed.
+    Write,
+    /// Want of memory.
+    NoMemory,
+}
+
+impl fmt::Display for WireFault {
+    ghost use Rattle.std.specs.Prelude.{Some};
+    ghost use Rattle.shop_wire.specs.FaultTexts.{wire_fault_text};
+
+    ghost output = { λ fault. Some (wire_fault_text fault) };
+
+    fn fmt<W: fmt::Write>(&self, f: &mut fmt::Formatter<W>) -> fmt::Result {
+        f.write_str(match self {
+            WireFault::Read => "fault read",
+            WireFault::Write => "fault write",
+            WireFault::NoMemory => "fault memory",
+        })
+    }
+}
+
+impl Error for WireFault {}

@@ -1,4 +1,4 @@
-use Rattle.std.proofs.Common.{◌≡◌, ◌<◌, ◌≤◌, ◌∙◌, ap, subst, Ok, length, arith}
+use Rattle.std.proofs.Common.{◌≡◌, ◌<◌, ◌≤◌, ◌∙◌, ap, subst, Ok, length, length-append, arith}
 use Rattle.httparse.specs.Grammar.{HasNoRequest, MayBecomeRequest}
 use Rattle.httparse.specs.Spans.{IsRequestWithin, IsRequestOf}
 use Rattle.shop_request.specs.Heads.{front}
@@ -40,6 +40,8 @@ loop-source-preserved g c =
       none = λ _. subst HasNoRequest f c.in-Unfinished.ensures.0;
       may = λ _. subst MayBecomeRequest f c.in-Unfinished.ensures.1;
       failed = c.in_ok-read_piece.ensures.worked ∙ so_far.failed;
+      reads = omega (arith, so_far.reads, c.read_piece.ensures.reads, more.1, ap length more.2, length-append c.loop-source.came.items more.0);
+      few = omega (arith, so_far.reads, c.read_piece.ensures.reads, c.loop-source-test.true, c.len.ensures, c.loop-source.came.ok.0);
     }
 
 pub returns-in-Refused-clause-read : goal.returns-in-Refused-clause-read
@@ -58,3 +60,6 @@ returns-clause-read g c =
     let so_far = c.loop-source.invariant in
     let long : 8192 ≤ length c.loop-source.came.items = omega (arith, c.loop-source-test.false, c.len.ensures, c.loop-source.came.ok.0) in
     front_is_full (g.S.Source.left c.args.source.now) (g.S.Source.left c.loop-source.source) c.loop-source.came.items long so_far.taken (so_far.none (omega (arith, long))) (so_far.may (omega (arith, long)))
+
+pub returns-clause-reads : goal.returns-clause-reads
+returns-clause-reads g c = c.loop-source.invariant.few

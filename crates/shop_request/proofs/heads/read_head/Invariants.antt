@@ -1,4 +1,4 @@
-use Rattle.std.proofs.Common.{◌≡◌, ◌<◌, ◌-◌, length}
+use Rattle.std.proofs.Common.{◌≡◌, ◌<◌, ◌≤◌, ◌+◌, ◌-◌, length}
 use Rattle.std.specs.Io.KnownBytes.{Consumes}
 use Rattle.httparse.specs.Grammar.{HasNoRequest, MayBecomeRequest}
 use Rattle.shop_request.specs.Heads.{front}
@@ -11,6 +11,8 @@ invariant-loop-source g l =
       none : 0 < length l.came.items → HasNoRequest (front l.came.items);
       may : 0 < length l.came.items → MayBecomeRequest (front l.came.items);
       failed : g.S.Source.failed l.source ≡ g.S.Source.failed l.fn.source;
+      reads : g.S.Source.reads l.source ≤ g.S.Source.reads l.fn.source + length l.came.items;
+      few : g.S.Source.reads l.source ≤ g.S.Source.reads l.fn.source + 8192;
     }
 
 abbrev pub decreases-loop-source : goal.decreases-loop-source

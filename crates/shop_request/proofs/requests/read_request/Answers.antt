@@ -4,6 +4,7 @@ use Rattle.httparse.specs.Spans.{IsRequestAt}
 use Rattle.shop_request.specs.Heads.{front, judged}
 use Rattle.shop_request.specs.Reading.{IsHeadRead, pleas, plea_of}
 use Rattle.shop_request.proofs.Behind.{bad_head, sense_of_fault, sense_of_part, sense_of_body, sense_of_short, rest_whole}
+use Rattle.shop_request.proofs.Counting.{short_body}
 use Rattle.shop_request.proofs.requests.read_request.Goals as goal
 
 pub returns-in-Faulty-clause-sense : goal.returns-in-Faulty-clause-sense
@@ -72,3 +73,27 @@ returns-clause-sense g c =
     c.in-Ok-from_slice-2.body.items (c.in-Ok-from_slice-2.ensures.items
     ∙ ap (take c.in-Ok-judge.plea.length) (rest_whole c.in-Whole.spans.len c.deref-2.result.now)
     ∙ ap (λ l. take c.in-Ok-judge.plea.length (drop c.in-Whole.spans.len l)) c.deref-2.ensures.value)
+
+pub returns-in_err-read_to-clause-reads : goal.returns-in_err-read_to-clause-reads
+returns-in_err-read_to-clause-reads g c =
+    let short = short_body (g.S.Source.left c.args.source.now) (g.S.Source.left c.read_head.new.source) c.read_head.new.came.items c.front_of.result.now c.read_head.new.headers c.in-Whole.spans _ _ c.in-Ok-judge.plea
+    c.in_ok-read_head.ensures.read c.in-Whole.is (c.front_of.ensures ∙ ap front c.deref.ensures.value) c.judge.ensures c.in-Ok-judge.is in
+    omega (arith, short, c.read_head.ensures.reads, c.read_to.ensures.reads)
+
+pub returns-then-not-branch-clause-reads : goal.returns-then-not-branch-clause-reads
+returns-then-not-branch-clause-reads g c =
+    let short = short_body (g.S.Source.left c.args.source.now) (g.S.Source.left c.read_head.new.source) c.read_head.new.came.items c.front_of.result.now c.read_head.new.headers c.in-Whole.spans _ _ c.in-Ok-judge.plea
+    c.in_ok-read_head.ensures.read c.in-Whole.is (c.front_of.ensures ∙ ap front c.deref.ensures.value) c.judge.ensures c.in-Ok-judge.is in
+    omega (arith, short, c.read_head.ensures.reads, c.read_to.ensures.reads)
+
+pub returns-in_default-from_slice-2-clause-reads : goal.returns-in_default-from_slice-2-clause-reads
+returns-in_default-from_slice-2-clause-reads g c =
+    let short = short_body (g.S.Source.left c.args.source.now) (g.S.Source.left c.read_head.new.source) c.read_head.new.came.items c.front_of.result.now c.read_head.new.headers c.in-Whole.spans _ _ c.in-Ok-judge.plea
+    c.in_ok-read_head.ensures.read c.in-Whole.is (c.front_of.ensures ∙ ap front c.deref.ensures.value) c.judge.ensures c.in-Ok-judge.is in
+    omega (arith, short, c.read_head.ensures.reads, c.read_to.ensures.reads)
+
+pub returns-clause-reads : goal.returns-clause-reads
+returns-clause-reads g c =
+    let short = short_body (g.S.Source.left c.args.source.now) (g.S.Source.left c.read_head.new.source) c.read_head.new.came.items c.front_of.result.now c.read_head.new.headers c.in-Whole.spans _ _ c.in-Ok-judge.plea
+    c.in_ok-read_head.ensures.read c.in-Whole.is (c.front_of.ensures ∙ ap front c.deref.ensures.value) c.judge.ensures c.in-Ok-judge.is in
+    omega (arith, short, c.read_head.ensures.reads, c.read_to.ensures.reads)

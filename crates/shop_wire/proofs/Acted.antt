@@ -1,0 +1,173 @@
+-- What a request was told, and what it did.
+use Rattle.std.proofs.Common.{◌≡◌, ◌≢◌, ℕ, ◌+◌, ◌⊎◌, arith, nat_lt, inl, inr, List, map, Bool, true, false, Option, Some, None, Result, Ok, Err, refl, sym, ap, subst, ◌∙◌}
+use Rattle.std.specs.Prelude.{MatchOption, if◌then◌else◌}
+use Rattle.std.specs.declared.string.String.{String}
+use Rattle.shop_machine.specs.declared.messages.Message.{Message as MessageOf}
+use Rattle.shop_machine.specs.declared.messages.Query.{Query}
+use Rattle.shop_machine.specs.declared.messages.Reply.{Reply}
+use Rattle.shop_machine.specs.declared.messages.Reply.TheVariants.{Refused}
+use Rattle.shop_machine.specs.declared.refusals.Refusal.{Refusal}
+use Rattle.shop_machine.specs.declared.refusals.Refusal.TheVariants.{BadMessage, NoMemory, StoreFault}
+use Rattle.shop_machine.specs.Messages.{IsMessage, pair_of}
+use Rattle.shop_machine.specs.Content.{Content, kept_at}
+use Rattle.shop_machine.specs.Machine.{Step, Answers}
+use Rattle.shop_machine.specs.Soundness.{IsSound}
+use Rattle.shop_rules.specs.Forms.{json_texts}
+use Rattle.shop_store.specs.declared.books.Book.{Ghosts}
+use Rattle.shop_store.specs.declared.books.TheConstants.{MOST_FAILURES}
+use Rattle.shop_store.specs.Failures.{one_more_failure}
+use Rattle.shop_desk.specs.Faults.{CountsUp, StoreFailed}
+use Rattle.shop_desk.specs.Handled.{HasAccount}
+use Rattle.shop_desk.proofs.Steps.{fault_step}
+use Rattle.shop_desk.proofs.Blame.{up_reply}
+use Rattle.shop_desk.proofs.Accounts.{account_same, account_step}
+use Rattle.shop_text.specs.Printing.{CountsRefusal, IsFailure, IsTold}
+use Rattle.shop_request.specs.declared.routes.Route.{Route}
+use Rattle.shop_request.specs.declared.routes.Route.TheVariants.{Message, Plan, Bound, Totals, Rack, Trace, Demand, Ticket, Yield}
+use Rattle.shop_request.specs.Requests.{asking}
+use Rattle.shop_wire.specs.AnswerBytes.{Telling, replied, printed}
+use Rattle.shop_wire.specs.Replays.{IsNoMessage, line_message}
+use Rattle.shop_wire.specs.Serves.{AskStep, HasServed, MessageStep, PrintStep, TellsText, asked_at, text_at, with_reply}
+use Rattle.shop_wire.specs.Tellings.{IsToldOf, IsUnread, PrintsCounted, TellsCounted}
+use Rattle.shop_wire.proofs.Meant.{unread_not_store}
+
+-- ---- messages
+
+-- want of memory may be answered to any body
+message_no_memory : (m : Content) (o : Option MessageOf) → MatchOption o (IsNoMessage m (Refused NoMemory) m) (λ message. Step json_texts m message (Refused NoMemory) m)
+message_no_memory m None = ((λ some. absurd (some refl)), refl)
+message_no_memory m (Some message) = fault_step json_texts m message NoMemory (kept_at m (pair_of message)) (λ n s. n refl)
+
+message_unread : (m : Content) (body : List ℕ) (refusal : Refusal) → IsUnread refusal (line_message body) → MessageStep m body (Refused refusal) m
+message_unread m body refusal (inl is) = subst (λ r. MessageStep m body (Refused r) m) (sym is) (message_no_memory m (line_message body))
+message_unread m body refusal (inr why) =
+    subst (λ (o : Option MessageOf). MatchOption o (IsNoMessage m (Refused refusal) m) (λ message. Step json_texts m message (Refused refusal) m)) (sym why.1) ((λ _. ap Refused why.0), refl)
+
+refused_same : (refusal : Refusal) → Refused refusal ≡ Refused StoreFault → refusal ≡ StoreFault
+refused_same refusal e = cc
+
+told_same : (reply : Reply) → replied reply ≡ replied (Refused StoreFault) → reply ≡ Refused StoreFault
+told_same reply e = cc
+
+-- ---- texts
+
+tells_text : (said : Result (List ℕ) Refusal) (telling : Telling) (a b : ℕ) → TellsCounted said telling a b → TellsText said telling
+tells_text said (printed text) a b h = h
+tells_text said (replied reply) a b h = (h.0, h.1, why h.2)
+  where
+    why : (said ≡ Err h.0) ⊎ IsFailure h.0 a b → (said ≡ Err h.0) ⊎ ((h.0 ≡ NoMemory) ⊎ (h.0 ≡ StoreFault))
+    why (inl is) = inl is
+    why (inr (inl p)) = inr (inl p.0)
+    why (inr (inr p)) = inr (inr p.0)
+
+printed_step : (m : Content) (o : Option (Result (List ℕ) Refusal)) (telling : Telling) (a b : ℕ) → PrintsCounted o telling a b → PrintStep m o telling m
+printed_step m None telling a b is = subst (λ t. PrintStep m None t m) (sym is) ((λ _. refl), refl)
+printed_step m (Some said) telling a b h = (tells_text said telling a b h, refl)
+
+-- one more failure
+failed_by : (a b : ℕ) (t : Bool) → nat_lt a MOST_FAILURES ≡ t → b ≡ (if t then a + 1 else MOST_FAILURES) → StoreFailed a b
+failed_by a b true e is = inl (omega (arith, is))
+failed_by a b false e is = inr is
+
+store_failed : (a b : ℕ) → b ≡ one_more_failure a → StoreFailed a b
+store_failed a b is = failed_by a b (nat_lt a MOST_FAILURES) refl is
+
+text_blame : (said : Result (List ℕ) Refusal) (refusal : Refusal) (a b : ℕ) → (said ≡ Err refusal) ⊎ IsFailure refusal a b → refusal ≡ StoreFault → StoreFailed a b ⊎ (Some said ≡ Some (Err StoreFault))
+text_blame said refusal a b (inl is) e = inr (ap Some (is ∙ ap Err e))
+text_blame said refusal a b (inr (inl p)) e = absurd (cc (sym p.0 ∙ e))
+text_blame said refusal a b (inr (inr p)) e = inl (store_failed a b p.1)
+
+printed_blame : (o : Option (Result (List ℕ) Refusal)) (telling : Telling) (a b : ℕ) → PrintsCounted o telling a b → telling ≡ replied (Refused StoreFault) → StoreFailed a b ⊎ (o ≡ Some (Err StoreFault))
+printed_blame None telling a b is e = absurd (cc (sym is ∙ e))
+printed_blame (Some said) (printed text) a b h e = absurd (cc e)
+printed_blame (Some said) (replied reply) a b h e = text_blame said h.0 a b h.2 (refused_same h.0 (sym h.1 ∙ told_same reply e))
+
+-- a text that was made, or the refusal that stands for it
+pub told_counted : {Z : Type 0} (r : Result (String Z) Refusal) (telling : Telling) (a b : ℕ) (said : Result (List ℕ) Refusal) → IsToldOf r telling → IsTold a b r said → TellsCounted said telling a b
+told_counted (Ok text) telling a b said is told = subst (λ t. TellsCounted said t a b) (sym is) told
+told_counted (Err refusal) telling a b said is told = subst (λ t. TellsCounted said t a b) (sym is) (refusal, refl, told)
+
+pub text_asked : (o : Option (Result (List ℕ) Refusal)) (said : Result (List ℕ) Refusal) (telling : Telling) (a b : ℕ) → o ≡ Some said → TellsCounted said telling a b → PrintsCounted o telling a b
+text_asked o said telling a b is h = subst (λ o. PrintsCounted o telling a b) (sym is) h
+
+pub none_asked : (o : Option (Result (List ℕ) Refusal)) (a b : ℕ) → o ≡ None → PrintsCounted o (replied (Refused BadMessage)) a b
+none_asked o a b is = subst (λ o. PrintsCounted o (replied (Refused BadMessage)) a b) (sym is) refl
+
+-- the failures that go with a text
+pub up_told : {T : Type 0} (r : Result T Refusal) (a b : ℕ) → CountsRefusal r a b → CountsUp a b
+up_told (Ok x) a b is = inl is
+up_told (Err refusal) a b (inl is) = inl is
+up_told (Err refusal) a b (inr p) = up_reply a b (Refused StoreFault) p.1
+
+-- ---- queries
+
+ask_no_memory : (m : Content) (o : Option Query) → AskStep m o (Refused NoMemory) m
+ask_no_memory m None = ((λ some. absurd (some refl)), refl)
+ask_no_memory m (Some q) = ((λ no _. absurd (no refl)), refl)
+
+pub ask_unread : (m : Content) (o : Option Query) (refusal : Refusal) → IsUnread refusal o → AskStep m o (Refused refusal) m
+ask_unread m o refusal (inl is) = subst (λ r. AskStep m o (Refused r) m) (sym is) (ask_no_memory m o)
+ask_unread m o refusal (inr why) = subst (λ o. AskStep m o (Refused refusal) m) (sym why.1) ((λ _. ap Refused why.0), refl)
+
+pub ask_answered : (m : Content) (o : Option Query) (q : Query) (reply : Reply) → o ≡ Some q → Answers m q reply → AskStep m o reply m
+ask_answered m o q reply is answers = subst (λ o. AskStep m o reply m) (sym is) (answers, refl)
+
+pub unread_blame : (o : Option Query) (refusal : Refusal) (A : Type 0) → IsUnread refusal o → Refused refusal ≡ Refused StoreFault → A
+unread_blame o refusal A why e = absurd (unread_not_store refusal o why (refused_same refusal e))
+
+-- the account of a message, as far as there is one
+abbrev AccountOf : Content → Option MessageOf → Telling → Content → Type 0
+AccountOf old o telling next = HasAccount json_texts old (map (λ e. e.0) (with_reply o telling)) (map (λ e. e.1) (with_reply o telling)) next
+
+refused_account : (m : Content) (refusal : Refusal) (o : Option MessageOf) → AccountOf m o (replied (Refused refusal)) m
+refused_account m refusal None = account_same json_texts m m refl
+refused_account m refusal (Some message) = account_same json_texts m m refl
+
+module _ {B : Type 0} (book : Ghosts B) (before after : B) (m : Content) where
+  pub message_served : (body : List ℕ) (message : MessageOf) (reply : Reply) (next : Content) → line_message body ≡ Some message → IsMessage message → Step json_texts m message reply next
+      → book.holds after next → IsSound json_texts next → (reply ≡ Refused StoreFault → StoreFailed (book.failed before) (book.failed after))
+      → HasServed book before after m (asking Message body) (replied reply)
+  message_served body message reply next is is_message step held sound blame =
+      record {
+        next = next;
+        step = subst (λ (o : Option MessageOf). MatchOption o (IsNoMessage m reply next) (λ message. Step json_texts m message reply next)) (sym is) step;
+        held = held;
+        sound = sound;
+        blame = λ e. inl (blame (told_same reply e));
+        account = subst (λ o. AccountOf m o (replied reply) next) (sym is) (account_step json_texts m next message reply is_message step);
+      }
+
+  pub message_refused : (body : List ℕ) (refusal : Refusal) → IsUnread refusal (line_message body) → book.holds after m → IsSound json_texts m
+      → HasServed book before after m (asking Message body) (replied (Refused refusal))
+  message_refused body refusal why held sound =
+      record {
+        next = m;
+        step = message_unread m body refusal why;
+        held = held;
+        sound = sound;
+        blame = λ e. absurd (unread_not_store refusal (line_message body) why (refused_same refusal (told_same (Refused refusal) e)));
+        account = refused_account m refusal (line_message body);
+      }
+
+  -- ---- what changes nothing
+
+  module _ (held : book.holds after m) (sound : IsSound json_texts m) where
+    pub asked_served : (route : Route) (text : List ℕ) (reply : Reply) → route ≢ Message → route ≢ Ticket → route ≢ Yield → AskStep m (asked_at route text) reply m
+        → (reply ≡ Refused StoreFault → StoreFailed (book.failed before) (book.failed after)) → HasServed book before after m (asking route text) (replied reply)
+    asked_served Message text reply a b c step blame = absurd (a refl)
+    asked_served Ticket text reply a b c step blame = absurd (b refl)
+    asked_served Yield text reply a b c step blame = absurd (c refl)
+    asked_served Plan text reply a b c step blame = record { next = m; step = step; held = held; sound = sound; blame = λ e. inl (blame (told_same reply e)); account = account_same json_texts m m refl }
+    asked_served Bound text reply a b c step blame = record { next = m; step = step; held = held; sound = sound; blame = λ e. inl (blame (told_same reply e)); account = account_same json_texts m m refl }
+    asked_served Totals text reply a b c step blame = record { next = m; step = step; held = held; sound = sound; blame = λ e. inl (blame (told_same reply e)); account = account_same json_texts m m refl }
+    asked_served Rack text reply a b c step blame = record { next = m; step = step; held = held; sound = sound; blame = λ e. inl (blame (told_same reply e)); account = account_same json_texts m m refl }
+    asked_served Trace text reply a b c step blame = record { next = m; step = step; held = held; sound = sound; blame = λ e. inl (blame (told_same reply e)); account = account_same json_texts m m refl }
+    asked_served Demand text reply a b c step blame = record { next = m; step = step; held = held; sound = sound; blame = λ e. inl (blame (told_same reply e)); account = account_same json_texts m m refl }
+
+    pub ticket_served : (part : List ℕ) (telling : Telling) → PrintsCounted (text_at m Ticket part) telling (book.failed before) (book.failed after) → HasServed book before after m (asking Ticket part) telling
+    ticket_served part telling h =
+        record { next = m; step = printed_step m (text_at m Ticket part) telling _ _ h; held = held; sound = sound; blame = printed_blame (text_at m Ticket part) telling _ _ h; account = account_same json_texts m m refl }
+
+    pub yield_served : (part : List ℕ) (telling : Telling) → PrintsCounted (text_at m Yield part) telling (book.failed before) (book.failed after) → HasServed book before after m (asking Yield part) telling
+    yield_served part telling h =
+        record { next = m; step = printed_step m (text_at m Yield part) telling _ _ h; held = held; sound = sound; blame = printed_blame (text_at m Yield part) telling _ _ h; account = account_same json_texts m m refl }

@@ -1,0 +1,16 @@
+use Rattle.shop_desk.proofs.Blame.{up_answer}
+use Rattle.shop_wire.proofs.Acted.{message_served, message_refused}
+use Rattle.shop_wire.proofs.asking.message_reply.Goals as goal
+
+pub returns-in-Ok-clause-served : goal.returns-in-Ok-clause-served
+returns-in-Ok-clause-served g c = λ honest m held sound.
+    let l = c.handle.ensures.step honest m held sound in
+    message_served g.B.Book c.args.book.now c.handle.new.book m c.args.body.now c.in-Ok.message c.handle.result l.next c.in-Ok.ensures c.handle.ensures.message l.step l.held l.sound
+    (c.handle.ensures.store_fault honest m held sound)
+
+pub returns-in-Ok-clause-failures : goal.returns-in-Ok-clause-failures
+returns-in-Ok-clause-failures g c = up_answer (g.B.Book.failed c.args.book.now) (g.B.Book.failed c.handle.new.book) c.handle.result c.handle.ensures.failures
+
+pub returns-in-Err-clause-served : goal.returns-in-Err-clause-served
+returns-in-Err-clause-served g c = λ honest m held sound.
+    message_refused g.B.Book c.args.book.now c.args.book.now m c.args.body.now c.in-Err.refusal c.in-Err.ensures held sound

@@ -1,0 +1,19 @@
+use Rattle.std.proofs.Common.{sym, ap, ◌∙◌}
+use Rattle.std.specs.Prelude.{option_map}
+use Rattle.shop_text.specs.Yields.{yield_of}
+use Rattle.shop_wire.proofs.Acted.{told_counted, text_asked, none_asked, up_told}
+use Rattle.shop_wire.specs.Tellings.{telling_of}
+use Rattle.shop_wire.proofs.asking.yield_told.Goals as goal
+
+pub returns-in-Some-clause-answer : goal.returns-in-Some-clause-answer
+returns-in-Some-clause-answer g c = λ honest m held.
+    text_asked _ _ _ _ _ (ap (option_map (yield_of m)) (sym c.code_in.ensures ∙ c.in-Some.is))
+    (told_counted c.report_text.result (telling_of c.told_of.result) _ _ _ c.told_of.ensures (c.report_text.ensures.told honest m held))
+
+pub returns-in-Some-clause-keeps : goal.returns-in-Some-clause-keeps
+returns-in-Some-clause-keeps g c =
+    let k = c.report_text.ensures.keeps in
+    record { honest = k.honest; stays = k.stays; crash = k.crash; failures = up_told c.report_text.result _ _ k.failures }
+
+pub returns-in-None-clause-answer : goal.returns-in-None-clause-answer
+returns-in-None-clause-answer g c = λ honest m held. none_asked _ _ _ (ap (option_map (yield_of m)) (sym c.code_in.ensures ∙ c.in-None.is))

@@ -1,0 +1,107 @@
+-- The bytes of an answer of HTTP.
+use Rattle.std.specs.Prelude.{ℕ, Bool, true, false, List, [], ◌∷◌, ◌++◌, ◌==◌, length, Option, Some, None, codes, decimal, if◌then◌else◌}
+use Rattle.http.specs.StatusCode.{code_digits}
+use Rattle.shop_machine.specs.declared.refusals.Refusal.{Refusal}
+use Rattle.shop_machine.specs.declared.refusals.Refusal.TheVariants.{BadMessage, NoMaterial, NoDemand, NoPart, NoJob, NoMemory, StoreFault}
+use Rattle.shop_machine.specs.declared.messages.Reply.{Reply}
+use Rattle.shop_machine.specs.Messages.{refusal_in}
+use Rattle.shop_request.specs.declared.faults.Fault.{Fault}
+use Rattle.shop_request.specs.declared.faults.Fault.TheVariants as faults
+use Rattle.shop_request.specs.declared.routes.Route.{Route}
+use Rattle.shop_request.specs.Routes.{takes_body}
+use Rattle.shop_request.specs.Requests.{Sense, silent, faulty, asking}
+use Rattle.shop_rules.specs.Forms.{json_texts}
+
+-- what a status says in words
+abbrev pub phrase : ℕ → List ℕ
+phrase n =
+    if n == 200 then codes "OK" else (
+    if n == 400 then codes "Bad Request" else (
+    if n == 404 then codes "Not Found" else (
+    if n == 405 then codes "Method Not Allowed" else (
+    if n == 409 then codes "Conflict" else (
+    if n == 411 then codes "Length Required" else (
+    if n == 413 then codes "Content Too Large" else (
+    if n == 431 then codes "Request Header Fields Too Large" else codes "Service Unavailable")))))))
+
+-- what ends a line of a head
+abbrev pub head_line_end : List ℕ
+head_line_end = 13 ∷ 10 ∷ []
+
+-- a status, the fields that not each answer has, and a body
+pub record Answer : Type 0 where
+  pub status : ℕ
+  pub fields : List ℕ
+  pub body : List ℕ
+
+unfoldable pub answer_bytes : Answer → List ℕ
+answer_bytes a =
+    codes "HTTP/1.1 " ++ code_digits a.status ++ codes " " ++ phrase a.status ++ head_line_end ++ a.fields
+    ++ codes "Content-Length: " ++ decimal (length a.body) ++ (head_line_end ++ codes "Connection: close" ++ head_line_end ++ head_line_end) ++ a.body
+
+-- ---- faults
+
+abbrev pub fault_status : Fault → ℕ
+fault_status faults.BadRequest = 400
+fault_status faults.NotFound = 404
+fault_status faults.OnlyGet = 405
+fault_status faults.OnlyPost = 405
+fault_status faults.NoLength = 411
+fault_status faults.LargeBody = 413
+fault_status faults.LargeHead = 431
+
+-- another method is told which one there is
+abbrev pub fault_fields : Fault → List ℕ
+fault_fields faults.OnlyGet = codes "Allow: GET" ++ head_line_end
+fault_fields faults.OnlyPost = codes "Allow: POST" ++ head_line_end
+fault_fields faults.BadRequest = []
+fault_fields faults.NotFound = []
+fault_fields faults.NoLength = []
+fault_fields faults.LargeBody = []
+fault_fields faults.LargeHead = []
+
+abbrev pub fault_answer : Fault → Answer
+fault_answer f = record { status = fault_status f; fields = fault_fields f; body = [] }
+
+-- ---- replies and texts
+
+-- where something isn't there: by POST a conflict, and by GET nothing found
+abbrev pub unfound : Bool → ℕ
+unfound true = 409
+unfound false = 404
+
+abbrev pub refusal_status : Bool → Refusal → ℕ
+refusal_status posted BadMessage = 400
+refusal_status posted NoMaterial = unfound posted
+refusal_status posted NoDemand = unfound posted
+refusal_status posted NoPart = unfound posted
+refusal_status posted NoJob = unfound posted
+refusal_status posted NoMemory = 503
+refusal_status posted StoreFault = 503
+refusal_status posted _ = 409
+
+abbrev pub status_in : Bool → Option Refusal → ℕ
+status_in posted None = 200
+status_in posted (Some refusal) = refusal_status posted refusal
+
+abbrev pub reply_answer : Route → Reply → Answer
+reply_answer route reply =
+    record { status = status_in (takes_body route) (refusal_in reply); fields = codes "Content-Type: application/json" ++ head_line_end; body = json_texts.of_reply reply }
+
+abbrev pub text_answer : List ℕ → Answer
+text_answer text = record { status = 200; fields = codes "Content-Type: text/plain" ++ head_line_end; body = text }
+
+-- What a request is told: a reply, or a text.
+pub data Telling : Type 0 where
+  replied : Reply → Telling
+  printed : List ℕ → Telling
+
+abbrev pub telling_answer : Route → Telling → Answer
+telling_answer route (replied reply) = reply_answer route reply
+telling_answer route (printed text) = text_answer text
+
+-- what is written where an input has this sense: nothing, the answer to a fault, or to a request that is told this
+abbrev pub bytes_of : Sense → Telling → List ℕ
+bytes_of silent telling = []
+bytes_of (faulty f) telling = answer_bytes (fault_answer f)
+bytes_of (asking route text) telling = answer_bytes (telling_answer route telling)

@@ -1,0 +1,173 @@
+-- What a request does to a content, and what is told and written.
+use Rattle.std.specs.Prelude.{◌≡◌, ◌⊎◌, ◌&&◌, ℕ, Bool, true, false, List, [], ◌∷◌, ◌++◌, map, nat_le, bytes_eq, Option, Some, None, Result, Ok, Err, MatchOption, option_map, option_and_then, IfSome, if◌then◌else◌}
+use Rattle.std.specs.Fmt.{decimal}
+use Rattle.std.specs.Str.{is_utf8}
+use Rattle.std.specs.Str.Parse.{digits_value}
+use Rattle.std.specs.Io.KnownBytes.{Appends}
+use Rattle.cut_measure.specs.declared.ranges.TheConstants.{MOST_NUMBERS}
+use Rattle.cut_measure.specs.Codes.{code_of}
+use Rattle.cut_measure.specs.Names.{Name, spelled_name}
+use Rattle.shop_machine.specs.declared.refusals.Refusal.{Refusal}
+use Rattle.shop_machine.specs.declared.refusals.Refusal.TheVariants.{NoMemory, StoreFault}
+use Rattle.shop_machine.specs.declared.messages.Message.{Message as MessageOf}
+use Rattle.shop_machine.specs.declared.messages.Query.{Query}
+use Rattle.shop_machine.specs.declared.messages.Query.TheVariants as query
+use Rattle.shop_machine.specs.declared.messages.Reply.{Reply}
+use Rattle.shop_machine.specs.declared.messages.Reply.TheVariants.{Refused}
+use Rattle.shop_machine.specs.Content.{Content}
+use Rattle.shop_machine.specs.Machine.{Step, Answers}
+use Rattle.shop_machine.specs.Soundness.{IsSound}
+use Rattle.shop_rules.specs.Forms.{query_of, json_texts}
+use Rattle.shop_store.specs.declared.books.Book.{Ghosts}
+use Rattle.shop_store.specs.Kept.{Says}
+use Rattle.shop_desk.specs.Faults.{StoreFailed}
+use Rattle.shop_desk.specs.Handled.{HasAccount}
+use Rattle.shop_text.specs.Tickets.{ticket_of}
+use Rattle.shop_text.specs.Yields.{yield_of}
+use Rattle.shop_request.specs.declared.routes.Route.{Route}
+use Rattle.shop_request.specs.declared.routes.Route.TheVariants.{Message, Plan, Bound, Totals, Rack, Trace, Demand, Ticket, Yield}
+use Rattle.shop_request.specs.Routes.{takes_body}
+use Rattle.shop_request.specs.Requests.{Sense, silent, faulty, asking, HasSense}
+use Rattle.shop_wire.specs.Replays.{data_of, line_message, IsNoMessage}
+use Rattle.shop_wire.specs.AnswerBytes.{Telling, replied, printed, bytes_of}
+
+-- ---- what is asked for
+
+-- the number from 1 to 2147483647 that a text is, in digits without leading zeros
+abbrev pub numbered : List ℕ → Option ℕ
+numbered text =
+    if nat_le 1 (digits_value 10 text) && nat_le (digits_value 10 text) MOST_NUMBERS && bytes_eq (decimal (digits_value 10 text)) text then Some (digits_value 10 text) else None
+
+-- the code that bytes are
+abbrev pub code_at : List ℕ → Option (List ℕ)
+code_at part = if is_utf8 part then code_of part else None
+
+-- the part that bytes name
+abbrev pub name_at : List ℕ → Option Name
+name_at part = if is_utf8 part then spelled_name part else None
+
+abbrev pub is_plan : Route → Bool
+is_plan Plan = true
+is_plan _ = false
+
+abbrev pub is_bound : Route → Bool
+is_bound Bound = true
+is_bound _ = false
+
+-- whether a query is the one of a route
+abbrev pub is_of : Route → Query → Bool
+is_of route (query.Plan part demands step) = is_plan route
+is_of route (query.Bound material w h demands step) = is_bound route
+is_of route _ = false
+
+-- the query of a body, where it is the route's
+abbrev pub body_query : Route → List ℕ → Option Query
+body_query route body = option_and_then (λ d. option_and_then (λ q. if is_of route q then Some q else None) (query_of d)) (data_of body)
+
+-- the query that a path says
+abbrev pub path_query : Route → List ℕ → Option Query
+path_query Totals part = option_map (λ code. query.Totals code) (code_at part)
+path_query Rack part = option_map (λ code. query.Rack code) (code_at part)
+path_query Trace part = option_map (λ name. query.Trace name) (name_at part)
+path_query Demand part = option_map (λ number. query.Demand number) (numbered part)
+path_query _ part = None
+
+-- the query that is asked
+abbrev pub asked_at : Route → List ℕ → Option Query
+asked_at route text = if takes_body route then body_query route text else path_query route text
+
+-- the text that a path asks for, or its refusal
+abbrev pub text_at : Content → Route → List ℕ → Option (Result (List ℕ) Refusal)
+text_at m Ticket part = option_map (ticket_of m) (numbered part)
+text_at m Yield part = option_map (yield_of m) (code_at part)
+text_at m _ part = None
+
+-- ---- what is told
+
+-- a reply of which that holds
+abbrev pub IsReplied : Telling → (Reply → Type 0) → Type 0
+IsReplied (replied reply) of = of reply
+IsReplied (printed text) of = ⊥
+
+-- a message is a step of the machine, and anything else is refused
+abbrev pub MessageStep : Content → List ℕ → Reply → Content → Type 0
+MessageStep old body reply new = MatchOption (line_message body) (IsNoMessage old reply new) (λ message. Step json_texts old message reply new)
+
+-- a query is answered, and anything else is refused
+abbrev pub AskStep : Content → Option Query → Reply → Content → Type 0
+AskStep old asked reply new = MatchOption asked (IsNoMessage old reply new) (λ q. Answers old q reply × (new ≡ old))
+
+-- what has to be said is printed, or its refusal is told, or a failure
+abbrev pub TellsText : Result (List ℕ) Refusal → Telling → Type 0
+TellsText said (printed text) = said ≡ Ok text
+TellsText said (replied reply) = (refusal : Refusal) × (reply ≡ Refused refusal) × ((said ≡ Err refusal) ⊎ ((refusal ≡ NoMemory) ⊎ (refusal ≡ StoreFault)))
+
+-- a text is printed, and where none is asked for that is refused
+abbrev pub PrintStep : Content → Option (Result (List ℕ) Refusal) → Telling → Content → Type 0
+PrintStep old asked telling new = MatchOption asked (IsReplied telling (λ reply. IsNoMessage old reply new)) (λ said. TellsText said telling × (new ≡ old))
+
+abbrev pub RequestStep : Content → Route → List ℕ → Telling → Content → Type 0
+RequestStep old Message text telling new = IsReplied telling (λ reply. MessageStep old text reply new)
+RequestStep old Plan text telling new = IsReplied telling (λ reply. AskStep old (asked_at Plan text) reply new)
+RequestStep old Bound text telling new = IsReplied telling (λ reply. AskStep old (asked_at Bound text) reply new)
+RequestStep old Totals text telling new = IsReplied telling (λ reply. AskStep old (asked_at Totals text) reply new)
+RequestStep old Rack text telling new = IsReplied telling (λ reply. AskStep old (asked_at Rack text) reply new)
+RequestStep old Trace text telling new = IsReplied telling (λ reply. AskStep old (asked_at Trace text) reply new)
+RequestStep old Demand text telling new = IsReplied telling (λ reply. AskStep old (asked_at Demand text) reply new)
+RequestStep old Ticket text telling new = PrintStep old (text_at old Ticket text) telling new
+RequestStep old Yield text telling new = PrintStep old (text_at old Yield text) telling new
+
+-- only a request does anything
+abbrev pub SenseStep : Content → Sense → Telling → Content → Type 0
+SenseStep old silent telling new = new ≡ old
+SenseStep old (faulty f) telling new = new ≡ old
+SenseStep old (asking route text) telling new = RequestStep old route text telling new
+
+-- ---- what was served
+
+-- the message that an input is
+abbrev pub sense_message : Sense → Option MessageOf
+sense_message (asking Message body) = line_message body
+sense_message _ = None
+
+abbrev pub with_reply : Option MessageOf → Telling → List (MessageOf × Reply)
+with_reply (Some message) (replied reply) = (message, reply) ∷ []
+with_reply _ telling = []
+
+-- a message, with its reply
+abbrev pub exchanged : Sense → Telling → List (MessageOf × Reply)
+exchanged sense telling = with_reply (sense_message sense) telling
+
+-- rows contradict each other, so that there is no text
+abbrev pub Contradicts : Content → Sense → Type 0
+Contradicts m (asking route part) = text_at m route part ≡ Some (Err StoreFault)
+Contradicts m _ = ⊥
+
+-- The book held old and holds next, a step later. A failed store is told of only where it failed, or rows contradict each
+-- other. Where a history gives old, one with the message, if it was accepted and isn't a repeat, gives next, and this is its
+-- account.
+pub record HasServed {B : Type 0} (book : Ghosts B) (before after : B) (old : Content) (sense : Sense) (telling : Telling) : Type 0 where
+  pub next : Content
+  pub step : SenseStep old sense telling next
+  pub held : book.holds after next
+  pub sound : IsSound json_texts next
+  pub blame : telling ≡ replied (Refused StoreFault) → StoreFailed (book.failed before) (book.failed after) ⊎ Contradicts old sense
+  pub account : HasAccount json_texts old (map (λ e. e.0) (exchanged sense telling)) (map (λ e. e.1) (exchanged sense telling)) next
+
+-- An input of this sense was served, and the answer written but for some last bytes; this is said of what was told.
+pub record IsAnswered (says : Telling → Type 0) (held_old held_new : Option (List ℕ)) (sense : Sense) (unwritten : List ℕ) : Type 0 where
+  pub telling : Telling
+  pub bytes : List ℕ
+  pub told : bytes ++ unwritten ≡ bytes_of sense telling
+  pub written : Appends held_old held_new bytes
+  pub run : says telling
+
+-- the sense was served by a book: each sound content that an honest book held before led to one that it holds now
+abbrev pub IsServedAs : {B : Type 0} → Ghosts B → B → B → Option (List ℕ) → Option (List ℕ) → Sense → List ℕ → Type 0
+IsServedAs book before after held_old held_new sense unwritten =
+    IsAnswered (λ telling. Says book before after (λ m. IsSound json_texts m → HasServed book before after m sense telling)) held_old held_new sense unwritten
+
+-- What an input stands for was served.
+abbrev pub IsServed : {B : Type 0} → Ghosts B → B → B → Option (List ℕ) → Option (List ℕ) → Option (List ℕ) → List ℕ → Type 0
+IsServed book before after left held_old held_new unwritten =
+    (sense : Sense) × IfSome left (λ input. HasSense input sense) × IsServedAs book before after held_old held_new sense unwritten

@@ -1,0 +1,188 @@
+ghost use Rattle.std.specs.Prelude.{◌≡◌, ◌⊎◌, ◌∷◌, [], Some, None, IfErr, IfOk};
+ghost use Rattle.shop_machine.specs.declared.messages.Reply.TheVariants.{Refused};
+ghost use Rattle.shop_machine.specs.declared.refusals.Refusal.TheVariants.{StoreFault};
+ghost use Rattle.shop_machine.specs.Soundness.{IsSound};
+ghost use Rattle.shop_rules.specs.Forms.{json_texts};
+ghost use Rattle.shop_store.specs.Kept.{KeepsBook, Says};
+ghost use Rattle.shop_desk.specs.Faults.{CountsReply, CountsUp, StoreFailed};
+ghost use Rattle.shop_request.specs.Requests.{asking};
+ghost use Rattle.shop_request.specs.declared.routes.Route.TheVariants.{Message as AtMessage, Ticket as AtTicket, Yield as AtYield};
+ghost use Rattle.shop_wire.specs.AnswerBytes.{replied};
+ghost use Rattle.shop_wire.specs.Replays.{line_message};
+ghost use Rattle.shop_wire.specs.Serves.{AskStep, HasServed, asked_at, body_query, code_at, is_of, name_at, numbered, path_query, text_at};
+ghost use Rattle.shop_wire.specs.Tellings.{IsRead, IsToldOf, PrintsCounted, telling_of};
+
+use crate::answers::value_in;
+use crate::telling::Told;
+use cut_measure::{MOST_NUMBERS, read_number};
+use shop_desk::{ask, handle};
+use shop_request::Route;
+use shop_rules::{Code, Message, PartName, Query, Refusal, Reply, read_message, read_query};
+use shop_store::Book;
+use shop_text::{report_text, ticket_text};
+use std::alloc::Global;
+use std::str;
+
+// The message that a body is.
+fn message_in(alloc: Global, body: &[u8]) -> Result<Message, Refusal>
+    ensures { IsRead (λ message. message) result (line_message body.now) }
+{
+    let value = value_in(alloc, body)?;
+    match read_message(alloc, &value) {
+        Ok(message) => Ok(message),
+        Err(refusal) => match refusal {
+            Refusal::NoMemory => Err(Refusal::NoMemory),
+            _ => Err(Refusal::BadMessage),
+        },
+    }
+}
+
+// The reply to a body as a message.
+fn message_reply<B: Book>(alloc: Global, book: &mut B, body: &[u8]) -> Reply
+    ensures served { Says B.Book book.old book.new (λ m. IsSound json_texts m → HasServed B.Book book.old book.new m (asking AtMessage body.now) (replied result)) }
+    ensures honest { B.is_honest book.new → B.is_honest book.old }
+    ensures failures { CountsUp (B.failed book.old) (B.failed book.new) }
+{
+    match message_in(alloc, body) {
+        Ok(message) => handle(alloc, book, &message),
+        Err(refusal) => Reply::Refused(refusal),
+    }
+}
+
+// Whether a query is the one of a route.
+fn is_of(route: Route, query: &Query) -> bool
+    ensures { result ≡ is_of route query.now }
+{
+    match query {
+        Query::Plan { .. } => matches!(route, Route::Plan),
+        Query::Bound { .. } => matches!(route, Route::Bound),
+        _ => false,
+    }
+}
+
+// The query of a body, where it is the route's.
+fn query_in(alloc: Global, route: Route, body: &[u8]) -> Result<Query, Refusal>
+    ensures { IsRead (λ query. query) result (body_query route body.now) }
+{
+    let value = value_in(alloc, body)?;
+    let query = read_query(alloc, &value)?;
+    if !is_of(route, &query) {
+        return Err(Refusal::BadMessage);
+    }
+    Ok(query)
+}
+
+// The number that a path says.
+fn number_in(part: &[u8]) -> Option<u32>
+    ensures { result ≡ numbered part.now }
+{
+    let number = read_number(part)?;
+    if number < 1 || number > MOST_NUMBERS {
+        return None;
+    }
+    Some(number)
+}
+
+// The code that a path says.
+fn code_in(part: &[u8]) -> Option<Code>
+    ensures { result ≡ code_at part.now }
+{
+    match str::from_utf8(part) {
+        Ok(text) => Code::read(text),
+        Err(_) => None,
+    }
+}
+
+// The part that a path names.
+fn name_in(part: &[u8]) -> Option<PartName>
+    ensures { result ≡ name_at part.now }
+{
+    match str::from_utf8(part) {
+        Ok(text) => PartName::read(text),
+        Err(_) => None,
+    }
+}
+
+// The query that a path says.
+fn query_at(route: Route, part: &[u8]) -> Option<Query>
+    ensures { result ≡ path_query route part.now }
+{
+    match route {
+        Route::Totals => code_in(part).map(|material| Query::Totals { material }),
+        Route::Rack => code_in(part).map(|material| Query::Rack { material }),
+        Route::Trace => name_in(part).map(|part| Query::Trace { part }),
+        Route::Demand => number_in(part).map(|demand| Query::Demand { demand }),
+        _ => None,
+    }
+}
+
+// What a request asks.
+fn asked(alloc: Global, route: Route, text: &[u8]) -> Result<Query, Refusal>
+    ensures { IsRead (λ query. query) result (asked_at route text.now) }
+{
+    if route.takes_body() {
+        return query_in(alloc, route, text);
+    }
+    match query_at(route, text) {
+        Some(query) => Ok(query),
+        None => Err(Refusal::BadMessage),
+    }
+}
+
+// The reply to what a request asks for.
+fn ask_reply<B: Book>(alloc: Global, book: &mut B, route: Route, text: &[u8]) -> Reply
+    ensures answer { Says B.Book book.old book.new (λ m. AskStep m (asked_at route text.now) result m) }
+    ensures keeps { KeepsBook B.Book (CountsReply result) book.old book.new }
+    ensures store_fault { result ≡ Refused StoreFault → StoreFailed (B.failed book.old) (B.failed book.new) }
+{
+    match asked(alloc, route, text) {
+        Ok(query) => ask(alloc, book, &query),
+        Err(refusal) => Reply::Refused(refusal),
+    }
+}
+
+// A text, or the refusal that stands for it.
+fn told_of(made: Result<String, Refusal>) -> Told
+    ensures { IsToldOf made (telling_of result) }
+{
+    match made {
+        Ok(text) => Told::Text(text),
+        Err(refusal) => Told::Reply(Reply::Refused(refusal)),
+    }
+}
+
+// The ticket that a path asks for.
+fn ticket_told<B: Book>(alloc: Global, book: &mut B, part: &[u8]) -> Told
+    ensures answer { Says B.Book book.old book.new (λ m. PrintsCounted (text_at m AtTicket part.now) (telling_of result) (B.failed book.old) (B.failed book.new)) }
+    ensures keeps { KeepsBook B.Book CountsUp book.old book.new }
+{
+    match number_in(part) {
+        Some(job) => told_of(ticket_text(alloc, book, job)),
+        None => Told::Reply(Reply::Refused(Refusal::BadMessage)),
+    }
+}
+
+// The yield report that a path asks for.
+fn yield_told<B: Book>(alloc: Global, book: &mut B, part: &[u8]) -> Told
+    ensures answer { Says B.Book book.old book.new (λ m. PrintsCounted (text_at m AtYield part.now) (telling_of result) (B.failed book.old) (B.failed book.new)) }
+    ensures keeps { KeepsBook B.Book CountsUp book.old book.new }
+{
+    match code_in(part) {
+        Some(material) => told_of(report_text(alloc, book, material)),
+        None => Told::Reply(Reply::Refused(Refusal::BadMessage)),
+    }
+}
+
+/// What a request is told.
+pub(crate) fn tell<B: Book>(alloc: Global, book: &mut B, route: Route, text: &[u8]) -> Told
+    ensures served { Says B.Book book.old book.new (λ m. IsSound json_texts m → HasServed B.Book book.old book.new m (asking route text.now) (telling_of result)) }
+    ensures honest { B.is_honest book.new → B.is_honest book.old }
+    ensures failures { CountsUp (B.failed book.old) (B.failed book.new) }
+{
+    match route {
+        Route::Message => Told::Reply(message_reply(alloc, book, text)),
+        Route::Ticket => ticket_told(alloc, book, text),
+        Route::Yield => yield_told(alloc, book, text),
+        _ => Told::Reply(ask_reply(alloc, book, route, text)),
+    }
+}

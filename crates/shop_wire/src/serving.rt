@@ -1,0 +1,155 @@
+ghost use Rattle.std.specs.Prelude.{◌≡◌, ◌≢◌, ◌⊎◌, ◌≤◌, ◌+◌, ◌++◌, [], ℕ, List, OnOk, OnErr, Err, IfOk, IfErr, IfSome, IsErrOf, string_bytes};
+ghost use Rattle.std.specs.Io.KnownBytes.{Appends};
+ghost use Rattle.shop_desk.specs.Faults.{CountsUp};
+ghost use Rattle.shop_text.specs.Streams.{HasFailed};
+ghost use Rattle.shop_request.specs.Requests.{HasSense, asking, most_request_reads, sense_of};
+ghost use Rattle.shop_wire.specs.AnswerBytes.{answer_bytes, fault_answer};
+ghost use Rattle.shop_wire.specs.Serves.{IsServed, IsServedAs};
+ghost use Rattle.shop_wire.specs.declared.faults.WireFault.TheVariants.{Read, Write, NoMemory};
+
+use crate::asking::tell;
+use crate::faults::WireFault;
+use crate::telling::{fault_text, told_text};
+use shop_request::{Fault, Inbound, Route, Routes, StreamFault, read_request};
+use shop_store::Book;
+use shop_text::{Sink, Source, write_all};
+use std::alloc::{AllocError, Global};
+
+// Writes a text that was made. After an Err the first of its bytes were written.
+fn write_made<W: Sink>(sink: &mut W, text: Result<String, AllocError>) -> Result<(), WireFault>
+    ensures ok { OnOk result ((whole : List ℕ) → IfOk text (λ t. string_bytes t ≡ whole) → Appends (W.held sink.old) (W.held sink.new) whole) }
+    ensures err { OnErr result ((whole : List ℕ) → IfOk text (λ t. string_bytes t ≡ whole)
+        → (done : List ℕ) × (rest : List ℕ) × (done ++ rest ≡ whole) × Appends (W.held sink.old) (W.held sink.new) done) }
+    ensures fault { IfErr result (λ fault. (fault ≡ NoMemory) ⊎ (fault ≡ Write) × HasFailed (W.failed sink.old) (W.failed sink.new)) }
+    ensures worked { OnOk result (W.failed sink.new ≡ W.failed sink.old) }
+{
+    let Ok(text) = text else {
+        return Err(WireFault::NoMemory);
+    };
+    match write_all(sink, text.as_str().as_bytes()) {
+        Ok(()) => Ok(()),
+        Err(_) => Err(WireFault::Write),
+    }
+}
+
+// Answers a fault.
+fn answer_fault<W: Sink>(alloc: Global, fault: Fault, sink: &mut W) -> Result<(), WireFault>
+    ensures ok { OnOk result (Appends (W.held sink.old) (W.held sink.new) (answer_bytes (fault_answer fault))) }
+    ensures err { OnErr result ((done : List ℕ) × (rest : List ℕ) × (done ++ rest ≡ answer_bytes (fault_answer fault)) × Appends (W.held sink.old) (W.held sink.new) done) }
+    ensures fault { IfErr result (λ fault. (fault ≡ NoMemory) ⊎ (fault ≡ Write) × HasFailed (W.failed sink.old) (W.failed sink.new)) }
+    ensures worked { OnOk result (W.failed sink.new ≡ W.failed sink.old) }
+{
+    write_made(sink, fault_text(alloc, fault))
+}
+
+// Answers a request.
+fn answer_request<W: Sink, B: Book>(
+    alloc: Global,
+    route: Route,
+    text: &[u8],
+    sink: &mut W,
+    book: &mut B,
+) -> Result<(), WireFault>
+    ensures ok { OnOk result (IsServedAs B.Book book.old book.new (W.held sink.old) (W.held sink.new) (asking route text.now) []) }
+    ensures err { OnErr result ((unwritten : List ℕ) × IsServedAs B.Book book.old book.new (W.held sink.old) (W.held sink.new) (asking route text.now) unwritten) }
+    ensures honest { B.is_honest book.new → B.is_honest book.old }
+    ensures failures { CountsUp (B.failed book.old) (B.failed book.new) }
+    ensures fault { IfErr result (λ fault. (fault ≡ NoMemory) ⊎ (fault ≡ Write) × HasFailed (W.failed sink.old) (W.failed sink.new)) }
+    ensures worked { OnOk result (W.failed sink.new ≡ W.failed sink.old) }
+{
+    let told = tell(alloc, book, route, text);
+    match write_made(sink, told_text(alloc, route, &told)) {
+        Ok(()) => Ok(()),
+        Err(fault) => Err(fault),
+    }
+}
+
+// Answers what was read.
+fn answer_inbound<W: Sink, B: Book>(
+    alloc: Global,
+    inbound: &Inbound,
+    sink: &mut W,
+    book: &mut B,
+) -> Result<(), WireFault>
+    ensures ok { OnOk result (IsServedAs B.Book book.old book.new (W.held sink.old) (W.held sink.new) (sense_of inbound.now) []) }
+    ensures err { OnErr result ((unwritten : List ℕ) × IsServedAs B.Book book.old book.new (W.held sink.old) (W.held sink.new) (sense_of inbound.now) unwritten) }
+    ensures honest { B.is_honest book.new → B.is_honest book.old }
+    ensures failures { CountsUp (B.failed book.old) (B.failed book.new) }
+    ensures fault { IfErr result (λ fault. (fault ≡ NoMemory) ⊎ (fault ≡ Write) × HasFailed (W.failed sink.old) (W.failed sink.new)) }
+    ensures worked { OnOk result (W.failed sink.new ≡ W.failed sink.old) }
+{
+    match inbound {
+        Inbound::Silence => Ok(()),
+        Inbound::Faulty(fault) => answer_fault(alloc, *fault, sink),
+        Inbound::Asks(route, text) => answer_request(alloc, *route, text, sink, book),
+    }
+}
+
+// Reads a request.
+fn read_one<S: Source>(alloc: Global, routes: &Routes, source: &mut S) -> Result<Inbound, WireFault>
+    ensures sense { IfOk result (λ inbound. IfSome (S.left source.old) (λ input. HasSense input (sense_of inbound))) }
+    ensures fault { IfErr result (λ fault. (fault ≡ NoMemory) ⊎ (fault ≡ Read) × HasFailed (S.failed source.old) (S.failed source.new)) }
+    ensures reads { S.reads source.new ≤ S.reads source.old + most_request_reads }
+{
+    match read_request(alloc, routes, source) {
+        Ok(inbound) => Ok(inbound),
+        Err(StreamFault::Read) => Err(WireFault::Read),
+        Err(StreamFault::NoMemory) => Err(WireFault::NoMemory),
+    }
+}
+
+/// Reads one request, does what it asks for and writes the answer. What the bytes of the source stand for is answered, in
+/// whatever pieces they come; where no byte comes nothing is written. At most 139264 reads are made.
+///
+/// `Read` where the source failed: then nothing changed, and nothing was written. `Write` where the sink failed and
+/// `NoMemory` for want of memory: then what was asked for may be done, and a first part of the answer was written; a message
+/// that is sent again gets the kept reply.
+pub fn serve_with<S: Source, W: Sink, B: Book>(
+    alloc: Global,
+    routes: &Routes,
+    source: &mut S,
+    sink: &mut W,
+    book: &mut B,
+) -> Result<(), WireFault>
+    ensures ok { OnOk result (IsServed B.Book book.old book.new (S.left source.old) (W.held sink.old) (W.held sink.new) []) }
+    ensures err { OnErr result (((book.new ≡ book.old) × (sink.new ≡ sink.old))
+        ⊎ ((unwritten : List ℕ) × IsServed B.Book book.old book.new (S.left source.old) (W.held sink.old) (W.held sink.new) unwritten)) }
+    ensures honest { B.is_honest book.new → B.is_honest book.old }
+    ensures failures { CountsUp (B.failed book.old) (B.failed book.new) }
+    ensures reads { S.reads source.new ≤ S.reads source.old + most_request_reads }
+    ensures read { result ≡ Err Read → HasFailed (S.failed source.old) (S.failed source.new) × (book.new ≡ book.old) × (sink.new ≡ sink.old) }
+    ensures write { result ≡ Err Write → HasFailed (W.failed sink.old) (W.failed sink.new) }
+    ensures worked { OnOk result (W.failed sink.new ≡ W.failed sink.old) }
+{
+    let inbound = match read_one(alloc, routes, source) {
+        Ok(inbound) => inbound,
+        Err(fault) => return Err(fault),
+    };
+    match answer_inbound(alloc, &inbound, sink, book) {
+        Ok(()) => Ok(()),
+        Err(fault) => Err(fault),
+    }
+}
+
+/// The same with routes of its own. A server makes them once and calls `serve_with`.
+pub fn serve_one<S: Source, W: Sink, B: Book>(
+    alloc: Global,
+    source: &mut S,
+    sink: &mut W,
+    book: &mut B,
+) -> Result<(), WireFault>
+    ensures ok { OnOk result (IsServed B.Book book.old book.new (S.left source.old) (W.held sink.old) (W.held sink.new) []) }
+    ensures err { OnErr result (((book.new ≡ book.old) × (sink.new ≡ sink.old))
+        ⊎ ((unwritten : List ℕ) × IsServed B.Book book.old book.new (S.left source.old) (W.held sink.old) (W.held sink.new) unwritten)) }
+    ensures honest { B.is_honest book.new → B.is_honest book.old }
+    ensures failures { CountsUp (B.failed book.old) (B.failed book.new) }
+    ensures reads { S.reads source.new ≤ S.reads source.old + most_request_reads }
+    ensures read { result ≡ Err Read → HasFailed (S.failed source.old) (S.failed source.new) × (book.new ≡ book.old) × (sink.new ≡ sink.old) }
+    ensures write { result ≡ Err Write → HasFailed (W.failed sink.old) (W.failed sink.new) }
+    ensures worked { OnOk result (W.failed sink.new ≡ W.failed sink.old) }
+{
+    let Ok(routes) = Routes::new(alloc) else {
+        return Err(WireFault::NoMemory);
+    };
+    serve_with(alloc, &routes, source, sink, book)
+}

@@ -1,0 +1,174 @@
+ghost use Rattle.std.specs.Prelude.{◌≡◌, ◌≤◌, ◌<◌, IfOk, decimal, string_bytes};
+ghost use Rattle.shop_wire.specs.AnswerBytes.{answer_bytes, fault_answer, fault_fields, fault_status, phrase, refusal_status, reply_answer, status_in, telling_answer, text_answer, unfound};
+ghost use Rattle.shop_wire.specs.Tellings.{telling_of};
+ghost use Rattle.shop_machine.specs.Messages.{refusal_in};
+ghost use Rattle.shop_request.specs.Routes.{takes_body};
+
+use http::StatusCode;
+use shop_request::{Fault, Route};
+use shop_rules::{Refusal, Reply, reply_text};
+use std::alloc::{AllocError, Global};
+
+/// What a request is told.
+#[derive(Drop)]
+pub(crate) enum Told {
+    Reply(Reply),
+    Text(String),
+}
+
+// A status by its number.
+fn status(number: u16) -> StatusCode
+    requires least { 100 ≤ number }
+    requires most { number < 1000 }
+    ensures { result ≡ number }
+{
+    match StatusCode::from_u16(number) {
+        Ok(status) => status,
+        Err(_) => unreachable!(),
+    }
+}
+
+// What a status says in words.
+fn phrase(number: u16) -> &'static str
+    ensures { result.now ≡ phrase number }
+{
+    match number {
+        200 => "OK",
+        400 => "Bad Request",
+        404 => "Not Found",
+        405 => "Method Not Allowed",
+        409 => "Conflict",
+        411 => "Length Required",
+        413 => "Content Too Large",
+        431 => "Request Header Fields Too Large",
+        _ => "Service Unavailable",
+    }
+}
+
+fn length_text(alloc: Global, length: usize) -> Result<String, AllocError>
+    ensures { IfOk result (λ text. string_bytes text ≡ decimal length) }
+{
+    format!(in alloc; "{length}")
+}
+
+#[tactic(auto, unfolding(crate::specs::AnswerBytes::answer_bytes))]
+// The bytes of an answer.
+fn answer_text(alloc: Global, number: u16, fields: &str, body: &str) -> Result<String, AllocError>
+    requires least { 100 ≤ number }
+    requires most { number < 1000 }
+    ensures { IfOk result (λ text. string_bytes text ≡ answer_bytes (record { status = number; fields = fields.now; body = body.now })) }
+{
+    let length = length_text(alloc, body.len())?;
+    let mut text = String::with_capacity(alloc, 256)?;
+    text.push_str("HTTP/1.1 ")?;
+    text.push_str(status(number).as_str())?;
+    text.push_str(" ")?;
+    text.push_str(phrase(number))?;
+    text.push_str("\r\n")?;
+    text.push_str(fields)?;
+    text.push_str("Content-Length: ")?;
+    text.push_str(length.as_str())?;
+    text.push_str("\r\nConnection: close\r\n\r\n")?;
+    text.push_str(body)?;
+    Ok(text)
+}
+
+fn fault_status(fault: Fault) -> u16
+    ensures value { result ≡ fault_status fault }
+    ensures least { 100 ≤ result }
+    ensures most { result < 1000 }
+{
+    match fault {
+        Fault::BadRequest => 400,
+        Fault::NotFound => 404,
+        Fault::OnlyGet | Fault::OnlyPost => 405,
+        Fault::NoLength => 411,
+        Fault::LargeBody => 413,
+        Fault::LargeHead => 431,
+    }
+}
+
+fn fault_fields(fault: Fault) -> &'static str
+    ensures { result.now ≡ fault_fields fault }
+{
+    match fault {
+        Fault::OnlyGet => "Allow: GET\r\n",
+        Fault::OnlyPost => "Allow: POST\r\n",
+        _ => "",
+    }
+}
+
+// The status of a refusal, where something isn't there.
+fn unfound(posted: bool) -> u16
+    ensures value { result ≡ unfound posted }
+    ensures least { 100 ≤ result }
+    ensures most { result < 1000 }
+{
+    if posted { 409 } else { 404 }
+}
+
+fn refusal_status(posted: bool, refusal: Refusal) -> u16
+    ensures value { result ≡ refusal_status posted refusal }
+    ensures least { 100 ≤ result }
+    ensures most { result < 1000 }
+{
+    match refusal {
+        Refusal::BadMessage => 400,
+        Refusal::NoMaterial | Refusal::NoDemand | Refusal::NoPart | Refusal::NoJob => {
+            unfound(posted)
+        }
+        Refusal::NoMemory | Refusal::StoreFault => 503,
+        _ => 409,
+    }
+}
+
+fn reply_status(route: Route, reply: &Reply) -> u16
+    ensures value { result ≡ status_in (takes_body route) (refusal_in reply.now) }
+    ensures least { 100 ≤ result }
+    ensures most { result < 1000 }
+{
+    match reply {
+        Reply::Refused(refusal) => refusal_status(route.takes_body(), *refusal),
+        _ => 200,
+    }
+}
+
+/// The answer to a fault.
+pub(crate) fn fault_text(alloc: Global, fault: Fault) -> Result<String, AllocError>
+    ensures { IfOk result (λ text. string_bytes text ≡ answer_bytes (fault_answer fault)) }
+{
+    let text = answer_text(alloc, fault_status(fault), fault_fields(fault), "")?;
+    Ok(text)
+}
+
+// The answer that tells a reply.
+fn reply_answer_text(alloc: Global, route: Route, reply: &Reply) -> Result<String, AllocError>
+    ensures { IfOk result (λ text. string_bytes text ≡ answer_bytes (reply_answer route reply.now)) }
+{
+    let body = reply_text(alloc, reply)?;
+    let text = answer_text(
+        alloc,
+        reply_status(route, reply),
+        "Content-Type: application/json\r\n",
+        body.as_str(),
+    )?;
+    Ok(text)
+}
+
+// The answer that prints a text.
+fn text_answer_text(alloc: Global, text: &str) -> Result<String, AllocError>
+    ensures { IfOk result (λ whole. string_bytes whole ≡ answer_bytes (text_answer text.now)) }
+{
+    let text = answer_text(alloc, 200, "Content-Type: text/plain\r\n", text)?;
+    Ok(text)
+}
+
+/// The answer that tells this.
+pub(crate) fn told_text(alloc: Global, route: Route, told: &Told) -> Result<String, AllocError>
+    ensures { IfOk result (λ text. string_bytes text ≡ answer_bytes (telling_answer route (telling_of told.now))) }
+{
+    match told {
+        Told::Reply(reply) => reply_answer_text(alloc, route, reply),
+        Told::Text(text) => text_answer_text(alloc, text.as_str()),
+    }
+}
