@@ -3,6 +3,8 @@
 #![tactic(auto)]
 
 mod faults;
+#[cfg(test)]
+mod file_tests;
 mod perform;
 mod plans;
 mod replays;

@@ -16,7 +16,7 @@ struct Ending {
 }
 
 // The words of a line, the program's name before them.
-fn words_of(alloc: Global, line: &str) -> Result<Vec<String>, Fail> {
+pub fn words_of(alloc: Global, line: &str) -> Result<Vec<String>, Fail> {
     let mut words = Vec::new(alloc);
     words.push(String::from_str(alloc, "cutshop")?)?;
     for word in line.split(' ') {
@@ -57,7 +57,7 @@ fn outcome(
 }
 
 // The line comes to this status, output and text of errors.
-fn ends(
+pub fn ends(
     rt: &(impl Abort + AllocGlobal + Files),
     line: &str,
     input: &str,
