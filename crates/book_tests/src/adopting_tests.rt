@@ -124,9 +124,11 @@ fn other_tables_are_a_wrong_version(rt: HostRuntime) -> Result<(), TableFault> {
     Ok(())
 }
 
-const BAR: &str = "INSERT INTO materials (code, kind, kerf, min_long, min_short) VALUES ('STEEL', 0, 3, 20, 1);INSERT INTO parts (act, node, material, batch, root_act, root_node, x, y, w, h, state, detail) VALUES (1, 0, 'STEEL', 'B-1', 1, 0, 0, 0, 100, 1, 0, 0)";
+const BAR: &str =
+    "INSERT INTO materials (code, kind, kerf, min_long, min_short) VALUES ('STEEL', 0, 3, 20, 1);INSERT INTO parts (act, node, material, batch, root_act, root_node, x, y, w, h, state, detail) VALUES (1, 0, 'STEEL', 'B-1', 1, 0, 0, 0, 100, 1, 0, 0)";
 
-const ITS_TOTALS: &str = "INSERT INTO totals2 (material, received, stock, rack, pieces, kerf, scrap, returned) VALUES ('STEEL', 100, 100, 0, 0, 0, 0, 0)";
+const ITS_TOTALS: &str =
+    "INSERT INTO totals2 (material, received, stock, rack, pieces, kerf, scrap, returned) VALUES ('STEEL', 100, 100, 0, 0, 0, 0, 0)";
 
 // The fault of a book that is made of a shop with a bar, in which this was done, if there is one.
 fn fault_of_book(alloc: Global, batch: &str) -> Result<Option<BookFault>, TableFault> {

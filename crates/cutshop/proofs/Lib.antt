@@ -1,1 +1,3 @@
 pub mod Demands
+pub mod Asked
+pub mod Opened

@@ -1,25 +1,26 @@
 -- What the program did: what was written, and with which status it ended.
-use Rattle.std.specs.Prelude.{◌≡◌, ◌≢◌, ◌⊎◌, ℕ, List, [], ◌∷◌, ◌++◌, Option}
+use Rattle.std.specs.Prelude.{◌≡◌, ◌≢◌, ◌⊎◌, ℕ, List, [], ◌∷◌, ◌++◌, Option, Result, Ok, Err}
 use Rattle.std.specs.Io.KnownBytes.{Appends}
 use Rattle.clap.specs.Kinds.{IsAmong}
 use Rattle.clap.specs.Faults as clap
 use Rattle.clap.specs.Words.{Text, subcommand_of}
 use Rattle.clap.specs.declared.error.kind.ErrorKind.{ErrorKind}
 use Rattle.clap.specs.declared.error.kind.ErrorKind.TheVariants.{DisplayHelp, OutOfMemory}
+use Rattle.shop_store.specs.declared.books.Book.{Ghosts}
 use Rattle.shop_text.specs.Streams.{HasFailed}
+use Rattle.shop_text.specs.Tickets.{ticket_of}
+use Rattle.shop_text.specs.Yields.{yield_of}
 use Rattle.shop_wire.specs.Lines.{AreLines}
 use Rattle.shop_wire.specs.Replays.{IsReplayedFresh}
 use Rattle.cutshop.specs.declared.faults.Fault.{Fault}
 use Rattle.cutshop.specs.declared.faults.Fault.TheVariants.{File, Read, Write, NoMemory}
 use Rattle.cutshop.specs.declared.words.Request.{Request}
-use Rattle.cutshop.specs.declared.words.Request.TheVariants.{Replay, Plan}
+use Rattle.cutshop.specs.declared.words.Request.TheVariants.{Replay, Plan, Serve, Ticket, Yield}
 use Rattle.cutshop.specs.CommandLine.{Asks, AsksNothing, shop_app}
 use Rattle.cutshop.specs.Faults.{fault_text}
 use Rattle.cutshop.specs.Plans.{IsFilePlan, IsFileFault}
-
--- the first bytes of a text were written, or all
-abbrev pub AppendsFront : Option (List ℕ) → Option (List ℕ) → List ℕ → Type 0
-AppendsFront old new text = (done rest : List ℕ) × (done ++ rest ≡ text) × Appends old new done
+use Rattle.cutshop.specs.Stored.{IsTextDone, IsTextStopped, IsServeDone, IsServeStopped}
+use Rattle.cutshop.specs.Written.{AppendsFront, AppendsSome}
 
 -- each line of the input has its reply
 abbrev pub IsReplayDone : (left held_old held_new : Option (List ℕ)) → Type 0
@@ -28,10 +29,6 @@ IsReplayDone left old new = (lines : List (List ℕ)) × AreLines left lines × 
 -- the plan of a file's bytes was written
 abbrev pub IsPlanDone : (kerf step : ℕ) → (held_old held_new : Option (List ℕ)) → Type 0
 IsPlanDone kerf step old new = (bytes plan : List ℕ) × IsFilePlan bytes kerf step plan × Appends old new plan
-
-abbrev pub IsDone : Request → (left held_old held_new : Option (List ℕ)) → Type 0
-IsDone Replay left old new = IsReplayDone left old new
-IsDone (Plan file kerf step) left old new = IsPlanDone kerf step old new
 
 -- a fault stopped it: some first lines have their replies, which were written but for some last bytes, after `Read` all of them;
 -- and after `Write` a write had failed
@@ -47,10 +44,6 @@ IsPlanStopped kerf step Write old new failed_old failed_new =
     (bytes plan : List ℕ) × IsFilePlan bytes kerf step plan × AppendsFront old new plan × HasFailed failed_old failed_new
 IsPlanStopped kerf step fault old new failed_old failed_new = ((bytes : List ℕ) × IsFileFault bytes kerf step fault) × (new ≡ old)
 
-abbrev pub IsStopped : Request → Fault → (left held_old held_new : Option (List ℕ)) → (failed_old failed_new : ℕ) → Type 0
-IsStopped Replay fault left old new failed_old failed_new = IsReplayStopped fault left old new failed_old failed_new
-IsStopped (Plan file kerf step) fault left old new failed_old failed_new = IsPlanStopped kerf step fault old new failed_old failed_new
-
 -- the line of a fault
 abbrev pub fault_line : Fault → List ℕ
 fault_line fault = fault_text fault ++ 10 ∷ []
@@ -59,15 +52,34 @@ fault_line fault = fault_text fault ++ 10 ∷ []
 abbrev pub TellsFault : Fault → Option (List ℕ) → Option (List ℕ) → Type 0
 TellsFault fault old new = AppendsFront old new (fault_line fault) ⊎ AppendsFront old new (fault_line NoMemory)
 
--- some bytes were written
-abbrev pub AppendsSome : Option (List ℕ) → Option (List ℕ) → Type 0
-AppendsSome old new = (bytes : List ℕ) × Appends old new bytes
+-- what was done has status 0 and nothing is told, and what stopped has status 1 and is told
+abbrev pub Concludes : Result (Unit {0}) Fault → (err_old err_new : Option (List ℕ)) → ℕ → Type 0
+Concludes (Ok _) old new status = (status ≡ 0) × (new ≡ old)
+Concludes (Err fault) old new status = (status ≡ 1) × TellsFault fault old new
 
--- what was asked was done and nothing was told, with status 0; or a fault was told, with status 1
-abbrev pub IsAnswered : (left out_old out_new : Option (List ℕ)) → (failed_old failed_new : ℕ) → (err_old err_new : Option (List ℕ)) → Request → ℕ → Type 0
-IsAnswered left out_old out_new failed_old failed_new err_old err_new request status =
-    ((status ≡ 0) × IsDone request left out_old out_new × (err_new ≡ err_old))
-    ⊎ ((status ≡ 1) × ((fault : Fault) × IsStopped request fault left out_old out_new failed_old failed_new × TellsFault fault err_old err_new))
+-- ---- over the books that the opener of stores gives for a path
+
+module _ {B : Type 0} (book : Ghosts B) (gives : List ℕ → B → Type 0) where
+  abbrev pub IsDone : Request → (left held_old held_new : Option (List ℕ)) → Type 0
+  IsDone Replay left old new = IsReplayDone left old new
+  IsDone (Plan file kerf step) left old new = IsPlanDone kerf step old new
+  IsDone (Serve port store shop limit) left old new = IsServeDone book (gives store.now) port limit old new
+  IsDone (Ticket store job) left old new = IsTextDone book (gives store.now) (λ m. ticket_of m job) old new
+  IsDone (Yield store material) left old new = IsTextDone book (gives store.now) (λ m. yield_of m material) old new
+
+  abbrev pub IsStopped : Request → Fault → (left held_old held_new : Option (List ℕ)) → (failed_old failed_new : ℕ) → Type 0
+  IsStopped Replay fault left old new failed_old failed_new = IsReplayStopped fault left old new failed_old failed_new
+  IsStopped (Plan file kerf step) fault left old new failed_old failed_new = IsPlanStopped kerf step fault old new failed_old failed_new
+  IsStopped (Serve port store shop limit) fault left old new failed_old failed_new = IsServeStopped book (gives store.now) port limit fault old new failed_old failed_new
+  IsStopped (Ticket store job) fault left old new failed_old failed_new = IsTextStopped book (gives store.now) (λ m. ticket_of m job) fault old new failed_old failed_new
+  IsStopped (Yield store material) fault left old new failed_old failed_new =
+      IsTextStopped book (gives store.now) (λ m. yield_of m material) fault old new failed_old failed_new
+
+  -- what was asked was done and nothing was told, with status 0; or a fault was told, with status 1
+  abbrev pub IsAnswered : (left out_old out_new : Option (List ℕ)) → (failed_old failed_new : ℕ) → (err_old err_new : Option (List ℕ)) → Request → ℕ → Type 0
+  IsAnswered left out_old out_new failed_old failed_new err_old err_new request status =
+      ((status ≡ 0) × IsDone request left out_old out_new × (err_new ≡ err_old))
+      ⊎ ((status ≡ 1) × ((fault : Fault) × IsStopped request fault left out_old out_new failed_old failed_new × TellsFault fault err_old err_new))
 
 module _ (out_old out_new err_old err_new : Option (List ℕ)) where
   -- help was written and nothing was told, with status 0; or that it couldn't be written was told, with status 1
@@ -89,9 +101,9 @@ faults_of words = clap.fault_of shop_app words
 
 -- The words ask for something, which was done or stopped by a fault; or `clap` said something to them; or it took them, and they
 -- ask for nothing.
-abbrev pub IsPerformed : List Text → (left out_old out_new : Option (List ℕ)) → (failed_old failed_new : ℕ) → (err_old err_new : Option (List ℕ)) → ℕ → Type 0
-IsPerformed words left out_old out_new failed_old failed_new err_old err_new status =
+abbrev pub IsPerformed : {B : Type 0} → Ghosts B → (List ℕ → B → Type 0) → List Text → (left out_old out_new : Option (List ℕ)) → (failed_old failed_new : ℕ) → (err_old err_new : Option (List ℕ)) → ℕ → Type 0
+IsPerformed book gives words left out_old out_new failed_old failed_new err_old err_new status =
     ((request : Request) × (faults_of words ≡ []) × Asks (subcommand_of shop_app words) request
-    × IsAnswered left out_old out_new failed_old failed_new err_old err_new request status)
+    × IsAnswered book gives left out_old out_new failed_old failed_new err_old err_new request status)
     ⊎ ((kind : ErrorKind) × ((kind ≡ OutOfMemory) ⊎ IsAmong kind (faults_of words)) × IsTold out_old out_new err_old err_new kind status)
     ⊎ ((faults_of words ≡ []) × AsksNothing (subcommand_of shop_app words) × (status ≡ 2) × (out_new ≡ out_old) × AppendsSome err_old err_new)

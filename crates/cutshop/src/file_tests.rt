@@ -1,22 +1,24 @@
 //! Tests of files that the program reads, and of order files that come in messages.
 
-use crate::perform::perform;
+use crate::perform::perform_over;
 use crate::tests::{ends, words_of};
+use shop_opening::{Opens, StoreBook};
 use shop_text::Counted;
 use std::alloc::{Allocator, Global};
 use std::fs::{self, Files, Metadata, OpenOptions};
 use std::io;
+use std::net::{Net, SocketAddr, TcpListener, TcpStream};
 use std::process::Abort;
 use std::test::Fail;
 
 // Files none of which can be opened, for this reason.
 #[derive(Drop)]
-struct Closed<'a, R: Files> {
+struct Closed<'a, R: Files + Net<Listener = TcpListener, Stream = TcpStream>> {
     rt: &'a R,
     why: io::ErrorKind,
 }
 
-impl<R: Files> Files for Closed<'_, R> {
+impl<R: Files + Net<Listener = TcpListener, Stream = TcpStream>> Files for Closed<'_, R> {
     type File = R::File;
 
     type Dir = R::Dir;
@@ -62,9 +64,27 @@ impl<R: Files> Files for Closed<'_, R> {
     }
 }
 
+impl<R: Files + Net<Listener = TcpListener, Stream = TcpStream>> Net for Closed<'_, R> {
+    type Listener = TcpListener;
+
+    type Stream = TcpStream;
+
+    fn bind(&self, addr: SocketAddr) -> io::Result<TcpListener> {
+        self.rt.bind(addr)
+    }
+
+    fn connect(&self, addr: SocketAddr) -> io::Result<TcpStream> {
+        self.rt.connect(addr)
+    }
+}
+
 // What is told where the problem file can't be opened for this reason.
 fn told_of(
-    rt: &(impl Abort + AllocGlobal + Files),
+    rt: &(impl Abort
+        + AllocGlobal
+        + Files
+        + Net<Listener = TcpListener, Stream = TcpStream>
+        + Opens<StoreBook>),
     why: io::ErrorKind,
     line: &str,
 ) -> Result<(), Fail> {
@@ -76,8 +96,9 @@ fn told_of(
     let mut sink = Counted::new(&mut output);
     let mut told = Counted::new(&mut errors);
     let closed = Closed { rt, why };
-    let status = perform(
+    let status = perform_over(
         &closed,
+        rt,
         alloc,
         words.as_slice(),
         &mut source,
@@ -129,7 +150,15 @@ const IMPORTED: &str = r#"{"act":0,"count":2,"first":1,"ok":"import","order":"A-
 const BAD_TEXT: &str = r#"{"name":"BadText","refused":80}"#;
 
 // What is replied where this text, as JSON writes it, is imported as an order file.
-fn imports(rt: &(impl Abort + AllocGlobal + Files), text: &str, reply: &str) -> Result<(), Fail> {
+fn imports(
+    rt: &(impl Abort
+        + AllocGlobal
+        + Files
+        + Net<Listener = TcpListener, Stream = TcpStream>
+        + Opens<StoreBook>),
+    text: &str,
+    reply: &str,
+) -> Result<(), Fail> {
     let alloc = rt.alloc();
     let mut lines = String::new(alloc);
     write!(lines, "{STEEL}\n")?;

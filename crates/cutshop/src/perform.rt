@@ -1,45 +1,27 @@
-ghost use Rattle.std.specs.Prelude.{◌≡◌, ◌+◌, ◌≤◌, ◌⊎◌, IfOk, IfErr, OnOk, map, string_bytes};
-ghost use Rattle.std.specs.Io.KnownBytes.{Appends};
+ghost use Rattle.std.specs.Prelude.{◌≡◌, ◌+◌, ◌≤◌, IfOk, IfErr, OnOk, map, string_bytes};
 ghost use Rattle.cut_measure.specs.declared.ranges.TheConstants.{MOST_KERF};
 ghost use Rattle.clap.specs.Words.{kind_of};
 ghost use Rattle.shop_text.specs.Streams.{HasFailed};
 ghost use Rattle.shop_wire.specs.Streams.{most_reads};
-ghost use Rattle.cutshop.specs.declared.faults.Fault.TheVariants as fault;
 ghost use Rattle.cutshop.specs.CommandLine.{HasKerf};
 ghost use Rattle.cutshop.specs.Performs as spec;
-ghost use Rattle.cutshop.specs.Performs.{AppendsFront, IsAnswered, IsHelped, IsPerformed, IsPlanDone, IsPlanStopped, IsReplayDone, IsReplayStopped, IsTold, TellsFault};
+ghost use Rattle.cutshop.specs.Performs.{Concludes, IsDone, IsHelped, IsPerformed, IsPlanDone, IsPlanStopped, IsReplayDone, IsReplayStopped, IsStopped, IsTold, TellsFault};
 
 use crate::faults::Fault;
+use crate::files::{read_file, write_text};
 use crate::plans::plan_file;
 use crate::replays::replay_fresh;
+use crate::stored::{print_ticket, print_yield, serve};
 use crate::words::{Request, request_of};
 use clap::Error;
 use clap::error::ErrorKind;
-use shop_files::LONGEST_TEXT;
-use shop_text::{Sink, Source, write_all};
+use shop_opening::Opens;
+use shop_store::{Book, SqlBook};
+use shop_text::{Sink, Source};
+use sqlite::Alter;
 use std::alloc::{AllocError, Global};
-use std::fs::{File, Files};
-use std::io::{self, Read};
-
-// What a file holds; of a long one the first byte too many is the last.
-fn read_file<R: Files>(rt: &R, alloc: Global, path: &str) -> io::Result<Vec<u8>> {
-    let mut bytes = Vec::new(alloc);
-    let file = File::open(rt, path)?;
-    let _count = file.take(LONGEST_TEXT as u64 + 1).read_to_end(&mut bytes)?;
-    Ok(bytes)
-}
-
-// Writes a text, if the sink takes it to the last byte.
-fn write_text<W: Sink>(sink: &mut W, text: &str) -> Result<(), Fault>
-    ensures ok { OnOk result (Appends (W.held sink.old) (W.held sink.new) text.now) }
-    ensures front { AppendsFront (W.held sink.old) (W.held sink.new) text.now }
-    ensures err { IfErr result (λ f. (f ≡ fault.Write) × HasFailed (W.failed sink.old) (W.failed sink.new)) }
-{
-    match write_all(sink, text.as_bytes()) {
-        Ok(()) => Ok(()),
-        Err(_) => Err(Fault::Write),
-    }
-}
+use std::fs::Files;
+use std::net::{Net, TcpListener, TcpStream};
 
 fn fault_line(alloc: Global, fault: Fault) -> Result<String, AllocError>
     ensures { IfOk result (λ text. string_bytes text ≡ spec.fault_line fault) }
@@ -61,17 +43,6 @@ fn tell<E: Sink>(alloc: Global, fault: Fault, errors: &mut E) -> u8
     1
 }
 
-// What a problem file holds.
-fn problem_bytes<R: Files>(rt: &R, alloc: Global, path: &str) -> Result<Vec<u8>, Fault>
-    ensures { IfErr result (λ f. (f ≡ fault.NoMemory) ⊎ (f ≡ fault.File)) }
-{
-    match read_file(rt, alloc, path) {
-        Ok(bytes) => Ok(bytes),
-        Err(error) if error.kind() == io::ErrorKind::OutOfMemory => Err(Fault::NoMemory),
-        Err(_) => Err(Fault::File),
-    }
-}
-
 // Writes the plan of a problem file.
 fn plan<R: Files, W: Sink>(
     rt: &R,
@@ -85,7 +56,7 @@ fn plan<R: Files, W: Sink>(
     ensures ok { OnOk result (IsPlanDone kerf step (W.held sink.old) (W.held sink.new)) }
     ensures err { IfErr result (λ f. IsPlanStopped kerf step f (W.held sink.old) (W.held sink.new) (W.failed sink.old) (W.failed sink.new)) }
 {
-    let bytes = problem_bytes(rt, alloc, file)?;
+    let bytes = read_file(rt, alloc, file)?;
     let lines = plan_file(alloc, &bytes, kerf, step)?;
     write_text(sink, lines.as_str())
 }
@@ -104,24 +75,44 @@ fn answer_lines<S: Source, W: Sink>(
     Ok(())
 }
 
-// Does what is asked.
-fn answer<R: Files, S: Source, W: Sink, E: Sink>(
+// Does what is asked, or stops.
+fn work<
+    R: Files + Net<Listener = TcpListener, Stream = TcpStream>,
+    B: Book + Drop,
+    O: Opens<B>,
+    S: Source,
+    W: Sink,
+>(
     rt: &R,
+    stores: &O,
     alloc: Global,
     request: Request<'_>,
     source: &mut S,
     sink: &mut W,
-    errors: &mut E,
-) -> u8
+) -> Result<(), Fault>
     requires { HasKerf request }
-    ensures done { IsAnswered (S.left source.old) (W.held sink.old) (W.held sink.new) (W.failed sink.old) (W.failed sink.new)
-        (E.held errors.old) (E.held errors.new) request.entry result }
+    ensures ok { OnOk result (IsDone B.Book (O.gives stores.now) request.entry (S.left source.old) (W.held sink.old) (W.held sink.new)) }
+    ensures err { IfErr result (λ f. IsStopped B.Book (O.gives stores.now) request.entry f (S.left source.old) (W.held sink.old) (W.held sink.new) (W.failed sink.old) (W.failed sink.new)) }
     ensures reads { S.reads source.new ≤ S.reads source.old + most_reads }
 {
-    let outcome = match request {
+    match request {
         Request::Replay => answer_lines(alloc, source, sink),
         Request::Plan { file, kerf, step } => plan(rt, alloc, file, kerf, step, sink),
-    };
+        Request::Serve {
+            port,
+            store,
+            shop,
+            limit,
+        } => serve(rt, stores, alloc, port, store, shop, limit, sink),
+        Request::Ticket { store, job } => print_ticket(stores, alloc, store, job, sink),
+        Request::Yield { store, material } => print_yield(stores, alloc, store, material, sink),
+    }
+}
+
+// The status of what was done, or of what stopped, which is told.
+fn conclude<E: Sink>(alloc: Global, outcome: Result<(), Fault>, errors: &mut E) -> u8
+    ensures { Concludes outcome (E.held errors.old) (E.held errors.new) result }
+{
     match outcome {
         Ok(()) => 0,
         Err(fault) => tell(alloc, fault, errors),
@@ -164,24 +155,55 @@ fn explain<W: Sink, E: Sink>(alloc: Global, error: &Error, sink: &mut W, errors:
 
 /// Does what the words ask for, the program's own name before them, and gives the status: 0 where it was done and for
 /// help, 2 for a mistake in the words, and else 1, with the fault as one line of `errors`.
-pub fn perform<R: Files, S: Source, W: Sink, E: Sink>(
+pub fn perform<
+    R: Files + Net<Listener = TcpListener, Stream = TcpStream>,
+    B: Book + Drop,
+    O: Opens<B>,
+    S: Source,
+    W: Sink,
+    E: Sink,
+>(
     rt: &R,
+    stores: &O,
     alloc: Global,
     words: &[String],
     source: &mut S,
     sink: &mut W,
     errors: &mut E,
 ) -> u8
-    ensures done { IsPerformed (map string_bytes words.now) (S.left source.old) (W.held sink.old) (W.held sink.new) (W.failed sink.old) (W.failed sink.new)
+    ensures done { IsPerformed B.Book (O.gives stores.now) (map string_bytes words.now) (S.left source.old) (W.held sink.old) (W.held sink.new) (W.failed sink.old) (W.failed sink.new)
         (E.held errors.old) (E.held errors.new) result }
     ensures reads { S.reads source.new ≤ S.reads source.old + most_reads }
 {
     match request_of(alloc, words) {
-        Ok(Some(request)) => answer(rt, alloc, request, source, sink, errors),
+        Ok(Some(request)) => {
+            let outcome = work(rt, stores, alloc, request, source, sink);
+            conclude(alloc, outcome, errors)
+        }
         Ok(None) => {
             let _ = write_text(errors, "error: the words ask for nothing; try '--help'\n");
             2
         }
         Err(error) => explain(alloc, &error, sink, errors),
     }
+}
+
+/// The same over books in SQL tables, of any kind of store.
+pub fn perform_over<
+    R: Files + Net<Listener = TcpListener, Stream = TcpStream>,
+    D: Alter + Drop,
+    O: Opens<SqlBook<D>>,
+    S: Source,
+    W: Sink,
+    E: Sink,
+>(
+    rt: &R,
+    stores: &O,
+    alloc: Global,
+    words: &[String],
+    source: &mut S,
+    sink: &mut W,
+    errors: &mut E,
+) -> u8 {
+    perform(rt, stores, alloc, words, source, sink, errors)
 }

@@ -3,7 +3,8 @@ use Rattle.std.specs.Prelude.{IfErr}
 use Rattle.shop_text.specs.Streams.{HasFailed}
 use Rattle.cutshop.specs.declared.faults.Fault.{Fault}
 use Rattle.cutshop.specs.declared.faults.Fault.TheVariants.{Write}
-use Rattle.cutshop.specs.Performs.{AppendsFront, IsPlanStopped}
+use Rattle.cutshop.specs.Performs.{IsPlanStopped}
+use Rattle.cutshop.specs.Written.{AppendsFront}
 use Rattle.cutshop.specs.Plans.{IsFilePlan}
 use Rattle.cutshop.proofs.perform.plan.Goals as goal
 

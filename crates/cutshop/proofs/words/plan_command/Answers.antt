@@ -17,11 +17,11 @@ returns-clause-app c =
     let base : app_of c.after_help.result ≡ new_app (codes "plan") = search rules in
     IfOk-weaker c.arg-3.result _ _ (λ r h. h.shape c.number_arg-step.ensures.local
     ∙ ap₂ with_rule (c.in_ok-arg-2.ensures.shape c.number_arg-kerf.ensures.local
-    ∙ ap₂ with_rule (c.in_ok-arg.ensures.shape c.file_arg.ensures.local ∙ ap₂ with_rule base c.file_arg.ensures.rule) kerf_is) step_is) c.arg-3.ensures
+    ∙ ap₂ with_rule (c.in_ok-arg.ensures.shape c.word_arg.ensures.local ∙ ap₂ with_rule base c.word_arg.ensures.rule) kerf_is) step_is) c.arg-3.ensures
 
 pub returns-clause-local : goal.returns-clause-local
 returns-clause-local c =
     let base : (fields_of c.after_help.result).has_globals ≡ false = search rules in
     IfOk-weaker c.arg-3.result _ _ (λ r h. h.globals
     ∙ ap₂ (λ a b. a || b) (c.in_ok-arg-2.ensures.globals
-    ∙ ap₂ (λ a b. a || b) (c.in_ok-arg.ensures.globals ∙ ap₂ (λ a b. a || b) base c.file_arg.ensures.local) c.number_arg-kerf.ensures.local) c.number_arg-step.ensures.local) c.arg-3.ensures
+    ∙ ap₂ (λ a b. a || b) (c.in_ok-arg.ensures.globals ∙ ap₂ (λ a b. a || b) base c.word_arg.ensures.local) c.number_arg-kerf.ensures.local) c.number_arg-step.ensures.local) c.arg-3.ensures

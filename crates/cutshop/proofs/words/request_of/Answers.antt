@@ -10,7 +10,8 @@ use Rattle.clap.specs.declared.parser.matches.ArgMatches.TheViews.{out-ArgMatche
 use Rattle.cutshop.specs.declared.words.Request.{Request}
 use Rattle.cutshop.specs.declared.words.Request.TheVariants.{Replay, Plan}
 use Rattle.clap.proofs.OnLiterals.{clap_on_literals}
-use Rattle.cutshop.specs.CommandLine.{shop_app, Asks, AsksNothing, IsPlanAsked}
+use Rattle.cutshop.specs.CommandLine.{shop_app, Asks, AsksNothing}
+use Rattle.cutshop.proofs.Asked.{asked_of, asked_of_none}
 use Rattle.cutshop.proofs.words.request_of.Goals as goal
 
 simple : is_simple shop_app ≡ true
@@ -40,48 +41,6 @@ named : {Z : Type 0} (found : Option (Box SubCommand Z)) (name : Text) (rows : L
 named None name rows is has = absurd (subst (λ (o : Option Text). IfSome o (λ _. ⊥)) (sym is) tt)
 named (Some b) name rows is has = ap₂ (λ n r. Some (n, r)) (some_is name _ is) (some_is rows _ has)
 
-plan_is_no_replay : codes "plan" ≡ codes "replay" → ⊥
-plan_is_no_replay is = let first : 112 ≡ 114 = ap (λ text. slice_index text 0) is in absurd (omega (arith, first))
-
--- a plan isn't a replay
-no_plan : (name : Text) (rows : List Row) → name ≡ codes "plan" → ((r : Request) → IsPlanAsked rows r → ⊥) → AsksNothing (Some (name, rows))
-no_plan name rows plan unasked Replay asked = plan_is_no_replay (sym plan ∙ asked)
-no_plan name rows plan unasked (Plan file kerf step) asked = unasked (Plan file kerf step) asked.1
-
-asked_plan : (found : Option (Text × List Row)) (name : Text) (rows : List Row) → Some (name, rows) ≡ found → name ≡ codes "plan"
-    → (request : Option Request) → MatchOption request ((r : Request) → IsPlanAsked rows r → ⊥) (IsPlanAsked rows)
-    → MatchOption request (AsksNothing found) (Asks found)
-asked_plan found name rows is plan None asked = subst AsksNothing is (no_plan name rows plan asked)
-asked_plan found name rows is plan (Some Replay) asked = absurd asked
-asked_plan found name rows is plan (Some (Plan file kerf step)) asked = subst (λ f. Asks f (Plan file kerf step)) is (plan, asked)
-
-no_command : (name : Text) (rows : List Row) → (name ≡ codes "replay" → ⊥) → (name ≡ codes "plan" → ⊥) → AsksNothing (Some (name, rows))
-no_command name rows replay plan Replay asked = replay asked
-no_command name rows replay plan (Plan file kerf step) asked = plan asked.0
-
-neither : (found : Option (Text × List Row)) → (name : Text) (rows : List Row) → Some (name, rows) ≡ found → (name ≡ codes "replay" → ⊥) → (name ≡ codes "plan" → ⊥) → AsksNothing found
-neither found name rows is replay plan = subst AsksNothing is (λ request asked. no_command name rows replay plan request asked)
-
-pub returns-then-eq-clause-ok : goal.returns-then-eq-clause-ok
-returns-then-eq-clause-ok c =
-    let command = c.in_ok-command.command in
-    let words = map string_bytes c.args.words.now in
-    let taken = nothing_wrong command words c.in_ok-command.ensures c.in_ok-matches.ensures.kinds in
-    let read = command_read command words c.in_ok-matches.matches c.in_ok-command.ensures c.in_ok-matches.ensures.matches in
-    let found = named (out-ArgMatches c.in_ok-matches.matches).subcommand _ _ c.in-Some.ensures.name c.in-Some.ensures.rows in
-    let replay : c.in-Some.name.now ≡ codes "replay" = search rules in
-    (taken, subst (λ f. Asks f Replay) (found ∙ read) replay)
-
-pub returns-then-eq-2-clause-ok : goal.returns-then-eq-2-clause-ok
-returns-then-eq-2-clause-ok c =
-    let command = c.in_ok-command.command in
-    let words = map string_bytes c.args.words.now in
-    let taken = nothing_wrong command words c.in_ok-command.ensures c.in_ok-matches.ensures.kinds in
-    let read = command_read command words c.in_ok-matches.matches c.in_ok-command.ensures c.in_ok-matches.ensures.matches in
-    let found = named (out-ArgMatches c.in_ok-matches.matches).subcommand _ _ c.in-Some.ensures.name c.in-Some.ensures.rows in
-    let plan : c.in-Some.name.now ≡ codes "plan" = search rules in
-    (taken, asked_plan _ _ _ (found ∙ read) plan c.plan_request.result c.plan_request.ensures)
-
 pub returns-clause-ok : goal.returns-clause-ok
 returns-clause-ok c =
     let command = c.in_ok-command.command in
@@ -89,6 +48,13 @@ returns-clause-ok c =
     let taken = nothing_wrong command words c.in_ok-command.ensures c.in_ok-matches.ensures.kinds in
     let read = command_read command words c.in_ok-matches.matches c.in_ok-command.ensures c.in_ok-matches.ensures.matches in
     let found = named (out-ArgMatches c.in_ok-matches.matches).subcommand _ _ c.in-Some.ensures.name c.in-Some.ensures.rows in
-    let replay : c.in-Some.name.now ≡ codes "replay" → ⊥ = search rules in
-    let plan : c.in-Some.name.now ≡ codes "plan" → ⊥ = search rules in
-    (taken, neither _ _ _ (found ∙ read) replay plan)
+    (taken, asked_of _ _ _ (found ∙ read) c.in-Some-word_of.word c.in-Some-word_of.ensures c.request_in.result c.request_in.ensures)
+
+pub returns-in_default-word_of-clause-ok : goal.returns-in_default-word_of-clause-ok
+returns-in_default-word_of-clause-ok c =
+    let command = c.in_ok-command.command in
+    let words = map string_bytes c.args.words.now in
+    let taken = nothing_wrong command words c.in_ok-command.ensures c.in_ok-matches.ensures.kinds in
+    let read = command_read command words c.in_ok-matches.matches c.in_ok-command.ensures c.in_ok-matches.ensures.matches in
+    let found = named (out-ArgMatches c.in_ok-matches.matches).subcommand _ _ c.in-Some.ensures.name c.in-Some.ensures.rows in
+    (taken, asked_of_none _ _ _ (found ∙ read) c.in_default-word_of.ensures)

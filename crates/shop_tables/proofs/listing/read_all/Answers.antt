@@ -3,9 +3,11 @@ use Rattle.shop_tables.proofs.AllTotals.{row_is, one_more, apart, all_read, othe
 use Rattle.shop_tables.proofs.listing.read_all.Goals as goal
 
 pub returns-then-ne : goal.returns-then-ne
-returns-then-ne c cs es codes rows =
-    (tt, λ _. apart c.args.codes.now c.args.rows.now cs es codes rows c.loop-i.i c.loop-i-test.true (search rules) c.index-codes-i.result c.in_ok-code_in.field-0 c.in_ok-totals.totals c.index-codes-i.is c.in_ok-code_in.ensures
-    (c.in_ok-totals.ensures _ (row_is c.args.codes.now c.args.rows.now cs es codes rows c.loop-i.i c.loop-i-test.true (search rules) c.index-rows-i.result c.index-rows-i.is)) (other_codes _ _ _ c.ne.ensures c.if-ne.true))
+returns-then-ne c cs es codes rows = (
+  tt,
+  λ _. apart c.args.codes.now c.args.rows.now cs es codes rows c.loop-i.i c.loop-i-test.true (search rules) c.index-codes-i.result c.in_ok-code_in.field-0 c.in_ok-totals.totals c.index-codes-i.is c.in_ok-code_in.ensures
+      (c.in_ok-totals.ensures _ (row_is c.args.codes.now c.args.rows.now cs es codes rows c.loop-i.i c.loop-i-test.true (search rules) c.index-rows-i.result c.index-rows-i.is)) (other_codes _ _ _ c.ne.ensures c.if-ne.true),
+)
 
 pub loop-i-preserved : goal.loop-i-preserved
 loop-i-preserved c cs es codes rows =
