@@ -10,6 +10,8 @@ mod files;
 mod perform;
 mod plans;
 mod replays;
+#[cfg(test)]
+mod store_tests;
 mod stored;
 #[cfg(test)]
 mod tests;
