@@ -1,17 +1,18 @@
 -- Where a row stands among rows that rise by their keys, and what it is to put one there.
-use Rattle.std.proofs.Common.{◌≡◌, inl, inr, ℕ, zero, suc, ◌<◌, ◌≤◌, Bool, true, false, List, [], ◌∷◌, ◌++◌, length, take, drop, get_or, refl, sym, ap, subst, ◌∙◌, arith}
+use Rattle.std.proofs.Common.{◌≡◌, inl, inr, ℕ, zero, suc, ◌-◌, ◌<◌, ◌≤◌, Bool, true, false, List, [], ◌∷◌, ◌++◌, length, take, drop, get_or, refl, sym, ap, subst, ◌∙◌, arith}
 use Rattle.std.specs.Prelude.{Some, None, T, cond}
 use Rattle.std.specs.declared.cmp.Ordering.{Ordering}
 use Rattle.std.specs.declared.cmp.Ordering.TheVariants.{Less, Equal, Greater}
 use Rattle.std.specs.Ordering.{is_eq, ordering_index, ordering_reverse}
 use Rattle.std.specs.Cmp.{IsTotalOrder, alike_right}
-use Rattle.std.specs.List.{insert}
+use Rattle.std.specs.List.{insert, slice_get}
 use Rattle.std.specs.List.Sorted.{IsPartitionPoint, IsNonDecreasingBy}
 use Rattle.std.specs.FinMap.{IsAntisymmetric, is_sorted, put}
 use Rattle.std.specs.FinMap.Entries.{below_all, by_order, is_sorted-put}
 use Rattle.std.proofs.Math.ListN.{set}
 use Rattle.std.proofs.Math.Seq.{drop-cons}
 use Rattle.std.proofs.lemmas.Bool.{cases_lt}
+use Rattle.std.proofs.lemmas.Option.{get_or_from_slice_get}
 use Rattle.std.proofs.lemmas.List.{get_or_default, set_split, map-append, take-append-drop}
 use Rattle.shop_machine.proofs.Sums.{first, second, less}
 use Rattle.shop_store.specs.Rows.{entry_of, entries_of, rise, row_at, IsPut}
@@ -146,6 +147,24 @@ module _ {X K : Type 0} (key_of : X → K) (cmp : K → K → Ordering) (o : IsT
         ∙ sym (put_past key row (take i xs) (drop i xs) low)
         ∙ ap (λ ys. put cmp key row (entries_of key_of cmp ys)) (take-append-drop i xs)
         ∙ ap (λ k. put cmp k row (entries_of key_of cmp xs)) (sym e)
+
+-- ---- behind the last row
+
+lowest : (r : Ordering) → ordering_index r ≤ 0 → r ≡ Less
+lowest Less h = refl
+lowest Equal h = absurd (omega arith)
+lowest Greater h = absurd (omega arith)
+
+-- where the last row is too low, and the rows don't fall, each is
+pub behind_last : {X : Type 0} (rank : X → Ordering) (xs : List X) (x : X) → slice_get xs (length xs - 1) ≡ Some x → rank x ≡ Less
+    → IsNonDecreasingBy (λ y. ordering_index (rank y)) xs → IsPartitionPoint (λ y. rank y ≡ Less) (λ y. rank y ≡ Greater) xs (length xs)
+behind_last rank xs x at low up = (
+  λ k d le lt.
+      let last : ordering_index (rank (get_or xs k d)) ≤ ordering_index (rank (get_or xs (length xs - 1) d)) = up k (length xs - 1) d (omega arith) (omega arith) in
+      let least : ordering_index (rank (get_or xs (length xs - 1) d)) ≡ 0 = ap (λ y. ordering_index (rank y)) (get_or_from_slice_get xs (length xs - 1) x d at) ∙ ap ordering_index low in
+      lowest (rank (get_or xs k d)) (omega (arith, last, least)),
+  λ k d le lt. absurd (omega arith),
+)
 
 pub tested : (b : Bool) → b ≡ true → T b
 tested b e = subst T (sym e) tt

@@ -12,7 +12,7 @@ use Rattle.shop_store.specs.declared.memory.MemBook.TheInside.{Inside}
 
 abbrev pub book_of : Inside → MemoryBook
 book_of book = record {
-  content = content_of_rows book.materials.items book.parts.items book.jobs.items book.orders.items book.demands.items book.kept.entries book.imports.items book.last_act book.last_demand;
+  content = content_of_rows book.materials.items book.parts.items book.jobs.items book.orders.keys book.demands.items book.kept.entries book.imports.items book.last_act book.last_demand;
   failures = book.failures;
 }
 
@@ -22,7 +22,7 @@ pub record IsConsistent (book : Inside) : Type 0 where
   pub parts : IsTrue (rise part_key name_cmp book.parts.items)
   pub totals : IsTrue (rise sums_key code_cmp book.totals.items)
   pub jobs : IsTrue (rise job_key nat_cmp book.jobs.items)
-  pub orders : IsTrue (rise order_key code_cmp book.orders.items)
+  pub orders : IsTrue (rise order_key code_cmp book.orders.keys)
   pub demands : IsTrue (rise demand_key nat_cmp book.demands.items)
   pub kept : IsTrue (is_sorted pair_cmp book.kept.entries)
   pub imports : IsTrue (rise import_key code_cmp book.imports.items)

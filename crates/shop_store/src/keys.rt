@@ -76,31 +76,6 @@ impl Row for Job {
     ghost exact = { nat_cmp-IsAntisymmetric };
 }
 
-impl Row for Code {
-    ghost use Rattle.cut_measure.specs.Codes.{code_cmp};
-    ghost use Rattle.std.specs.Cmp.Lexicographic.{nat_list_cmp_total};
-    ghost use Rattle.std.specs.FinMap.{slice_cmp-IsAntisymmetric, nat_cmp-IsAntisymmetric};
-    ghost use Rattle.shop_store.specs.Memory.{order_key};
-
-    type Key = Code;
-
-    ghost key_of = { order_key };
-
-    ghost cmp = { code_cmp };
-
-    fn compare(&self, key: Code) -> Ordering {
-        self.order(&key)
-    }
-
-    fn key(&self) -> Code {
-        *self
-    }
-
-    ghost total = { nat_list_cmp_total };
-
-    ghost exact = { slice_cmp-IsAntisymmetric nat_cmp-IsAntisymmetric };
-}
-
 impl Row for Demand {
     ghost use Rattle.std.specs.Ordering.{nat_cmp};
     ghost use Rattle.std.specs.Cmp.{nat_cmp_total};
@@ -119,6 +94,11 @@ impl Row for Demand {
 
     fn key(&self) -> u32 {
         self.number
+    }
+
+    // demands are numbered from 1 on
+    fn near(number: u32, _len: usize) -> usize {
+        number.saturating_sub(1) as usize
     }
 
     ghost total = { nat_cmp_total };

@@ -4,8 +4,10 @@
 mod adders;
 mod books;
 mod checking;
+mod keeping;
 mod keys;
 mod memory;
+mod order_codes;
 mod reopening;
 mod rows;
 mod sql;

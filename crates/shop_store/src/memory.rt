@@ -4,7 +4,7 @@ ghost use Rattle.cut_measure.specs.Names.{name_cmp};
 ghost use Rattle.std.specs.Ordering.{nat_cmp};
 ghost use Rattle.shop_machine.specs.Content.{Content, material_at, part_at, job_at, has_order, demand_at, kept_at, import_at, totals_of, parts_of as listed_parts, changed, is_listed, with_parts, with_moved, with_material, with_job, with_order, with_demands, pair_cmp};
 ghost use Rattle.shop_machine.specs.Soundness.{IsInRange};
-ghost use Rattle.shop_store.specs.Memory.{material_key, part_key, job_key, order_key, import_key, put_kept};
+ghost use Rattle.shop_store.specs.Memory.{material_key, part_key, job_key, import_key};
 ghost use Rattle.std.specs.FinMap.{find as find_entry};
 ghost use Rattle.shop_store.specs.Rows.{rise, row_at, map_of, IsPut};
 ghost use Rattle.shop_machine.specs.Visits.{IsVisit};
@@ -12,15 +12,15 @@ ghost use Rattle.shop_store.specs.declared.books.BookFault.{BookFault as Fault};
 ghost use Rattle.shop_store.specs.Sums.{sums_key, AreSumsOf, all_small};
 
 use crate::books::{Book, BookFault};
+use crate::order_codes::{OrderCode, put_and_keep};
 use crate::rows::{at, find, put, put_all, put_some};
 use crate::sums::{Sums, add_part, take_replaced, totals_in};
 use cut_measure::{Code, PartName};
 use shop_machine::{
-    Change, Demand, ImportRow, Job, Kept, KeptMessage, Material, Pair, Part, PartList, PartVisitor,
-    Totals,
+    Change, Demand, ImportRow, Job, Kept, Material, Pair, Part, PartList, PartVisitor, Totals,
 };
 use std::alloc::{AllocError, Global};
-use std::collections::BTreeMap;
+use std::collections::{BTreeMap, BTreeSet};
 use std::marker::Model;
 
 /// A book in memory.
@@ -30,7 +30,7 @@ pub struct MemBook {
     parts: Vec<Part>,
     totals: Vec<Sums>,
     jobs: Vec<Job>,
-    orders: Vec<Code>,
+    orders: BTreeSet<OrderCode>,
     demands: Vec<Demand>,
     kept: BTreeMap<Pair, Kept>,
     imports: Vec<ImportRow>,
@@ -67,7 +67,7 @@ impl MemBook {
             parts: Vec::new(alloc),
             totals: Vec::new(alloc),
             jobs: Vec::new(alloc),
-            orders: Vec::new(alloc),
+            orders: BTreeSet::new(alloc),
             demands: Vec::new(alloc),
             kept: BTreeMap::new(alloc),
             imports: Vec::new(alloc),
@@ -89,7 +89,7 @@ impl MemBook {
         let parts = Vec::from_slice(alloc, &self.parts)?;
         let totals = Vec::from_slice(alloc, &self.totals)?;
         let jobs = self.jobs.clone()?;
-        let orders = Vec::from_slice(alloc, &self.orders)?;
+        let orders = self.orders.clone()?;
         let demands = Vec::from_slice(alloc, &self.demands)?;
         let kept = self.kept.clone()?;
         let imports = self.imports.clone()?;
@@ -250,17 +250,6 @@ fn put_moved(parts: &mut Vec<Part>, totals: &mut Vec<Sums>, row: Option<Part>)
     }
 }
 
-// Keeps a message, if there is one. An `Err` keeps nothing.
-fn keep(kept: &mut BTreeMap<Pair, Kept>, message: Option<KeptMessage>) -> Result<(), AllocError>
-    ensures ok { OnOk result (kept.new.entries ≡ put_kept message kept.old.entries) }
-    ensures err { OnErr result (kept.new.entries ≡ kept.old.entries) }
-{
-    if let Some(message) = message {
-        kept.insert(message.pair, message.kept)?;
-    }
-    Ok(())
-}
-
 // Makes room for the rows of a change.
 fn reserve(
     materials: &mut Vec<Material>,
@@ -280,23 +269,19 @@ fn reserve(
     Ok(())
 }
 
-// Makes room for a job, an order, demands and an import.
-fn reserve_orders(
+// Makes room for a job, demands and an import.
+fn reserve_demands(
     jobs: &mut Vec<Job>,
-    orders: &mut Vec<Code>,
     demands: &mut Vec<Demand>,
     imports: &mut Vec<ImportRow>,
     count: usize,
 ) -> Result<(), AllocError>
     ensures jobs { jobs.new.items ≡ jobs.old.items }
-    ensures orders { orders.new.items ≡ orders.old.items }
     ensures demands { demands.new.items ≡ demands.old.items }
     ensures imports { imports.new.items ≡ imports.old.items }
-    ensures room { OnOk result ((vec_len jobs.new < vec_capacity jobs.new) × (vec_len orders.new < vec_capacity orders.new)
-        × (vec_len demands.new + count ≤ vec_capacity demands.new) × (vec_len imports.new < vec_capacity imports.new)) }
+    ensures room { OnOk result ((vec_len jobs.new < vec_capacity jobs.new) × (vec_len demands.new + count ≤ vec_capacity demands.new) × (vec_len imports.new < vec_capacity imports.new)) }
 {
     jobs.reserve(1)?;
-    orders.reserve(1)?;
     demands.reserve(count)?;
     imports.reserve(1)?;
     Ok(())
@@ -443,7 +428,7 @@ impl Book for MemBook {
         ensures row { result ≡ Ok (has_order self.old.content code) }
         ensures same { self.new ≡ self.old }
     {
-        Ok(find(&self.orders, code).is_some())
+        Ok(self.orders.contains(&OrderCode::of(code)))
     }
 
     fn demand(&mut self, number: u32) -> Result<Option<Demand>, BookFault>
@@ -558,19 +543,17 @@ impl Book for MemBook {
             &mut self.totals,
             rows.len() + 1,
         )?;
-        reserve_orders(
+        reserve_demands(
             &mut self.jobs,
-            &mut self.orders,
             &mut self.demands,
             &mut self.imports,
             wanted.len(),
         )?;
-        keep(&mut self.kept, kept)?;
+        put_and_keep(&mut self.orders, &mut self.kept, order, kept)?;
         put_some(&mut self.materials, material);
         put_moved(&mut self.parts, &mut self.totals, moved);
         put_parts(&mut self.parts, &mut self.totals, rows);
         put_some(&mut self.jobs, job);
-        put_some(&mut self.orders, order);
         put_all(&mut self.demands, wanted);
         put_some(&mut self.imports, import);
         self.last_act = act.unwrap_or(self.last_act);

@@ -1,5 +1,7 @@
 ghost use Rattle.std.specs.declared.cmp.Ordering.{Ordering};
-ghost use Rattle.std.specs.Prelude.{◌≡◌, ◌+◌, ◌<◌, ◌≤◌, IfSome, IsSome, IsTrue, length, option_copied, vec_len, vec_capacity};
+ghost use Rattle.std.specs.declared.cmp.Ordering.TheVariants.{Equal};
+ghost use Rattle.std.specs.Prelude.{◌≡◌, ◌+◌, ◌<◌, ◌≤◌, IfSome, IsSome, IsTrue, Err, length, option_copied, vec_len, vec_capacity};
+ghost use Rattle.std.specs.List.{HoldsAt};
 ghost use Rattle.std.specs.List.Sorted.{IsBinarySearchResult, IsSearchInRange};
 ghost use Rattle.std.specs.Option.{option_to_list};
 ghost use Rattle.shop_store.specs.Rows.{rise, row_at, IsPut, ArePut};
@@ -25,16 +27,49 @@ pub trait Row: Drop {
     fn key(&self) -> Self::Key
         ensures { result ≡ key_of self.now };
 
+    /// Where the row of a key is looked for first, among so many. What is found is the same wherever that is.
+    fn near(_key: Self::Key, len: usize) -> usize {
+        len
+    }
+
     ghost total: { IsTotalOrder cmp };
 
     ghost exact: { IsAntisymmetric cmp };
 }
 
-/// Where the row of a key stands, or where it would.
+// Whether the row of a key stands at this place.
+fn stands_at<R: Row>(rows: &[R], key: R::Key, i: usize) -> bool
+    ensures { IsTrue result → i < length rows.now × HoldsAt (λ row. R.cmp (R.key_of row) key ≡ Equal) rows.now i }
+{
+    match rows.get(i) {
+        Some(row) => matches!(row.compare(key), Ordering::Equal),
+        None => false,
+    }
+}
+
+// Whether a key comes behind the last row.
+fn is_behind<R: Row>(rows: &[R], key: R::Key) -> bool
+    ensures { IsTrue result → IsBinarySearchResult (λ row. R.cmp (R.key_of row) key) rows.now (Err (length rows.now)) }
+{
+    match rows.last() {
+        Some(row) => matches!(row.compare(key), Ordering::Less),
+        None => true,
+    }
+}
+
+/// Where the row of a key stands, or where it would. Only where it neither stands at its likely place nor comes behind the
+/// last row are the rows searched.
 fn place<R: Row>(rows: &[R], key: R::Key) -> Result<usize, usize>
     ensures range { IsSearchInRange result (length rows.now) }
     ensures position { IsBinarySearchResult (λ row. R.cmp (R.key_of row) key) rows.now result }
 {
+    let near = R::near(key, rows.len());
+    if stands_at(rows, key, near) {
+        return Ok(near);
+    }
+    if is_behind(rows, key) {
+        return Err(rows.len());
+    }
     rows.binary_search_by(|row| row.compare(key))
 }
 

@@ -8,4 +8,4 @@ returns c =
     let mine = ap (λ book. book.content.orders) c.self.view_is in
     let its = ap (λ book. book.content.orders) c.other.view_is in
     Decides-like c.eq.result (λ p. sym mine ∙ p ∙ its) (λ p. mine ∙ p ∙ sym its)
-    (codes_decide c.self.inside.orders.items c.other.inside.orders.items c.eq.result c.eq.ensures c.self.invariant.orders c.other.invariant.orders)
+    (codes_decide c.self.inside.orders.keys c.other.inside.orders.keys c.eq.result c.eq.ensures c.self.invariant.orders c.other.invariant.orders)

@@ -12,7 +12,7 @@ use Rattle.shop_machine.specs.Content.{pair_cmp, with_material, with_parts, with
 use Rattle.shop_store.specs.Rows.{entries_of, put_each, map_of}
 use Rattle.shop_store.specs.Memory.{material_key, part_key, job_key, demand_key, import_key, orders_in}
 use Rattle.shop_store.proofs.Held.{map_after, material_after, job_after, demands_after, kept_after, kept_sorted, import_after, number_after}
-use Rattle.shop_store.proofs.Orders.{order_after}
+use Rattle.shop_store.proofs.Orders.{order_after, orders_rise}
 use Rattle.shop_store.proofs.memory.MemBookBook.commit.Goals as goal
 
 pub invariant_of-self-2 : goal.invariant_of-self-2
@@ -22,10 +22,10 @@ invariant_of-self-2 c =
       parts = c.put_parts.ensures.parts;
       totals = c.put_parts.ensures.totals;
       jobs = c.put_some-2.ensures.rising;
-      orders = c.put_some-3.ensures.rising;
+      orders = orders_rise c.args.change.order c.self.inside.orders.keys c.put_and_keep.new.orders.keys c.in_ok-put_and_keep.ensures.orders c.self.invariant.orders;
       demands = c.put_all.ensures.rising;
-      kept = kept_sorted c.args.change.kept c.self.inside.kept.entries c.keep.new.kept.entries c.self.invariant.kept c.in_ok-keep.ensures.ok;
-      imports = c.put_some-4.ensures.rising;
+      kept = kept_sorted c.args.change.kept c.self.inside.kept.entries c.put_and_keep.new.kept.entries c.self.invariant.kept c.in_ok-put_and_keep.ensures.kept;
+      imports = c.put_some-3.ensures.rising;
       small = c.put_parts.ensures.small;
       sums = c.put_parts.ensures.sums;
     }
@@ -43,20 +43,20 @@ returns-clause-ok c =
     ∙ ap (with_parts change.parts) c.put_moved.ensures.put
     ∙ ap (λ (rows : List Part). with_parts change.parts (with_moved change.moved (map_of part_key name_cmp rows))) c.reserve.ensures.parts in
     let jobs : map_of job_key nat_cmp c.put_some-2.new.rows.items ≡ with_job change.job (map_of job_key nat_cmp old.jobs.items) =
-    map_after job_key nat_cmp nat_cmp_total (option_to_list change.job) old.jobs.items c.reserve_orders.new.jobs.items c.put_some-2.new.rows.items
-    c.self.invariant.jobs c.reserve_orders.ensures.jobs c.put_some-2.ensures.put
+    map_after job_key nat_cmp nat_cmp_total (option_to_list change.job) old.jobs.items c.reserve_demands.new.jobs.items c.put_some-2.new.rows.items
+    c.self.invariant.jobs c.reserve_demands.ensures.jobs c.put_some-2.ensures.put
     ∙ job_after change.job (map_of job_key nat_cmp old.jobs.items) in
-    let orders : orders_in c.put_some-3.new.rows.items ≡ with_order change.order (orders_in old.orders.items) =
-    order_after change.order old.orders.items c.reserve_orders.new.orders.items c.put_some-3.new.rows.items c.reserve_orders.ensures.orders c.put_some-3.ensures.put in
+    let orders : orders_in c.put_and_keep.new.orders.keys ≡ with_order change.order (orders_in old.orders.keys) =
+    order_after change.order old.orders.keys c.put_and_keep.new.orders.keys c.in_ok-put_and_keep.ensures.orders in
     let demands : map_of demand_key nat_cmp c.put_all.new.rows.items ≡ with_demands change.demands (map_of demand_key nat_cmp old.demands.items) =
-    map_after demand_key nat_cmp nat_cmp_total change.demands old.demands.items c.reserve_orders.new.demands.items c.put_all.new.rows.items c.self.invariant.demands c.reserve_orders.ensures.demands
-    (c.put_all.ensures.put ∙ ap (λ (rows : List Demand). put_each demand_key nat_cmp rows (entries_of demand_key nat_cmp c.reserve_orders.new.demands.items)) c.as_slice-wanted.ensures)
+    map_after demand_key nat_cmp nat_cmp_total change.demands old.demands.items c.reserve_demands.new.demands.items c.put_all.new.rows.items c.self.invariant.demands c.reserve_demands.ensures.demands
+    (c.put_all.ensures.put ∙ ap (λ (rows : List Demand). put_each demand_key nat_cmp rows (entries_of demand_key nat_cmp c.reserve_demands.new.demands.items)) c.as_slice-wanted.ensures)
     ∙ demands_after change.demands (map_of demand_key nat_cmp old.demands.items) in
-    let kept : from_sorted {R = pair_cmp} c.keep.new.kept.entries ≡ with_kept change.kept (from_sorted old.kept.entries) =
-    kept_after change.kept old.kept.entries c.keep.new.kept.entries c.self.invariant.kept c.in_ok-keep.ensures.ok in
-    let imports : map_of import_key code_cmp c.put_some-4.new.rows.items ≡ with_import change.import (map_of import_key code_cmp old.imports.items) =
-    map_after import_key code_cmp nat_list_cmp_total (option_to_list change.import) old.imports.items c.reserve_orders.new.imports.items c.put_some-4.new.rows.items
-    c.self.invariant.imports c.reserve_orders.ensures.imports c.put_some-4.ensures.put
+    let kept : from_sorted {R = pair_cmp} c.put_and_keep.new.kept.entries ≡ with_kept change.kept (from_sorted old.kept.entries) =
+    kept_after change.kept old.kept.entries c.put_and_keep.new.kept.entries c.self.invariant.kept c.in_ok-put_and_keep.ensures.kept in
+    let imports : map_of import_key code_cmp c.put_some-3.new.rows.items ≡ with_import change.import (map_of import_key code_cmp old.imports.items) =
+    map_after import_key code_cmp nat_list_cmp_total (option_to_list change.import) old.imports.items c.reserve_demands.new.imports.items c.put_some-3.new.rows.items
+    c.self.invariant.imports c.reserve_demands.ensures.imports c.put_some-3.ensures.put
     ∙ import_after change.import (map_of import_key code_cmp old.imports.items) in
     let act : c.unwrap_or-self-inside.result ≡ with_number change.act old.last_act = c.unwrap_or-self-inside.ensures ∙ number_after change.act old.last_act in
     let demand : c.unwrap_or-self-inside-2.result ≡ with_number change.demand old.last_demand =
