@@ -163,3 +163,66 @@ fn totals_that_are_no_sums_are_a_wrong_version(rt: HostRuntime) -> Result<(), Ta
     }
     Ok(())
 }
+
+// The parts of a database that is handed back as a wrong version, after this was done to a shop with a bar and its totals.
+fn parts_handed_back(alloc: Global, batch: &str) -> Result<Option<i64>, TableFault> {
+    let mut conn = shop(alloc, BAR)?;
+    conn.execute_batch(ITS_TOTALS)?;
+    conn.execute_batch(batch)?;
+    if !conn.is_autocommit() {
+        return Err(TableFault::Store);
+    }
+    match SqlBook::adopt(alloc, conn) {
+        Err((BookFault::WrongVersion, mut conn)) => {
+            Ok(Some(number(&mut conn, "SELECT count(*) FROM parts")?))
+        }
+        _ => Ok(None),
+    }
+}
+
+// States that there aren't, a standing part's detail, and numbers below 0.
+const STRANGE_ROWS: &[&str] = &[
+    "UPDATE parts SET state = 7",
+    "UPDATE parts SET state = 0 - 1",
+    "UPDATE parts SET detail = 4",
+    "UPDATE parts SET x = 0 - 1",
+    "UPDATE parts SET node = 0 - 1",
+    "UPDATE totals2 SET stock = 0 - 100",
+];
+
+#[test]
+fn strange_rows_are_a_wrong_version(rt: HostRuntime) -> Result<(), TableFault> {
+    'strange: for batch in STRANGE_ROWS {
+        assert!(rt; parts_handed_back(rt.alloc(), batch)? == Some(1));
+    }
+    Ok(())
+}
+
+// The fault of a shop with a bar and its totals, in which this was done.
+fn fault_after(alloc: Global, batch: &str) -> Result<Option<BookFault>, TableFault> {
+    let mut conn = shop(alloc, BAR)?;
+    conn.execute_batch(ITS_TOTALS)?;
+    conn.execute_batch(batch)?;
+    if !conn.is_autocommit() {
+        return Err(TableFault::Store);
+    }
+    match SqlBook::adopt(alloc, conn) {
+        Ok(_) => Ok(None),
+        Err((fault, _)) => Ok(Some(fault)),
+    }
+}
+
+// A width of 0, a number of more than 32 bits, and a text that is no code.
+const OUT_OF_RANGE: &[&str] = &[
+    "UPDATE parts SET w = 0",
+    "UPDATE parts SET x = 5000000000",
+    "UPDATE parts SET batch = ''",
+];
+
+#[test]
+fn values_out_of_range_are_a_fault_of_the_store(rt: HostRuntime) -> Result<(), TableFault> {
+    'wide: for batch in OUT_OF_RANGE {
+        assert!(rt; fault_after(rt.alloc(), batch)? == Some(BookFault::Store));
+    }
+    Ok(())
+}

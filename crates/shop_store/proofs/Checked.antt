@@ -1,6 +1,9 @@
 -- What is known of a connection is known of it as the book's, or as the one that is handed back.
-use Rattle.std.proofs.Common.{Ok, Err, Result}
+use Rattle.std.proofs.Common.{Ok, Err, Result, refl}
 use Rattle.std.specs.Prelude.{IfOk, IfErr}
+use Rattle.sqlite.specs.State.{State}
+use Rattle.shop_tables.specs.Shown.{Leaves}
+use Rattle.shop_tables.proofs.Steps.{within_itself}
 use Rattle.shop_store.specs.SqlBooks.{EitherWay}
 use Rattle.shop_store.specs.declared.books.BookFault.{BookFault}
 
@@ -16,3 +19,11 @@ module _ {B C : Type 0} (conn_of : B → C) (P : C → Type 0) where
   pub if_back : {X Y : BookFault × C → Type 0} → ((back : BookFault × C) → P back.1 → X back → Y back) → (r : Result B (BookFault × C)) → EitherWay conn_of P r → IfErr r X → IfErr r Y
   if_back f (Ok book) h x = tt
   if_back f (Err back) h x = f back h x
+
+-- no reading leaves all
+pub leaves_itself : (s : State) → Leaves s s
+leaves_itself s = record {
+  stays = λ b was. was;
+  as_was = λ clean up. record { was_open = up; now = λ _. refl; committed = λ settled. settled };
+  survives = (within_itself s).survives;
+}

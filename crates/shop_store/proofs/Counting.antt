@@ -1,8 +1,7 @@
 -- Parts that are added up, and totals that are their sums.
 use Rattle.std.proofs.Common.{◌≡◌, ℕ, ◌+◌, ◌<◌, ◌≤◌, ◌^◌, Bool, true, false, cond, ◌&&◌, List, [], ◌∷◌, ◌++◌, length, map, take, get_or, Option, Some, None, is_some, Ok, Err, Result, refl, sym, ap, subst, ◌∙◌, arith, append-nil, IsTrue, Vec}
-use Rattle.std.specs.Prelude.{unwrap_or, IfOk, T}
+use Rattle.std.specs.Prelude.{unwrap_or, IfOk, T, ◌*◌, if◌then◌else◌}
 use Rattle.std.specs.Bool.{Decides}
-use Rattle.std.specs.declared.alloc.Global.{Global}
 use Rattle.std.specs.FinMap.{entries, entries_sorted, find, get, get-entries, is_sorted, values}
 use Rattle.std.specs.FinMap.Entries.{below_all, find-put}
 use Rattle.std.specs.Cmp.{tied_itself}
@@ -10,7 +9,7 @@ use Rattle.std.specs.declared.cmp.Ordering.TheVariants.{Equal}
 use Rattle.std.specs.Cmp.Lexicographic.{nat_list_cmp_total}
 use Rattle.std.specs.Ordering.{eq_by_cmp, is_eq}
 use Rattle.std.proofs.lemmas.List.{take_more}
-use Rattle.std.proofs.lemmas.List.Sums.{sum_by-cons}
+use Rattle.std.proofs.lemmas.List.Sums.{sum_by-append, sum_by-cons, sum_by_push}
 use Rattle.cut_measure.specs.Codes.{code_cmp}
 use Rattle.shop_machine.specs.Content.{cells_in, no_totals, totals_of}
 use Rattle.shop_machine.specs.Visits.{GoesOn, HasSeen, IsVisit}
@@ -18,19 +17,20 @@ use Rattle.shop_machine.specs.declared.changes.MaterialTotals.{MaterialTotals}
 use Rattle.shop_machine.specs.declared.records.Column.{Column}
 use Rattle.shop_machine.specs.declared.records.Column.TheVariants.{Received, Stock, Rack, Pieces, Kerf, Scrap, Returned}
 use Rattle.shop_machine.specs.declared.records.Part.{Part}
+use Rattle.shop_machine.specs.Columns.{is_counted}
 use Rattle.shop_machine.specs.declared.records.Totals.{Totals}
 use Rattle.shop_tables.specs.Changing.{HasSums}
 use Rattle.shop_tables.specs.Listing.{AreAllTotals, HaveTotals, named}
 use Rattle.shop_tables.specs.Shown.{Books}
 use Rattle.shop_tables.specs.declared.faults.TableFault.{TableFault}
-use Rattle.shop_store.specs.Adding.{AddsPart, AreSumsIn, are_totals_for, has_sums}
+use Rattle.shop_store.specs.Adding.{AddsPart, AreSumsIn, IsAdded, IsListOf, are_totals_for, has_sums}
 use Rattle.shop_store.specs.Rows.{entries_of, row_at, IsPut}
-use Rattle.shop_store.specs.Sums.{cells_for, found_sum, sum_at, sum_in, sums_key, totals_from}
+use Rattle.shop_store.specs.Sums.{cells_for, counted_cells, found_sum, sum_at, sum_in, sums_key, totals_from}
 use Rattle.shop_store.specs.declared.adders.PartAdder.{PartAdder}
 use Rattle.shop_store.specs.declared.sums.Sums.{Sums}
 use Rattle.shop_tables.proofs.Finding.{code_total, code_same}
 use Rattle.shop_tables.proofs.Maps.{none_found}
-use Rattle.shop_store.proofs.Summed.{same_code}
+use Rattle.shop_store.proofs.Summed.{counted_own, same_code}
 
 -- ---- a row of sums that is put
 
@@ -108,6 +108,17 @@ added_up (part ∷ parts) old new goes =
           omega (arith, later, first, cells),
       λ code. more.1 code ∙ goes.1.there code,
     )
+
+no_cells : (a b : Bool) (n : ℕ) → (if b then n else 0) ≡ 0 → (if a && b then n else 0) ≡ 0
+no_cells true b n e = e
+no_cells false b n e = refl
+
+-- a part that no column counts adds nothing
+pub added_none : (part : Part) (sums : List Sums) → ((column : Column) → counted_cells column part ≡ 0) → IsAdded part sums sums
+added_none part sums none = record {
+  adds = λ column code. let e = no_cells (is_eq (code_cmp part.material code)) (is_counted column part) (part.size.w * part.size.h) (none column) in omega (arith, e);
+  there = λ code. refl;
+}
 
 -- ---- the books' totals
 
@@ -196,9 +207,9 @@ pub not_listed : (b : Books) → AreAllTotals b None → Told b false
 not_listed b none = (λ h. absurd (cc), λ has. absurd (none has.there))
 
 -- all parts were added to sums of nothing
-pub added_all : (b : Books) (list : Vec MaterialTotals Global) (old new : PartAdder) (visited : Result Bool TableFault) (good : Bool) → AreAllTotals b (Some list) → ((column : Column) (code : List ℕ) → sum_at column code old.sums.items ≡ 0)
-    → ((code : List ℕ) → has_sums code old.sums.items ≡ are_totals_for code list.items) → visited ≡ Ok true
-    → (visit : IsVisit AddsPart (λ what. what (values b.content.parts)) old visited new) → Decides good (AreSumsIn new.sums.items list.items) → Told b good
+pub added_all : (b : Books) (list : List MaterialTotals) (old new : PartAdder) (visited : Result Bool TableFault) (good : Bool) → IsListOf b list → ((column : Column) (code : List ℕ) → sum_at column code old.sums.items ≡ 0)
+    → ((code : List ℕ) → has_sums code old.sums.items ≡ are_totals_for code list) → visited ≡ Ok true
+    → (visit : IsVisit AddsPart (λ what. what (values b.content.parts)) old visited new) → Decides good (AreSumsIn new.sums.items list) → Told b good
 added_all b list old new visited good all none there went visit told =
     let on : visit.on ≡ true = sym (subst (λ r. IfOk r (λ t. t ≡ visit.on)) went visit.answer) in
     let goes : GoesOn AddsPart visit.parts old new = subst (λ o. HasSeen AddsPart visit.parts o old new) on visit.visitor in
@@ -210,4 +221,44 @@ added_all b list old new visited good all none there went visit told =
     let names : (code : List ℕ) → has_sums code new.sums.items ≡ are_totals_for code (map named (entries b.totals)) = λ code. sums.1 code ∙ there code ∙ ap (are_totals_for code) all.1 in (
       λ yes. have b new.sums.items counted names all.0 (subst (AreSumsIn new.sums.items) all.1 (told.0 yes)),
       λ has. told.1 (subst (AreSumsIn new.sums.items) (sym all.1) (conversely b new.sums.items counted has)),
+    )
+
+no_sum : (m : Rattle.shop_machine.specs.Content.Content) (code : List ℕ) → no_totals ≡ totals_of m code → (column : Column) → 0 ≡ cells_in column code (values m.parts)
+no_sum m code e Received = ap (λ (t : Totals). t.received) e
+no_sum m code e Stock = ap (λ (t : Totals). t.stock) e
+no_sum m code e Rack = ap (λ (t : Totals). t.rack) e
+no_sum m code e Pieces = ap (λ (t : Totals). t.pieces) e
+no_sum m code e Kerf = ap (λ (t : Totals). t.kerf) e
+no_sum m code e Scrap = ap (λ (t : Totals). t.scrap) e
+no_sum m code e Returned = ap (λ (t : Totals). t.returned) e
+
+among : (column : Column) (code : List ℕ) (part : Part) (before rest : List Part) → cells_for column code part ≤ cells_in column code ((before ++ part ∷ []) ++ rest)
+among column code part before rest = omega (arith, sum_by-append (cells_for column code) (before ++ part ∷ []) rest, sum_by_push (cells_for column code) before part)
+
+nothing_there : (o : Option Totals) → is_some o ≡ false → unwrap_or o no_totals ≡ no_totals
+nothing_there None e = refl
+nothing_there (Some t) e = absurd (cc)
+
+-- the pass stopped at a part of a material without totals
+pub lost_at : (b : Books) (list : List MaterialTotals) (old new : PartAdder) (visited : Result Bool TableFault) → IsListOf b list
+    → ((code : List ℕ) → has_sums code old.sums.items ≡ are_totals_for code list) → visited ≡ Ok false → new.lost ≡ true
+    → (visit : IsVisit AddsPart (λ what. what (values b.content.parts)) old visited new) → Told b false
+lost_at b list old new visited all there went lost visit =
+    let off : visit.on ≡ false = sym (subst (λ r. IfOk r (λ t. t ≡ visit.on)) went visit.answer) in
+    let stops : HasSeen AddsPart visit.parts false old new = subst (λ o. HasSeen AddsPart visit.parts o old new) off visit.visitor in
+    let before = stops.0 in
+    let last = stops.1 in
+    let it = stops.5 lost in
+    let code = last.material in
+    let begins = subst (λ r. (rest : List Part) × (values b.content.parts ≡ visit.parts ++ rest) × IfOk r (λ t. IsTrue t → rest ≡ [])) went visit.begins in
+    let names : is_some (get b.totals code) ≡ false = ap is_some (get-entries b.totals code) ∙ sym (found_for code (entries b.totals)) ∙ sym ((added_up before old stops.2 stops.4).1 code ∙ there code ∙ ap (are_totals_for code) all.1) ∙ it.none in (
+      λ h. absurd (cc),
+      λ has.
+          let nothing_in : 0 ≡ cells_in it.counted.0 code (values b.content.parts) = no_sum b.content code (sym (nothing_there (get b.totals code) names) ∙ has.sums code) it.counted.0 in
+          let whole : values b.content.parts ≡ (before ++ last ∷ []) ++ begins.0 = begins.1 ∙ ap (λ ps. ps ++ begins.0) stops.3 in
+          let here = among it.counted.0 code last before begins.0 in
+          let same = ap (cells_in it.counted.0 code) whole in
+          let own = counted_own it.counted.0 last in
+          let some = it.counted.1 in
+          absurd (omega (arith, nothing_in, here, same, own, some)),
     )

@@ -12,3 +12,4 @@ pub mod Telling
 pub mod Taking
 pub mod Adopting
 pub mod Checked
+pub mod EarlierContents

@@ -113,7 +113,7 @@ cells_bounded column code (p ∷ ps) e =
 own_code : (code : List ℕ) → is_eq (code_cmp code code) ≡ true
 own_code code = ap is_eq (tied_itself nat_list_cmp_total code)
 
-counted_own : (column : Column) (part : Part) → cells_for column part.material part ≡ counted_cells column part
+pub counted_own : (column : Column) (part : Part) → cells_for column part.material part ≡ counted_cells column part
 counted_own column part = ap (λ b. if b && is_counted column part then part.size.w * part.size.h else 0) (own_code part.material)
 
 found_in : (column : Column) (code : List ℕ) (p q : Part) (ps : List Part) (b : Bool) (found : Option Part) → cond b (Some q) found ≡ Some p

@@ -1,12 +1,15 @@
 -- What adding up the parts that are handed out makes of sums.
-use Rattle.std.specs.Prelude.{◌≡◌, ℕ, ◌+◌, ⊤, List, [], ◌∷◌, Bool, true, false, cond, is_some}
+use Rattle.std.specs.Prelude.{◌≡◌, ℕ, ◌+◌, ◌≤◌, ⊤, List, [], ◌∷◌, Bool, true, false, cond, is_some, map}
 use Rattle.std.specs.Ordering.{eq_by_cmp}
 use Rattle.cut_measure.specs.Codes.{code_cmp}
 use Rattle.shop_machine.specs.declared.changes.MaterialTotals.{MaterialTotals}
 use Rattle.shop_machine.specs.declared.records.Column.{Column}
 use Rattle.shop_machine.specs.declared.records.Part.{Part}
+use Rattle.std.specs.FinMap.{entries}
+use Rattle.shop_tables.specs.Listing.{HaveTotals, named}
+use Rattle.shop_tables.specs.Shown.{Books}
 use Rattle.shop_store.specs.Rows.{row_at}
-use Rattle.shop_store.specs.Sums.{cells_for, sum_at, sums_key, totals_from}
+use Rattle.shop_store.specs.Sums.{cells_for, counted_cells, sum_at, sums_key, totals_from}
 use Rattle.shop_store.specs.declared.adders.PartAdder.{PartAdder}
 use Rattle.shop_store.specs.declared.sums.Sums.{Sums}
 
@@ -19,15 +22,24 @@ pub record IsAdded (part : Part) (old new : List Sums) : Type 0 where
   pub adds : (column : Column) (code : List ℕ) → sum_at column code new ≡ sum_at column code old + cells_for column code part
   pub there : (code : List ℕ) → has_sums code new ≡ has_sums code old
 
--- a part is added where there are sums for its material, and 64 bits hold them
+-- there are no sums for the material of the part, and a column counts cells of it
+pub record IsLost (part : Part) (sums : List Sums) : Type 0 where
+  pub none : has_sums part.material sums ≡ false
+  pub counted : (column : Column) × (1 ≤ counted_cells column part)
+
+-- a part is added where there are sums for its material, and 64 bits hold them; one that is lost is told
 abbrev pub AddsPart : PartAdder → Part → Bool → PartAdder → Type 0
 AddsPart old part true new = IsAdded part old.sums.items new.sums.items
-AddsPart old part false new = ⊤
+AddsPart old part false new = new.lost ≡ true → IsLost part old.sums.items
 
 -- whether some of these totals are the material's
 abbrev pub are_totals_for : List ℕ → List MaterialTotals → Bool
 are_totals_for code [] = false
 are_totals_for code (row ∷ rows) = cond (eq_by_cmp code_cmp code row.material) true (are_totals_for code rows)
+
+-- these are the totals of all materials, by rising code
+abbrev pub IsListOf : Books → List MaterialTotals → Type 0
+IsListOf b list = HaveTotals b × (list ≡ map named (entries b.totals))
 
 -- each of these totals is the material's sums
 abbrev pub AreSumsIn : List Sums → List MaterialTotals → Type 0

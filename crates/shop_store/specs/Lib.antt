@@ -10,5 +10,6 @@ pub mod Equal
 pub mod MemBooks
 -- a book in SQL tables
 pub mod SqlBooks
+pub mod EarlierBooks
 pub mod Takers
 pub mod Adding

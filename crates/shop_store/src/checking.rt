@@ -6,16 +6,17 @@ ghost use Rattle.sqlite.specs.Held.{state};
 ghost use Rattle.cut_measure.specs.Codes.{code_cmp};
 ghost use Rattle.shop_machine.specs.declared.records.Column.{Column as ColumnOf};
 ghost use Rattle.shop_tables.specs.Changing.{HasSums};
+ghost use Rattle.shop_tables.specs.Earlier.{SaysEarlier};
 ghost use Rattle.shop_tables.specs.Shown.{Leaves, Says};
-ghost use Rattle.shop_store.specs.Adding.{AddsPart, AreSumsIn, are_totals_for, has_sums};
+ghost use Rattle.shop_store.specs.Adding.{AddsPart, AreSumsIn, IsListOf, are_totals_for, has_sums};
 ghost use Rattle.shop_store.specs.Rows.{rise};
 ghost use Rattle.shop_store.specs.Sums.{sum_at, sums_key};
 
 use crate::adders::PartAdder;
 use crate::rows::put;
-use crate::sums::{Sums, count_part, has_totals, no_sums};
+use crate::sums::{Sums, are_kept, count_part, has_totals, no_sums};
 use shop_machine::{MaterialTotals, Part, PartVisitor};
-use shop_tables::{Lent, TableFault, lend_all_parts, list_totals};
+use shop_tables::{Lent, TableFault, lend_all_parts, list_earlier_totals, list_totals};
 use sqlite::{Alter, Connection};
 use std::alloc::{AllocError, Global};
 
@@ -23,6 +24,7 @@ impl PartVisitor for PartAdder {
     ghost looks = { AddsPart };
 
     fn part(&mut self, part: &Part) -> bool {
+        self.lost = !are_kept(&self.sums, part.material);
         count_part(&mut self.sums, part)
     }
 }
@@ -38,7 +40,7 @@ fn adder_for(alloc: Global, totals: &[MaterialTotals]) -> Result<PartAdder, Allo
         let _ = put(&mut sums, no_sums(row.material));
     }
     sums.reserve(1)?;
-    Ok(PartAdder { sums })
+    Ok(PartAdder { sums, lost: false })
 }
 
 // Whether these totals are the sums.
@@ -55,6 +57,26 @@ fn are_sums(sums: &[Sums], totals: &[MaterialTotals]) -> bool
     true
 }
 
+// Goes through all parts once, and tells whether these are their sums.
+fn are_sums_of_parts<S: Alter>(
+    alloc: Global,
+    conn: &mut Connection<S>,
+    totals: &[MaterialTotals],
+) -> Result<bool, TableFault>
+    ensures sums { Says (state S.Store conn.old) (state S.Store conn.new) (λ books. IsListOf books totals.now → IfOk result (λ good. Decides good (HasSums books))) }
+    ensures earlier { SaysEarlier (state S.Store conn.old) (state S.Store conn.new) (λ books. IsListOf books totals.now → IfOk result (λ good. Decides good (HasSums books))) }
+    ensures leaves { Leaves (state S.Store conn.old) (state S.Store conn.new) }
+    ensures mode { conn.old.in_transaction ≡ false → conn.new.in_transaction ≡ false }
+{
+    let mut adder = adder_for(alloc, totals)?;
+    match lend_all_parts(conn, &mut adder)? {
+        Lent::All => Ok(are_sums(&adder.sums, totals)),
+        Lent::Stopped if adder.lost => Ok(false),
+        Lent::Stopped => Err(TableFault::Store),
+        Lent::Strange => Ok(false),
+    }
+}
+
 /// Goes through all parts once, and tells whether the totals are their sums: those of each material, and of nothing else.
 pub fn have_sums<S: Alter>(alloc: Global, conn: &mut Connection<S>) -> Result<bool, TableFault>
     ensures sums { Says (state S.Store conn.old) (state S.Store conn.new) (λ books. IfOk result (λ good. Decides good (HasSums books))) }
@@ -64,10 +86,20 @@ pub fn have_sums<S: Alter>(alloc: Global, conn: &mut Connection<S>) -> Result<bo
     let Some(totals) = list_totals(alloc, conn)? else {
         return Ok(false);
     };
-    let mut adder = adder_for(alloc, &totals)?;
-    match lend_all_parts(conn, &mut adder)? {
-        Lent::All => Ok(are_sums(&adder.sums, &totals)),
-        Lent::Stopped => Err(TableFault::Store),
-        Lent::Strange => Err(TableFault::Store),
-    }
+    are_sums_of_parts(alloc, conn, &totals)
+}
+
+/// The same of tables of version 1.
+pub fn have_earlier_sums<S: Alter>(
+    alloc: Global,
+    conn: &mut Connection<S>,
+) -> Result<bool, TableFault>
+    ensures sums { SaysEarlier (state S.Store conn.old) (state S.Store conn.new) (λ books. IfOk result (λ good. Decides good (HasSums books))) }
+    ensures leaves { Leaves (state S.Store conn.old) (state S.Store conn.new) }
+    ensures mode { conn.old.in_transaction ≡ false → conn.new.in_transaction ≡ false }
+{
+    let Some(totals) = list_earlier_totals(alloc, conn)? else {
+        return Ok(false);
+    };
+    are_sums_of_parts(alloc, conn, &totals)
 }

@@ -1,4 +1,4 @@
-ghost use Rattle.std.specs.Prelude.{◌≡◌, ◌≢◌, ◌+◌, ◌≤◌, false, IfOk, IfErr, OnOk, OnErr, unwrap_or};
+ghost use Rattle.std.specs.Prelude.{◌≡◌, ◌≢◌, ◌+◌, ◌≤◌, false, Err, IfOk, IfErr, OnOk, OnErr, unwrap_or};
 ghost use Rattle.std.specs.FinMap.{get};
 ghost use Rattle.sqlite.specs.Held.{state};
 ghost use Rattle.sqlite.specs.State.{HasCleanDisk, Survives};
@@ -9,12 +9,13 @@ ghost use Rattle.shop_tables.specs.Held.{HoldsContent, IsSettledAt, LeavesOnly, 
 ghost use Rattle.shop_tables.specs.Layout.{no_schema, IsShop};
 ghost use Rattle.shop_tables.specs.Changing.{HasSums};
 ghost use Rattle.shop_tables.specs.Shown.{Books, Holds, IsSettled, Leaves, Says};
+ghost use Rattle.shop_store.specs.EarlierBooks.{HoldsEarlierContent, IsSettledEarlierAt};
 ghost use Rattle.shop_store.specs.Failures.{CountsFailure};
 ghost use Rattle.shop_store.specs.SqlBooks.{adopt_fault, book_fault, told as as_told, EitherWay};
 ghost use Rattle.shop_store.specs.declared.books.BookFault.TheVariants.{WrongVersion};
 
 use crate::books::{Book, BookFault};
-use crate::checking::have_sums;
+use crate::checking::{have_earlier_sums, have_sums};
 use crate::takers::PartTaker;
 use cut_measure::{Code, PartName};
 use shop_machine::{
@@ -24,7 +25,7 @@ use shop_machine::{
 use shop_tables::{
     AdoptFault, Adopted, TableFault, adopt_tables, commit_change, find_demand, find_import,
     find_job, find_kept, find_last_act, find_last_demand, find_material, find_order, find_part,
-    find_totals, lend_parts,
+    find_totals, lend_parts, renew_shop,
 };
 use sqlite::{Alter, Connection, MemStore};
 use std::alloc::Global;
@@ -134,6 +135,29 @@ fn fresh_book<S: Alter + Drop>(alloc: Global, conn: Connection<S>) -> Result<Sql
     }
 }
 
+// Brings tables of version 1 to version 2 in one transaction, where their totals are the sums of their parts.
+fn renew<S: Alter>(alloc: Global, conn: &mut Connection<S>) -> Result<(), BookFault>
+    requires outside { conn.old.in_transaction ≡ false }
+    ensures mode { conn.new.in_transaction ≡ false }
+    ensures earlier { HasCleanDisk (state S.Store conn.new) → HasCleanDisk (state S.Store conn.old) }
+    ensures renewed { (m : Content) → HoldsEarlierContent (state S.Store conn.old) m → OnOk result (HoldsContent (state S.Store conn.new) m) }
+    ensures as_before { (m : Content) → HoldsEarlierContent (state S.Store conn.old) m → OnErr result (HoldsEarlierContent (state S.Store conn.new) m) }
+    ensures crash { (m : Content) → HoldsEarlierContent (state S.Store conn.old) m → Survives (state S.Store conn.old) (state S.Store conn.new) (λ db. StandsFor db m) }
+    ensures after { (m : Content) → HoldsEarlierContent (state S.Store conn.old) m → OnOk result (LeavesOnly (state S.Store conn.new) m) }
+    ensures unwritten { result ≡ Err WrongVersion → Leaves (state S.Store conn.old) (state S.Store conn.new) }
+    ensures neither { result ≡ Err WrongVersion → HasCleanDisk (state S.Store conn.new) → (m : Content) → HoldsEarlierContent (state S.Store conn.old) m → ⊥ }
+{
+    match have_earlier_sums(alloc, conn) {
+        Ok(true) => {}
+        Ok(false) => return Err(BookFault::WrongVersion),
+        Err(fault) => return Err(fault_of_tables(fault)),
+    }
+    match renew_shop(conn) {
+        Ok(()) => Ok(()),
+        Err(fault) => Err(fault_of_tables(fault)),
+    }
+}
+
 impl SqlBook<MemStore> {
     /// A book in memory, in which nothing was done yet.
     pub fn in_memory(alloc: Global) -> Result<SqlBook<MemStore>, BookFault>
@@ -149,9 +173,10 @@ impl SqlBook<MemStore> {
 
 impl<S: Alter> SqlBook<S> {
     /// Takes over the database of a connection that is outside a transaction. It makes the tables where no table, index or
-    /// view has one of their names, in one transaction, and goes on with tables of version 2. It hands the connection back
-    /// beside its fault, which is `WrongVersion` where a name is taken and the tables aren't there, or are of another
-    /// version; nothing is written then.
+    /// view has one of their names, in one transaction, goes on with tables of version 2, and brings those of version 1 to
+    /// version 2, in one transaction. It hands the connection back beside its fault, which is `WrongVersion` where a name is
+    /// taken and the tables aren't there, or are of another version, or their totals aren't the sums of their parts; nothing
+    /// is written then.
     pub fn adopt(
         alloc: Global,
         mut conn: Connection<S>,
@@ -170,10 +195,16 @@ impl<S: Alter> SqlBook<S> {
         ensures strange { IfErr result (λ back. back.0 ≡ WrongVersion → conn.schema ≢ no_schema) }
         ensures unwritten { IfErr result (λ back. back.0 ≡ WrongVersion → Leaves (state S.Store conn) (state S.Store back.1)) }
         ensures neither { IfErr result (λ back. back.0 ≡ WrongVersion → HasCleanDisk (state S.Store back.1) → (m : Content) → IsSettledAt (state S.Store conn) m → ⊥) }
+        ensures renewed { (m : Content) → IsSettledEarlierAt (state S.Store conn) m → IfOk result (λ book. HoldsContent (state S.Store book.conn) m) }
+        ensures as_before { (m : Content) → IsSettledEarlierAt (state S.Store conn) m → IfErr result (λ back. HoldsEarlierContent (state S.Store back.1) m) }
+        ensures renewed_crash { (m : Content) → IsSettledEarlierAt (state S.Store conn) m → EitherWay (λ book. book.conn) (λ after. Survives (state S.Store conn) (state S.Store after) (λ db. StandsFor db m)) result }
+        ensures renewed_after { (m : Content) → IsSettledEarlierAt (state S.Store conn) m → IfOk result (λ book. LeavesOnly (state S.Store book.conn) m) }
+        ensures not_earlier { IfErr result (λ back. back.0 ≡ WrongVersion → HasCleanDisk (state S.Store back.1) → (m : Content) → IsSettledEarlierAt (state S.Store conn) m → ⊥) }
     {
         match adopt_tables(&mut conn) {
             Ok(Adopted::Made) => Ok(SqlBook::over(alloc, conn)),
             Ok(Adopted::Found) => SqlBook::checked(alloc, conn),
+            Ok(Adopted::Earlier) => SqlBook::renewed(alloc, conn),
             Err(fault) => Err((fault_of_adopt(fault), conn)),
         }
     }
@@ -194,6 +225,28 @@ impl<S: Alter> SqlBook<S> {
             Ok(true) => Ok(SqlBook::over(alloc, conn)),
             Ok(false) => Err((BookFault::WrongVersion, conn)),
             Err(fault) => Err((fault_of_tables(fault), conn)),
+        }
+    }
+
+    // Over tables of version 1, which are brought to version 2 where their totals are the sums of their parts.
+    fn renewed(
+        alloc: Global,
+        mut conn: Connection<S>,
+    ) -> Result<SqlBook<S>, (BookFault, Connection<S>)>
+        requires outside { conn.in_transaction ≡ false }
+        ensures mode { IfErr result (λ back. back.1.in_transaction ≡ false) }
+        ensures failures { IfOk result (λ book. book.failures ≡ 0) }
+        ensures earlier { EitherWay (λ book. book.conn) (λ after. HasCleanDisk (state S.Store after) → HasCleanDisk (state S.Store conn)) result }
+        ensures renewed { (m : Content) → HoldsEarlierContent (state S.Store conn) m → IfOk result (λ book. HoldsContent (state S.Store book.conn) m) }
+        ensures as_before { (m : Content) → HoldsEarlierContent (state S.Store conn) m → IfErr result (λ back. HoldsEarlierContent (state S.Store back.1) m) }
+        ensures crash { (m : Content) → HoldsEarlierContent (state S.Store conn) m → EitherWay (λ book. book.conn) (λ after. Survives (state S.Store conn) (state S.Store after) (λ db. StandsFor db m)) result }
+        ensures after { (m : Content) → HoldsEarlierContent (state S.Store conn) m → IfOk result (λ book. LeavesOnly (state S.Store book.conn) m) }
+        ensures unwritten { IfErr result (λ back. back.0 ≡ WrongVersion → Leaves (state S.Store conn) (state S.Store back.1)) }
+        ensures neither { IfErr result (λ back. back.0 ≡ WrongVersion → HasCleanDisk (state S.Store back.1) → (m : Content) → HoldsEarlierContent (state S.Store conn) m → ⊥) }
+    {
+        match renew(alloc, &mut conn) {
+            Ok(()) => Ok(SqlBook::over(alloc, conn)),
+            Err(fault) => Err((fault, conn)),
         }
     }
 

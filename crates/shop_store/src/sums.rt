@@ -1,16 +1,17 @@
-ghost use Rattle.std.specs.Prelude.{◌≡◌, ◌+◌, ◌*◌, ◌<◌, ◌≤◌, ◌^◌, ℕ, List, IsTrue, IfSome, IfNone, IsSome, vec_len, vec_capacity, slice_index};
+ghost use Rattle.std.specs.Prelude.{◌≡◌, ◌+◌, ◌*◌, ◌<◌, ◌≤◌, ◌^◌, ℕ, List, true, false, IsTrue, IfSome, IfNone, IsSome, vec_len, vec_capacity, slice_index};
 ghost use Rattle.cut_measure.specs.Codes.{code_cmp};
 ghost use Rattle.shop_machine.specs.declared.records.Column.{Column as ColumnOf};
 ghost use Rattle.shop_store.specs.Rows.{rise};
 ghost use Rattle.std.specs.Bool.{Decides};
 ghost use Rattle.std.specs.Option.{ForSome};
 ghost use Rattle.shop_machine.specs.Content.{of_found};
-ghost use Rattle.shop_store.specs.Adding.{IsAdded};
+ghost use Rattle.shop_store.specs.Adding.{IsAdded, IsLost, has_sums};
+ghost use Rattle.shop_machine.specs.Columns.{is_counted};
 ghost use Rattle.shop_store.specs.Sums.{totals_from, sum_in, sums_key, sum_at, counted_cells, cells_for};
 
 use crate::rows::{Row, find, put};
 use cut_measure::Code;
-use shop_machine::{Column, MaterialTotals, Part, Totals};
+use shop_machine::{Column, MaterialTotals, Part, State, Totals};
 use std::cmp::Ordering;
 
 // The least number that 64 bits don't hold.
@@ -170,7 +171,46 @@ fn have_room(sums: &Sums, part: &Part) -> bool
                     && (sums.kerf < room && (sums.scrap < room && sums.returned < room)))))
 }
 
-/// Adds a part's cells to the sums of its material, where these are there and 64 bits hold them.
+// A column that counts a part, if there is one.
+fn column_of(part: &Part) -> Option<Column>
+    ensures some { IfSome result (λ column. is_counted column part.now ≡ true) }
+    ensures none { IfNone result ((column : ColumnOf) → is_counted column part.now ≡ false) }
+{
+    if part.counts_in(Column::Received) {
+        return Some(Column::Received);
+    }
+    match part.state {
+        State::Standing => Some(Column::Rack),
+        State::Reserved(_) => Some(Column::Rack),
+        State::Cut(_) => None,
+        State::Piece(_) => Some(Column::Pieces),
+        State::Kerf => Some(Column::Kerf),
+        State::Scrap => Some(Column::Scrap),
+        State::Returned => Some(Column::Returned),
+    }
+}
+
+// Whether a part adds cells to any column.
+fn has_cells(part: &Part) -> bool
+    ensures some { IsTrue result → (column : ColumnOf) × (1 ≤ counted_cells column part.now) }
+    ensures none { result ≡ false → (column : ColumnOf) → counted_cells column part.now ≡ 0 }
+{
+    match column_of(part) {
+        Some(_column) => 0 < part.size.cells(),
+        None => false,
+    }
+}
+
+/// Whether a material has sums.
+pub fn are_kept(rows: &[Sums], material: Code) -> bool
+    requires { IsTrue (rise sums_key code_cmp rows.now) }
+    ensures { result ≡ has_sums material rows.now }
+{
+    find(rows, material).is_some()
+}
+
+/// Adds a part's cells to the sums of its material, where these are there and 64 bits hold them. A part without sums has to
+/// have no cells that a column counts.
 pub fn count_part(rows: &mut Vec<Sums>, part: &Part) -> bool
     requires rising { IsTrue (rise sums_key code_cmp rows.old.items) }
     requires room { vec_len rows.old < vec_capacity rows.old }
@@ -179,9 +219,10 @@ pub fn count_part(rows: &mut Vec<Sums>, part: &Part) -> bool
     ensures adds { IsTrue result → IsAdded part.now rows.old.items rows.new.items }
     ensures rising { IsTrue (rise sums_key code_cmp rows.new.items) }
     ensures room { vec_len rows.new < vec_capacity rows.new }
+    ensures lost { result ≡ false → has_sums part.now.material rows.old.items ≡ false → IsLost part.now rows.old.items }
 {
     let Some(sums) = find(rows, part.material) else {
-        return false;
+        return !has_cells(part);
     };
     if !have_room(&sums, part) {
         return false;

@@ -32,10 +32,10 @@ shows_along old new b same h = record {
 }
 
 module _ {S : Type 0} (g : Ghosts S) (h : Held S) where
-  abbrev old : State
+  abbrev pub old : State
   old = state g h
 
-  abbrev begun : State
+  abbrev pub begun : State
   begun = state g (record h { in_transaction = true })
 
   module _ (done last : State) (late : HasCleanDisk last → HasCleanDisk done) where

@@ -1,7 +1,7 @@
 -- What the query of each table finds by its key.
 use Rattle.std.proofs.Common.{◌≡◌, ℕ, pos, Bool, true, ◌&&◌, List, [], ◌∷◌, drop, map, filter, Some, option_map, refl, subst, ◌∙◌, IsPermutation}
 use Rattle.std.proofs.lemmas.List.Sorted.{IsPermutation-trans}
-use Rattle.sqlite.proofs.Callers.{one_permutation}
+use Rattle.sqlite.proofs.Callers.{one_permutation, reads_as}
 use Rattle.std.specs.Option.{option_to_list}
 use Rattle.std.specs.declared.cmp.Ordering.TheVariants.{Less, Equal, Greater}
 use Rattle.std.specs.Ordering.{eq_by_cmp, is_eq, nat_cmp, ordering_then}
@@ -11,15 +11,18 @@ use Rattle.std.specs.FinMap.{IsAntisymmetric, get, nat_cmp-IsAntisymmetric, slic
 use Rattle.sqlite_value.specs.declared.value.Value.TheVariants.{Int, Text, Null}
 use Rattle.sqlite_value.specs.Order.{Row, column}
 use Rattle.sqlite_value.proofs.KeyLemmas.{then_tied}
+use Rattle.sqlite.specs.Schema.{Schema}
 use Rattle.sqlite.specs.State.{State, Shown}
 use Rattle.cut_measure.specs.Codes.{code_cmp}
 use Rattle.cut_measure.specs.Names.{Name, name_cmp}
 use Rattle.shop_machine.specs.Content.{pair_cmp}
 use Rattle.shop_machine.specs.declared.kept_texts.Pair.{Pair}
-use Rattle.shop_tables.specs.Rows.{meta_row, meta_entries, material_columns, material_row, part_columns, part_row, job_columns, job_row, order_row, demand_columns, demand_row, kept_columns, kept_row, import_columns, import_row, totals_columns, totals_row}
+use Rattle.shop_tables.specs.Rows.{AreRows, meta_row, meta_entries, material_columns, material_row, part_columns, part_row, job_columns, job_row, order_row, demand_columns, demand_row, kept_columns, kept_row, import_columns, import_row, totals_columns, totals_row}
 use Rattle.shop_tables.specs.Shown.{Books, Shows}
+use Rattle.shop_tables.proofs.Selects.{selects, selected}
+use Rattle.shop_tables.proofs.Terms.{Reads, from_table}
 use Rattle.shop_tables.proofs.Keys.{equal, equal-Int, equal-Text, and_true, shown_as}
-use Rattle.shop_tables.proofs.Texts.{get_meta_text, get_meta_terms, get_meta_is, get_material_text, get_material_terms, get_material_is, get_part_text, get_part_terms, get_part_is, get_job_text, get_job_terms, get_job_is, get_order_text, get_order_terms, get_order_is, get_demand_text, get_demand_terms, get_demand_is, get_kept_text, get_kept_terms, get_kept_is, get_import_text, get_import_terms, get_import_is, get_totals_text, get_totals_terms, get_totals_is, by_one, by_two, by_number}
+use Rattle.shop_tables.proofs.Texts.{shop, shop_is, by_one, get_meta_text, get_meta_terms, get_meta_is, get_material_text, get_material_terms, get_material_is, get_part_text, get_part_terms, get_part_is, get_job_text, get_job_terms, get_job_is, get_order_text, get_order_terms, get_order_is, get_demand_text, get_demand_terms, get_demand_is, get_kept_text, get_kept_terms, get_kept_is, get_import_text, get_import_terms, get_import_is, get_totals_text, get_totals_terms, get_totals_is, by_one, by_two, by_number}
 use Rattle.shop_tables.proofs.Reading.{asked, finds}
 
 pub code_total : IsTotalOrder code_cmp
@@ -170,11 +173,17 @@ meta_shown_later (x ∷ d) = refl
 turned : {A B : Type 0} (f : A → B) (xs ys : List A) (zs : List B) → xs ≡ ys → IsPermutation (map f xs) zs → IsPermutation (map f ys) zs
 turned f xs ys zs e h = subst (λ l. IsPermutation (map f l) zs) e h
 
--- the number under a word that stands once
-pub finds_number : (old new : State) (rows : List Row) (b : Books) → Shows old b → (code : List ℕ) (n : ℕ) → filter (λ e. eq_by_cmp code_cmp e.0 code) (meta_entries b.content) ≡ (code, n) ∷ []
-    → Shown get_meta_text (Text code ∷ []) old new rows → rows ≡ option_to_list (Some (Int (pos n) ∷ []))
-finds_number old new rows b has code n once shown =
-    let whole = shown_as 1 meta_row (λ e. eq_by_cmp code_cmp e.0 code) _ (is_word code) (word_later code) (λ e. word_tests e.0 code (Int (pos e.1) ∷ [])) _ meta_shown (λ e. Int (pos e.1) ∷ []) meta_shown_later (λ e. refl) (meta_entries b.content) _ has.stands.meta in
+-- the number under a word that stands once, under any schema in which the text means this
+pub finds_number_of : (old new : State) (schema : Schema) (has : old.now.schema ≡ schema) (names : List (List ℕ)) → Reads schema get_meta_text (from_table 0 by_one get_meta_terms []) names → (es : List (List ℕ × ℕ))
+    → AreRows 1 (map meta_row es) (old.now.trees 0) → (rows : List Row) (code : List ℕ) (n : ℕ) → filter (λ e. eq_by_cmp code_cmp e.0 code) es ≡ (code, n) ∷ [] → Shown get_meta_text (Text code ∷ []) old new rows
+    → rows ≡ option_to_list (Some (Int (pos n) ∷ []))
+finds_number_of old new schema has names is es are rows code n once shown =
+    let whole = shown_as 1 meta_row (λ e. eq_by_cmp code_cmp e.0 code) _ (is_word code) (word_later code) (λ e. word_tests e.0 code (Int (pos e.1) ∷ [])) _ meta_shown (λ e. Int (pos e.1) ∷ []) meta_shown_later (λ e. refl) es _ are in
+    let a = (reads_as get_meta_text (Text code ∷ []) old new schema has _ is.command is.plain is.listing rows shown).answer in
     one_permutation (Int (pos n) ∷ []) rows
     (IsPermutation-trans _ _ _ (turned (λ (e : List ℕ × ℕ). Int (pos e.1) ∷ []) _ _ _ once whole)
-    (asked old new has.schema get_meta_text (Text code ∷ []) 0 by_one get_meta_terms _ (get_meta_is old.now.schema has.schema) refl rows shown))
+    (selected 0 by_one get_meta_terms [] old.now.trees (Text code ∷ []) refl rows (selects 0 by_one get_meta_terms [] old.now.trees (Text code ∷ []) refl rows a)))
+
+pub finds_number : (old new : State) (rows : List Row) (b : Books) → Shows old b → (code : List ℕ) (n : ℕ) → filter (λ e. eq_by_cmp code_cmp e.0 code) (meta_entries b.content) ≡ (code, n) ∷ []
+    → Shown get_meta_text (Text code ∷ []) old new rows → rows ≡ option_to_list (Some (Int (pos n) ∷ []))
+finds_number old new rows b has = finds_number_of old new (shop old.now.schema has.schema) (shop_is old.now.schema has.schema) _ (get_meta_is old.now.schema has.schema) (meta_entries b.content) has.stands.meta rows

@@ -1,5 +1,5 @@
 -- What is known while rows are lent.
-use Rattle.std.proofs.Common.{◌≡◌, inl, inr, ℕ, Bool, true, false, List, [], ◌∷◌, ◌++◌, Some, None, Ok, Err, Result, IsTrue, IfOk, refl, sym, ap, ◌∙◌, arith}
+use Rattle.std.proofs.Common.{◌≡◌, inl, inr, ℕ, Bool, true, false, List, [], ◌∷◌, ◌++◌, Some, None, Ok, Err, Result, IsTrue, IfOk, refl, arith}
 use Rattle.std.proofs.lemmas.Fn.{FoldsTo-push}
 use Rattle.sqlite_value.specs.Order.{Row}
 use Rattle.sqlite_trees.specs.declared.store.Store.{Ghosts}
@@ -12,13 +12,14 @@ use Rattle.sqlite.specs.Given.{HasGiven, HasBegun, Returns, Advances}
 use Rattle.sqlite.proofs.Callers.{given_begin, unchanged_then}
 use Rattle.shop_machine.specs.declared.records.Part.{Part}
 use Rattle.shop_machine.specs.Visits.{GoesOn}
-use Rattle.shop_tables.specs.Lending.{AreReadOf, IsReadOf, IsHeldAt, IsLent, Starts, Answers, went_on}
+use Rattle.shop_tables.specs.Lending.{AreReadOf, IsReadOf, IsHeldAt, IsLent, Starts, Answers}
 use Rattle.shop_tables.specs.declared.faults.TableFault.{TableFault}
 use Rattle.shop_tables.specs.declared.lending.Lent.{Lent}
 use Rattle.shop_tables.specs.declared.lending.Lent.TheVariants as lent
 use Rattle.shop_tables.specs.Selecting.{is_select}
 use Rattle.shop_tables.specs.Shown.{Leaves}
-use Rattle.shop_tables.proofs.Kept.{Stays, stays_open, settled_stays, query_survives}
+use Rattle.shop_tables.specs.Strange.{IsNoPart}
+use Rattle.shop_tables.proofs.Kept.{Stays, stays_open, stays_as_was, settled_stays, query_survives}
 use Rattle.shop_tables.proofs.Queries.{query_returns}
 use Rattle.shop_tables.proofs.Reading.{leaves_then}
 
@@ -30,6 +31,7 @@ returns_not (Err e) none some = some
 pub leaves_stays : (old new : State) → Survives old new (λ _. ⊥) → (HasCleanDisk new → Stays old new) → Leaves old new
 leaves_stays old new survives stays = record {
   stays = λ b was clean up. let s = stays clean in settled_stays old new b s up (was (omega (arith, survives.clean)) (stays_open old new b s up));
+  as_was = λ clean up. stays_as_was old new (stays clean) up;
   survives = survives;
 }
 
@@ -39,9 +41,9 @@ read_push [] (p ∷ parts) row part h one = absurd h
 read_push (r ∷ rows) [] row part h one = absurd h
 read_push (r ∷ rows) (p ∷ parts) row part h one = (h.0, read_push rows parts row part h.1 one)
 
-strange : (r : Result Lent TableFault) → IfOk r (λ how. how ≡ lent.Strange) → IfOk r (λ how. true ≡ went_on how) × ((Q : Type 0) → IfOk r (λ how. how ≡ lent.All → Q))
-strange (Ok how) is = (sym (ap went_on is), λ Q all. absurd (let e : lent.Strange ≡ lent.All = sym is ∙ all in cc))
-strange (Err e) is = (tt, λ Q. tt)
+failed : (P : Lent → Type 0) (r : Result Lent TableFault) → IfOk r (λ how. ⊥) → IfOk r P
+failed P (Ok how) none = absurd none
+failed P (Err e) none = tt
 
 module _ {S : Type 0} (g : Ghosts S) where
   pub begun_select : (sql : List ℕ) (params : Row) (old new : Held S) → is_select sql ≡ true → HasBegun g sql params old new → HasGiven g sql params new [] × IsUnchanged (state g old) (state g new)
@@ -78,6 +80,7 @@ module _ {S : Type 0} (g : Ghosts S) where
       clean = clean;
       is_open = given_open sql params now it.given (it.at clean).0;
       stays = it.leaves.stays;
+      as_was = it.leaves.as_was clean (given_open sql params now it.given (it.at clean).0);
     }
 
     -- the rows so far are the first of the answer
@@ -103,24 +106,64 @@ module _ {S : Type 0} (g : Ghosts S) where
           leaves = leaves_then (state g first) (state g now) (state g next) it.leaves step;
         }
 
+    -- it sees what was held
+    seen_at : (now new : Held S) (after : V) → Going now after → Leaves (state g now) (state g new) → HasCleanDisk (state g new) → IsTrue (state g new).is_open → IsHeldAt g sql params first new
+    seen_at now new after it step clean up = record {
+      clean = clean;
+      is_open = up;
+      stays = λ b was. step.stays b (it.leaves.stays b was);
+      as_was = (leaves_then (state g first) (state g now) (state g new) it.leaves step).as_was clean up;
+    }
+
     -- ---- the ways to an end
 
     -- no query began
-    pub none_lent : (new : Held S) (r : Result Lent TableFault) → IfOk r (λ how. how ≡ lent.Strange) → IsLent g sql params first looks new before r before
-    none_lent new r is = record { given = []; parts = []; read = tt; on = true; visitor = refl; told = (strange r is).0; begins = λ _. inl refl; whole = λ _. (strange r is).1 _ }
+    pub none_lent : (new : Held S) (r : Result Lent TableFault) → IfOk r (λ how. ⊥) → IsLent g sql params first looks new before r before
+    none_lent new r none = record {
+      given = [];
+      parts = [];
+      read = tt;
+      on = true;
+      visitor = refl;
+      told = failed _ r none;
+      begins = λ _. inl refl;
+      whole = λ _. failed _ r none;
+      strange = λ _. failed _ r none;
+    }
 
-    -- a fault, or a row that is no part
-    pub broken_off : (now new : Held S) (after : V) (r : Result Lent TableFault) → IfOk r (λ how. how ≡ lent.Strange) → Going now after → (HasCleanDisk (state g new) → HasCleanDisk (state g now))
+    -- a fault
+    pub broken_off : (now new : Held S) (after : V) (r : Result Lent TableFault) → IfOk r (λ how. ⊥) → Going now after → (HasCleanDisk (state g new) → HasCleanDisk (state g now))
         → IsLent g sql params first looks new before r after
-    broken_off now new after r is it late = record {
+    broken_off now new after r none it late = record {
       given = it.given;
       parts = it.parts;
       read = it.read;
       on = true;
       visitor = it.visitor;
-      told = (strange r is).0;
+      told = failed _ r none;
       begins = λ clean. starts now after it (late clean);
-      whole = λ _. (strange r is).1 _;
+      whole = λ _. failed _ r none;
+      strange = λ _. failed _ r none;
+    }
+
+    -- a row that is no part's
+    pub strange_at : (now new : Held S) (after : V) (row : Row) → Going now after → Leaves (state g now) (state g new) → (HasCleanDisk (state g new) → Advances g now new (Some row)) → IsNoPart row
+        → IsLent g sql params first looks new before (Ok lent.Strange) after
+    strange_at now new after row it step on none = record {
+      given = it.given;
+      parts = it.parts;
+      read = it.read;
+      on = true;
+      visitor = it.visitor;
+      told = refl;
+      begins = λ clean. starts now after it (omega (arith, step.survives.clean));
+      whole = λ _ other. absurd (cc);
+      strange = λ clean _.
+          let more = on clean sql params it.given (it.at (omega (arith, step.survives.clean))).0 in (
+            row,
+            none,
+            inr (new, seen_at now new after it step clean (given_open sql params new (it.given ++ row ∷ []) more), given_begin g sql params new (it.given ++ row ∷ []) more),
+          );
     }
 
     -- the end of the rows
@@ -134,6 +177,7 @@ module _ {S : Type 0} (g : Ghosts S) where
       told = refl;
       begins = λ clean. starts now after it (omega (arith, step.survives.clean));
       whole = λ clean _. ended now new after it (omega (arith, step.survives.clean)) (on clean);
+      strange = λ _ other. absurd (cc);
     }
 
     -- the visitor stopped at a row
@@ -148,6 +192,7 @@ module _ {S : Type 0} (g : Ghosts S) where
       told = refl;
       begins = λ clean.
           let more = on clean sql params it.given (it.at (omega (arith, step.survives.clean))).0 in
-          inr (new, record { clean = clean; is_open = given_open sql params new (it.given ++ row ∷ []) more; stays = λ b was. step.stays b (it.leaves.stays b was) }, given_begin g sql params new (it.given ++ row ∷ []) more);
+          inr (new, seen_at now new after it step clean (given_open sql params new (it.given ++ row ∷ []) more), given_begin g sql params new (it.given ++ row ∷ []) more);
       whole = λ _ other. absurd (cc);
+      strange = λ _ other. absurd (cc);
     }

@@ -20,7 +20,7 @@ use Rattle.sqlite.specs.Held.{Held, state}
 use Rattle.sqlite.specs.State.{ExecutesInside}
 use Rattle.std.proofs.Common.{false}
 use Rattle.shop_tables.specs.Rows.{Stands}
-use Rattle.shop_tables.specs.Shown.{Books, IsSettled, Holds}
+use Rattle.shop_tables.specs.Shown.{Books, IsSettled, Holds, IsAsWas}
 
 -- the database is as it was, or the transaction is undone
 abbrev pub Stays : State → State → Type 0
@@ -46,6 +46,17 @@ module _ (old new : State) (m : Books) where
         shows = record { schema = subst (λ (d : Database). IsShop d.schema) now was.shows.schema; sound = subst IsDatabase now was.shows.sound; stands = subst (λ (d : Database). Stands d.trees m.content m.totals) now was.shows.stands; keyed = was.shows.keyed };
         committed = back.0 ∙ sym back.1;
       }
+
+pub stays_as_was : (old new : State) → Stays old new → IsTrue new.is_open → IsAsWas old new
+stays_as_was old new (inl same) up = record { was_open = same.0.was_open; now = λ _. same.0.now_is; committed = λ settled. same.0.now_is ∙ settled ∙ sym same.0.committed_is }
+stays_as_was old new (inr undone) up = let back = undone.undone up in record { was_open = undone.was_open up; now = λ settled. back.0 ∙ sym settled; committed = λ _. back.0 ∙ sym back.1 }
+
+pub as_was_then : (a b c : State) → IsAsWas a b → IsAsWas b c → IsAsWas a c
+as_was_then a b c one two = record {
+  was_open = one.was_open;
+  now = λ settled. two.now (one.committed settled) ∙ one.now settled;
+  committed = λ settled. two.committed (one.committed settled);
+}
 
 pub shown_same : (sql : List ℕ) (params : Row) (old new : State) (rows : List Row) → is_select sql ≡ true → Shown sql params old new rows → IsUnchanged old new
 unfolding Shown
@@ -82,6 +93,12 @@ query_keeps sql params old new m (Ok rows) plain earlier ok err was clean up =
 query_keeps sql params old new m (Err e) plain earlier ok err was clean up =
     let stays = fails_stays sql params old new e (err clean) in
     settled_stays old new m stays up (was (earlier clean) (stays_open old new m stays up))
+
+-- and whatever was settled
+pub query_as_was : (sql : List ℕ) (params : Row) (old new : State) (r : Result (Vec Answered Global) Error) → is_select sql ≡ true
+    → (HasCleanDisk new → IfOk r (λ rows. Shown sql params old new rows.items)) → (HasCleanDisk new → IfErr r (FailsToQuery sql params old new)) → HasCleanDisk new → IsTrue new.is_open → IsAsWas old new
+query_as_was sql params old new (Ok rows) plain ok err clean up = stays_as_was old new (inl (shown_same sql params old new rows.items plain (ok clean))) up
+query_as_was sql params old new (Err e) plain ok err clean up = stays_as_was old new (fails_stays sql params old new e (err clean)) up
 
 -- a query leaves what a crash may leave, whatever the schema is, so also on a store that was shut
 pub query_survives : (sql : List ℕ) (params : Row) (old new : State) → is_select sql ≡ true → Survives old new (CommitsShowing sql params old) → Survives old new (λ _. ⊥)

@@ -74,7 +74,7 @@ eight_text = codes "CREATE TABLE imports (ord TEXT NOT NULL PRIMARY KEY REFERENC
 abbrev nine_text : List ℕ
 nine_text = codes "CREATE TABLE totals (material TEXT NOT NULL PRIMARY KEY REFERENCES materials (code), received INTEGER NOT NULL, stock INTEGER NOT NULL, rack INTEGER NOT NULL, pieces INTEGER NOT NULL, kerf INTEGER NOT NULL, scrap INTEGER NOT NULL) STRICT;"
 
-abbrev ten_text : List ℕ
+abbrev pub ten_text : List ℕ
 ten_text = codes "CREATE TABLE totals2 (material TEXT NOT NULL PRIMARY KEY REFERENCES materials (code), received INTEGER NOT NULL, stock INTEGER NOT NULL, rack INTEGER NOT NULL, pieces INTEGER NOT NULL, kerf INTEGER NOT NULL, scrap INTEGER NOT NULL, returned INTEGER NOT NULL) STRICT;"
 
 abbrev eleven_text : List ℕ
@@ -84,66 +84,66 @@ meta_made : MakesAs no_schema one_text (record meta_table { tree = 0 })
 unfolding understood everything
 meta_made = record { command = refl; defines = refl; plain = (refl, refl); counts = refl }
 
-abbrev after_one : Schema
+abbrev pub after_one : Schema
 after_one = created no_schema meta_table
 
 materials_made : MakesAs after_one two_text (record materials_table { tree = 0 })
 unfolding understood everything
 materials_made = record { command = refl; defines = refl; plain = (refl, refl); counts = refl }
 
-abbrev after_two : Schema
+abbrev pub after_two : Schema
 after_two = created after_one materials_table
 
 parts_made : MakesAs after_two three_text (record parts_table { tree = 0 })
 unfolding understood everything
 parts_made = record { command = refl; defines = refl; plain = (refl, refl); counts = refl }
 
-abbrev after_three : Schema
+abbrev pub after_three : Schema
 after_three = created after_two parts_table
 
 jobs_made : MakesAs after_three four_text (record jobs_table { tree = 0 })
 unfolding understood everything
 jobs_made = record { command = refl; defines = refl; plain = (refl, refl); counts = refl }
 
-abbrev after_four : Schema
+abbrev pub after_four : Schema
 after_four = created after_three jobs_table
 
 orders_made : MakesAs after_four five_text (record orders_table { tree = 0 })
 unfolding understood everything
 orders_made = record { command = refl; defines = refl; plain = (refl, refl); counts = refl }
 
-abbrev after_five : Schema
+abbrev pub after_five : Schema
 after_five = created after_four orders_table
 
 demands_made : MakesAs after_five six_text (record demands_table { tree = 0 })
 unfolding understood everything
 demands_made = record { command = refl; defines = refl; plain = (refl, refl); counts = refl }
 
-abbrev after_six : Schema
+abbrev pub after_six : Schema
 after_six = created after_five demands_table
 
 kept_made : MakesAs after_six seven_text (record kept_table { tree = 0 })
 unfolding understood everything
 kept_made = record { command = refl; defines = refl; plain = (refl, refl); counts = refl }
 
-abbrev after_seven : Schema
+abbrev pub after_seven : Schema
 after_seven = created after_six kept_table
 
 imports_made : MakesAs after_seven eight_text (record imports_table { tree = 0 })
 unfolding understood everything
 imports_made = record { command = refl; defines = refl; plain = (refl, refl); counts = refl }
 
-abbrev after_eight : Schema
+abbrev pub after_eight : Schema
 after_eight = created after_seven imports_table
 
 totals_made : MakesAs after_eight nine_text (record totals_table { tree = 0 })
 unfolding understood everything
 totals_made = record { command = refl; defines = refl; plain = (refl, refl); counts = refl }
 
-abbrev after_nine : Schema
+abbrev pub after_nine : Schema
 after_nine = created after_eight totals_table
 
-totals2_made : MakesAs after_nine ten_text (record totals2_table { tree = 0 })
+pub totals2_made : MakesAs after_nine ten_text (record totals2_table { tree = 0 })
 unfolding understood everything
 totals2_made = record { command = refl; defines = refl; plain = (refl, refl); counts = refl }
 

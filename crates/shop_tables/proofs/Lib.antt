@@ -13,6 +13,8 @@ pub mod Finding
 pub mod Works
 pub mod Making
 pub mod Lays
+pub mod Moved
+pub mod Renewed
 pub mod Writing
 pub mod Standing
 pub mod KeyedRows
@@ -22,10 +24,15 @@ pub mod Steps
 pub mod InTurn
 pub mod Fitting
 pub mod Commits
+pub mod StrangeRows
 pub mod Going
 pub mod Listed
 pub mod Ordered
 pub mod AllTotals
+pub mod EarlierRows
+pub mod EarlierParts
+pub mod Opened
+pub mod RenewedTables
 pub mod Taken
 pub mod LaidTables
 pub mod Reopened

@@ -32,17 +32,18 @@ use Rattle.shop_machine.specs.declared.records.Part.{Part}
 use Rattle.shop_machine.specs.declared.records.State.{State as PartState}
 use Rattle.shop_machine.specs.declared.records.State.TheVariants as stands
 use Rattle.shop_machine.proofs.Marks.{found_in}
-use Rattle.shop_tables.specs.Lending.{AreReadOf, IsLent, gone_through}
+use Rattle.shop_tables.specs.Lending.{AreReadOf, IsHeldAt, IsLent, gone_through}
 use Rattle.shop_tables.specs.declared.faults.TableFault.{TableFault}
 use Rattle.shop_tables.specs.declared.lending.Lent.{Lent}
 use Rattle.shop_tables.specs.declared.lending.Lent.TheVariants as lent
-use Rattle.shop_tables.specs.Rows.{IsKeyed, part_row, state_number}
+use Rattle.shop_tables.specs.Rows.{AreRows, IsKeyed, part_row, state_number}
 use Rattle.shop_tables.specs.Shown.{Books, Shows, Holds, Says}
+use Rattle.shop_tables.specs.Strange.{IsNoPart}
 use Rattle.shop_tables.proofs.Finding.{name_total, name_same}
 use Rattle.shop_tables.proofs.Keys.{equal, equal-Text, and_true, as_number, same_number}
 use Rattle.shop_tables.proofs.Lists.{filter-map}
 use Rattle.shop_tables.proofs.Ordered.{filter_true, in_order}
-use Rattle.shop_tables.proofs.Terms.{from_table}
+use Rattle.shop_tables.proofs.Terms.{Reads, from_table}
 use Rattle.shop_tables.proofs.Texts.{shop, shop_is, parts_of_text, parts_of_tests, parts_of_terms, parts_of_order, parts_of_is, all_parts_text, all_parts_is}
 
 -- ---- the order of the rows
@@ -164,29 +165,56 @@ module _ (old : State) (code : List ℕ) (b : Books) (has : Shows old b) where
 
 -- ---- all parts
 
-module _ (old : State) (b : Books) (has : Shows old b) where
-  every : (rows : List Row) → IsProgramAnswer [] (from_table 4 [] parts_of_terms parts_of_order) old.now.trees [] rows → rows ≡ map part_row (entries b.content.parts)
+row_among : (given : List Row) (row : Row) (rest : List Row) (es : List (Name × Part)) → (given ++ row ∷ []) ++ rest ≡ map part_row es → (e : Name × Part) × (row ≡ part_row e)
+row_among [] row rest [] is = absurd (cc)
+row_among [] row rest (e ∷ es) is = (e, cc)
+row_among (r ∷ given) row rest [] is = absurd (cc)
+row_among (r ∷ given) row rest (e ∷ es) is = row_among given row rest es (cc)
+
+some_rows : (given : List Row) (row : Row) → ¬ (given ++ row ∷ [] ≡ [])
+some_rows [] row is = absurd (cc)
+some_rows (r ∷ given) row is = absurd (cc)
+
+-- under any schema in which the text means this
+module _ (old : State) (schema : Schema) (has : old.now.schema ≡ schema) (names : List (List ℕ)) (is : Reads schema all_parts_text (from_table 4 [] parts_of_terms parts_of_order) names)
+    (m : Content) (keyed : IsKeyed m) (are : AreRows 1 (map part_row (entries m.parts)) (old.now.trees 4)) where
+  every : (rows : List Row) → IsProgramAnswer [] (from_table 4 [] parts_of_terms parts_of_order) old.now.trees [] rows → rows ≡ map part_row (entries m.parts)
   every rows a =
       in_order name_total name_same 4 [] parts_of_terms parts_of_order part_out (by_output []) old.now.trees [] refl part_row (λ _. true) (λ _. true) (λ r. refl) (λ e. refl)
-      (λ d. (column d 0 ∷ column d 1 ∷ [], whole d)) shown_later (λ e. refl) rows b.content.parts has.stands.parts a
-      ∙ ap (map part_row) (filter_true (entries b.content.parts))
+      (λ d. (column d 0 ∷ column d 1 ∷ [], whole d)) shown_later (λ e. refl) rows m.parts are a
+      ∙ ap (map part_row) (filter_true (entries m.parts))
 
   -- all rows were lent
-  pub all_there : (new : State) (given : List Row) (parts : List Part) → Shown all_parts_text [] old new given → AreReadOf given parts → values b.content.parts ≡ parts
-  all_there new given parts shown read =
-      let is = all_parts_is old.now.schema has.schema in
-      let a = (reads_as all_parts_text [] old new (shop old.now.schema has.schema) (shop_is old.now.schema has.schema) _ is.command is.plain is.listing given shown).answer in
-      let f = first_parts _ (all_named b.content has.keyed) given [] parts (append-nil given ∙ every given a) read in
+  pub all_there_of : (new : State) (given : List Row) (parts : List Part) → Shown all_parts_text [] old new given → AreReadOf given parts → values m.parts ≡ parts
+  all_there_of new given parts shown read =
+      let a = (reads_as all_parts_text [] old new schema has _ is.command is.plain is.listing given shown).answer in
+      let f = first_parts _ (all_named m keyed) given [] parts (append-nil given ∙ every given a) read in
       f.1 ∙ ap (λ l. parts ++ l) (f.2 refl) ∙ append-nil parts
 
   -- the first of them were
-  pub first_there : (given : List Row) (parts : List Part) → Begins all_parts_text [] old given → AreReadOf given parts → (rest : List Part) × (values b.content.parts ≡ parts ++ rest)
-  first_there given parts begins read =
-      let is = all_parts_is old.now.schema has.schema in
-      let first = begins_as all_parts_text [] old old (shop old.now.schema has.schema) (shop_is old.now.schema has.schema) _ is.command is.plain is.listing given begins in
+  pub first_there_of : (given : List Row) (parts : List Part) → Begins all_parts_text [] old given → AreReadOf given parts → (rest : List Part) × (values m.parts ≡ parts ++ rest)
+  first_there_of given parts begins read =
+      let first = begins_as all_parts_text [] old old schema has _ is.command is.plain is.listing given begins in
       let more = first.1 in
-      let f = first_parts _ (all_named b.content has.keyed) given more.0 parts (every (given ++ more.0) more.1) read in
+      let f = first_parts _ (all_named m keyed) given more.0 parts (every (given ++ more.0) more.1) read in
       (f.0, f.1)
+
+  -- each of their rows is a part's
+  pub none_stranger_of : (given : List Row) (row : Row) → Begins all_parts_text [] old (given ++ row ∷ []) → ¬ IsNoPart row
+  none_stranger_of given row begins none =
+      let more = (begins_as all_parts_text [] old old schema has _ is.command is.plain is.listing (given ++ row ∷ []) begins).1 in
+      let it = row_among given row more.0 (entries m.parts) (every ((given ++ row ∷ []) ++ more.0) more.1) in
+      none it.0 it.1
+
+module _ (old : State) (b : Books) (has : Shows old b) where
+  pub all_there : (new : State) (given : List Row) (parts : List Part) → Shown all_parts_text [] old new given → AreReadOf given parts → values b.content.parts ≡ parts
+  all_there = all_there_of old (shop old.now.schema has.schema) (shop_is old.now.schema has.schema) _ (all_parts_is old.now.schema has.schema) b.content has.keyed has.stands.parts
+
+  pub first_there : (given : List Row) (parts : List Part) → Begins all_parts_text [] old given → AreReadOf given parts → (rest : List Part) × (values b.content.parts ≡ parts ++ rest)
+  first_there = first_there_of old (shop old.now.schema has.schema) (shop_is old.now.schema has.schema) _ (all_parts_is old.now.schema has.schema) b.content has.keyed has.stands.parts
+
+  pub none_stranger : (given : List Row) (row : Row) → Begins all_parts_text [] old (given ++ row ∷ []) → ¬ IsNoPart row
+  none_stranger = none_stranger_of old (shop old.now.schema has.schema) (shop_is old.now.schema has.schema) _ (all_parts_is old.now.schema has.schema) b.content has.keyed has.stands.parts
 
 -- ---- what a visitor was handed of them
 
@@ -194,26 +222,27 @@ none_read : (parts : List Part) → AreReadOf [] parts → parts ≡ []
 none_read [] h = refl
 none_read (p ∷ parts) h = absurd h
 
--- of a query whose rows are those of a list of parts
-module _ {S : Type 0} (g : Ghosts S) (sql : List ℕ) (params : Row) (list : Books → List Part)
-    (whole_list : (s t : State) (b : Books) → Shows s b → (given : List Row) (parts : List Part) → Shown sql params s t given → AreReadOf given parts → list b ≡ parts)
-    (first_of : (s : State) (b : Books) → Shows s b → (given : List Row) (parts : List Part) → Begins sql params s given → AreReadOf given parts → (rest : List Part) × (list b ≡ parts ++ rest))
-    (old new : Held S) {V : Type 0} (looks : V → Part → Bool → V → Type 0) (before after : V) where
+-- of a query whose rows are those of a list of parts, where books were held and are seen
+module _ {S : Type 0} (g : Ghosts S) (sql : List ℕ) (params : Row) (list : Books → List Part) (Sees : State → Books → Type 0)
+    (whole_list : (s t : State) (b : Books) → Sees s b → (given : List Row) (parts : List Part) → Shown sql params s t given → AreReadOf given parts → list b ≡ parts)
+    (first_of : (s : State) (b : Books) → Sees s b → (given : List Row) (parts : List Part) → Begins sql params s given → AreReadOf given parts → (rest : List Part) × (list b ≡ parts ++ rest))
+    (old new : Held S) (Was : Books → Type 0) (sees : (b : Books) → Was b → (mid : Held S) → IsHeldAt g sql params old mid → Sees (state g mid) b)
+    {V : Type 0} (looks : V → Part → Bool → V → Type 0) (before after : V) where
   abbrev Handed : Result Lent TableFault → Type 0
   Handed r = IsLent g sql params old looks new before r after
 
   abbrev Visited : Result Bool TableFault → Type 0
-  Visited told = IsVisit looks {Fault = TableFault} (λ what. Says (state g old) (state g new) (λ b. what (list b))) before told after
+  Visited told = IsVisit looks {Fault = TableFault} (λ what. HasCleanDisk (state g new) → (b : Books) → Was b → what (list b)) before told after
 
   -- the parts that were handed out begin the list
-  begin_listed : (r : Result Lent TableFault) (h : Handed r) → HasCleanDisk (state g new) → (b : Books) → Holds (state g old) b → (rest : List Part) × (list b ≡ h.parts ++ rest)
+  begin_listed : (r : Result Lent TableFault) (h : Handed r) → HasCleanDisk (state g new) → (b : Books) → Was b → (rest : List Part) × (list b ≡ h.parts ++ rest)
   begin_listed r h clean b was = elim (h.begins clean) [
     | inl none ↦ (list b, ap (λ l. l ++ list b) (sym (none_read h.parts (rw none at h.read))))
-    | inr some ↦ first_of (state g some.0) b (some.1.stays b was some.1.clean some.1.is_open).shows h.given h.parts some.2 h.read
+    | inr some ↦ first_of (state g some.0) b (sees b was some.0 some.1) h.given h.parts some.2 h.read
   ]
 
-  pub visited_all : (r : Result Lent TableFault) → r ≡ Ok lent.All → Handed r → Visited (Ok true)
-  visited_all r is h =
+  pub visits_all : (r : Result Lent TableFault) → r ≡ Ok lent.All → Handed r → Visited (Ok true)
+  visits_all r is h =
       let it = rw is at h in
       record {
         parts = it.parts;
@@ -222,12 +251,11 @@ module _ {S : Type 0} (g : Ghosts S) (sql : List ℕ) (params : Row) (list : Boo
         answer = sym it.told;
         begins = λ clean b was.
             let whole = it.whole clean refl in
-            let held = whole.2 in
-            ([], whole_list (state g whole.0) (state g whole.1) b (held.stays b was held.clean held.is_open).shows it.given it.parts whole.3 it.read ∙ sym (append-nil it.parts), λ _. refl);
+            ([], whole_list (state g whole.0) (state g whole.1) b (sees b was whole.0 whole.2) it.given it.parts whole.3 it.read ∙ sym (append-nil it.parts), λ _. refl);
       }
 
-  pub visited_some : (r : Result Lent TableFault) → r ≡ Ok lent.Stopped → Handed r → Visited (Ok false)
-  visited_some r is h =
+  pub visits_some : (r : Result Lent TableFault) → r ≡ Ok lent.Stopped → Handed r → Visited (Ok false)
+  visits_some r is h =
       let it = rw is at h in
       record {
         parts = it.parts;
@@ -237,9 +265,9 @@ module _ {S : Type 0} (g : Ghosts S) (sql : List ℕ) (params : Row) (list : Boo
         begins = λ clean b was. let first = begin_listed (Ok lent.Stopped) it clean b was in (first.0, first.1, λ on. absurd (cc));
       }
 
-  pub visited_till : (r : Result Lent TableFault) (told : Result Bool TableFault) → IfOk told (λ on. ⊥) → Handed r → Visited told
-  visited_till r (Ok on) none h = absurd none
-  visited_till r (Err fault) none h = record {
+  pub visits_till : (r : Result Lent TableFault) (told : Result Bool TableFault) → IfOk told (λ on. ⊥) → Handed r → Visited told
+  visits_till r (Ok on) none h = absurd none
+  visits_till r (Err fault) none h = record {
     parts = h.parts;
     on = h.on;
     visitor = h.visitor;
@@ -248,8 +276,43 @@ module _ {S : Type 0} (g : Ghosts S) (sql : List ℕ) (params : Row) (list : Boo
   }
 
   -- as it is told of all parts
-  pub visited : (r : Result Lent TableFault) → Handed r → Visited (gone_through r)
-  visited (Ok lent.All) h = visited_all (Ok lent.All) refl h
-  visited (Ok lent.Stopped) h = visited_some (Ok lent.Stopped) refl h
-  visited (Ok lent.Strange) h = visited_till (Ok lent.Strange) (gone_through (Ok lent.Strange)) tt h
-  visited (Err e) h = visited_till (Err e) (gone_through (Err e)) tt h
+  pub visited_by : (r : Result Lent TableFault) → Handed r → Visited (gone_through r)
+  visited_by (Ok lent.All) h = visits_all (Ok lent.All) refl h
+  visited_by (Ok lent.Stopped) h = visits_some (Ok lent.Stopped) refl h
+  visited_by (Ok lent.Strange) h = visits_till (Ok lent.Strange) (gone_through (Ok lent.Strange)) tt h
+  visited_by (Err e) h = visits_till (Err e) (gone_through (Err e)) tt h
+
+  -- no row that can't be a part's is met
+  pub not_strange_by : (r : Result Lent TableFault) → Handed r → ((s : State) (b : Books) → Sees s b → (given : List Row) (row : Row) → Begins sql params s (given ++ row ∷ []) → ¬ IsNoPart row)
+      → HasCleanDisk (state g new) → (b : Books) → Was b → IfOk r (λ how. ¬ (how ≡ lent.Strange))
+  not_strange_by (Err e) h all clean b was = tt
+  not_strange_by (Ok how) h all clean b was = λ is.
+      let it = h.strange clean is in
+      elim it.2 [ inl none ↦ some_rows h.given it.0 none | inr some ↦ all (state g some.0) b (sees b was some.0 some.1) h.given it.0 some.2 it.1 ]
+
+-- of held books
+module _ {S : Type 0} (g : Ghosts S) (sql : List ℕ) (params : Row) (list : Books → List Part)
+    (whole_list : (s t : State) (b : Books) → Shows s b → (given : List Row) (parts : List Part) → Shown sql params s t given → AreReadOf given parts → list b ≡ parts)
+    (first_of : (s : State) (b : Books) → Shows s b → (given : List Row) (parts : List Part) → Begins sql params s given → AreReadOf given parts → (rest : List Part) × (list b ≡ parts ++ rest))
+    (old new : Held S) {V : Type 0} (looks : V → Part → Bool → V → Type 0) (before after : V) where
+  abbrev pub VisitedHeld : Result Bool TableFault → Type 0
+  VisitedHeld told = IsVisit looks {Fault = TableFault} (λ what. Says (state g old) (state g new) (λ b. what (list b))) before told after
+
+  sees : (b : Books) → Holds (state g old) b → (mid : Held S) → IsHeldAt g sql params old mid → Shows (state g mid) b
+  sees b was mid held = (held.stays b was held.clean held.is_open).shows
+
+  pub visited_all : (r : Result Lent TableFault) → r ≡ Ok lent.All → IsLent g sql params old looks new before r after → VisitedHeld (Ok true)
+  visited_all = visits_all g sql params list Shows whole_list first_of old new (Holds (state g old)) sees looks before after
+
+  pub visited_some : (r : Result Lent TableFault) → r ≡ Ok lent.Stopped → IsLent g sql params old looks new before r after → VisitedHeld (Ok false)
+  visited_some = visits_some g sql params list Shows whole_list first_of old new (Holds (state g old)) sees looks before after
+
+  pub visited_till : (r : Result Lent TableFault) (told : Result Bool TableFault) → IfOk told (λ on. ⊥) → IsLent g sql params old looks new before r after → VisitedHeld told
+  visited_till = visits_till g sql params list Shows whole_list first_of old new (Holds (state g old)) sees looks before after
+
+  pub visited : (r : Result Lent TableFault) → IsLent g sql params old looks new before r after → VisitedHeld (gone_through r)
+  visited = visited_by g sql params list Shows whole_list first_of old new (Holds (state g old)) sees looks before after
+
+  pub not_strange : (r : Result Lent TableFault) → IsLent g sql params old looks new before r after → ((s : State) (b : Books) → Shows s b → (given : List Row) (row : Row) → Begins sql params s (given ++ row ∷ []) → ¬ IsNoPart row)
+      → Says (state g old) (state g new) (λ b. IfOk r (λ how. ¬ (how ≡ lent.Strange)))
+  not_strange = not_strange_by g sql params list Shows whole_list first_of old new (Holds (state g old)) sees looks before after

@@ -19,6 +19,7 @@ use Rattle.sqlite_trees.specs.Tree.{IsAscending}
 use Rattle.sqlite_trees.proofs.ListLemmas.{pull_back}
 use Rattle.sqlite.specs.declared.error.Error.{Error}
 use Rattle.sqlite.specs.declared.rows.Row.{Row as Answered}
+use Rattle.sqlite.specs.Schema.{Schema}
 use Rattle.sqlite.specs.Tree.{Trees}
 use Rattle.sqlite.specs.Term.{Term, holds}
 use Rattle.sqlite.specs.Query.{Query, Output, output, output_cmp}
@@ -26,6 +27,7 @@ use Rattle.sqlite.specs.Program.{overlay, IsProgramAnswer}
 use Rattle.sqlite.specs.State.{State, HasCleanDisk, Shown}
 use Rattle.sqlite.proofs.Callers.{reads_as}
 use Rattle.cut_measure.specs.Codes.{code_cmp}
+use Rattle.shop_machine.specs.declared.records.Material.{Material}
 use Rattle.shop_tables.specs.Listing.{code_row, key_of, listed_row}
 use Rattle.shop_tables.specs.Rows.{AreRows, material_row, totals_row}
 use Rattle.shop_tables.specs.Selecting.{is_select}
@@ -36,7 +38,7 @@ use Rattle.shop_tables.proofs.Kept.{shown_open}
 use Rattle.shop_tables.proofs.Lists.{map-map}
 use Rattle.shop_tables.proofs.Maps.{one_order, sorted_filter, Rises}
 use Rattle.shop_tables.proofs.Selects.{selects}
-use Rattle.shop_tables.proofs.Terms.{from_table}
+use Rattle.shop_tables.proofs.Terms.{Reads, from_table}
 use Rattle.shop_tables.proofs.Texts.{shop, shop_is, by_code, all_codes_text, all_codes_terms, all_codes_is, all_totals_text, all_totals_terms, all_totals_is}
 
 -- from places to each earlier and later element
@@ -87,21 +89,25 @@ filter_true (x ∷ xs) = ap (λ l. x ∷ l) (filter_true xs)
 
 -- ---- tables whose key is a code
 
-by_first : (a b : List ℕ) → ordering_then (value_cmp (Text a) (Text b)) Equal ≡ code_cmp a b
+pub by_first : (a b : List ℕ) → ordering_then (value_cmp (Text a) (Text b)) Equal ≡ code_cmp a b
 by_first a b = then-Equal (value_cmp (Text a) (Text b)) ∙ value_cmp-Text a b
+
+-- the codes of materials, under any schema in which the text means this
+pub lists_codes_of : (old new : State) (schema : Schema) (has : old.now.schema ≡ schema) (names : List (List ℕ)) → Reads schema all_codes_text (from_table 2 [] all_codes_terms by_code) names → (m : FinMap code_cmp Material)
+    → AreRows 1 (map material_row (entries m)) (old.now.trees 2) → (rows : List Row) → Shown all_codes_text [] old new rows → rows ≡ map (λ e. code_row (key_of e)) (entries m)
+lists_codes_of old new schema has names is m are rows shown =
+    let a = (reads_as all_codes_text [] old new schema has _ is.command is.plain is.listing rows shown).answer in
+    in_order code_total code_same 2 [] all_codes_terms by_code (λ e. (Text e.0 ∷ [], code_row e.0)) (λ e f. by_first e.0 f.0) old.now.trees [] refl material_row (λ _. true) (λ _. true) (λ r. refl) (λ e. refl)
+    (λ d. (column d 0 ∷ [], column d 0 ∷ [])) one_later (λ e. refl) rows m are a
+    ∙ ap (map (λ e. code_row (key_of e))) (filter_true (entries m))
+  where
+    one_later : (r : Row) → ◌≡◌ {A = Output} (column r 1 ∷ [], column r 1 ∷ []) (column (drop 1 r) 0 ∷ [], column (drop 1 r) 0 ∷ [])
+    one_later [] = refl
+    one_later (x ∷ d) = refl
 
 module _ (old new : State) (b : Books) (has : Shows old b) where
   pub lists_codes : (rows : List Row) → Shown all_codes_text [] old new rows → rows ≡ map (λ e. code_row (key_of e)) (entries b.content.materials)
-  lists_codes rows shown =
-      let is = all_codes_is old.now.schema has.schema in
-      let a = (reads_as all_codes_text [] old new (shop old.now.schema has.schema) (shop_is old.now.schema has.schema) _ is.command is.plain is.listing rows shown).answer in
-      in_order code_total code_same 2 [] all_codes_terms by_code (λ e. (Text e.0 ∷ [], code_row e.0)) (λ e f. by_first e.0 f.0) old.now.trees [] refl material_row (λ _. true) (λ _. true) (λ r. refl) (λ e. refl)
-      (λ d. (column d 0 ∷ [], column d 0 ∷ [])) one_later (λ e. refl) rows b.content.materials has.stands.materials a
-      ∙ ap (map (λ e. code_row (key_of e))) (filter_true (entries b.content.materials))
-    where
-      one_later : (r : Row) → ◌≡◌ {A = Output} (column r 1 ∷ [], column r 1 ∷ []) (column (drop 1 r) 0 ∷ [], column (drop 1 r) 0 ∷ [])
-      one_later [] = refl
-      one_later (x ∷ d) = refl
+  lists_codes = lists_codes_of old new (shop old.now.schema has.schema) (shop_is old.now.schema has.schema) _ (all_codes_is old.now.schema has.schema) b.content.materials has.stands.materials
 
   pub lists_totals : (rows : List Row) → Shown all_totals_text [] old new rows → rows ≡ map listed_row (entries b.totals)
   lists_totals rows shown =
@@ -116,9 +122,14 @@ module _ (old new : State) (b : Books) (has : Shows old b) where
       eight_later [] = refl
       eight_later (x ∷ d) = refl
 
--- what a query's rows are on held books
+-- what a query's rows are where this is seen
+pub rows_seen : (sql : List ℕ) (old new : State) (Sees : Type 0) (list : List Row) (r : Result (Vec Answered Global) Error) → (IsTrue old.is_open → Sees)
+    → ((rows : List Row) → Sees → Shown sql [] old new rows → rows ≡ list) → IfOk r (λ rows. Shown sql [] old new rows.items) → IfOk r (λ rows. rows.items ≡ list)
+rows_seen sql old new Sees list r was finds given = IfOk-weaker r _ _ (λ rows shown. finds rows.items (was (shown_open sql [] old new rows.items shown)) shown) given
+
+-- what they are on held books
 pub rows_given : (sql : List ℕ) (old new : State) (is : is_select sql ≡ true) (left : is_select sql ≡ true → Leaves old new) (b : Books) (list : List Row) (r : Result (Vec Answered Global) Error) → HasCleanDisk new → Holds old b
     → ((rows : List Row) → Shows old b → Shown sql [] old new rows → rows ≡ list) → IfOk r (λ rows. Shown sql [] old new rows.items) → IfOk r (λ rows. rows.items ≡ list)
 rows_given sql old new is left b list r clean was finds given =
     let before : HasCleanDisk old = let l = (left is).survives.clean in omega (arith, l) in
-    IfOk-weaker r _ _ (λ rows shown. finds rows.items (was before (shown_open sql [] old new rows.items shown)).shows shown) given
+    rows_seen sql old new (Shows old b) list r (λ up. (was before up).shows) finds given

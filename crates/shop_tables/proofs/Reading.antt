@@ -28,7 +28,7 @@ use Rattle.shop_tables.proofs.Texts.{shop, shop_is}
 use Rattle.shop_tables.proofs.Selects.{selects, selected}
 use Rattle.shop_tables.proofs.Maps.{entry_at_is, listed}
 use Rattle.shop_tables.proofs.Keys.{shown_as, none_permutation}
-use Rattle.shop_tables.proofs.Kept.{shown_open}
+use Rattle.shop_tables.proofs.Kept.{as_was_then, shown_open}
 
 -- the rows of the table that pass, as they are shown
 module _ (old new : State) (h : IsShop old.now.schema) (text : List ℕ) (params : Row) (tree : ℕ) (tests terms : List Term) (names : List (List ℕ))
@@ -92,6 +92,7 @@ module _ (sql : List ℕ) (params : Row) (old new : State) (is : is_select sql �
 pub leaves_then : (a b c : State) → Leaves a b → Leaves b c → Leaves a c
 leaves_then a b c first second = record {
   stays = λ books was. second.stays books (first.stays books was);
+  as_was = λ clean up. let last = second.as_was clean up in as_was_then a b c (first.as_was (omega (arith, second.survives.clean)) last.was_open) last;
   survives = survives_then a b c (λ _. ⊥) (λ _. ⊥) (λ _. ⊥) (λ _ db none. none) (λ _ db none. none) first.survives second.survives;
 }
 

@@ -1,8 +1,9 @@
 -- Which names a schema of ours takes.
-use Rattle.std.proofs.Common.{◌≡◌, true, false, codes, Some, refl, sym, subst}
+use Rattle.std.proofs.Common.{◌≡◌, ap, true, false, codes, Some, refl, sym, subst}
 use Rattle.sqlite.specs.Schema.{Schema}
 use Rattle.sqlite_schema.specs.Names.{same_name, table_named}
 use Rattle.shop_tables.specs.Adopting.{names_are_free, names_are_tables}
+use Rattle.shop_tables.specs.Earlier.{earlier_schema, names_are_earlier}
 use Rattle.shop_tables.specs.Layout.{IsShop}
 use Rattle.shop_tables.proofs.Texts.{shop, shop_is}
 
@@ -21,3 +22,16 @@ taken schema h = rw (placed schema h).0 refl
 
 pub stand : (schema : Schema) → IsShop schema → names_are_tables schema ≡ true
 stand schema h = let f = placed schema h in rw (f.0, f.1, f.2, f.3, f.4, f.5, f.6, f.7, f.8, f.9) refl
+
+pub not_earlier : (schema : Schema) → IsShop schema → names_are_earlier schema ≡ false
+not_earlier schema h = let f = placed schema h in rw (f.0, f.1, f.2, f.3, f.4, f.5, f.6, f.7, f.8, f.9) refl
+
+-- and those that a schema of version 1 takes
+
+pub earlier_taken : (schema : Schema) → schema ≡ earlier_schema → names_are_free schema ≡ false
+unfolding same_name
+earlier_taken schema is = ap names_are_free is
+
+pub earlier_stand : (schema : Schema) → schema ≡ earlier_schema → names_are_earlier schema ≡ true
+unfolding same_name
+earlier_stand schema is = ap names_are_earlier is

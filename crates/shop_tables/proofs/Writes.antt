@@ -1,4 +1,4 @@
--- What an INSERT of one row and an UPDATE make of the trees, for any table with no count and no default that reads the time.
+-- What an INSERT, an UPDATE and a DELETE make of the trees, for any table with no count and no default that reads the time.
 use Rattle.std.proofs.Common.{◌≡◌, ◌≢◌, ◌⊎◌, inl, inr, ℕ, ◌/◌, List, [], length, append-nil, slice_get, true, false, Option, Some, None, Ok, Err, Result, ap, subst, ◌∙◌}
 use Rattle.sqlite_value.specs.Order.{Row}
 use Rattle.sqlite.specs.Tree.{Trees}
@@ -6,8 +6,8 @@ use Rattle.sqlite.specs.Term.{Term}
 use Rattle.sqlite.specs.Table.{Table}
 use Rattle.sqlite_schema.specs.declared.program.Program.{Program}
 use Rattle.sqlite.specs.Command.{Command}
-use Rattle.sqlite.specs.Command.TheVariants.{Insert, Update}
-use Rattle.sqlite.specs.Source.TheVariants.{Values}
+use Rattle.sqlite.specs.Command.TheVariants.{Insert, Update, Delete}
+use Rattle.sqlite.specs.Source.TheVariants.{Values, Query}
 use Rattle.sqlite.specs.declared.run.Mode.{Mode}
 use Rattle.sqlite.specs.Edit.{Edit, edit_of, edited, are_fresh, left_by, IsNoIndex}
 use Rattle.sqlite_rules.specs.Edit.{taken_by}
@@ -94,3 +94,34 @@ module _ (limit : Option ℕ) (mode : Mode) (params : Row) (db after : Database)
       let written = went rows.2 in
       let trees : (wrote.0).trees ≡ written.0 = ap (λ (it : Written). it.trees) (same_value written.2) in
       (rows.0, rows.1, applied (update rows.0) written.0 (none (taken_by db.trees (update rows.0)) (update rows.0).news) written.1 (wrote.2 ∙ ap (λ t. record { schema = db.schema; trees = t }) trees), wrote.3 ∙ ap (λ (it : Written). Some (length it.rows)) (same_value written.2))
+
+  abbrev pub filling : List Row → Edit
+  filling rows = edit_of db.trees table [] Chosen 0 rows
+
+  -- the rows that the query gives are inserted
+  pub copied : (text : List ℕ) (q : Program) → ((olds news : List Row) → works db.schema mode.keys 0 table.tree olds news ≡ [])
+      → Does limit mode params db text None (Insert at (Query q)) (Ok (tally, after)) → (rows : List Row) × Answers db q params rows × IsEdited db after (filling rows)
+  copied text q none h =
+      let wrote = on_rows text (Insert at (Query q)) h in
+      let given = went wrote.1 in
+      let counter = went given.2 in
+      let written = went counter.2 in
+      let counted = went written.2 in
+      let trees : (wrote.0).trees ≡ written.0 = ap (λ (it : Written). it.trees) (same_value counted.2) ∙ same_value counted.1 in (
+        given.0,
+        subst (λ p. Answers db q p given.0) (append-nil params) given.1,
+        applied (filling given.0) written.0 (none (taken_by db.trees (filling given.0)) (filling given.0).news) written.1 (wrote.2 ∙ ap (λ t. record { schema = db.schema; trees = t }) trees),
+      )
+
+  abbrev pub clearing : List Row → Edit
+  clearing rows = edit_of db.trees table (ids_of rows) Given 0 []
+
+  -- the rows with the rowids that the query gives are taken out
+  pub deleted : (text : List ℕ) (q : Program) → ((olds news : List Row) → works db.schema mode.keys 0 table.tree olds news ≡ [])
+      → Does limit mode params db text None (Delete at q) (Ok (tally, after)) → (rows : List Row) × Answers db q params rows × IsEdited db after (clearing rows)
+  deleted text q none h =
+      let wrote = on_rows text (Delete at q) h in
+      let rows = went wrote.1 in
+      let written = went rows.2 in
+      let trees : (wrote.0).trees ≡ written.0 = ap (λ (it : Written). it.trees) (same_value written.2) in
+      (rows.0, rows.1, applied (clearing rows.0) written.0 (none (taken_by db.trees (clearing rows.0)) (clearing rows.0).news) written.1 (wrote.2 ∙ ap (λ t. record { schema = db.schema; trees = t }) trees))

@@ -1,5 +1,5 @@
 -- Parts that are lent one row at a time.
-use Rattle.std.specs.Prelude.{◌≡◌, ◌⊎◌, ℕ, Bool, true, false, List, [], ◌∷◌, ⊤, IsTrue, IfOk, Result, Ok, Err}
+use Rattle.std.specs.Prelude.{◌≡◌, ◌⊎◌, ℕ, Bool, true, false, List, [], ◌∷◌, ◌++◌, ⊤, IsTrue, IfOk, Result, Ok, Err}
 use Rattle.sqlite_value.specs.Order.{Row}
 use Rattle.sqlite_trees.specs.declared.store.Store.{Ghosts}
 use Rattle.sqlite.specs.Held.{Held, state}
@@ -12,7 +12,8 @@ use Rattle.shop_tables.specs.declared.faults.TableFault.TheVariants as fault
 use Rattle.shop_tables.specs.declared.lending.Lent.{Lent}
 use Rattle.shop_tables.specs.declared.lending.Lent.TheVariants as lent
 use Rattle.shop_tables.specs.Rows.{part_row}
-use Rattle.shop_tables.specs.Shown.{Books, Holds}
+use Rattle.shop_tables.specs.Shown.{Books, Holds, IsAsWas}
+use Rattle.shop_tables.specs.Strange.{IsNoPart}
 
 -- the part is the one that the row is of
 abbrev pub IsReadOf : Row → Part → Type 0
@@ -44,6 +45,7 @@ module _ {S : Type 0} (g : Ghosts S) (sql : List ℕ) (params : Row) (old : Held
     pub clean : HasCleanDisk (state g mid)
     pub is_open : IsTrue (state g mid).is_open
     pub stays : (b : Books) → Holds (state g old) b → Holds (state g mid) b
+    pub as_was : IsAsWas (state g old) (state g mid)
 
   -- the rows are the first of the answer
   abbrev pub Starts : List Row → Type 0
@@ -64,3 +66,4 @@ module _ {S : Type 0} (g : Ghosts S) (sql : List ℕ) (params : Row) (old : Held
     pub told : IfOk result (λ how. on ≡ went_on how)
     pub begins : HasCleanDisk (state g new) → Starts given
     pub whole : HasCleanDisk (state g new) → IfOk result (λ how. how ≡ lent.All → Answers given)
+    pub strange : HasCleanDisk (state g new) → IfOk result (λ how. how ≡ lent.Strange → (row : Row) × IsNoPart row × Starts (given ++ row ∷ []))

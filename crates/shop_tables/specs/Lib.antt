@@ -6,6 +6,8 @@ pub mod Faults
 pub mod Changes
 pub mod Changing
 pub mod Held
+pub mod Strange
 pub mod Lending
 pub mod Listing
 pub mod Adopting
+pub mod Earlier

@@ -44,9 +44,16 @@ Holds s b = HasCleanDisk s → IsTrue s.is_open → IsSettled s b
 abbrev pub StandsIn : Trees → Books → Type 0
 StandsIn db b = ((schema : Schema) × IsShop schema × IsSound schema db) × Stands db b.content b.totals × IsKeyed b.content
 
--- what a reading leaves: the books that were held, and no other trees after a crash
+-- the connection was open, and where it saw its last commit it sees the same
+pub record IsAsWas (old new : State) : Type 0 where
+  pub was_open : IsTrue old.is_open
+  pub now : old.now ≡ old.committed → new.now ≡ old.now
+  pub committed : old.now ≡ old.committed → new.now ≡ new.committed
+
+-- what a reading leaves: the books that were held, as whatever was settled, and no other trees after a crash
 pub record Leaves (old new : State) : Type 0 where
   pub stays : (b : Books) → Holds old b → Holds new b
+  pub as_was : HasCleanDisk new → IsTrue new.is_open → IsAsWas old new
   pub survives : Survives old new (λ _. ⊥)
 
 -- what is said of books that were held holds, where the disk gave back what was written

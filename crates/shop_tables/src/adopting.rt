@@ -5,9 +5,10 @@ ghost use Rattle.sqlite.specs.State.{HasCleanDisk, Survives};
 ghost use Rattle.sqlite.specs.Held.{state};
 ghost use Rattle.sqlite_catalog.specs.Change.{is_used};
 ghost use Rattle.shop_tables.specs.Adopting.{IsVacant, LeavesBooks, is_table, names_are_free, names_are_tables};
+ghost use Rattle.shop_tables.specs.Earlier.{HoldsEarlier, IsSettledEarlier, SaysEarlier, earlier_schema, names_are_earlier};
 ghost use Rattle.shop_tables.specs.Layout.{no_schema, IsShop};
 ghost use Rattle.shop_tables.specs.Shown.{Books, Holds, IsSettled, Leaves, Says, StandsIn, fresh_books};
-ghost use Rattle.shop_tables.specs.declared.adopting.Adopted.TheVariants.{Made, Found};
+ghost use Rattle.shop_tables.specs.declared.adopting.Adopted.TheVariants.{Made, Found, Earlier};
 ghost use Rattle.shop_tables.specs.declared.adopting.AdoptFault.TheVariants.{WrongVersion};
 
 use crate::TableFault;
@@ -24,6 +25,8 @@ pub enum Adopted {
     Made,
     /// There were tables of version 2.
     Found,
+    /// There are tables of version 1, to which nothing was done yet.
+    Earlier,
 }
 
 /// Why a connection wasn't taken over.
@@ -83,6 +86,22 @@ fn are_tables(schema: &Schema) -> bool
                                         && is_table(schema, b"totals2")))))))))
 }
 
+// Each name of version 1 is that of a table, and the one that came with version 2 is free.
+fn are_earlier(schema: &Schema) -> bool
+    ensures { result ≡ names_are_earlier schema.now }
+{
+    is_table(schema, b"meta")
+        && (is_table(schema, b"materials")
+            && (is_table(schema, b"parts")
+                && (is_table(schema, b"jobs")
+                    && (is_table(schema, b"orders")
+                        && (is_table(schema, b"demands")
+                            && (is_table(schema, b"kept")
+                                && (is_table(schema, b"imports")
+                                    && (is_table(schema, b"totals")
+                                        && !is_used(schema, b"totals2")))))))))
+}
+
 // Makes the tables, in one transaction.
 fn lay<S: Alter>(conn: &mut Connection<S>) -> Result<(), Error>
     requires outside { conn.old.in_transaction ≡ false }
@@ -99,9 +118,10 @@ fn lay<S: Alter>(conn: &mut Connection<S>) -> Result<(), Error>
     tx.commit()
 }
 
-// Whether the tables say that they are these.
-fn has_version<S: Alter>(conn: &mut Connection<S>) -> Result<bool, TableFault>
-    ensures ours { Says (state S.Store conn.old) (state S.Store conn.new) (λ books. IfOk result (λ is. is ≡ true)) }
+// Whether the tables say that they are of this version.
+fn has_version<S: Alter>(conn: &mut Connection<S>, wanted: u32) -> Result<bool, TableFault>
+    ensures ours { wanted ≡ 2 → Says (state S.Store conn.old) (state S.Store conn.new) (λ books. IfOk result (λ is. is ≡ true)) }
+    ensures one { wanted ≡ 1 → SaysEarlier (state S.Store conn.old) (state S.Store conn.new) (λ books. IfOk result (λ is. is ≡ true)) }
     ensures leaves { Leaves (state S.Store conn.old) (state S.Store conn.new) }
     ensures mode { conn.old.in_transaction ≡ false → conn.new.in_transaction ≡ false }
 {
@@ -109,7 +129,7 @@ fn has_version<S: Alter>(conn: &mut Connection<S>) -> Result<bool, TableFault>
         return Ok(false);
     };
     let version = number_in(&row, 0)?;
-    Ok(version == 2)
+    Ok(version == wanted)
 }
 
 fn fault_of_store(error: Error) -> AdoptFault
@@ -131,8 +151,23 @@ fn fault_of_tables(fault: TableFault) -> AdoptFault
     }
 }
 
-/// Makes the tables where none of their names is taken, in one transaction, and goes on with tables of version 2. It answers
-/// `WrongVersion` where a name is taken and they aren't there, or are of another version, and writes nothing then.
+// Over tables with the names of version 1.
+fn adopt_earlier<S: Alter>(conn: &mut Connection<S>) -> Result<Adopted, AdoptFault>
+    ensures mode { conn.old.in_transaction ≡ false → conn.new.in_transaction ≡ false }
+    ensures only { IfOk result (λ how. how ≡ Earlier) }
+    ensures leaves { Leaves (state S.Store conn.old) (state S.Store conn.new) }
+    ensures neither { result ≡ Err WrongVersion → HasCleanDisk (state S.Store conn.new) → (b : Books) → HoldsEarlier (state S.Store conn.old) b → ⊥ }
+{
+    match has_version(conn, 1) {
+        Ok(true) => Ok(Adopted::Earlier),
+        Ok(false) => Err(AdoptFault::WrongVersion),
+        Err(fault) => Err(fault_of_tables(fault)),
+    }
+}
+
+/// Makes the tables where none of their names is taken, in one transaction, goes on with tables of version 2, and tells where
+/// there are tables of version 1. It answers `WrongVersion` where a name is taken and they aren't there, or are of another
+/// version, and writes nothing then.
 pub fn adopt_tables<S: Alter>(conn: &mut Connection<S>) -> Result<Adopted, AdoptFault>
     requires outside { conn.old.in_transaction ≡ false }
     ensures mode { conn.new.in_transaction ≡ false }
@@ -148,6 +183,10 @@ pub fn adopt_tables<S: Alter>(conn: &mut Connection<S>) -> Result<Adopted, Adopt
     ensures strange { result ≡ Err WrongVersion → conn.old.schema ≢ no_schema }
     ensures unwritten { result ≡ Err WrongVersion → Leaves (state S.Store conn.old) (state S.Store conn.new) }
     ensures neither { result ≡ Err WrongVersion → HasCleanDisk (state S.Store conn.new) → (b : Books) → IsSettled (state S.Store conn.old) b → ⊥ }
+    ensures one { result ≡ Ok Earlier → (conn.old.schema ≢ no_schema) × (¬ IsShop conn.old.schema) × Leaves (state S.Store conn.old) (state S.Store conn.new) }
+    ensures one_only { conn.old.schema ≡ earlier_schema → IfOk result (λ how. how ≡ Earlier) }
+    ensures one_leaves { conn.old.schema ≡ earlier_schema → Leaves (state S.Store conn.old) (state S.Store conn.new) }
+    ensures one_neither { result ≡ Err WrongVersion → HasCleanDisk (state S.Store conn.new) → (b : Books) → IsSettledEarlier (state S.Store conn.old) b → ⊥ }
 {
     let _outside = conn.is_autocommit();
     if are_free(conn.schema()) {
@@ -156,10 +195,13 @@ pub fn adopt_tables<S: Alter>(conn: &mut Connection<S>) -> Result<Adopted, Adopt
             Err(error) => Err(fault_of_store(error)),
         };
     }
+    if are_earlier(conn.schema()) {
+        return adopt_earlier(conn);
+    }
     if !are_tables(conn.schema()) {
         return Err(AdoptFault::WrongVersion);
     }
-    match has_version(conn) {
+    match has_version(conn, 2) {
         Ok(true) => Ok(Adopted::Found),
         Ok(false) => Err(AdoptFault::WrongVersion),
         Err(fault) => Err(fault_of_tables(fault)),

@@ -1,17 +1,21 @@
 //! Parts that a query lends one row at a time.
 
-ghost use Rattle.std.specs.Prelude.{◌≡◌, true, false, IfOk, IfSome};
+ghost use Rattle.std.specs.Prelude.{◌≡◌, ◌≢◌, true, false, IfOk, IfSome, IfNone};
 ghost use Rattle.sqlite.specs.Held.{state};
 ghost use Rattle.sqlite.specs.Values.{bound};
 ghost use Rattle.std.specs.FinMap.{values};
+ghost use Rattle.shop_tables.specs.Earlier.{SaysEarlier};
 ghost use Rattle.shop_tables.specs.Lending.{IsLent, IsReadOf, gone_through};
 ghost use Rattle.shop_tables.specs.Selecting.{is_select};
 ghost use Rattle.shop_tables.specs.Shown.{Leaves, Says};
+ghost use Rattle.shop_tables.specs.Strange.{IsNoPart};
+ghost use Rattle.shop_tables.specs.declared.lending.Lent.TheVariants.{Strange};
 ghost use Rattle.shop_machine.specs.Content.{parts_of};
 ghost use Rattle.shop_machine.specs.Visits.{IsVisit};
 
 use crate::TableFault;
 use crate::columns::{code_in, name_in, number_in, size_in, state_in};
+use crate::strange::may_be_part;
 use cut_measure::Code;
 use shop_machine::{Part, PartVisitor};
 use sqlite::types::ValueRef;
@@ -47,15 +51,16 @@ fn read_whole(row: &Row) -> Result<Part, TableFault>
     })
 }
 
-// None where a column has no value of its type.
+// None where the row is no part's.
 fn read_lent(row: &Row) -> Result<Option<Part>, TableFault>
-    ensures { IfOk result (λ part. IfSome part (IsReadOf row.now)) }
+    ensures read { IfOk result (λ part. IfSome part (IsReadOf row.now)) }
+    ensures strange { IfOk result (λ part. IfNone part (IsNoPart row.now)) }
 {
-    match read_whole(row) {
-        Ok(part) => Ok(Some(part)),
-        Err(TableFault::Store) => Ok(None),
-        Err(TableFault::NoMemory) => Err(TableFault::NoMemory),
+    if !may_be_part(row) {
+        return Ok(None);
     }
+    let part = read_whole(row)?;
+    Ok(Some(part))
 }
 
 /// Hands the parts that a query shows to a visitor, for as long as it answers true.
@@ -112,12 +117,16 @@ pub fn lend_parts<S: Alter, V: PartVisitor>(
 }
 
 /// Hands every part to a visitor, by rising act and then node, for as long as it answers true. What is told is how far it
-/// came; after an `Err` and before a strange row too the parts that were handed out begin all parts.
+/// came; after an `Err` and before a strange row too the parts that were handed out begin all parts. Tables that stand for
+/// books have no strange row.
 pub fn lend_all_parts<S: Alter, V: PartVisitor>(
     conn: &mut Connection<S>,
     visitor: &mut V,
 ) -> Result<Lent, TableFault>
     ensures visit { IsVisit V.looks (λ what. Says (state S.Store conn.old) (state S.Store conn.new) (λ books. what (values books.content.parts))) visitor.old (gone_through result) visitor.new }
+    ensures strange { Says (state S.Store conn.old) (state S.Store conn.new) (λ _. IfOk result (λ how. how ≢ Strange)) }
+    ensures earlier { IsVisit V.looks (λ what. SaysEarlier (state S.Store conn.old) (state S.Store conn.new) (λ books. what (values books.content.parts))) visitor.old (gone_through result) visitor.new }
+    ensures earlier_strange { SaysEarlier (state S.Store conn.old) (state S.Store conn.new) (λ _. IfOk result (λ how. how ≢ Strange)) }
     ensures leaves { Leaves (state S.Store conn.old) (state S.Store conn.new) }
     ensures mode { conn.old.in_transaction ≡ false → conn.new.in_transaction ≡ false }
 {

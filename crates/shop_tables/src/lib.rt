@@ -17,9 +17,11 @@ mod materials;
 mod numbers;
 mod orders;
 mod parts;
+mod renewing;
 mod reopening;
 mod rows;
 mod running;
+mod strange;
 mod sums;
 
 pub use adopting::{AdoptFault, Adopted, adopt_tables};
@@ -37,5 +39,6 @@ pub use materials::{find_material, put_material};
 pub use numbers::{find_last_act, find_last_demand, find_version, set_last_act, set_last_demand};
 pub use orders::{find_order, put_order};
 pub use parts::{find_part, move_part, put_part};
+pub use renewing::{list_earlier_totals, renew_shop, renew_tables};
 pub use reopening::left_contents_are_found;
 pub use sums::{find_totals, put_totals, set_totals};

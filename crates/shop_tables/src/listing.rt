@@ -4,19 +4,23 @@ ghost use Rattle.std.specs.Prelude.{◌≡◌, ◌≢◌, [], ◌∷◌, ℕ, Li
 ghost use Rattle.std.specs.FinMap.{entries};
 ghost use Rattle.sqlite.specs.Held.{state};
 ghost use Rattle.shop_machine.specs.declared.records.Totals.{Totals as TotalsRecord};
+ghost use Rattle.shop_tables.specs.Earlier.{SaysEarlier};
 ghost use Rattle.shop_tables.specs.Listing.{AreAllTotals, code_row, key_of, listed_row, named};
 ghost use Rattle.shop_tables.specs.Shown.{Leaves, Says};
 
 use crate::TableFault;
 use crate::columns::code_in;
 use crate::rows::all_rows;
+use crate::strange::may_be_totals;
 use crate::sums::read_totals;
 use shop_machine::MaterialTotals;
 use sqlite::{Alter, Connection, Error, Row};
 use std::alloc::Global;
 
-fn material_rows<S: Alter>(conn: &mut Connection<S>) -> Result<Vec<Row>, Error>
+/// The codes of all materials, in order.
+pub(crate) fn material_rows<S: Alter>(conn: &mut Connection<S>) -> Result<Vec<Row>, Error>
     ensures rows { Says (state S.Store conn.old) (state S.Store conn.new) (λ books. IfOk result (λ rows. rows.items ≡ map (λ e. code_row (key_of e)) (entries books.content.materials))) }
+    ensures earlier { SaysEarlier (state S.Store conn.old) (state S.Store conn.new) (λ books. IfOk result (λ rows. rows.items ≡ map (λ e. code_row (key_of e)) (entries books.content.materials))) }
     ensures leaves { Leaves (state S.Store conn.old) (state S.Store conn.new) }
     ensures mode { conn.old.in_transaction ≡ false → conn.new.in_transaction ≡ false }
 {
@@ -45,8 +49,8 @@ fn read_named(row: &Row) -> Result<MaterialTotals, TableFault>
     })
 }
 
-// The totals of these rows, where their codes are these, in this order.
-fn read_all(
+/// The totals of these rows, where their codes are these, in this order.
+pub(crate) fn read_all(
     alloc: Global,
     codes: &[Row],
     rows: &[Row],
@@ -59,7 +63,11 @@ fn read_all(
     }
     let mut list = Vec::new(alloc);
     for i in 0..rows.len() {
-        let totals = read_named(&rows[i])?;
+        let row = &rows[i];
+        if !may_be_totals(row) {
+            return Ok(None);
+        }
+        let totals = read_named(row)?;
         if code_in(&codes[i], 0)? != totals.material {
             return Ok(None);
         }
@@ -70,7 +78,8 @@ fn read_all(
     Ok(Some(list))
 }
 
-/// The totals of all materials, by rising code; None where a material has none, or another code has some.
+/// The totals of all materials, by rising code; None where a material has none, or another code has some, or a row is none
+/// of totals.
 pub fn list_totals<S: Alter>(
     alloc: Global,
     conn: &mut Connection<S>,

@@ -2,6 +2,7 @@ ghost use Rattle.std.specs.Prelude.{◌≡◌, ℕ, false, [], ◌∷◌, filter
 ghost use Rattle.std.specs.Ordering.{eq_by_cmp};
 ghost use Rattle.sqlite.specs.Held.{state};
 ghost use Rattle.cut_measure.specs.Codes.{code_cmp};
+ghost use Rattle.shop_tables.specs.Earlier.{SaysEarlier, earlier_entries};
 ghost use Rattle.shop_tables.specs.Rows.{meta_entries};
 ghost use Rattle.shop_tables.specs.Shown.{Leaves, Says, GivesNumber};
 ghost use Rattle.std.specs.Prelude.{OnOk};
@@ -19,6 +20,7 @@ pub(crate) fn number_row<S: Alter>(
     word: &str,
 ) -> Result<Option<Row>, Error>
     ensures row { Says (state S.Store conn.old) (state S.Store conn.new) (λ books. (n : ℕ) → filter (λ e. eq_by_cmp code_cmp e.0 word.now) (meta_entries books.content) ≡ (word.now, n) ∷ [] → IfOk result (GivesNumber n)) }
+    ensures earlier { SaysEarlier (state S.Store conn.old) (state S.Store conn.new) (λ books. (n : ℕ) → filter (λ e. eq_by_cmp code_cmp e.0 word.now) (earlier_entries books.content) ≡ (word.now, n) ∷ [] → IfOk result (GivesNumber n)) }
     ensures leaves { Leaves (state S.Store conn.old) (state S.Store conn.new) }
     ensures mode { conn.old.in_transaction ≡ false → conn.new.in_transaction ≡ false }
 {

@@ -3,9 +3,13 @@
 #![tactic(auto)]
 
 #[cfg(test)]
+mod earlier_tests;
+#[cfg(test)]
 mod lines;
 #[cfg(test)]
 mod opened_tests;
+#[cfg(test)]
+mod served_tests;
 #[cfg(test)]
 mod stopped_tests;
 #[cfg(test)]

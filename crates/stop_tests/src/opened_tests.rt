@@ -81,8 +81,8 @@ fn filled<B: Book + Drop>(alloc: Global, mut book: B) -> Result<B, Fail> {
     Ok(book)
 }
 
-// A book over new files, in which all messages were handled.
-fn filled_book(alloc: Global) -> Result<SqlBook<FileStore<Memory>>, Fail> {
+/// A book over new files, in which all messages were handled.
+pub fn filled_book(alloc: Global) -> Result<SqlBook<FileStore<Memory>>, Fail> {
     let files = Files {
         log: Memory::new(alloc),
         db: Memory::new(alloc),

@@ -14,14 +14,14 @@ const MOST_CALLS: u64 = 500;
 // So many calls more are tried, since a file may still be written behind the last reply.
 const BEHIND: u64 = 20;
 
-// What a run left of a store, or of its files.
+/// What a run left of a store, or of its files.
 #[derive(Drop)]
-struct Left<T> {
-    rest: T,
-    // Whether the database was adopted.
-    adopted: bool,
-    // How many messages were accepted.
-    accepted: usize,
+pub struct Left<T> {
+    pub rest: T,
+    /// Whether the database was adopted.
+    pub adopted: bool,
+    /// How many messages were accepted.
+    pub accepted: usize,
 }
 
 // New files, of which one stops after so many calls.
@@ -112,8 +112,8 @@ fn run_files<D: Disk + Drop>(
     }
 }
 
-// A run, and then a crash.
-fn stopped<D: Crash + Drop>(
+/// A run, and then a crash.
+pub fn stopped<D: Crash + Drop>(
     alloc: Global,
     files: Files<D>,
     sends: bool,

@@ -29,7 +29,8 @@ fn a_job_of_no_state_is_a_fault_of_the_store(rt: HostRuntime) -> Result<(), Fail
     Ok(())
 }
 
-fn number<S: Alter>(conn: &mut Connection<S>, query: &str) -> Result<i64, Fail> {
+/// The number that a query shows.
+pub fn number<S: Alter>(conn: &mut Connection<S>, query: &str) -> Result<i64, Fail> {
     let row = conn.query_row(query, &[])?;
     Ok(row.get(0)?)
 }

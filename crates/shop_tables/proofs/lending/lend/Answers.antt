@@ -5,7 +5,7 @@ use Rattle.sqlite.specs.Values.{bound}
 use Rattle.shop_tables.specs.Lending.{IsLent}
 use Rattle.shop_tables.specs.declared.lending.Lent.TheVariants as lent
 use Rattle.shop_tables.specs.Shown.{Leaves}
-use Rattle.shop_tables.proofs.Going.{started, leaves_stays, none_lent, broken_off, all_lent, stopped_at, went_to}
+use Rattle.shop_tables.proofs.Going.{started, leaves_stays, none_lent, broken_off, strange_at, all_lent, stopped_at, went_to}
 use Rattle.shop_tables.proofs.Kept.{fails_stays, query_survives}
 use Rattle.shop_tables.proofs.Reading.{leaves_then}
 use Rattle.shop_tables.proofs.lending.lend.Goals as goal
@@ -76,9 +76,11 @@ returns-in_err-part-clause-leaves g c =
 pub returns-in_default-2-clause-lent : goal.returns-in_default-2-clause-lent
 returns-in_default-2-clause-lent g c =
     let ends : c.advance.new.self.conn.now ≡ c.conn-in_default-2-1.given.0 = search rules in
+    let row : Some c.in-Some.row.now ≡ row_if c.advance.new.self.has_row c.advance.new.self.conn.now = c.in-Some.ensures in
     subst (λ h. IsLent g.S.Store c.args.sql.now (bound c.args.params.now) c.args.conn.now g.V.PartVisitor.looks h c.args.visitor.now (Ok lent.Strange) c.rows.visitor) ends
-    (broken_off g.S.Store g.V.PartVisitor.looks c.args.sql.now (bound c.args.params.now) c.args.conn.now c.args.visitor.now c.rows.rows.conn.now c.advance.new.self.conn.now c.rows.visitor (Ok lent.Strange) refl
-    c.rows.invariant.2 (λ clean. omega (arith, c.advance.ensures.survives.clean)))
+    (strange_at g.S.Store g.V.PartVisitor.looks c.args.sql.now (bound c.args.params.now) c.args.conn.now c.args.visitor.now c.rows.rows.conn.now c.advance.new.self.conn.now c.rows.visitor c.in-Some.row.now c.rows.invariant.2
+    (leaves_stays _ _ c.advance.ensures.survives (λ clean. inl (c.in_ok-advance.ensures.same clean)))
+    (λ clean. subst (λ o. Advances g.S.Store c.rows.rows.conn.now c.advance.new.self.conn.now o) (sym row) (c.in_ok-advance.ensures.ok clean)) (rw c.in_default-2.is at c.in_ok-part.ensures.strange))
 
 pub returns-in_default-2-clause-leaves : goal.returns-in_default-2-clause-leaves
 returns-in_default-2-clause-leaves g c =
@@ -96,7 +98,7 @@ returns-then-not-part-clause-lent g c =
     (stopped_at g.S.Store g.V.PartVisitor.looks c.args.sql.now (bound c.args.params.now) c.args.conn.now c.args.visitor.now c.rows.rows.conn.now c.advance.new.self.conn.now c.rows.visitor c.part.new.self c.in-Some.row.now c.in-Some-2.part c.rows.invariant.2
     (leaves_stays _ _ c.advance.ensures.survives (λ clean. inl (c.in_ok-advance.ensures.same clean)))
     (λ clean. subst (λ o. Advances g.S.Store c.rows.rows.conn.now c.advance.new.self.conn.now o) (sym row) (c.in_ok-advance.ensures.ok clean))
-    (rw c.in-Some-2.is at c.in_ok-part.ensures)
+    (rw c.in-Some-2.is at c.in_ok-part.ensures.read)
     (subst (λ b. g.V.PartVisitor.looks c.rows.visitor c.in-Some-2.part b c.part.new.self) c.if-not-part.true c.part.ensures))
 
 pub returns-then-not-part-clause-leaves : goal.returns-then-not-part-clause-leaves
@@ -114,7 +116,7 @@ rows-preserved g c =
           (leaves_stays _ _ c.advance.ensures.survives (λ clean. inl (c.in_ok-advance.ensures.same clean)))
           (λ clean. subst (λ o. Advances g.S.Store c.rows.rows.conn.now c.advance.new.self.conn.now o) (sym row) (c.in_ok-advance.ensures.ok clean))
           c.in_ok-advance.ensures.same
-          (rw c.in-Some-2.is at c.in_ok-part.ensures)
+          (rw c.in-Some-2.is at c.in_ok-part.ensures.read)
           (subst (λ b. g.V.PartVisitor.looks c.rows.visitor c.in-Some-2.part b c.part.new.self) c.if-not-part.false c.part.ensures),
     )
 

@@ -1,6 +1,12 @@
-use Rattle.std.proofs.Common.{◌∙◌, arith, rules}
+use Rattle.std.proofs.Common.{true≢false, sym, ◌∙◌, arith, rules}
 use Rattle.shop_tables.proofs.AllTotals.{row_is, one_more, apart, all_read, other_codes, equal_codes}
 use Rattle.shop_tables.proofs.listing.read_all.Goals as goal
+
+pub returns-then-not-may_be_totals : goal.returns-then-not-may_be_totals
+returns-then-not-may_be_totals c cs es codes rows = (
+  tt,
+  λ _. absurd (true≢false (sym (c.may_be_totals.ensures _ (row_is c.args.codes.now c.args.rows.now cs es codes rows c.loop-i.i c.loop-i-test.true (search rules) c.index-rows-i.result c.index-rows-i.is)) ∙ c.if-not-may_be_totals.true)),
+)
 
 pub returns-then-ne : goal.returns-then-ne
 returns-then-ne c cs es codes rows = (

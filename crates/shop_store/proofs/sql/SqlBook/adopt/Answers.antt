@@ -7,6 +7,7 @@ use Rattle.shop_tables.specs.Held.{books, HoldsContent, LeavesOnly, StandsFor}
 use Rattle.shop_tables.proofs.Reading.{leaves_then}
 use Rattle.shop_store.proofs.Adopting.{holds_fresh, survives_fresh, leaves_fresh, holds_settled, wrong_version}
 use Rattle.shop_store.proofs.Checked.{either_way, if_back, if_book}
+use Rattle.shop_store.proofs.EarlierContents.{leaves_survives, settled_earlier}
 use Rattle.shop_store.proofs.sql.SqlBook.adopt.Goals as goal
 
 -- ---- tables were made
@@ -82,3 +83,88 @@ returns-in-Err-clause-held g c m was = holds_settled (state g.S.Store c.args.con
 
 pub returns-in-Err-clause-neither : goal.returns-in-Err-clause-neither
 returns-in-Err-clause-neither g c is clean m was = c.in-Err.ensures.neither (ap Err (wrong_version _ (sym c.fault_of_adopt.ensures ∙ is))) clean (books m was.totals) was.settled
+
+-- ---- tables of version 1 were there
+
+pub returns-in-Ok-Earlier-clause-fresh : goal.returns-in-Ok-Earlier-clause-fresh
+returns-in-Ok-Earlier-clause-fresh g c has = absurd ((c.in-Ok-Earlier.ensures.one (ap Ok c.in-Ok-Earlier.field-0-is)).0 has)
+
+pub returns-in-Ok-Earlier-clause-vacant : goal.returns-in-Ok-Earlier-clause-vacant
+returns-in-Ok-Earlier-clause-vacant g c has = absurd ((c.in-Ok-Earlier.ensures.one (ap Ok c.in-Ok-Earlier.field-0-is)).0 has)
+
+pub returns-in-Ok-Earlier-clause-crash : goal.returns-in-Ok-Earlier-clause-crash
+returns-in-Ok-Earlier-clause-crash g c has = absurd ((c.in-Ok-Earlier.ensures.one (ap Ok c.in-Ok-Earlier.field-0-is)).0 has)
+
+pub returns-in-Ok-Earlier-clause-after : goal.returns-in-Ok-Earlier-clause-after
+returns-in-Ok-Earlier-clause-after g c has = absurd ((c.in-Ok-Earlier.ensures.one (ap Ok c.in-Ok-Earlier.field-0-is)).0 has)
+
+pub returns-in-Ok-Earlier-clause-earlier : goal.returns-in-Ok-Earlier-clause-earlier
+returns-in-Ok-Earlier-clause-earlier g c = either_way (λ book. book.conn) _ (λ h early clean. c.in-Ok-Earlier.ensures.earlier (early clean)) c.renewed.result c.renewed.ensures.earlier
+
+pub returns-in-Ok-Earlier-clause-held : goal.returns-in-Ok-Earlier-clause-held
+returns-in-Ok-Earlier-clause-held g c m was = absurd ((c.in-Ok-Earlier.ensures.one (ap Ok c.in-Ok-Earlier.field-0-is)).1 was.settled.shows.schema)
+
+pub returns-in-Ok-Earlier-clause-sums : goal.returns-in-Ok-Earlier-clause-sums
+returns-in-Ok-Earlier-clause-sums g c = if_book (λ book. book.conn) _ (λ book early none clean b was. absurd ((c.in-Ok-Earlier.ensures.one (ap Ok c.in-Ok-Earlier.field-0-is)).1 was.shows.schema)) c.renewed.result c.renewed.ensures.earlier c.renewed.ensures.failures
+
+pub returns-in-Ok-Earlier-clause-still : goal.returns-in-Ok-Earlier-clause-still
+returns-in-Ok-Earlier-clause-still g c it = absurd ((c.in-Ok-Earlier.ensures.one (ap Ok c.in-Ok-Earlier.field-0-is)).1 it)
+
+pub returns-in-Ok-Earlier-clause-strange : goal.returns-in-Ok-Earlier-clause-strange
+returns-in-Ok-Earlier-clause-strange g c = if_back (λ book. book.conn) _ (λ back early outside is. (c.in-Ok-Earlier.ensures.one (ap Ok c.in-Ok-Earlier.field-0-is)).0) c.renewed.result c.renewed.ensures.earlier c.renewed.ensures.mode
+
+pub returns-in-Ok-Earlier-clause-unwritten : goal.returns-in-Ok-Earlier-clause-unwritten
+returns-in-Ok-Earlier-clause-unwritten g c = if_back (λ book. book.conn) _ (λ back early leaves is. leaves_then _ _ _ (c.in-Ok-Earlier.ensures.one (ap Ok c.in-Ok-Earlier.field-0-is)).2 (leaves is)) c.renewed.result c.renewed.ensures.earlier c.renewed.ensures.unwritten
+
+pub returns-in-Ok-Earlier-clause-neither : goal.returns-in-Ok-Earlier-clause-neither
+returns-in-Ok-Earlier-clause-neither g c = if_back (λ book. book.conn) _ (λ back early outside is clean m was. absurd ((c.in-Ok-Earlier.ensures.one (ap Ok c.in-Ok-Earlier.field-0-is)).1 was.settled.shows.schema)) c.renewed.result c.renewed.ensures.earlier c.renewed.ensures.mode
+
+pub returns-in-Ok-Earlier-clause-renewed : goal.returns-in-Ok-Earlier-clause-renewed
+returns-in-Ok-Earlier-clause-renewed g c m was = c.renewed.ensures.renewed m (settled_earlier (state g.S.Store c.args.conn) (state g.S.Store c.adopt_tables.new.conn) m (c.in-Ok-Earlier.ensures.one (ap Ok c.in-Ok-Earlier.field-0-is)).2 was)
+
+pub returns-in-Ok-Earlier-clause-as_before : goal.returns-in-Ok-Earlier-clause-as_before
+returns-in-Ok-Earlier-clause-as_before g c m was = c.renewed.ensures.as_before m (settled_earlier (state g.S.Store c.args.conn) (state g.S.Store c.adopt_tables.new.conn) m (c.in-Ok-Earlier.ensures.one (ap Ok c.in-Ok-Earlier.field-0-is)).2 was)
+
+pub returns-in-Ok-Earlier-clause-renewed_crash : goal.returns-in-Ok-Earlier-clause-renewed_crash
+returns-in-Ok-Earlier-clause-renewed_crash g c m was = either_way (λ book. book.conn) _ (λ h crash. survives_then (state g.S.Store c.args.conn) (state g.S.Store c.adopt_tables.new.conn) (state g.S.Store h) (λ _. ⊥) (λ db. StandsFor db m) (λ db. StandsFor db m) (λ _ db none. absurd none) (λ _ db stands. stands) (c.in-Ok-Earlier.ensures.one (ap Ok c.in-Ok-Earlier.field-0-is)).2.survives crash) c.renewed.result (c.renewed.ensures.crash m (settled_earlier (state g.S.Store c.args.conn) (state g.S.Store c.adopt_tables.new.conn) m (c.in-Ok-Earlier.ensures.one (ap Ok c.in-Ok-Earlier.field-0-is)).2 was))
+
+pub returns-in-Ok-Earlier-clause-renewed_after : goal.returns-in-Ok-Earlier-clause-renewed_after
+returns-in-Ok-Earlier-clause-renewed_after g c m was = c.renewed.ensures.after m (settled_earlier (state g.S.Store c.args.conn) (state g.S.Store c.adopt_tables.new.conn) m (c.in-Ok-Earlier.ensures.one (ap Ok c.in-Ok-Earlier.field-0-is)).2 was)
+
+pub returns-in-Ok-Earlier-clause-not_earlier : goal.returns-in-Ok-Earlier-clause-not_earlier
+returns-in-Ok-Earlier-clause-not_earlier g c = if_back (λ book. book.conn) _ (λ back early neither is clean m was. neither is clean m (settled_earlier (state g.S.Store c.args.conn) (state g.S.Store c.adopt_tables.new.conn) m (c.in-Ok-Earlier.ensures.one (ap Ok c.in-Ok-Earlier.field-0-is)).2 was)) c.renewed.result c.renewed.ensures.earlier c.renewed.ensures.neither
+
+-- ---- and nowhere else
+
+pub returns-in-Ok-Made-clause-renewed : goal.returns-in-Ok-Made-clause-renewed
+returns-in-Ok-Made-clause-renewed g c m was = absurd (let e = c.in-Ok-Made.ensures.one_only was.settled.shows.schema in let f = c.in-Ok-Made.field-0-is in cc)
+
+pub returns-in-Ok-Made-clause-renewed_crash : goal.returns-in-Ok-Made-clause-renewed_crash
+returns-in-Ok-Made-clause-renewed_crash g c m was = absurd (let e = c.in-Ok-Made.ensures.one_only was.settled.shows.schema in let f = c.in-Ok-Made.field-0-is in cc)
+
+pub returns-in-Ok-Made-clause-renewed_after : goal.returns-in-Ok-Made-clause-renewed_after
+returns-in-Ok-Made-clause-renewed_after g c m was = absurd (let e = c.in-Ok-Made.ensures.one_only was.settled.shows.schema in let f = c.in-Ok-Made.field-0-is in cc)
+
+pub returns-in-Ok-Found-clause-renewed : goal.returns-in-Ok-Found-clause-renewed
+returns-in-Ok-Found-clause-renewed g c m was = absurd (let e = c.in-Ok-Found.ensures.one_only was.settled.shows.schema in let f = c.in-Ok-Found.field-0-is in cc)
+
+pub returns-in-Ok-Found-clause-as_before : goal.returns-in-Ok-Found-clause-as_before
+returns-in-Ok-Found-clause-as_before g c m was = absurd (let e = c.in-Ok-Found.ensures.one_only was.settled.shows.schema in let f = c.in-Ok-Found.field-0-is in cc)
+
+pub returns-in-Ok-Found-clause-renewed_crash : goal.returns-in-Ok-Found-clause-renewed_crash
+returns-in-Ok-Found-clause-renewed_crash g c m was = absurd (let e = c.in-Ok-Found.ensures.one_only was.settled.shows.schema in let f = c.in-Ok-Found.field-0-is in cc)
+
+pub returns-in-Ok-Found-clause-renewed_after : goal.returns-in-Ok-Found-clause-renewed_after
+returns-in-Ok-Found-clause-renewed_after g c m was = absurd (let e = c.in-Ok-Found.ensures.one_only was.settled.shows.schema in let f = c.in-Ok-Found.field-0-is in cc)
+
+pub returns-in-Ok-Found-clause-not_earlier : goal.returns-in-Ok-Found-clause-not_earlier
+returns-in-Ok-Found-clause-not_earlier g c = if_back (λ book. book.conn) _ (λ back leaves outside is clean m was. absurd (let e = c.in-Ok-Found.ensures.one_only was.settled.shows.schema in let f = c.in-Ok-Found.field-0-is in cc)) c.checked.result c.checked.ensures.leaves c.checked.ensures.mode
+
+pub returns-in-Err-clause-as_before : goal.returns-in-Err-clause-as_before
+returns-in-Err-clause-as_before g c m was = settled_earlier (state g.S.Store c.args.conn) (state g.S.Store c.adopt_tables.new.conn) m (c.in-Err.ensures.one_leaves was.settled.shows.schema) was
+
+pub returns-in-Err-clause-renewed_crash : goal.returns-in-Err-clause-renewed_crash
+returns-in-Err-clause-renewed_crash g c m was = leaves_survives (state g.S.Store c.args.conn) (state g.S.Store c.adopt_tables.new.conn) m (c.in-Err.ensures.one_leaves was.settled.shows.schema)
+
+pub returns-in-Err-clause-not_earlier : goal.returns-in-Err-clause-not_earlier
+returns-in-Err-clause-not_earlier g c is clean m was = c.in-Err.ensures.one_neither (ap Err (wrong_version _ (sym c.fault_of_adopt.ensures ∙ is))) clean (books m was.totals) was.settled

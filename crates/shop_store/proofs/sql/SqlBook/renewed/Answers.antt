@@ -1,0 +1,17 @@
+use Rattle.std.proofs.Common.{Err, ap, sym, subst}
+use Rattle.sqlite.specs.Held.{state}
+use Rattle.sqlite.specs.State.{Survives}
+use Rattle.shop_tables.specs.Held.{HoldsContent, LeavesOnly, StandsFor}
+use Rattle.shop_store.proofs.sql.SqlBook.renewed.Goals as goal
+
+pub returns-in-Ok-clause-renewed : goal.returns-in-Ok-clause-renewed
+returns-in-Ok-clause-renewed g c m was = subst (λ h. HoldsContent (state g.S.Store h) m) (sym c.over.ensures.conn) (c.in-Ok.ensures.renewed m was)
+
+pub returns-in-Ok-clause-crash : goal.returns-in-Ok-clause-crash
+returns-in-Ok-clause-crash g c m was = subst (λ h. Survives (state g.S.Store c.args.conn) (state g.S.Store h) (λ db. StandsFor db m)) (sym c.over.ensures.conn) (c.in-Ok.ensures.crash m was)
+
+pub returns-in-Ok-clause-after : goal.returns-in-Ok-clause-after
+returns-in-Ok-clause-after g c m was = subst (λ h. LeavesOnly (state g.S.Store h) m) (sym c.over.ensures.conn) (c.in-Ok.ensures.after m was)
+
+pub returns-in-Err-clause-neither : goal.returns-in-Err-clause-neither
+returns-in-Err-clause-neither g c is clean m was = c.in-Err.ensures.neither (ap Err is) clean m was

@@ -1,0 +1,77 @@
+use Rattle.std.proofs.Common.{◌≡◌, ◌∙◌, IsTrue, sym, subst, ap, rules, arith}
+use Rattle.sqlite.specs.State.{HasCleanDisk, Survives}
+use Rattle.sqlite.specs.Held.{state}
+use Rattle.sqlite.specs.Effect.{Database}
+use Rattle.shop_tables.specs.Adopting.{LeavesBooks}
+use Rattle.shop_tables.specs.Earlier.{HoldsEarlier, Renews, ShowsEarlier}
+use Rattle.shop_tables.specs.Shown.{Holds, StandsIn, Within}
+use Rattle.shop_tables.proofs.Commits.{stands_in}
+use Rattle.shop_tables.proofs.RenewedTables.{begins, undone_earlier, renewal_commits, renewal_failed, renewal_survives}
+use Rattle.shop_tables.proofs.Steps.{on_err}
+use Rattle.shop_tables.proofs.renewing.renew_shop.Goals as goal
+
+pub returns-in_err-renew_tables-clause-as_before : goal.returns-in_err-renew_tables-clause-as_before
+returns-in_err-renew_tables-clause-as_before g c b was =
+    let ends : c.drop-tx.new.self.0 ≡ c.conn-1.given.0 = search rules in
+    let done = state g.S.Store c.renew_tables.new.tx.conn.now in
+    let last = state g.S.Store c.drop-tx.new.self.0 in
+    let within = subst (λ h. Within (state g.S.Store h) done) c.transaction-tx.ensures.begun c.renew_tables.ensures.within in
+    let late : HasCleanDisk last → HasCleanDisk done = λ clean. let s = c.drop-tx.ensures.survives.clean in omega (arith, s, clean) in
+    on_err _ (subst (λ h. HoldsEarlier (state g.S.Store h) b) ends (undone_earlier g.S.Store c.args.conn.now b was done last late within c.drop-tx.ensures.undone))
+
+pub returns-in_err-commit-clause-as_before : goal.returns-in_err-commit-clause-as_before
+returns-in_err-commit-clause-as_before g c b was =
+    let ends : c.commit.new.self.0 ≡ c.conn-2-1.given.0 = search rules in
+    let done = state g.S.Store c.renew_tables.new.tx.conn.now in
+    let last = state g.S.Store c.commit.new.self.0 in
+    let within = subst (λ h. Within (state g.S.Store h) done) c.transaction-tx.ensures.begun c.renew_tables.ensures.within in
+    let renewed = subst (λ h. (HasCleanDisk (state g.S.Store h) → IsTrue (state g.S.Store h).is_open → ShowsEarlier (state g.S.Store h) b) → Renews (state g.S.Store h) done b) c.transaction-tx.ensures.begun (c.in_ok-renew_tables.ensures.renewed b) (begins g.S.Store c.args.conn.now b was) in
+    let late : HasCleanDisk last → HasCleanDisk done = λ clean. let s = c.commit.ensures.survives.clean in omega (arith, s, clean) in
+    on_err _ (subst (λ h. HoldsEarlier (state g.S.Store h) b) ends
+    (undone_earlier g.S.Store c.args.conn.now b was done last late within (renewal_failed g.S.Store c.args.conn.now b was done last late within renewed _ c.in_err-commit.ensures.err)))
+
+pub returns-in_err-commit-clause-crash : goal.returns-in_err-commit-clause-crash
+returns-in_err-commit-clause-crash g c b was =
+    let ends : c.commit.new.self.0 ≡ c.conn-2-1.given.0 = search rules in
+    let done = state g.S.Store c.renew_tables.new.tx.conn.now in
+    let last = state g.S.Store c.commit.new.self.0 in
+    let within = subst (λ h. Within (state g.S.Store h) done) c.transaction-tx.ensures.begun c.renew_tables.ensures.within in
+    let renewed = subst (λ h. (HasCleanDisk (state g.S.Store h) → IsTrue (state g.S.Store h).is_open → ShowsEarlier (state g.S.Store h) b) → Renews (state g.S.Store h) done b) c.transaction-tx.ensures.begun (c.in_ok-renew_tables.ensures.renewed b) (begins g.S.Store c.args.conn.now b was) in
+    let late : HasCleanDisk last → HasCleanDisk done = λ clean. let s = c.commit.ensures.survives.clean in omega (arith, s, clean) in
+    subst (λ h. Survives (state g.S.Store c.args.conn.now) (state g.S.Store h) (λ db. StandsIn db b)) ends
+    (renewal_survives g.S.Store c.args.conn.now b was done last late within renewed c.commit.ensures.survives)
+
+pub returns-clause-crash : goal.returns-clause-crash
+returns-clause-crash g c b was =
+    let ends : c.commit.new.self.0 ≡ c.conn-2-1.given.0 = search rules in
+    let done = state g.S.Store c.renew_tables.new.tx.conn.now in
+    let last = state g.S.Store c.commit.new.self.0 in
+    let within = subst (λ h. Within (state g.S.Store h) done) c.transaction-tx.ensures.begun c.renew_tables.ensures.within in
+    let renewed = subst (λ h. (HasCleanDisk (state g.S.Store h) → IsTrue (state g.S.Store h).is_open → ShowsEarlier (state g.S.Store h) b) → Renews (state g.S.Store h) done b) c.transaction-tx.ensures.begun (c.in_ok-renew_tables.ensures.renewed b) (begins g.S.Store c.args.conn.now b was) in
+    let late : HasCleanDisk last → HasCleanDisk done = λ clean. let s = c.commit.ensures.survives.clean in omega (arith, s, clean) in
+    subst (λ h. Survives (state g.S.Store c.args.conn.now) (state g.S.Store h) (λ db. StandsIn db b)) ends
+    (renewal_survives g.S.Store c.args.conn.now b was done last late within renewed c.commit.ensures.survives)
+
+pub returns-clause-renewed : goal.returns-clause-renewed
+returns-clause-renewed g c b was =
+    let ends : c.commit.new.self.0 ≡ c.conn-2-1.given.0 = search rules in
+    let done = state g.S.Store c.renew_tables.new.tx.conn.now in
+    let last = state g.S.Store c.commit.new.self.0 in
+    let within = subst (λ h. Within (state g.S.Store h) done) c.transaction-tx.ensures.begun c.renew_tables.ensures.within in
+    let renewed = subst (λ h. (HasCleanDisk (state g.S.Store h) → IsTrue (state g.S.Store h).is_open → ShowsEarlier (state g.S.Store h) b) → Renews (state g.S.Store h) done b) c.transaction-tx.ensures.begun (c.in_ok-renew_tables.ensures.renewed b) (begins g.S.Store c.args.conn.now b was) in
+    let late : HasCleanDisk last → HasCleanDisk done = λ clean. let s = c.commit.ensures.survives.clean in omega (arith, s, clean) in
+    subst (λ h. Holds (state g.S.Store h) b) ends (renewal_commits g.S.Store c.args.conn.now b was done last late within renewed (λ clean. (c.in_ok-commit.ensures.ok clean).1))
+
+pub returns-clause-after : goal.returns-clause-after
+returns-clause-after g c b was =
+    let ends : c.commit.new.self.0 ≡ c.conn-2-1.given.0 = search rules in
+    let done = state g.S.Store c.renew_tables.new.tx.conn.now in
+    let last = state g.S.Store c.commit.new.self.0 in
+    let renewed = subst (λ h. (HasCleanDisk (state g.S.Store h) → IsTrue (state g.S.Store h).is_open → ShowsEarlier (state g.S.Store h) b) → Renews (state g.S.Store h) done b) c.transaction-tx.ensures.begun (c.in_ok-renew_tables.ensures.renewed b) (begins g.S.Store c.args.conn.now b was) in
+    let late : HasCleanDisk last → HasCleanDisk done = λ clean. let s = c.commit.ensures.survives.clean in omega (arith, s, clean) in
+    subst (λ h. LeavesBooks (state g.S.Store h) b) ends
+    (λ clean db left.
+    let e = (c.in_ok-commit.ensures.ok clean).1 in
+    let only : db ≡ last.committed.trees = g.met.S.Store.settled (c.commit.new.self.0).store db e.is_open left in
+    let now : db ≡ done.now.trees = only ∙ ap (λ (d : Database). d.trees) e.committed_is in
+    subst (λ t. StandsIn t b) (sym now) (stands_in done b (renewed.shows (late clean))))

@@ -1,0 +1,72 @@
+//! Tables of version 1, read and brought to version 2.
+
+ghost use Rattle.std.specs.Prelude.{◌≡◌, false, map, IfOk, IsTrue, OnErr, OnOk};
+ghost use Rattle.std.specs.FinMap.{entries};
+ghost use Rattle.sqlite.specs.State.{HasCleanDisk, Survives};
+ghost use Rattle.sqlite.specs.Held.{state};
+ghost use Rattle.shop_tables.specs.Adopting.{LeavesBooks};
+ghost use Rattle.shop_tables.specs.Earlier.{HoldsEarlier, Renews, SaysEarlier, ShowsEarlier};
+ghost use Rattle.shop_tables.specs.Listing.{AreAllTotals, listed_row};
+ghost use Rattle.shop_tables.specs.Shown.{Books, Holds, Leaves, StandsIn, Within};
+
+use crate::TableFault;
+use crate::listing::{material_rows, read_all};
+use crate::rows::all_rows;
+use shop_machine::MaterialTotals;
+use sqlite::{Alter, Connection, Error, Row, Transaction};
+use std::alloc::Global;
+
+fn earlier_totals_rows<S: Alter>(conn: &mut Connection<S>) -> Result<Vec<Row>, Error>
+    ensures rows { SaysEarlier (state S.Store conn.old) (state S.Store conn.new) (λ books. IfOk result (λ rows. rows.items ≡ map listed_row (entries books.totals))) }
+    ensures leaves { Leaves (state S.Store conn.old) (state S.Store conn.new) }
+    ensures mode { conn.old.in_transaction ≡ false → conn.new.in_transaction ≡ false }
+{
+    all_rows(
+        conn,
+        "SELECT received, stock, rack, pieces, kerf, scrap, 0, material FROM totals ORDER BY material",
+        &[],
+    )
+}
+
+/// The totals of all materials in tables of version 1, by rising code; None where a material has none, or another code has
+/// some.
+pub fn list_earlier_totals<S: Alter>(
+    alloc: Global,
+    conn: &mut Connection<S>,
+) -> Result<Option<Vec<MaterialTotals>>, TableFault>
+    ensures rows { SaysEarlier (state S.Store conn.old) (state S.Store conn.new) (λ books. IfOk result (AreAllTotals books)) }
+    ensures leaves { Leaves (state S.Store conn.old) (state S.Store conn.new) }
+    ensures mode { conn.old.in_transaction ≡ false → conn.new.in_transaction ≡ false }
+{
+    let materials = material_rows(conn)?;
+    let totals = earlier_totals_rows(conn)?;
+    read_all(alloc, &materials, &totals)
+}
+
+/// Brings tables of version 1 to version 2: the totals move to a table of their own, where 0 of each material was returned.
+pub fn renew_tables<S: Alter>(tx: &mut Transaction<'_, S>) -> Result<(), Error>
+    ensures same_reference { tx.new.conn.ghost_name ≡ tx.old.conn.ghost_name }
+    ensures renewed { (b : Books) → (HasCleanDisk (state S.Store tx.old.conn.now) → IsTrue (state S.Store tx.old.conn.now).is_open → ShowsEarlier (state S.Store tx.old.conn.now) b)
+        → OnOk result (Renews (state S.Store tx.old.conn.now) (state S.Store tx.new.conn.now) b) }
+    ensures within { Within (state S.Store tx.old.conn.now) (state S.Store tx.new.conn.now) }
+{
+    tx.execute_batch(
+        "CREATE TABLE totals2 (material TEXT NOT NULL PRIMARY KEY REFERENCES materials (code), received INTEGER NOT NULL, stock INTEGER NOT NULL, rack INTEGER NOT NULL, pieces INTEGER NOT NULL, kerf INTEGER NOT NULL, scrap INTEGER NOT NULL, returned INTEGER NOT NULL) STRICT;INSERT INTO totals2 (material, received, stock, rack, pieces, kerf, scrap, returned) SELECT material, received, stock, rack, pieces, kerf, scrap, 0 FROM totals;DELETE FROM totals;UPDATE meta SET value = 2 WHERE name = 'version'",
+    )
+}
+
+/// Brings tables of version 1 to version 2 in one transaction: as a whole, or not at all.
+pub fn renew_shop<S: Alter>(conn: &mut Connection<S>) -> Result<(), TableFault>
+    requires outside { conn.old.in_transaction ≡ false }
+    ensures mode { conn.new.in_transaction ≡ false }
+    ensures earlier { HasCleanDisk (state S.Store conn.new) → HasCleanDisk (state S.Store conn.old) }
+    ensures renewed { (b : Books) → HoldsEarlier (state S.Store conn.old) b → OnOk result (Holds (state S.Store conn.new) b) }
+    ensures as_before { (b : Books) → HoldsEarlier (state S.Store conn.old) b → OnErr result (HoldsEarlier (state S.Store conn.new) b) }
+    ensures crash { (b : Books) → HoldsEarlier (state S.Store conn.old) b → Survives (state S.Store conn.old) (state S.Store conn.new) (λ db. StandsIn db b) }
+    ensures after { (b : Books) → HoldsEarlier (state S.Store conn.old) b → OnOk result (LeavesBooks (state S.Store conn.new) b) }
+{
+    let mut tx = conn.transaction();
+    renew_tables(&mut tx)?;
+    tx.commit()?;
+    Ok(())
+}
