@@ -27,6 +27,8 @@ mod text_tests;
 mod visiting_tests;
 #[cfg(test)]
 mod wire_tests;
+#[cfg(test)]
+mod writes_tests;
 
 use anyhow::{Error, Result};
 use shop_store::{Book, MemBook, SqlBook};

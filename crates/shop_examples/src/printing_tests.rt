@@ -23,7 +23,8 @@ const TWO_PIECES: &str =
 {"do":"done","job":2,"number":5,"terminal":1}
 "#;
 
-const TICKET_OF_TWO: &str = "job 2 done
+/// The ticket of a job that made two pieces of a sheet.
+pub const TICKET_OF_TWO: &str = "job 2 done
 part 1/0 GLASS 1.0 x 0.8 kerf 0.1
    0 cut x 0.4 at 0.0 0.0 of 1.0 x 0.8
    1 cut y 0.3 at 0.0 0.0 of 0.4 x 0.8
@@ -33,7 +34,8 @@ part 1/0 GLASS 1.0 x 0.8 kerf 0.1
 cuts 2 pieces 2
 ";
 
-const YIELD_OF_TWO: &str = "yield GLASS sheet
+/// The yield of that sheet.
+pub const YIELD_OF_TWO: &str = "yield GLASS sheet
 received               80
 stock                   0
 rack                   40

@@ -1,3 +1,4 @@
+use crate::printing_tests::{TICKET_OF_TWO, YIELD_OF_TWO};
 use crate::wire_tests::{Given, Taken, replayed};
 use shop_store::MemBook;
 use shop_text::Counted;
@@ -315,29 +316,6 @@ fn queries_are_served(rt: HostRuntime) -> Result<(), Fail> {
     Ok(())
 }
 
-const TICKET: &str = "job 2 done
-part 1/0 GLASS 1.0 x 0.8 kerf 0.1
-   0 cut x 0.4 at 0.0 0.0 of 1.0 x 0.8
-   1 cut y 0.3 at 0.0 0.0 of 0.4 x 0.8
-   2 piece at 0.0 0.0 of 0.4 x 0.3 demand 1 A-1 line 1
-   3 piece at 0.0 0.4 of 0.4 x 0.4 demand 2 A-1 line 2
-   4 rest at 0.5 0.0 of 0.5 x 0.8
-cuts 2 pieces 2
-";
-
-const REPORT: &str = "yield GLASS sheet
-received               80
-stock                   0
-rack                   40
-pieces                 28
-kerf                   12
-scrap                   0
-returned                0
-yield 35.0 %
-part 2/4 0.5 x 0.8 standing
-end
-";
-
 // The answer that prints a text.
 fn printed(alloc: Global, body: &str) -> Result<String, Fail> {
     let length = body.len();
@@ -364,8 +342,8 @@ fn texts_are_served(rt: HostRuntime) -> Result<(), Fail> {
     let alloc = rt.alloc();
     let mut book = MemBook::new(alloc);
     drop(replayed(alloc, &mut book, TWO_PIECES.as_bytes())?);
-    is_printed(&rt, alloc, &mut book, "/ticket/2", TICKET)?;
-    is_printed(&rt, alloc, &mut book, "/yield/GLASS", REPORT)
+    is_printed(&rt, alloc, &mut book, "/ticket/2", TICKET_OF_TWO)?;
+    is_printed(&rt, alloc, &mut book, "/yield/GLASS", YIELD_OF_TWO)
 }
 
 // The rack, a trace and a demand of the sheet.

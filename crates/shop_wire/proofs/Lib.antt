@@ -1,5 +1,6 @@
 pub mod Answered
 pub mod Parts
+pub mod Passed
 pub mod Failing
 pub mod LineLemmas
 pub mod Reading

@@ -38,3 +38,8 @@ split_at_feed buffer start end at within inside is =
 
 pub pending_none : (buffer : List ℕ) (n : ℕ) → pending buffer n n ≡ []
 pending_none buffer n = let none : n - n ≡ 0 = omega arith in ap (λ m. take m (drop n buffer)) none
+
+pub has_feed : (hay : List ℕ) (at : ℕ) → at < length hay → nat_eq (slice_index hay at) 10 ≡ true → HasNoFeed hay → ⊥
+has_feed [] at within is free = absurd (omega arith)
+has_feed (b ∷ bs) zero within is free = absurd (cc (sym is ∙ free.0))
+has_feed (b ∷ bs) (suc at) within is free = has_feed bs at (omega (arith, within)) is free.1

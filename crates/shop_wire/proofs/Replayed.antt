@@ -94,25 +94,39 @@ module _ {B : Type 0} (book : Ghosts B) where
         run = answered;
       }
 
-  joined : (bytes more unwritten : List ℕ) (replies answers : List Reply) → bytes ++ [] ≡ reply_lines replies → more ++ unwritten ≡ reply_lines answers
-      → (bytes ++ more) ++ unwritten ≡ reply_lines (replies ++ answers)
-  joined bytes more unwritten replies answers p q =
-      append_assoc bytes more unwritten ∙ ap (λ l. bytes ++ l) q ∙ ap (λ l. l ++ reply_lines answers) (sym (append-nil bytes) ∙ p) ∙ sym (flat_map-append reply_line replies answers)
+  joined : (bytes held more lost next : List ℕ) (replies answers : List Reply) → bytes ++ held ≡ reply_lines replies → more ++ lost ≡ reply_lines answers → next ≡ held ++ more
+      → bytes ++ (next ++ lost) ≡ reply_lines (replies ++ answers)
+  joined bytes held more lost next replies answers p q is =
+      ap (λ l. bytes ++ (l ++ lost)) is ∙ ap (λ l. bytes ++ l) (append_assoc held more lost) ∙ sym (append_assoc bytes held (more ++ lost))
+      ∙ ap (λ l. (bytes ++ held) ++ l) q ∙ ap (λ l. l ++ reply_lines answers) p ∙ sym (flat_map-append reply_line replies answers)
 
-  -- lines that were answered, and then more
-  pub more_replayed : (before mid after : B) (a b c : Option (List ℕ)) (lines more : List (List ℕ)) (unwritten : List ℕ)
+  -- lines that were answered, with replies that are held, and then more replies that are held but for some last bytes
+  pub more_held : (before mid after : B) (a b : Option (List ℕ)) (lines more : List (List ℕ)) (held next lost : List ℕ)
       → (book.is_honest after → book.is_honest mid) → CountsUp (book.failed before) (book.failed mid) → CountsUp (book.failed mid) (book.failed after)
-      → IsReplayed book before mid a b lines [] → IsReplayed book mid after b c more unwritten → IsReplayed book before after a c (lines ++ more) unwritten
-  more_replayed before mid after a b c lines more unwritten back up later first second =
+      → IsReplayed book before mid a b lines held → IsReplayed book mid after (Some held) (Some next) more lost → IsReplayed book before after a b (lines ++ more) (next ++ lost)
+  more_held before mid after a b lines more held next lost back up later first second =
       record {
         replies = first.replies ++ second.replies;
         each = length-append first.replies second.replies ∙ ap (λ n. n + length second.replies) first.each ∙ ap (λ n. length lines + n) second.each ∙ sym (length-append lines more);
-        bytes = first.bytes ++ second.bytes;
-        told = joined first.bytes second.bytes unwritten first.replies second.replies first.told second.told;
-        written = Appends-trans a b c first.bytes second.bytes first.written second.written;
+        bytes = first.bytes;
+        told = joined first.bytes held second.bytes lost next first.replies second.replies first.told second.told second.written;
+        written = first.written;
         run = λ h m held sound.
             let one = first.run (back h) m held sound in
             more_answered LineStep line_message book before mid after m lines more first.replies second.replies up later one (second.run h one.next one.held one.sound);
+      }
+
+  -- some of what is held is written
+  pub passed_on : (before after : B) (a b c : Option (List ℕ)) (lines : List (List ℕ)) (held done rest : List ℕ)
+      → done ++ rest ≡ held → Appends b c done → IsReplayed book before after a b lines held → IsReplayed book before after a c lines rest
+  passed_on before after a b c lines held done rest is written r =
+      record {
+        replies = r.replies;
+        each = r.each;
+        bytes = r.bytes ++ done;
+        told = append_assoc r.bytes done rest ∙ ap (λ l. r.bytes ++ l) is ∙ r.told;
+        written = Appends-trans a b c r.bytes done r.written written;
+        run = r.run;
       }
 
   answered_whole : (before after : B) (m : Content) (whole : List ℕ) (replies : List Reply)
@@ -202,7 +216,7 @@ pub for_the_fault : {T E : Type 0} (r : Result T E) (P : E → Type 0) (e : E) �
 for_the_fault (Ok x) P e is h = absurd (cc is)
 for_the_fault (Err d) P e is h = let same : e ≡ d = cc in subst P same h
 
--- a line was read, so that reading did not fail
-pub not_read : (fault : ReplayFault) (A : Type 0) (unwritten : List ℕ) → (fault ≡ NoMemory) ⊎ ((fault ≡ Write) × A) → fault ≡ Read → unwritten ≡ []
-not_read fault A unwritten (inl is) e = absurd (cc (sym is ∙ e))
-not_read fault A unwritten (inr is) e = absurd (cc (sym is.0 ∙ e))
+-- what was lost after a failed read is nothing, where no read failed
+pub not_read : (fault : ReplayFault) (lost : List ℕ) → (fault ≡ NoMemory) ⊎ (fault ≡ Write) → fault ≡ Read → lost ≡ []
+not_read fault lost (inl is) e = absurd (cc (sym is ∙ e))
+not_read fault lost (inr is) e = absurd (cc (sym is ∙ e))

@@ -52,6 +52,17 @@ impl LineReader {
         }
     }
 
+    /// Whether the source isn't read for the next line.
+    pub(crate) fn has_line(&self) -> bool
+        ensures whole { result ≡ true → HasNoFeed (pending self.now.buffer self.now.start self.now.end) → ⊥ }
+        ensures part { result ≡ false → HasNoFeed (pending self.now.buffer self.now.start self.now.end) }
+    {
+        match memchr(b'\n', &self.buffer[self.start..self.end]) {
+            Some(_) => true,
+            None => false,
+        }
+    }
+
     // Takes what is pending, up to a line feed, and tells whether there is one.
     fn take_part(&mut self, line: &mut Vec<u8>) -> Result<bool, AllocError>
         requires { length line.old.items ≤ longest_line + 1 }

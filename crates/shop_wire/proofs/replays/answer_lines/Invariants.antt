@@ -6,14 +6,14 @@ use Rattle.shop_wire.specs.declared.limits.TheConstants.{ROOM}
 use Rattle.shop_wire.specs.Replays.{IsReplayed}
 use Rattle.shop_wire.specs.Streams.{CountTogether, TookBytes, most_reads, work}
 use Rattle.shop_wire.proofs.Replayed.{HasRead}
-use Rattle.shop_wire.proofs.replays.replay.Given as goal
+use Rattle.shop_wire.proofs.replays.answer_lines.Given as goal
 
 abbrev pub invariant-loop-line : goal.invariant-loop-line
 invariant-loop-line g l =
     (lines : List (List ℕ))
     × HasRead (g.S.Source.left l.fn.source) (prepend_known (pending l.reader.buffer l.reader.start l.reader.end) (g.S.Source.left l.source)) lines
     × (l.count ≡ length lines)
-    × IsReplayed g.B.Book l.fn.book l.book (g.W.Sink.held l.fn.sink) (g.W.Sink.held l.sink) lines []
+    × IsReplayed g.B.Book l.fn.book l.book (g.W.Sink.held l.fn.sink) (g.W.Sink.held l.sink) lines l.held.items
     × (g.B.Book.is_honest l.book → g.B.Book.is_honest l.fn.book)
     × CountsUp (g.B.Book.failed l.fn.book) (g.B.Book.failed l.book)
     × (l.reader.reads ≤ most_reads)
