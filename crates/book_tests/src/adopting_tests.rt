@@ -198,31 +198,46 @@ fn strange_rows_are_a_wrong_version(rt: HostRuntime) -> Result<(), TableFault> {
     Ok(())
 }
 
-// The fault of a shop with a bar and its totals, in which this was done.
-fn fault_after(alloc: Global, batch: &str) -> Result<Option<BookFault>, TableFault> {
-    let mut conn = shop(alloc, BAR)?;
-    conn.execute_batch(ITS_TOTALS)?;
-    conn.execute_batch(batch)?;
-    if !conn.is_autocommit() {
-        return Err(TableFault::Store);
-    }
-    match SqlBook::adopt(alloc, conn) {
-        Ok(_) => Ok(None),
-        Err((fault, _)) => Ok(Some(fault)),
-    }
-}
-
-// A width of 0, a number of more than 32 bits, and a text that is no code.
+// Acts, nodes, places, sides, codes and a job out of their ranges.
 const OUT_OF_RANGE: &[&str] = &[
+    "UPDATE parts SET act = 0",
+    "UPDATE parts SET node = 4294967296",
+    "UPDATE parts SET root_act = 2147483648",
+    "UPDATE parts SET x = 4294967296",
+    "UPDATE parts SET y = 5000000000",
     "UPDATE parts SET w = 0",
-    "UPDATE parts SET x = 5000000000",
+    "UPDATE parts SET w = 200001",
+    "UPDATE parts SET h = 60001",
     "UPDATE parts SET batch = ''",
+    "UPDATE parts SET batch = 'b-1'",
+    "UPDATE parts SET state = 1, detail = 4294967296",
+    "INSERT INTO materials (code, kind, kerf, min_long, min_short) VALUES ('steel', 0, 3, 20, 1);INSERT INTO totals2 (material, received, stock, rack, pieces, kerf, scrap, returned) VALUES ('steel', 0, 0, 0, 0, 0, 0, 0)",
 ];
 
 #[test]
-fn values_out_of_range_are_a_fault_of_the_store(rt: HostRuntime) -> Result<(), TableFault> {
+fn values_out_of_range_are_a_wrong_version(rt: HostRuntime) -> Result<(), TableFault> {
     'wide: for batch in OUT_OF_RANGE {
-        assert!(rt; fault_after(rt.alloc(), batch)? == Some(BookFault::Store));
+        assert!(rt; parts_handed_back(rt.alloc(), batch)? == Some(1));
+    }
+    Ok(())
+}
+
+// The greatest values that parts have, which aren't strange.
+const GREATEST: &[&str] = &[
+    "UPDATE parts SET node = 4294967295, root_node = 4294967295, x = 4294967295, y = 4294967295",
+    "UPDATE parts SET act = 2147483647, root_act = 2147483647, batch = 'ABCDEFGHIJ-01234'",
+];
+
+#[test]
+fn greatest_values_are_adopted(rt: HostRuntime) -> Result<(), TableFault> {
+    'great: for batch in GREATEST {
+        let mut conn = shop(rt.alloc(), BAR)?;
+        conn.execute_batch(ITS_TOTALS)?;
+        conn.execute_batch(batch)?;
+        if !conn.is_autocommit() {
+            return Err(TableFault::Store);
+        }
+        assert!(rt; SqlBook::adopt(rt.alloc(), conn).is_ok());
     }
     Ok(())
 }

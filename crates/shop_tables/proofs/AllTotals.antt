@@ -1,22 +1,25 @@
 -- Maps with the same keys, and the rows of all totals.
-use Rattle.std.proofs.Common.{◌≡◌, ℕ, ◌+◌, ◌<◌, ◌≤◌, Bool, true, false, cond, not, ◌&&◌, List, [], ◌∷◌, ◌++◌, length, map, take, get_or, Option, Some, None, is_some, option_map, T, IfSome, IsNone, Vec, nat_eq, true≢false, refl, sym, ap, subst, ◌∙◌, arith}
+use Rattle.std.proofs.Common.{◌≡◌, ℕ, ◌+◌, ◌<◌, ◌≤◌, Bool, true, false, cond, ◌&&◌, List, [], ◌∷◌, ◌++◌, length, map, take, get_or, Option, Some, None, is_some, option_map, T, IfSome, IsNone, Vec, IsTrue, ◌||◌, refl, sym, ap, subst, ◌∙◌, arith}
 use Rattle.std.specs.declared.alloc.Global.{Global}
-use Rattle.std.specs.Ordering.{eq_by_cmp, is_lt}
+use Rattle.std.specs.Cmp.{tied_itself}
+use Rattle.std.specs.Ordering.{eq_by_cmp, is_eq, is_lt}
 use Rattle.std.specs.List.{list_any}
-use Rattle.std.specs.Cmp.Lexicographic.{bytes_decides, pointwise}
 use Rattle.std.specs.FinMap.{FinMap, entries, entries_sorted, find, from_sorted, get, get-entries, get-from_sorted, entries-from_sorted, is_sorted, same_map}
 use Rattle.std.specs.FinMap.Entries.{below_all, is_some-find}
 use Rattle.std.proofs.lemmas.List.{get_or-map, length-map, map_more, take_all, take_more}
 use Rattle.sqlite_value.specs.Order.{Row, column}
 use Rattle.sqlite_value.specs.declared.value.Value.TheVariants.{Text}
-use Rattle.cut_measure.specs.Codes.{code_cmp}
+use Rattle.sqlite_trees.proofs.ListLemmas.{all-get_or}
+use Rattle.cut_measure.specs.Codes.{code_cmp, is_code}
 use Rattle.shop_machine.specs.Content.{no_totals}
 use Rattle.shop_machine.specs.declared.changes.MaterialTotals.{MaterialTotals}
 use Rattle.shop_machine.specs.declared.records.Totals.{Totals}
-use Rattle.shop_tables.specs.Listing.{AreAllTotals, code_row, key_of, listed_row, named}
+use Rattle.shop_tables.specs.Listing.{AreAllTotals, AreCodes, code_row, key_of, listed_row, named}
 use Rattle.shop_tables.specs.Shown.{Books}
+use Rattle.shop_tables.specs.Strange.{Shows}
 use Rattle.shop_tables.proofs.Finding.{code_total, code_same}
 use Rattle.shop_tables.proofs.Lists.{map-map}
+use Rattle.shop_tables.proofs.StrangeRows.{shown_in}
 
 -- ---- the keys of a map
 
@@ -69,16 +72,6 @@ same_keys m n there =
 
 -- ---- rows that are read one after another
 
-pub other_codes : (a b : List ℕ) (r : Bool) → r ≡ not (pointwise nat_eq a b) → r ≡ true → ¬ (a ≡ b)
-other_codes a b r is differs same = absurd (true≢false (sym differs ∙ is ∙ ap not ((bytes_decides a b).1 same)))
-
-turned : (b : Bool) → not b ≡ false → b ≡ true
-turned true h = refl
-turned false h = absurd (cc)
-
-pub equal_codes : (a b : List ℕ) (r : Bool) → r ≡ not (pointwise nat_eq a b) → r ≡ false → a ≡ b
-equal_codes a b r is equal = (bytes_decides a b).0 (turned (pointwise nat_eq a b) (sym is ∙ equal))
-
 abbrev none : List ℕ × Totals
 none = ([], no_totals)
 
@@ -96,26 +89,33 @@ module _ (codes rows : List Row) (cs : List (List ℕ)) (es : List (List ℕ × 
     code_is : (row : Row) → row ≡ get_or codes i row → row ≡ code_row (get_or cs i [])
     code_is row is = is ∙ ap (λ rs. get_or rs i row) are_codes ∙ get_or-map code_row cs i [] row (omega (arith, inside, many_codes, same))
 
-    module _ (row : Row) (code : List ℕ) (read : MaterialTotals) (is : row ≡ get_or codes i row) (of_it : column row 0 ≡ Text code) (reads : read ≡ named (get_or es i none)) where
-      own : code ≡ get_or cs i []
-      own = let e : Text code ≡ Text (get_or cs i []) = sym of_it ∙ ap (λ r. column r 0) (code_is row is) in cc
+    -- a row of totals under no code
+    pub uncoded : ¬ IsTrue (is_code (get_or es i none).0) → AreCodes cs → ¬ (cs ≡ map key_of es)
+    uncoded other all equal =
+        let own : get_or cs i [] ≡ (get_or es i none).0 = ap (λ ks. get_or ks i []) equal ∙ get_or-map key_of es i none [] (omega (arith, inside, many_rows)) in
+        other (subst (λ code. IsTrue (is_code code)) own (all-get_or (λ code. IsTrue (is_code code)) cs i [] all (omega (arith, inside, many_codes, same))))
+
+    module _ (row : Row) (read : MaterialTotals) (is : row ≡ get_or codes i row) (reads : read ≡ named (get_or es i none)) where
+      own : Shows row 0 (Text read.material) → read.material ≡ get_or cs i []
+      own has = let e : Text read.material ≡ Text (get_or cs i []) = sym has.1 ∙ ap (λ r. column r 0) (code_is row is) in cc
 
       -- the codes were equal
-      pub one_more : (list : List MaterialTotals) → code ≡ read.material → list ≡ map named (take i es) → map key_of (take i es) ≡ take i cs
+      pub one_more : (list : List MaterialTotals) → Shows row 0 (Text read.material) → list ≡ map named (take i es) → map key_of (take i es) ≡ take i cs
           → (list ++ read ∷ [] ≡ map named (take (i + 1) es)) × (map key_of (take (i + 1) es) ≡ take (i + 1) cs)
       one_more list here so_far front =
           let inner : i < length es = omega (arith, inside, many_rows) in
           let within : i < length cs = omega (arith, inside, many_codes, same) in
           let first : list ++ read ∷ [] ≡ map named (take i es) ++ named (get_or es i none) ∷ [] = λ k. so_far k ++ reads k ∷ [] in
-          let key : key_of (get_or es i none) ≡ get_or cs i [] = ap (λ (r : MaterialTotals). r.material) (sym reads) ∙ sym here ∙ own in (
+          let key : key_of (get_or es i none) ≡ get_or cs i [] = ap (λ (r : MaterialTotals). r.material) (sym reads) ∙ own here in (
             first ∙ sym (map_more named es i none inner),
             map_more key_of es i none inner ∙ (λ k. front k ++ key k ∷ []) ∙ sym (take_more cs i [] within),
           )
 
       -- the codes weren't
-      pub apart : ¬ (code ≡ read.material) → ¬ (cs ≡ map key_of es)
+      pub apart : ¬ Shows row 0 (Text read.material) → ¬ (cs ≡ map key_of es)
       apart other equal =
-          other (own ∙ ap (λ ks. get_or ks i []) equal ∙ get_or-map key_of es i none [] (omega (arith, inside, many_rows)) ∙ ap (λ (r : MaterialTotals). r.material) (sym reads))
+          let code : get_or cs i [] ≡ read.material = ap (λ ks. get_or ks i []) equal ∙ get_or-map key_of es i none [] (omega (arith, inside, many_rows)) ∙ ap (λ (r : MaterialTotals). r.material) (sym reads) in
+          other (shown_in row (code_row read.material) (code_is row is ∙ ap code_row code) 0 (Text read.material) (omega arith) refl)
 
   pub other_count : ¬ (length codes ≡ length rows) → ¬ (cs ≡ map key_of es)
   other_count other equal = other (many_codes ∙ ap length equal ∙ length-map es key_of ∙ sym many_rows)
@@ -127,9 +127,25 @@ module _ (codes rows : List Row) (cs : List (List ℕ)) (es : List (List ℕ × 
         sym (take_all i cs (omega (arith, ended, many_codes, same))) ∙ sym front ∙ ap (map key_of) whole,
       )
 
+-- the keys of a map are codes where what is found stands under one
+pub all_coded : {X : Type 0} (m : FinMap code_cmp X) → ((code : List ℕ) (x : X) → get m code ≡ Some x → IsTrue (is_code code)) → AreCodes (map key_of (entries m))
+all_coded {X} m all = go (map key_of (entries m)) (λ code i. under code (get m code) refl (ap is_some (get-entries m code) ∙ is_some-find code_cmp code (entries m) ∙ i))
+  where
+    under : (code : List ℕ) (found : Option X) → get m code ≡ found → is_some found ≡ true → IsTrue (is_code code)
+    under code None is there = absurd (cc)
+    under code (Some x) is there = all code x is
+
+    or_more : (b c : Bool) → c ≡ true → (b || c) ≡ true
+    or_more true c h = refl
+    or_more false c h = h
+
+    go : (codes : List (List ℕ)) → ((code : List ℕ) → list_any (eq_by_cmp code_cmp code) codes ≡ true → IsTrue (is_code code)) → AreCodes codes
+    go [] h = tt
+    go (code ∷ codes) h = (h code (ap (λ b. b || list_any (eq_by_cmp code_cmp code) codes) (ap is_eq (tied_itself code_total code))), go codes (λ other i. h other (or_more (eq_by_cmp code_cmp other code) _ i)))
+
 -- what was read is what the books have
-pub all_totals : (b : Books) (read : Option (Vec MaterialTotals Global))
-    → IfSome read (λ list. (list.items ≡ map named (entries b.totals)) × (map key_of (entries b.content.materials) ≡ map key_of (entries b.totals))) × (IsNone read → ¬ (map key_of (entries b.content.materials) ≡ map key_of (entries b.totals)))
+pub all_totals : (b : Books) → AreCodes (map key_of (entries b.content.materials)) → (read : Option (Vec MaterialTotals Global))
+    → IfSome read (λ list. (list.items ≡ map named (entries b.totals)) × (map key_of (entries b.content.materials) ≡ map key_of (entries b.totals))) × (IsNone read → AreCodes (map key_of (entries b.content.materials)) → ¬ (map key_of (entries b.content.materials) ≡ map key_of (entries b.totals)))
     → AreAllTotals b read
-all_totals b None h = λ there. h.1 refl (same_keys b.content.materials b.totals (λ code. sym (there code)))
-all_totals b (Some list) h = (λ code. sym (same_codes b.content.materials b.totals h.0.1 code), h.0.0)
+all_totals b coded None h = λ there. h.1 refl coded (same_keys b.content.materials b.totals (λ code. sym (there code)))
+all_totals b coded (Some list) h = (λ code. sym (same_codes b.content.materials b.totals h.0.1 code), h.0.0)

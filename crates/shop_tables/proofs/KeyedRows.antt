@@ -1,5 +1,5 @@
--- Each row stands under its own key after one is new or another.
-use Rattle.std.proofs.Common.{◌≡◌, ℕ, true, List, Some, None, refl, sym, ap, subst, ◌∙◌}
+-- Each row stands under its own key, and parts and codes are values, after one is new or another.
+use Rattle.std.proofs.Common.{◌≡◌, ℕ, true, List, Some, None, IsTrue, refl, sym, ap, subst, ◌∙◌}
 use Rattle.std.proofs.lemmas.Bool.{cases_Bool}
 use Rattle.std.proofs.Common.{inl, inr, ◌⊎◌}
 use Rattle.std.specs.declared.cmp.Ordering.{Ordering}
@@ -7,6 +7,7 @@ use Rattle.std.specs.declared.cmp.Ordering.TheVariants.{Less, Equal, Greater}
 use Rattle.std.specs.Ordering.{eq_by_cmp, is_eq}
 use Rattle.std.specs.Cmp.{IsTotalOrder, nat_cmp_total}
 use Rattle.std.specs.FinMap.{FinMap, IsAntisymmetric, get, insert, get-insert, nat_cmp-IsAntisymmetric}
+use Rattle.cut_measure.specs.Codes.{is_code}
 use Rattle.cut_measure.specs.Names.{Name}
 use Rattle.shop_machine.specs.Content.{Content, material_at, part_at}
 use Rattle.shop_machine.specs.declared.records.Material.{Material}
@@ -15,6 +16,7 @@ use Rattle.shop_machine.specs.declared.records.Job.{Job}
 use Rattle.shop_machine.specs.declared.records.Demand.{Demand}
 use Rattle.shop_machine.specs.declared.imports.ImportRow.{ImportRow}
 use Rattle.shop_tables.specs.Rows.{IsKeyed, IsOwnJob}
+use Rattle.shop_tables.specs.Values.{IsPartValue}
 use Rattle.shop_tables.proofs.Finding.{code_total, code_same, name_total, name_same}
 
 some_same : {X : Type 0} (x y : X) → Some x ≡ Some y → x ≡ y
@@ -82,31 +84,37 @@ itself : (p : Part) → SameCut p p
 itself p = (refl, refl)
 
 module _ (m : Content) (keyed : IsKeyed m) where
-  pub with_material_keyed : (x : Material) → get m.materials x.code ≡ None → IsKeyed (record m { materials = insert m.materials x.code x })
-  with_material_keyed x fresh = record {
+  pub with_material_keyed : (x : Material) → IsTrue (is_code x.code) → get m.materials x.code ≡ None → IsKeyed (record m { materials = insert m.materials x.code x })
+  with_material_keyed x coded fresh = record {
     materials = each_then code_total code_same (λ code y. y.code ≡ code) m.materials x.code x keyed.materials refl;
     parts = keyed.parts;
     jobs = λ number job there. job_still m (record m { materials = insert m.materials x.code x }) (λ q p found. (p, found, itself p)) (λ code y. found_still code_total code_same m.materials x.code code x y fresh) number job (keyed.jobs number job there);
     demands = keyed.demands;
     imports = keyed.imports;
+    codes = each_then code_total code_same (λ code y. IsTrue (is_code code)) m.materials x.code x keyed.codes coded;
+    values = keyed.values;
   }
 
-  pub with_part_keyed : (x : Part) → get m.parts x.name ≡ None → IsKeyed (record m { parts = insert m.parts x.name x })
-  with_part_keyed x fresh = record {
+  pub with_part_keyed : (x : Part) → IsPartValue x → get m.parts x.name ≡ None → IsKeyed (record m { parts = insert m.parts x.name x })
+  with_part_keyed x value fresh = record {
     materials = keyed.materials;
     parts = each_then name_total name_same (λ name y. y.name ≡ name) m.parts x.name x keyed.parts refl;
     jobs = λ number job there. job_still m (record m { parts = insert m.parts x.name x }) (λ q p found. (p, found_still name_total name_same m.parts x.name q x p fresh found, itself p)) (λ code y found. found) number job (keyed.jobs number job there);
     demands = keyed.demands;
     imports = keyed.imports;
+    codes = keyed.codes;
+    values = each_then name_total name_same (λ name y. IsPartValue y) m.parts x.name x keyed.values value;
   }
 
-  pub with_moved_keyed : (x d : Part) → get m.parts x.name ≡ Some d → SameCut d x → IsKeyed (record m { parts = insert m.parts x.name x })
-  with_moved_keyed x d was like = record {
+  pub with_moved_keyed : (x d : Part) → IsPartValue x → get m.parts x.name ≡ Some d → SameCut d x → IsKeyed (record m { parts = insert m.parts x.name x })
+  with_moved_keyed x d value was like = record {
     materials = keyed.materials;
     parts = each_then name_total name_same (λ name y. y.name ≡ name) m.parts x.name x keyed.parts refl;
     jobs = λ number job there. job_still m (record m { parts = insert m.parts x.name x }) (λ q p found. found_like name_total name_same SameCut itself m.parts x.name q x d p was like found) (λ code y found. found) number job (keyed.jobs number job there);
     demands = keyed.demands;
     imports = keyed.imports;
+    codes = keyed.codes;
+    values = each_then name_total name_same (λ name y. IsPartValue y) m.parts x.name x keyed.values value;
   }
 
   pub with_job_keyed : (x : Job) → IsOwnJob m x.act x → IsKeyed (record m { jobs = insert m.jobs x.act x })
@@ -116,6 +124,8 @@ module _ (m : Content) (keyed : IsKeyed m) where
     jobs = λ number job there. job_still m (record m { jobs = insert m.jobs x.act x }) (λ q p found. (p, found, itself p)) (λ code y found. found) number job (each_then nat_cmp_total nat_cmp-IsAntisymmetric (IsOwnJob m) m.jobs x.act x keyed.jobs own number job there);
     demands = keyed.demands;
     imports = keyed.imports;
+    codes = keyed.codes;
+    values = keyed.values;
   }
 
   pub with_demand_keyed : (x : Demand) → IsKeyed (record m { demands = insert m.demands x.number x })
@@ -125,6 +135,8 @@ module _ (m : Content) (keyed : IsKeyed m) where
     jobs = λ number job there. job_still m (record m { demands = insert m.demands x.number x }) (λ q p found. (p, found, itself p)) (λ code y found. found) number job (keyed.jobs number job there);
     demands = each_then nat_cmp_total nat_cmp-IsAntisymmetric (λ number y. y.number ≡ number) m.demands x.number x keyed.demands refl;
     imports = keyed.imports;
+    codes = keyed.codes;
+    values = keyed.values;
   }
 
   pub with_import_keyed : (x : ImportRow) → IsKeyed (record m { imports = insert m.imports x.order x })
@@ -134,4 +146,6 @@ module _ (m : Content) (keyed : IsKeyed m) where
     jobs = λ number job there. job_still m (record m { imports = insert m.imports x.order x }) (λ q p found. (p, found, itself p)) (λ code y found. found) number job (keyed.jobs number job there);
     demands = keyed.demands;
     imports = each_then code_total code_same (λ code y. y.order ≡ code) m.imports x.order x keyed.imports refl;
+    codes = keyed.codes;
+    values = keyed.values;
   }

@@ -221,6 +221,8 @@ fresh_keyed = record {
   jobs = λ number x h. no_key nat_cmp number x _ h;
   demands = λ number x h. no_key nat_cmp number x _ h;
   imports = λ order x h. no_key code_cmp order x _ h;
+  codes = λ code x h. no_key code_cmp code x _ h;
+  values = λ name x h. no_key name_cmp name x _ h;
 }
 
 module _ {S : Type 0} (g : Ghosts S) where

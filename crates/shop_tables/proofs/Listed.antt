@@ -25,7 +25,7 @@ use Rattle.sqlite.proofs.Callers.{reads_as, begins_as}
 use Rattle.cut_measure.specs.Codes.{code_cmp}
 use Rattle.cut_measure.specs.Names.{Name, name_cmp}
 use Rattle.shop_machine.specs.Columns.{is_there}
-use Rattle.shop_machine.specs.Content.{Content, is_listed, parts_of}
+use Rattle.shop_machine.specs.Content.{Content, is_listed, part_at, parts_of}
 use Rattle.shop_machine.specs.History.{IsIn}
 use Rattle.shop_machine.specs.Visits.{IsVisit}
 use Rattle.shop_machine.specs.declared.records.Part.{Part}
@@ -39,6 +39,7 @@ use Rattle.shop_tables.specs.declared.lending.Lent.TheVariants as lent
 use Rattle.shop_tables.specs.Rows.{AreRows, IsKeyed, part_row, state_number}
 use Rattle.shop_tables.specs.Shown.{Books, Shows, Holds, Says}
 use Rattle.shop_tables.specs.Strange.{IsNoPart}
+use Rattle.shop_tables.specs.Values.{IsPartValue}
 use Rattle.shop_tables.proofs.Finding.{name_total, name_same}
 use Rattle.shop_tables.proofs.Keys.{equal, equal-Text, and_true, as_number, same_number}
 use Rattle.shop_tables.proofs.Lists.{filter-map}
@@ -87,12 +88,20 @@ first_parts (e ∷ es) named (r ∷ given) tail (p ∷ parts) is read =
     let next = first_parts es named.1 given tail parts more read.1 in
     (next.0, (λ i. sym own i ∷ next.1 i), next.2)
 
-all_named : (m : Content) → IsKeyed m → AllByRecursion (λ (e : Name × Part). e.1.name ≡ e.0) (entries m.parts)
-all_named m keyed = go (entries m.parts) (λ e i. keyed.parts e.0 e.1 (get-entries m.parts e.0 ∙ found_in (entries m.parts) e (entries_sorted m.parts) i))
+-- what holds of each found part holds of each entry
+each_entry : (P : Name → Part → Type 0) (m : Content) → ((name : Name) (part : Part) → part_at m name ≡ Some part → P name part) → AllByRecursion (λ (e : Name × Part). P e.0 e.1) (entries m.parts)
+each_entry P m all = go (entries m.parts) (λ e i. all e.0 e.1 (get-entries m.parts e.0 ∙ found_in (entries m.parts) e (entries_sorted m.parts) i))
   where
-    go : (es : List (Name × Part)) → ((e : Name × Part) → IsIn e es → e.1.name ≡ e.0) → AllByRecursion (λ (e : Name × Part). e.1.name ≡ e.0) es
+    go : (es : List (Name × Part)) → ((e : Name × Part) → IsIn e es → P e.0 e.1) → AllByRecursion (λ (e : Name × Part). P e.0 e.1) es
     go [] h = tt
     go (e ∷ es) h = (h e (inl refl), go es (λ f i. h f (inr i)))
+
+all_named : (m : Content) → IsKeyed m → AllByRecursion (λ (e : Name × Part). e.1.name ≡ e.0) (entries m.parts)
+all_named m keyed = each_entry (λ name part. part.name ≡ name) m keyed.parts
+
+-- a value under its own name
+abbrev IsOwnValue : Name → Part → Type 0
+IsOwnValue name part = (part.name ≡ name) × IsPartValue part
 
 -- ---- the standing parts of a material
 
@@ -165,11 +174,13 @@ module _ (old : State) (code : List ℕ) (b : Books) (has : Shows old b) where
 
 -- ---- all parts
 
-row_among : (given : List Row) (row : Row) (rest : List Row) (es : List (Name × Part)) → (given ++ row ∷ []) ++ rest ≡ map part_row es → (e : Name × Part) × (row ≡ part_row e)
-row_among [] row rest [] is = absurd (cc)
-row_among [] row rest (e ∷ es) is = (e, cc)
-row_among (r ∷ given) row rest [] is = absurd (cc)
-row_among (r ∷ given) row rest (e ∷ es) is = row_among given row rest es (cc)
+row_among : (given : List Row) (row : Row) (rest : List Row) (es : List (Name × Part)) → AllByRecursion (λ e. IsOwnValue e.0 e.1) es → (given ++ row ∷ []) ++ rest ≡ map part_row es → ¬ IsNoPart row
+row_among [] row rest [] all is none = absurd (cc)
+row_among [] row rest (e ∷ es) all is none =
+    let head : row ≡ part_row e = cc in
+    none e.1 all.0.1 (head ∙ (λ i. part_row (sym all.0.0 i, e.1)))
+row_among (r ∷ given) row rest [] all is none = absurd (cc)
+row_among (r ∷ given) row rest (e ∷ es) all is none = row_among given row rest es all.1 (cc) none
 
 some_rows : (given : List Row) (row : Row) → ¬ (given ++ row ∷ [] ≡ [])
 some_rows [] row is = absurd (cc)
@@ -203,8 +214,7 @@ module _ (old : State) (schema : Schema) (has : old.now.schema ≡ schema) (name
   pub none_stranger_of : (given : List Row) (row : Row) → Begins all_parts_text [] old (given ++ row ∷ []) → ¬ IsNoPart row
   none_stranger_of given row begins none =
       let more = (begins_as all_parts_text [] old old schema has _ is.command is.plain is.listing (given ++ row ∷ []) begins).1 in
-      let it = row_among given row more.0 (entries m.parts) (every ((given ++ row ∷ []) ++ more.0) more.1) in
-      none it.0 it.1
+      row_among given row more.0 (entries m.parts) (each_entry IsOwnValue m (λ name part found. (keyed.parts name part found, keyed.values name part found))) (every ((given ++ row ∷ []) ++ more.0) more.1) none
 
 module _ (old : State) (b : Books) (has : Shows old b) where
   pub all_there : (new : State) (given : List Row) (parts : List Part) → Shown all_parts_text [] old new given → AreReadOf given parts → values b.content.parts ≡ parts

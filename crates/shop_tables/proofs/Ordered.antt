@@ -127,6 +127,10 @@ pub rows_seen : (sql : List ℕ) (old new : State) (Sees : Type 0) (list : List 
     → ((rows : List Row) → Sees → Shown sql [] old new rows → rows ≡ list) → IfOk r (λ rows. Shown sql [] old new rows.items) → IfOk r (λ rows. rows.items ≡ list)
 rows_seen sql old new Sees list r was finds given = IfOk-weaker r _ _ (λ rows shown. finds rows.items (was (shown_open sql [] old new rows.items shown)) shown) given
 
+-- what holds where this is seen
+pub seen_then : (sql : List ℕ) (old new : State) (Sees P : Type 0) (r : Result (Vec Answered Global) Error) → (IsTrue old.is_open → Sees) → (Sees → P) → IfOk r (λ rows. Shown sql [] old new rows.items) → IfOk r (λ rows. P)
+seen_then sql old new Sees P r was then given = IfOk-weaker r _ _ (λ rows shown. then (was (shown_open sql [] old new rows.items shown))) given
+
 -- what they are on held books
 pub rows_given : (sql : List ℕ) (old new : State) (is : is_select sql ≡ true) (left : is_select sql ≡ true → Leaves old new) (b : Books) (list : List Row) (r : Result (Vec Answered Global) Error) → HasCleanDisk new → Holds old b
     → ((rows : List Row) → Shows old b → Shown sql [] old new rows → rows ≡ list) → IfOk r (λ rows. Shown sql [] old new rows.items) → IfOk r (λ rows. rows.items ≡ list)

@@ -1,5 +1,5 @@
 -- What the INSERT of each table makes of the books.
-use Rattle.std.proofs.Common.{◌≡◌, ℕ, pos, Bool, true, false, cond, ◌||◌, List, [], ◌∷◌, Option, Some, None, Ok, is_some, refl, sym, ap, ◌∙◌}
+use Rattle.std.proofs.Common.{◌≡◌, ℕ, pos, Bool, true, false, cond, ◌||◌, List, [], ◌∷◌, Option, Some, None, Ok, is_some, IsTrue, refl, sym, ap, ◌∙◌}
 use Rattle.std.specs.FinMap.{get, insert, get-insert, nat_cmp-IsAntisymmetric}
 use Rattle.std.specs.FinSet as set
 use Rattle.std.specs.Cmp.{nat_cmp_total}
@@ -7,7 +7,7 @@ use Rattle.std.specs.Ordering.{eq_by_cmp}
 use Rattle.sqlite_value.specs.declared.value.Value.TheVariants.{Int, Text, Null}
 use Rattle.sqlite.specs.State.{State, Executes}
 use Rattle.sqlite_rules.specs.Edit.{next_rowid}
-use Rattle.cut_measure.specs.Codes.{code_cmp}
+use Rattle.cut_measure.specs.Codes.{code_cmp, is_code}
 use Rattle.cut_tree.specs.Spelling.{text_of}
 use Rattle.shop_machine.specs.Columns.{state_of}
 use Rattle.shop_machine.specs.Content.{has_order}
@@ -22,6 +22,7 @@ use Rattle.shop_tables.specs.Layout.{loosened, materials_table, parts_table, job
 use Rattle.shop_tables.specs.Rows.{IsOwnJob, kind_number, state_number, job_state_number, turn_number, form_number, form_material, material_row, part_row, job_row, order_row, demand_row, kept_row, import_row, totals_row, job_columns, demand_columns}
 use Rattle.shop_tables.specs.Changes.{with_material, with_part, with_job, with_order, with_demand, with_kept, with_import, with_totals}
 use Rattle.shop_tables.specs.Shown.{Books, Shows}
+use Rattle.shop_tables.specs.Values.{IsPartValue}
 use Rattle.shop_tables.proofs.Finding.{code_total, code_same, name_total, name_same, pair_total, pair_same}
 use Rattle.shop_tables.proofs.Keys.{cast-Int, cast-Null, news_are, news_keyed}
 use Rattle.shop_tables.proofs.KeyedRows.{with_material_keyed, with_part_keyed, with_job_keyed, with_demand_keyed, with_import_keyed}
@@ -30,19 +31,19 @@ use Rattle.shop_tables.proofs.Texts.{put_material_text, put_material_terms, put_
 use Rattle.shop_tables.proofs.Writing.{puts, rows_with}
 
 module _ (old new : State) (count : ℕ) (b : Books) (has : Shows old b) where
-  pub puts_material : (x : Material) → get b.content.materials x.code ≡ None → Executes put_material_text (material_row (x.code, x)) old new (Ok count) → Shows new (with_material x b)
-  puts_material x fresh ran =
+  pub puts_material : (x : Material) → IsTrue (is_code x.code) → get b.content.materials x.code ≡ None → Executes put_material_text (material_row (x.code, x)) old new (Ok count) → Shows new (with_material x b)
+  puts_material x coded fresh ran =
       let id = next_rowid (old.now.trees 2) in
       let put = puts old new has.schema put_material_text (material_row (x.code, x)) 1 (loosened has.schema.materials materials_table) refl put_material_terms 6 (put_material_is old.now.schema has.schema) (Int id ∷ material_row (x.code, x)) count
       (news_are (loosened has.schema.materials materials_table) (material_row (x.code, x)) (old.now.trees 2) (λ i. Text x.code ∷ cast-Int (pos (kind_number x.kind)) i ∷ cast-Int (pos x.limits.kerf) i ∷ cast-Int (pos x.limits.min_long) i ∷ cast-Int (pos x.limits.min_short) i ∷ [])) ran in
-      materials_shown old new b has _ _ (insert b.content.materials x.code x) put (rows_with code_total code_same 1 material_row old new 2 (Int id ∷ material_row (x.code, x)) id b.content.materials x.code x fresh refl refl has.stands.materials put) (with_material_keyed b.content has.keyed x fresh)
+      materials_shown old new b has _ _ (insert b.content.materials x.code x) put (rows_with code_total code_same 1 material_row old new 2 (Int id ∷ material_row (x.code, x)) id b.content.materials x.code x fresh refl refl has.stands.materials put) (with_material_keyed b.content has.keyed x coded fresh)
 
-  pub puts_part : (x : Part) → get b.content.parts x.name ≡ None → Executes put_part_text (part_row (x.name, x)) old new (Ok count) → Shows new (with_part x b)
-  puts_part x fresh ran =
+  pub puts_part : (x : Part) → IsPartValue x → get b.content.parts x.name ≡ None → Executes put_part_text (part_row (x.name, x)) old new (Ok count) → Shows new (with_part x b)
+  puts_part x value fresh ran =
       let id = next_rowid (old.now.trees 4) in
       let put = puts old new has.schema put_part_text (part_row (x.name, x)) 2 (loosened has.schema.parts parts_table) refl put_part_terms 13 (put_part_is old.now.schema has.schema) (Int id ∷ part_row (x.name, x)) count
       (news_are (loosened has.schema.parts parts_table) (part_row (x.name, x)) (old.now.trees 4) (λ i. cast-Int (pos x.name.act) i ∷ cast-Int (pos x.name.node) i ∷ Text x.material ∷ Text x.batch ∷ cast-Int (pos x.root.act) i ∷ cast-Int (pos x.root.node) i ∷ cast-Int (pos x.x) i ∷ cast-Int (pos x.y) i ∷ cast-Int (pos x.size.w) i ∷ cast-Int (pos x.size.h) i ∷ cast-Int (pos (state_number x.state)) i ∷ cast-Int (pos (state_of x.state)) i ∷ [])) ran in
-      parts_shown old new b has _ _ (insert b.content.parts x.name x) put (rows_with name_total name_same 1 part_row old new 4 (Int id ∷ part_row (x.name, x)) id b.content.parts x.name x fresh refl refl has.stands.parts put) (with_part_keyed b.content has.keyed x fresh)
+      parts_shown old new b has _ _ (insert b.content.parts x.name x) put (rows_with name_total name_same 1 part_row old new 4 (Int id ∷ part_row (x.name, x)) id b.content.parts x.name x fresh refl refl has.stands.parts put) (with_part_keyed b.content has.keyed x value fresh)
 
   pub puts_job : (x : Job) → get b.content.jobs x.act ≡ None → IsOwnJob b.content x.act x → Executes put_job_text (Int (pos x.act) ∷ job_columns x) old new (Ok count) → Shows new (with_job x b)
   puts_job x fresh own ran =

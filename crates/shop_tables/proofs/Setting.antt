@@ -1,5 +1,5 @@
 -- What the UPDATE of each table makes of the books.
-use Rattle.std.proofs.Common.{◌≡◌, ℕ, pos, List, [], ◌∷◌, drop, filter, codes, Some, Ok, refl, sym, ap, subst, ◌∙◌}
+use Rattle.std.proofs.Common.{◌≡◌, ◌<◌, ◌^◌, ℕ, pos, List, [], ◌∷◌, drop, filter, codes, Some, Ok, refl, sym, ap, subst, ◌∙◌}
 use Rattle.std.specs.FinMap.{get, insert, entries, nat_cmp-IsAntisymmetric}
 use Rattle.std.proofs.lemmas.List.Sorted.{IsPermutation-sym, IsPermutation-middle}
 use Rattle.shop_tables.proofs.Puts.{added}
@@ -24,6 +24,7 @@ use Rattle.shop_tables.specs.Layout.{loosened, meta_table, parts_table, jobs_tab
 use Rattle.shop_tables.specs.Rows.{AreRows, IsKeyed, IsOwnJob, state_number, job_state_number, turn_number, meta_row, meta_entries, part_row, job_row, demand_row, totals_row, part_columns, job_columns, demand_columns, totals_columns}
 use Rattle.shop_tables.specs.Changes.{with_last_act, with_last_demand}
 use Rattle.shop_tables.specs.Shown.{Books, Shows}
+use Rattle.shop_tables.specs.Values.{IsPartValue}
 use Rattle.shop_tables.proofs.Finding.{code_total, code_same, name_total, name_same, is_word, word_tests, word_later, is_number, number_tests, is_two, two_tests, two_later}
 use Rattle.shop_tables.proofs.Keys.{cast-Int, cast-Null, news_again, located, reordered}
 use Rattle.shop_tables.proofs.Maps.{entry_at_is, listed}
@@ -32,15 +33,19 @@ use Rattle.shop_tables.proofs.Standing.{meta_shown, parts_shown, jobs_shown, dem
 use Rattle.shop_tables.proofs.Texts.{by_one, by_two, by_number, set_meta_text, set_meta_terms, set_meta_is, set_part_text, set_part_terms, set_part_is, set_job_text, set_job_terms, set_job_is, set_demand_text, set_demand_terms, set_demand_is, set_totals_text, set_totals_terms, set_totals_is}
 use Rattle.shop_tables.proofs.Writing.{sets, again, chosen, rows_over}
 
+-- a part in another state is a value
+moved_value : (d : Part) (s : PartState) → state_of s < 2 ^ 32 → IsPartValue d → IsPartValue (in_state s d)
+moved_value d s small v = record { name = v.name; root = v.root; material = v.material; batch = v.batch; x = v.x; y = v.y; size = v.size; state = small }
+
 module _ (old new : State) (count : ℕ) (b : Books) (has : Shows old b) where
-  pub sets_part : (k : Name) (d : Part) (s : PartState) → get b.content.parts k ≡ Some d → d.name ≡ k → Executes set_part_text (Int (pos k.act) ∷ Int (pos k.node) ∷ Int (pos (state_number s)) ∷ Int (pos (state_of s)) ∷ []) old new (Ok count) → Shows new (record b { content = record b.content { parts = insert b.content.parts k (in_state s d) } })
-  sets_part k d s there own ran =
+  pub sets_part : (k : Name) (d : Part) (s : PartState) → state_of s < 2 ^ 32 → get b.content.parts k ≡ Some d → d.name ≡ k → Executes set_part_text (Int (pos k.act) ∷ Int (pos k.node) ∷ Int (pos (state_number s)) ∷ Int (pos (state_of s)) ∷ []) old new (Ok count) → Shows new (record b { content = record b.content { parts = insert b.content.parts k (in_state s d) } })
+  sets_part k d s small there own ran =
       let one : filter (λ e. eq_by_cmp name_cmp e.0 k) (entries b.content.parts) ≡ (k, d) ∷ [] = entry_at_is Part name_total name_same b.content.parts k ∙ ap (listed Part name_total name_same k) there in
       let it = located 1 part_row (λ e. eq_by_cmp name_cmp e.0 k) (chosen old new has.schema set_part_text (Int (pos k.act) ∷ Int (pos k.node) ∷ Int (pos (state_number s)) ∷ Int (pos (state_of s)) ∷ []) 2 (loosened has.schema.parts parts_table) refl by_two set_part_terms (set_part_is old.now.schema has.schema) refl) (is_two k.act k.node) (two_later k.act k.node) (λ e. two_tests e.0.act e.0.node k.act k.node (part_columns e.1)) (entries b.content.parts) (old.now.trees 4) (k, d) has.stands.parts one in
       let put = sets old new has.schema set_part_text (Int (pos k.act) ∷ Int (pos k.node) ∷ Int (pos (state_number s)) ∷ Int (pos (state_of s)) ∷ []) 2 (loosened has.schema.parts parts_table) refl by_two set_part_terms (set_part_is old.now.schema has.schema) refl it.row it.id (part_row (k, (in_state s d))) count it.found (shown_again it.row it.is ∙ ap (λ v. v ∷ v ∷ (part_row (k, (in_state s d)))) it.key)
       (λ left. news_again (loosened has.schema.parts parts_table) (part_row (k, (in_state s d))) left (Int it.id) it.id (λ i. cast-Int (pos k.act) i ∷ cast-Int (pos k.node) i ∷ Text (in_state s d).material ∷ Text (in_state s d).batch ∷ cast-Int (pos (in_state s d).root.act) i ∷ cast-Int (pos (in_state s d).root.node) i ∷ cast-Int (pos (in_state s d).x) i ∷ cast-Int (pos (in_state s d).y) i ∷ cast-Int (pos (in_state s d).size.w) i ∷ cast-Int (pos (in_state s d).size.h) i ∷ cast-Int (pos (state_number (in_state s d).state)) i ∷ cast-Int (pos (state_of (in_state s d).state)) i ∷ []) refl) ran in
       let rows = rows_over name_total name_same 1 part_row old new 4 _ (part_row (k, (in_state s d))) b.content.parts k (in_state s d) d there it refl put in
-      parts_shown old new b has _ _ (insert b.content.parts k (in_state s d)) put rows (subst (λ q. IsKeyed (record b.content { parts = insert b.content.parts q (in_state s d) })) own (with_moved_keyed b.content has.keyed (in_state s d) d (ap (get b.content.parts) own ∙ there) (refl, refl)))
+      parts_shown old new b has _ _ (insert b.content.parts k (in_state s d)) put rows (subst (λ q. IsKeyed (record b.content { parts = insert b.content.parts q (in_state s d) })) own (with_moved_keyed b.content has.keyed (in_state s d) d (moved_value d s small (has.keyed.values k d there)) (ap (get b.content.parts) own ∙ there) (refl, refl)))
     where
       shown_again : (r : Row) → drop 1 r ≡ part_row (k, d) → again old new has.schema set_part_text (Int (pos k.act) ∷ Int (pos k.node) ∷ Int (pos (state_number s)) ∷ Int (pos (state_of s)) ∷ []) 2 (loosened has.schema.parts parts_table) refl by_two set_part_terms (set_part_is old.now.schema has.schema) refl r ≡ rowid r ∷ rowid r ∷ (part_row (k, (in_state s d)))
       shown_again [] is = absurd (cc)

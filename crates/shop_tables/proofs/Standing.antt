@@ -37,7 +37,7 @@ module _ (old new : State) (b : Books) (has : Shows old b) (left : List Row) (ro
       totals = put.others 15 refl has.schema.bare.1.1.1.1.1.1.1.1.0 ∙ has.stands.totals;
       totals2 = subst (AreRows 1 _) (sym (put.others 17 refl has.schema.bare.1.1.1.1.1.1.1.1.1.0)) has.stands.totals2;
     };
-    keyed = record { materials = has.keyed.materials; parts = has.keyed.parts; jobs = λ number job there. let j = has.keyed.jobs number job there in record { numbered = j.numbered; kerf = j.kerf; plan = j.plan; on = record { row = j.on.row; found = j.on.found; material = j.on.material; known = j.on.known; width = j.on.width; height = j.on.height; kerf = j.on.kerf } }; demands = has.keyed.demands; imports = has.keyed.imports };
+    keyed = record { materials = has.keyed.materials; parts = has.keyed.parts; jobs = λ number job there. let j = has.keyed.jobs number job there in record { numbered = j.numbered; kerf = j.kerf; plan = j.plan; on = record { row = j.on.row; found = j.on.found; material = j.on.material; known = j.on.known; width = j.on.width; height = j.on.height; kerf = j.on.kerf } }; demands = has.keyed.demands; imports = has.keyed.imports; codes = has.keyed.codes; values = has.keyed.values };
   }
 
   pub materials_shown : (m : FinMap code_cmp Material) → IsPut old new 2 left row → AreRows 1 (map material_row (entries m)) (new.now.trees 2) → IsKeyed (record b.content { materials = m }) → Shows new (record b { content = record b.content { materials = m } })
@@ -113,7 +113,7 @@ module _ (old new : State) (b : Books) (has : Shows old b) (left : List Row) (ro
       totals = put.others 15 refl has.schema.bare.1.1.1.1.1.1.1.1.0 ∙ has.stands.totals;
       totals2 = subst (AreRows 1 _) (sym (put.others 17 refl has.schema.bare.1.1.1.1.1.1.1.1.1.0)) has.stands.totals2;
     };
-    keyed = record { materials = has.keyed.materials; parts = has.keyed.parts; jobs = λ number job there. let j = has.keyed.jobs number job there in record { numbered = j.numbered; kerf = j.kerf; plan = j.plan; on = record { row = j.on.row; found = j.on.found; material = j.on.material; known = j.on.known; width = j.on.width; height = j.on.height; kerf = j.on.kerf } }; demands = has.keyed.demands; imports = has.keyed.imports };
+    keyed = record { materials = has.keyed.materials; parts = has.keyed.parts; jobs = λ number job there. let j = has.keyed.jobs number job there in record { numbered = j.numbered; kerf = j.kerf; plan = j.plan; on = record { row = j.on.row; found = j.on.found; material = j.on.material; known = j.on.known; width = j.on.width; height = j.on.height; kerf = j.on.kerf } }; demands = has.keyed.demands; imports = has.keyed.imports; codes = has.keyed.codes; values = has.keyed.values };
   }
 
   pub demands_shown : (m : FinMap nat_cmp Demand) → IsPut old new 9 left row → AreRows 0 (map demand_row (entries m)) (new.now.trees 9) → IsKeyed (record b.content { demands = m }) → Shows new (record b { content = record b.content { demands = m } })
@@ -151,7 +151,7 @@ module _ (old new : State) (b : Books) (has : Shows old b) (left : List Row) (ro
       totals = put.others 15 refl has.schema.bare.1.1.1.1.1.1.1.1.0 ∙ has.stands.totals;
       totals2 = subst (AreRows 1 _) (sym (put.others 17 refl has.schema.bare.1.1.1.1.1.1.1.1.1.0)) has.stands.totals2;
     };
-    keyed = record { materials = has.keyed.materials; parts = has.keyed.parts; jobs = λ number job there. let j = has.keyed.jobs number job there in record { numbered = j.numbered; kerf = j.kerf; plan = j.plan; on = record { row = j.on.row; found = j.on.found; material = j.on.material; known = j.on.known; width = j.on.width; height = j.on.height; kerf = j.on.kerf } }; demands = has.keyed.demands; imports = has.keyed.imports };
+    keyed = record { materials = has.keyed.materials; parts = has.keyed.parts; jobs = λ number job there. let j = has.keyed.jobs number job there in record { numbered = j.numbered; kerf = j.kerf; plan = j.plan; on = record { row = j.on.row; found = j.on.found; material = j.on.material; known = j.on.known; width = j.on.width; height = j.on.height; kerf = j.on.kerf } }; demands = has.keyed.demands; imports = has.keyed.imports; codes = has.keyed.codes; values = has.keyed.values };
   }
 
   pub imports_shown : (m : FinMap code_cmp ImportRow) → IsPut old new 13 left row → AreRows 1 (map import_row (entries m)) (new.now.trees 13) → IsKeyed (record b.content { imports = m }) → Shows new (record b { content = record b.content { imports = m } })

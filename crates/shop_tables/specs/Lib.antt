@@ -1,4 +1,5 @@
 pub mod Layout
+pub mod Values
 pub mod Rows
 pub mod Selecting
 pub mod Shown

@@ -1,9 +1,11 @@
 -- The totals of all materials, as a list.
-use Rattle.std.specs.Prelude.{◌≡◌, ℕ, List, [], ◌∷◌, ◌++◌, map, Option, Some, None, is_some, Vec}
+use Rattle.std.specs.Prelude.{◌≡◌, ℕ, IsTrue, List, [], ◌∷◌, ◌++◌, map, Option, Some, None, is_some, Vec}
 use Rattle.std.specs.FinMap.{entries, get}
+use Rattle.std.specs.List.{AllByRecursion}
 use Rattle.std.specs.declared.alloc.Global.{Global}
 use Rattle.sqlite_value.specs.Order.{Row}
 use Rattle.sqlite_value.specs.declared.value.Value.TheVariants.{Text}
+use Rattle.cut_measure.specs.Codes.{is_code}
 use Rattle.shop_machine.specs.Content.{material_at}
 use Rattle.shop_machine.specs.declared.changes.MaterialTotals.{MaterialTotals}
 use Rattle.shop_machine.specs.declared.records.Totals.{Totals}
@@ -12,6 +14,10 @@ use Rattle.shop_tables.specs.Shown.{Books}
 
 abbrev pub key_of : {X : Type 0} → List ℕ × X → List ℕ
 key_of e = e.0
+
+-- each text is a code
+abbrev pub AreCodes : List (List ℕ) → Type 0
+AreCodes texts = AllByRecursion (λ text. IsTrue (is_code text)) texts
 
 -- a row of a code alone
 abbrev pub code_row : List ℕ → Row

@@ -7,7 +7,7 @@ use Rattle.sqlite_value.specs.declared.value.Value.TheVariants.{Int, Text, Null}
 use Rattle.sqlite_value.specs.Order.{Row}
 use Rattle.sqlite_trees.specs.Tree.{Trees, rowid, IsTable}
 use Rattle.sqlite_trees.specs.View.{is_int}
-use Rattle.cut_measure.specs.Codes.{code_cmp}
+use Rattle.cut_measure.specs.Codes.{code_cmp, is_code}
 use Rattle.cut_measure.specs.Names.{Name}
 use Rattle.cut_measure.specs.declared.sizes.Kind.{Kind}
 use Rattle.cut_measure.specs.declared.sizes.Kind.TheVariants as kind
@@ -30,6 +30,7 @@ use Rattle.shop_machine.specs.declared.imports.Form.TheVariants as form
 use Rattle.shop_machine.specs.declared.imports.ImportRow.{ImportRow}
 use Rattle.shop_machine.specs.declared.kept_texts.Pair.{Pair}
 use Rattle.shop_machine.specs.declared.kept_texts.Kept.{Kept}
+use Rattle.shop_tables.specs.Values.{IsPartValue}
 
 -- ---- numbers of words
 
@@ -168,10 +169,12 @@ pub record IsOwnJob (m : Content) (number : ℕ) (job : Job) : Type 0 where
   pub plan : IsPlan job.plan
   pub on : IsOnPart m job
 
--- What the rows leave out: each row stands under its own key.
+-- What the rows leave out: each row stands under its own key, and the codes of materials and the parts are values.
 pub record IsKeyed (m : Content) : Type 0 where
   pub materials : (code : List ℕ) (material : Material) → material_at m code ≡ Some material → material.code ≡ code
   pub parts : (name : Name) (part : Part) → part_at m name ≡ Some part → part.name ≡ name
   pub jobs : (number : ℕ) (job : Job) → job_at m number ≡ Some job → IsOwnJob m number job
   pub demands : (number : ℕ) (demand : Demand) → demand_at m number ≡ Some demand → demand.number ≡ number
   pub imports : (order : List ℕ) (row : ImportRow) → import_at m order ≡ Some row → row.order ≡ order
+  pub codes : (code : List ℕ) (material : Material) → material_at m code ≡ Some material → IsTrue (is_code code)
+  pub values : (name : Name) (part : Part) → part_at m name ≡ Some part → IsPartValue part

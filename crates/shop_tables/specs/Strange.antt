@@ -3,9 +3,9 @@ use Rattle.std.specs.Prelude.{◌≡◌, ◌<◌, ◌≤◌, ℕ, pos, length}
 use Rattle.sqlite_value.specs.declared.value.Value.{Value}
 use Rattle.sqlite_value.specs.declared.value.Value.TheVariants.{Int}
 use Rattle.sqlite_value.specs.Order.{Row, column}
-use Rattle.cut_measure.specs.Names.{Name}
 use Rattle.shop_machine.specs.declared.records.Part.{Part}
 use Rattle.shop_tables.specs.Rows.{part_row}
+use Rattle.shop_tables.specs.Values.{IsPartValue}
 
 -- the row has the value in this column
 abbrev pub Shows : Row → ℕ → Value → Type 0
@@ -15,6 +15,6 @@ Shows row at value = (at < length row) × (column row at ≡ value)
 abbrev pub HasCounts : Row → ℕ → ℕ → Type 0
 HasCounts row from to = (at : ℕ) → from ≤ at → at < to → (n : ℕ) × Shows row at (Int (pos n))
 
--- it is no part's
+-- it is that of no part that is a value
 abbrev pub IsNoPart : Row → Type 0
-IsNoPart row = (e : Name × Part) → ¬ (row ≡ part_row e)
+IsNoPart row = (part : Part) → IsPartValue part → ¬ (row ≡ part_row (part.name, part))

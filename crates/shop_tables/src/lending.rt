@@ -31,7 +31,7 @@ pub enum Lent {
     All,
     /// Up to the part at which the visitor stopped.
     Stopped,
-    /// Up to a row that is no part.
+    /// Up to a row that stands for no part.
     Strange,
 }
 

@@ -5,13 +5,13 @@ ghost use Rattle.std.specs.FinMap.{entries};
 ghost use Rattle.sqlite.specs.Held.{state};
 ghost use Rattle.shop_machine.specs.declared.records.Totals.{Totals as TotalsRecord};
 ghost use Rattle.shop_tables.specs.Earlier.{SaysEarlier};
-ghost use Rattle.shop_tables.specs.Listing.{AreAllTotals, code_row, key_of, listed_row, named};
+ghost use Rattle.shop_tables.specs.Listing.{AreAllTotals, AreCodes, code_row, key_of, listed_row, named};
 ghost use Rattle.shop_tables.specs.Shown.{Leaves, Says};
 
 use crate::TableFault;
 use crate::columns::code_in;
 use crate::rows::all_rows;
-use crate::strange::may_be_totals;
+use crate::strange::{has_word, may_be_totals};
 use crate::sums::read_totals;
 use shop_machine::MaterialTotals;
 use sqlite::{Alter, Connection, Error, Row};
@@ -21,6 +21,8 @@ use std::alloc::Global;
 pub(crate) fn material_rows<S: Alter>(conn: &mut Connection<S>) -> Result<Vec<Row>, Error>
     ensures rows { Says (state S.Store conn.old) (state S.Store conn.new) (λ books. IfOk result (λ rows. rows.items ≡ map (λ e. code_row (key_of e)) (entries books.content.materials))) }
     ensures earlier { SaysEarlier (state S.Store conn.old) (state S.Store conn.new) (λ books. IfOk result (λ rows. rows.items ≡ map (λ e. code_row (key_of e)) (entries books.content.materials))) }
+    ensures coded { Says (state S.Store conn.old) (state S.Store conn.new) (λ books. IfOk result (λ _. AreCodes (map key_of (entries books.content.materials)))) }
+    ensures earlier_coded { SaysEarlier (state S.Store conn.old) (state S.Store conn.new) (λ books. IfOk result (λ _. AreCodes (map key_of (entries books.content.materials)))) }
     ensures leaves { Leaves (state S.Store conn.old) (state S.Store conn.new) }
     ensures mode { conn.old.in_transaction ≡ false → conn.new.in_transaction ≡ false }
 {
@@ -56,7 +58,7 @@ pub(crate) fn read_all(
     rows: &[Row],
 ) -> Result<Option<Vec<MaterialTotals>>, TableFault>
     ensures { (cs : List (List ℕ)) (es : List (List ℕ × TotalsRecord)) → codes.now ≡ map code_row cs → rows.now ≡ map listed_row es
-        → IfOk result (λ read. IfSome read (λ list. (list.items ≡ map named es) × (cs ≡ map key_of es)) × (IsNone read → cs ≢ map key_of es)) }
+        → IfOk result (λ read. IfSome read (λ list. (list.items ≡ map named es) × (cs ≡ map key_of es)) × (IsNone read → AreCodes cs → cs ≢ map key_of es)) }
 {
     if codes.len() != rows.len() {
         return Ok(None);
@@ -68,7 +70,7 @@ pub(crate) fn read_all(
             return Ok(None);
         }
         let totals = read_named(row)?;
-        if code_in(&codes[i], 0)? != totals.material {
+        if !has_word(&codes[i], 0, totals.material.as_str()) {
             return Ok(None);
         }
         if list.push(totals).is_err() {

@@ -8,6 +8,7 @@ ghost use Rattle.std.specs.Prelude.{Some, None, OnOk};
 ghost use Rattle.shop_machine.specs.Content.{in_state};
 ghost use Rattle.shop_tables.specs.Changes.{with_part};
 ghost use Rattle.shop_tables.specs.Shown.{Books, Makes, Ran, Within};
+ghost use Rattle.shop_tables.specs.Values.{IsPartValue};
 
 use crate::TableFault;
 use crate::columns::{code_in, name_in, number_in, number_of_state, size_in, state_in};
@@ -62,6 +63,13 @@ pub fn find_part<S: Alter>(
     Ok(Some(part))
 }
 
+// A part of the program is a value.
+fn in_ranges(part: Part)
+    ensures { IsPartValue part }
+{
+    let _of = part.state.of();
+}
+
 /// Puts a new part.
 pub fn put_part<S: Alter>(tx: &mut Transaction<'_, S>, part: &Part) -> Result<(), TableFault>
     ensures same_reference { tx.new.conn.ghost_name ≡ tx.old.conn.ghost_name }
@@ -69,6 +77,7 @@ pub fn put_part<S: Alter>(tx: &mut Transaction<'_, S>, part: &Part) -> Result<()
     ensures put { (b : Books) → part_at b.content part.now.name ≡ None → OnOk result (Makes (state S.Store tx.old.conn.now) (state S.Store tx.new.conn.now) b (with_part part.now b)) }
     ensures within { Within (state S.Store tx.old.conn.now) (state S.Store tx.new.conn.now) }
 {
+    in_ranges(*part);
     run(
         tx,
         "INSERT INTO parts (act, node, material, batch, root_act, root_node, x, y, w, h, state, detail) VALUES (?1, ?2, ?3, ?4, ?5, ?6, ?7, ?8, ?9, ?10, ?11, ?12)",

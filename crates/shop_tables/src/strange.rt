@@ -1,8 +1,11 @@
 //! Rows that stand for no part and for no totals.
 
-ghost use Rattle.std.specs.Prelude.{◌≡◌, ◌<◌, ◌+◌, ℕ, ℤ, List, pos, Some, IsTrue};
+ghost use Rattle.std.specs.Prelude.{◌≡◌, ◌<◌, ◌≤◌, ◌+◌, ◌^◌, ℕ, ℤ, List, pos, Some, IsTrue, ◌↔◌};
 ghost use Rattle.sqlite_value.specs.declared.value.Value.TheVariants.{Int, Text as Word};
-ghost use Rattle.cut_measure.specs.Names.{Name};
+ghost use Rattle.cut_measure.specs.Codes.{is_code};
+ghost use Rattle.cut_measure.specs.Measures.{is_size};
+ghost use Rattle.cut_measure.specs.Names.{Name, IsName};
+ghost use Rattle.cut_measure.specs.declared.sizes.Kind.TheVariants.{Sheet};
 ghost use Rattle.shop_machine.specs.Columns.{state_of};
 ghost use Rattle.shop_machine.specs.declared.records.Part.{Part as PartRecord};
 ghost use Rattle.shop_machine.specs.declared.records.State.{State as PartState};
@@ -10,7 +13,9 @@ ghost use Rattle.shop_machine.specs.declared.records.Totals.{Totals as TotalsRec
 ghost use Rattle.shop_tables.specs.Listing.{listed_row};
 ghost use Rattle.shop_tables.specs.Rows.{part_row, state_number};
 ghost use Rattle.shop_tables.specs.Strange.{HasCounts, Shows};
+ghost use Rattle.shop_tables.specs.Values.{IsPartValue};
 
+use cut_measure::{Code, MOST_HEIGHT, MOST_NUMBERS, MOST_WIDTH};
 use sqlite::Row;
 use sqlite::types::ValueRef;
 
@@ -27,17 +32,66 @@ fn int_in(row: &Row, at: usize) -> Option<i64>
     }
 }
 
-fn has_word(row: &Row, at: usize) -> bool
-    ensures { (word : List ℕ) → Shows row.now at (Word word) → IsTrue result }
+// A number from the least to the most.
+fn has_number(row: &Row, at: usize, least: u32, most: u32) -> bool
+    ensures { (n : ℕ) → least ≤ n → n ≤ most → Shows row.now at (Int (pos n)) → IsTrue result }
+{
+    match int_in(row, at) {
+        Some(number) => i64::from(least) <= number && number <= i64::from(most),
+        None => false,
+    }
+}
+
+fn is_code_text(bytes: &[u8]) -> bool
+    ensures { IsTrue (is_code bytes.now) → IsTrue result }
+{
+    match str::from_utf8(bytes) {
+        Ok(text) => Code::read(text).is_some(),
+        Err(_) => false,
+    }
+}
+
+// This text.
+pub(crate) fn has_word(row: &Row, at: usize, word: &str) -> bool
+    ensures { IsTrue result ↔ Shows row.now at (Word word.now) }
 {
     match row.get_ref(at) {
-        Ok(ValueRef::Text(_)) => true,
+        Ok(ValueRef::Text(bytes)) => bytes == word.as_bytes(),
         Ok(ValueRef::Null) => false,
         Ok(ValueRef::Int(_)) => false,
         Ok(ValueRef::Real(_)) => false,
         Ok(ValueRef::Blob(_)) => false,
         Err(_) => false,
     }
+}
+
+fn has_code(row: &Row, at: usize) -> bool
+    ensures { (code : List ℕ) → IsTrue (is_code code) → Shows row.now at (Word code) → IsTrue result }
+{
+    match row.get_ref(at) {
+        Ok(ValueRef::Text(bytes)) => is_code_text(bytes),
+        Ok(ValueRef::Null) => false,
+        Ok(ValueRef::Int(_)) => false,
+        Ok(ValueRef::Real(_)) => false,
+        Ok(ValueRef::Blob(_)) => false,
+        Err(_) => false,
+    }
+}
+
+// A name's act and its node, side by side.
+fn has_name(row: &Row, at: usize) -> bool
+    requires { at < 100 }
+    ensures { (name : Name) → IsName name → Shows row.now at (Int (pos name.act)) → Shows row.now (at + 1) (Int (pos name.node)) → IsTrue result }
+{
+    has_number(row, at, 1, MOST_NUMBERS) && has_number(row, at + 1, 0, u32::MAX)
+}
+
+// A width and a height, side by side.
+fn has_size(row: &Row, at: usize) -> bool
+    requires { at < 100 }
+    ensures { (w h : ℕ) → IsTrue (is_size Sheet w h) → Shows row.now at (Int (pos w)) → Shows row.now (at + 1) (Int (pos h)) → IsTrue result }
+{
+    has_number(row, at, 1, MOST_WIDTH) && has_number(row, at + 1, 1, MOST_HEIGHT)
 }
 
 fn has_count(row: &Row, at: usize) -> bool
@@ -62,10 +116,10 @@ fn has_counts(row: &Row, from: usize, to: usize) -> bool
 }
 
 fn are_of_state(word: i64, detail: i64) -> bool
-    ensures { (state : PartState) → word ≡ pos (state_number state) → detail ≡ pos (state_of state) → IsTrue result }
+    ensures { (state : PartState) → state_of state < 2 ^ 32 → word ≡ pos (state_number state) → detail ≡ pos (state_of state) → IsTrue result }
 {
     if 1 <= word && word <= 3 {
-        0 <= detail
+        0 <= detail && detail <= i64::from(u32::MAX)
     } else {
         0 <= word && word <= 6 && detail == 0
     }
@@ -74,7 +128,7 @@ fn are_of_state(word: i64, detail: i64) -> bool
 // A state and its job or demand, side by side.
 fn has_state(row: &Row, at: usize) -> bool
     requires { at < 100 }
-    ensures { (state : PartState) → Shows row.now at (Int (pos (state_number state))) → Shows row.now (at + 1) (Int (pos (state_of state))) → IsTrue result }
+    ensures { (state : PartState) → state_of state < 2 ^ 32 → Shows row.now at (Int (pos (state_number state))) → Shows row.now (at + 1) (Int (pos (state_of state))) → IsTrue result }
 {
     match (int_in(row, at), int_in(row, at + 1)) {
         (Some(word), Some(detail)) => are_of_state(word, detail),
@@ -83,18 +137,22 @@ fn has_state(row: &Row, at: usize) -> bool
     }
 }
 
-/// Whether a row may be a part's: each column has a value as parts have them, whatever its range.
+/// Whether a row may be a part's: each column has a value as parts have them, in its range.
 pub(crate) fn may_be_part(row: &Row) -> bool
-    ensures { (e : Name × PartRecord) → row.now ≡ part_row e → IsTrue result }
+    ensures { (part : PartRecord) → IsPartValue part → row.now ≡ part_row (part.name, part) → IsTrue result }
 {
-    has_counts(row, 0, 2)
-        && (has_word(row, 2)
-            && (has_word(row, 3) && (has_counts(row, 4, 10) && has_state(row, 10))))
+    has_name(row, 0)
+        && (has_code(row, 2)
+            && (has_code(row, 3)
+                && (has_name(row, 4)
+                    && (has_number(row, 6, 0, u32::MAX)
+                        && (has_number(row, 7, 0, u32::MAX)
+                            && (has_size(row, 8) && has_state(row, 10)))))))
 }
 
 /// Whether a row may be that of totals, their code behind them.
 pub(crate) fn may_be_totals(row: &Row) -> bool
-    ensures { (e : List ℕ × TotalsRecord) → row.now ≡ listed_row e → IsTrue result }
+    ensures { (e : List ℕ × TotalsRecord) → IsTrue (is_code e.0) → row.now ≡ listed_row e → IsTrue result }
 {
-    has_counts(row, 0, 7) && has_word(row, 7)
+    has_counts(row, 0, 7) && has_code(row, 7)
 }

@@ -1,7 +1,13 @@
+use Rattle.std.proofs.Common.{map, arith}
+use Rattle.std.specs.FinMap.{entries}
 use Rattle.sqlite.specs.Held.{state}
-use Rattle.shop_tables.specs.Earlier.{earlier_schema}
+use Rattle.sqlite.specs.State.{HasCleanDisk}
+use Rattle.shop_tables.specs.Earlier.{ShowsEarlier, earlier_schema}
+use Rattle.shop_tables.specs.Listing.{AreCodes, key_of}
+use Rattle.shop_tables.specs.Shown.{Shows}
+use Rattle.shop_tables.proofs.AllTotals.{all_coded}
 use Rattle.shop_tables.proofs.EarlierRows.{earlier_codes_is, rows_given_earlier}
-use Rattle.shop_tables.proofs.Ordered.{lists_codes, lists_codes_of, rows_given}
+use Rattle.shop_tables.proofs.Ordered.{lists_codes, lists_codes_of, rows_given, seen_then}
 use Rattle.shop_tables.proofs.Texts.{all_codes_text, all_codes_selects}
 use Rattle.shop_tables.proofs.listing.material_rows.Goals as goal
 
@@ -17,6 +23,20 @@ returns-clause-earlier g c clean b was =
     let new = state g.S.Store c.all_rows.new.conn in
     rows_given_earlier all_codes_text old new all_codes_selects c.all_rows.ensures.leaves b _ c.all_rows.result clean was
     (λ rows has. lists_codes_of old new earlier_schema has.schema _ earlier_codes_is b.content.materials has.stands.materials rows) (c.all_rows.ensures.rows clean)
+
+pub returns-clause-coded : goal.returns-clause-coded
+returns-clause-coded g c clean b was =
+    let old = state g.S.Store c.args.conn.now in
+    let before : HasCleanDisk old = let l = (c.all_rows.ensures.leaves all_codes_selects).survives.clean in omega (arith, l) in
+    seen_then all_codes_text old (state g.S.Store c.all_rows.new.conn) (Shows old b) (AreCodes (map key_of (entries b.content.materials))) c.all_rows.result (λ up. (was before up).shows)
+    (λ has. all_coded b.content.materials has.keyed.codes) (c.all_rows.ensures.rows clean)
+
+pub returns-clause-earlier_coded : goal.returns-clause-earlier_coded
+returns-clause-earlier_coded g c clean b was =
+    let old = state g.S.Store c.args.conn.now in
+    let before : HasCleanDisk old = let l = (c.all_rows.ensures.leaves all_codes_selects).survives.clean in omega (arith, l) in
+    seen_then all_codes_text old (state g.S.Store c.all_rows.new.conn) (ShowsEarlier old b) (AreCodes (map key_of (entries b.content.materials))) c.all_rows.result (λ up. (was before up).shows)
+    (λ has. all_coded b.content.materials has.keyed.codes) (c.all_rows.ensures.rows clean)
 
 pub returns-clause-leaves : goal.returns-clause-leaves
 returns-clause-leaves g c = c.all_rows.ensures.leaves all_codes_selects

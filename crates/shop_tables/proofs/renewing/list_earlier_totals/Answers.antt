@@ -13,7 +13,7 @@ use Rattle.shop_tables.proofs.renewing.list_earlier_totals.Goals as goal
 pub returns-clause-rows : goal.returns-clause-rows
 returns-clause-rows g c clean b was =
     let before : HasCleanDisk (state g.S.Store c.material_rows.new.conn) = let l = c.earlier_totals_rows.ensures.leaves.survives.clean in omega (arith, l) in
-    IfOk-weaker c.read_all.result _ _ (all_totals b)
+    IfOk-weaker c.read_all.result _ _ (all_totals b (c.in_ok-materials.ensures.earlier_coded before b was))
     (c.read_all.ensures (map key_of (entries b.content.materials)) (entries b.totals) (c.deref.ensures.value ∙ c.in_ok-materials.ensures.earlier before b was ∙ sym (map-map code_row key_of (entries b.content.materials))) (c.deref-2.ensures.value ∙ c.in_ok-totals.ensures.rows clean b (stays_earlier (state g.S.Store c.args.conn.now) (state g.S.Store c.material_rows.new.conn) b c.material_rows.ensures.leaves was)))
 
 pub returns-in_err-totals-clause-leaves : goal.returns-in_err-totals-clause-leaves
