@@ -108,6 +108,8 @@ fn a_name_that_is_taken_is_a_wrong_version(rt: HostRuntime) -> Result<(), TableF
 
 const STRANGE: &[&str] = &[
     "UPDATE meta SET value = 3 WHERE name = 'version'",
+    "UPDATE meta SET value = 0 - 2 WHERE name = 'version'",
+    "UPDATE meta SET value = 4294967298 WHERE name = 'version'",
     "DELETE FROM meta WHERE name = 'version'",
     "DROP TABLE imports",
     "DROP TABLE totals",

@@ -1,5 +1,5 @@
 -- Parts that are added up, and totals that are their sums.
-use Rattle.std.proofs.Common.{◌≡◌, ℕ, ◌+◌, ◌<◌, ◌≤◌, ◌^◌, Bool, true, false, cond, ◌&&◌, List, [], ◌∷◌, ◌++◌, length, map, take, get_or, Option, Some, None, is_some, Ok, Err, Result, refl, sym, ap, subst, ◌∙◌, arith, append-nil, IsTrue, Vec}
+use Rattle.std.proofs.Common.{◌≡◌, ℕ, ◌+◌, ◌<◌, ◌≤◌, ◌^◌, Bool, true, false, cond, ◌&&◌, List, [], ◌∷◌, ◌++◌, length, map, take, get_or, Option, Some, None, is_some, Ok, Err, Result, inl, inr, refl, sym, ap, subst, ◌∙◌, arith, append-nil, IsTrue, Vec}
 use Rattle.std.specs.Prelude.{unwrap_or, IfOk, T, ◌*◌, if◌then◌else◌}
 use Rattle.std.specs.Bool.{Decides}
 use Rattle.std.specs.FinMap.{entries, entries_sorted, find, get, get-entries, is_sorted, values}
@@ -23,9 +23,9 @@ use Rattle.shop_tables.specs.Changing.{HasSums}
 use Rattle.shop_tables.specs.Listing.{AreAllTotals, HaveTotals, named}
 use Rattle.shop_tables.specs.Shown.{Books}
 use Rattle.shop_tables.specs.declared.faults.TableFault.{TableFault}
-use Rattle.shop_store.specs.Adding.{AddsPart, AreSumsIn, IsAdded, IsListOf, are_totals_for, has_sums}
+use Rattle.shop_store.specs.Adding.{AddsPart, AreNarrow, AreSumsIn, IsAdded, IsListOf, are_totals_for, has_sums}
 use Rattle.shop_store.specs.Rows.{entries_of, row_at, IsPut}
-use Rattle.shop_store.specs.Sums.{cells_for, counted_cells, found_sum, sum_at, sum_in, sums_key, totals_from}
+use Rattle.shop_store.specs.Sums.{cells_for, counted_cells, found_sum, sum_at, sum_in, sums_key, total_in, totals_from}
 use Rattle.shop_store.specs.declared.adders.PartAdder.{PartAdder}
 use Rattle.shop_store.specs.declared.sums.Sums.{Sums}
 use Rattle.shop_tables.proofs.Finding.{code_total, code_same}
@@ -72,6 +72,15 @@ one_more_for code [] row = refl
 one_more_for code (r ∷ rows) row =
     ap (cond (eq_by_cmp code_cmp code r.material) true) (one_more_for code rows row)
     ∙ swapped (eq_by_cmp code_cmp code r.material) (eq_by_cmp code_cmp code row.material) (are_totals_for code rows)
+
+-- ---- totals that 64 bits hold
+
+pub push_narrow : (rows : List MaterialTotals) (row : MaterialTotals) → AreNarrow rows → ((column : Column) → total_in column row.totals < 2 ^ 64) → AreNarrow (rows ++ row ∷ [])
+push_narrow [] row h is = (is, tt)
+push_narrow (r ∷ rows) row h is = (h.0, push_narrow rows row h.1 is)
+
+pub more_narrow : (rows : List MaterialTotals) (i : ℕ) (row : MaterialTotals) → i < length rows → row ≡ get_or rows i row → AreNarrow (take i rows) → ((column : Column) → total_in column row.totals < 2 ^ 64) → AreNarrow (take (i + 1) rows)
+more_narrow rows i row inside is so_far here = subst AreNarrow (sym (take_more rows i row inside ∙ ap (λ (r : MaterialTotals). take i rows ++ r ∷ []) (sym is))) (push_narrow (take i rows) row so_far here)
 
 -- ---- totals that are sums
 
@@ -223,42 +232,67 @@ added_all b list old new visited good all none there went visit told =
       λ has. told.1 (subst (AreSumsIn new.sums.items) (sym all.1) (conversely b new.sums.items counted has)),
     )
 
-no_sum : (m : Rattle.shop_machine.specs.Content.Content) (code : List ℕ) → no_totals ≡ totals_of m code → (column : Column) → 0 ≡ cells_in column code (values m.parts)
-no_sum m code e Received = ap (λ (t : Totals). t.received) e
-no_sum m code e Stock = ap (λ (t : Totals). t.stock) e
-no_sum m code e Rack = ap (λ (t : Totals). t.rack) e
-no_sum m code e Pieces = ap (λ (t : Totals). t.pieces) e
-no_sum m code e Kerf = ap (λ (t : Totals). t.kerf) e
-no_sum m code e Scrap = ap (λ (t : Totals). t.scrap) e
-no_sum m code e Returned = ap (λ (t : Totals). t.returned) e
+held_in : (m : Rattle.shop_machine.specs.Content.Content) (code : List ℕ) (t : Totals) → t ≡ totals_of m code → (column : Column) → total_in column t ≡ cells_in column code (values m.parts)
+held_in m code t e Received = ap (λ (t : Totals). t.received) e
+held_in m code t e Stock = ap (λ (t : Totals). t.stock) e
+held_in m code t e Rack = ap (λ (t : Totals). t.rack) e
+held_in m code t e Pieces = ap (λ (t : Totals). t.pieces) e
+held_in m code t e Kerf = ap (λ (t : Totals). t.kerf) e
+held_in m code t e Scrap = ap (λ (t : Totals). t.scrap) e
+held_in m code t e Returned = ap (λ (t : Totals). t.returned) e
 
-among : (column : Column) (code : List ℕ) (part : Part) (before rest : List Part) → cells_for column code part ≤ cells_in column code ((before ++ part ∷ []) ++ rest)
+none_in : (column : Column) → total_in column no_totals ≡ 0
+none_in column = elim column as (λ x. total_in x no_totals ≡ 0) [ Received ↦ refl | Stock ↦ refl | Rack ↦ refl | Pieces ↦ refl | Kerf ↦ refl | Scrap ↦ refl | Returned ↦ refl ]
+
+-- the cells of the first parts and of the next
+among : (column : Column) (code : List ℕ) (part : Part) (before rest : List Part) → cells_in column code before + cells_for column code part ≤ cells_in column code ((before ++ part ∷ []) ++ rest)
 among column code part before rest = omega (arith, sum_by-append (cells_for column code) (before ++ part ∷ []) rest, sum_by_push (cells_for column code) before part)
 
 nothing_there : (o : Option Totals) → is_some o ≡ false → unwrap_or o no_totals ≡ no_totals
 nothing_there None e = refl
 nothing_there (Some t) e = absurd (cc)
 
--- the pass stopped at a part of a material without totals
-pub lost_at : (b : Books) (list : List MaterialTotals) (old new : PartAdder) (visited : Result Bool TableFault) → IsListOf b list
-    → ((code : List ℕ) → has_sums code old.sums.items ≡ are_totals_for code list) → visited ≡ Ok false → new.lost ≡ true
+narrow_found : (es : List (List ℕ × Totals)) → AreNarrow (map named es) → (code : List ℕ) (column : Column) → total_in column (unwrap_or (find code_cmp code es) no_totals) < 2 ^ 64
+narrow_found [] all code column = omega (arith, none_in column)
+narrow_found (e ∷ es) all code column =
+    elim (eq_by_cmp code_cmp code e.0) as (λ b. total_in column (unwrap_or (cond b (Some e.1) (find code_cmp code es)) no_totals) < 2 ^ 64) [ true ↦ all.0 column | false ↦ narrow_found es all.1 code column ]
+
+-- the pass stopped at a part
+pub stopped_at : (b : Books) (list : List MaterialTotals) (old new : PartAdder) (visited : Result Bool TableFault) → IsListOf b list → AreNarrow list → ((column : Column) (code : List ℕ) → sum_at column code old.sums.items ≡ 0)
+    → ((code : List ℕ) → has_sums code old.sums.items ≡ are_totals_for code list) → visited ≡ Ok false
     → (visit : IsVisit AddsPart (λ what. what (values b.content.parts)) old visited new) → Told b false
-lost_at b list old new visited all there went lost visit =
+stopped_at b list old new visited all narrow none there went visit =
     let off : visit.on ≡ false = sym (subst (λ r. IfOk r (λ t. t ≡ visit.on)) went visit.answer) in
     let stops : HasSeen AddsPart visit.parts false old new = subst (λ o. HasSeen AddsPart visit.parts o old new) off visit.visitor in
     let before = stops.0 in
     let last = stops.1 in
-    let it = stops.5 lost in
     let code = last.material in
     let begins = subst (λ r. (rest : List Part) × (values b.content.parts ≡ visit.parts ++ rest) × IfOk r (λ t. IsTrue t → rest ≡ [])) went visit.begins in
-    let names : is_some (get b.totals code) ≡ false = ap is_some (get-entries b.totals code) ∙ sym (found_for code (entries b.totals)) ∙ sym ((added_up before old stops.2 stops.4).1 code ∙ there code ∙ ap (are_totals_for code) all.1) ∙ it.none in (
+    let whole : values b.content.parts ≡ (before ++ last ∷ []) ++ begins.0 = begins.1 ∙ ap (λ ps. ps ++ begins.0) stops.3 in
+    let so_far = added_up before old stops.2 stops.4 in (
       λ h. absurd (cc),
-      λ has.
-          let nothing_in : 0 ≡ cells_in it.counted.0 code (values b.content.parts) = no_sum b.content code (sym (nothing_there (get b.totals code) names) ∙ has.sums code) it.counted.0 in
-          let whole : values b.content.parts ≡ (before ++ last ∷ []) ++ begins.0 = begins.1 ∙ ap (λ ps. ps ++ begins.0) stops.3 in
-          let here = among it.counted.0 code last before begins.0 in
-          let same = ap (cells_in it.counted.0 code) whole in
-          let own = counted_own it.counted.0 last in
-          let some = it.counted.1 in
-          absurd (omega (arith, nothing_in, here, same, own, some)),
+      λ has. absurd (elim stops.5 [
+        | inl lost ↦
+            let names : is_some (get b.totals code) ≡ false = ap is_some (get-entries b.totals code) ∙ sym (found_for code (entries b.totals)) ∙ sym (so_far.1 code ∙ there code ∙ ap (are_totals_for code) all.1) ∙ lost.none in
+            let column = lost.counted.0 in
+            let held = held_in b.content code no_totals (sym (nothing_there (get b.totals code) names) ∙ has.sums code) column in
+            let nothing = none_in column in
+            let here = among column code last before begins.0 in
+            let same = ap (cells_in column code) whole in
+            let own = counted_own column last in
+            let some = lost.counted.1 in
+            omega (arith, held, nothing, here, same, own, some)
+        | inr over ↦
+            let column = over.column in
+            let held = held_in b.content code (unwrap_or (get b.totals code) no_totals) (has.sums code) column in
+            let narrow_one = narrow_found (entries b.totals) (subst AreNarrow all.1 narrow) code column in
+            let found = ap (λ o. total_in column (unwrap_or o no_totals)) (get-entries b.totals code) in
+            let here = among column code last before begins.0 in
+            let same = ap (cells_in column code) whole in
+            let own = counted_own column last in
+            let sums = so_far.0 column code in
+            let nothing = none column code in
+            let large = over.large in
+            omega (arith, held, narrow_one, found, here, same, own, sums, nothing, large)
+      ]),
     )

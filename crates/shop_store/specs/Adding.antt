@@ -1,5 +1,6 @@
 -- What adding up the parts that are handed out makes of sums.
-use Rattle.std.specs.Prelude.{◌≡◌, ℕ, ◌+◌, ◌≤◌, ⊤, List, [], ◌∷◌, Bool, true, false, cond, is_some, map}
+use Rattle.std.specs.Prelude.{◌≡◌, ◌⊎◌, ℕ, ◌+◌, ◌≤◌, ◌<◌, ◌^◌, ⊤, List, [], ◌∷◌, Bool, true, false, cond, is_some, map}
+use Rattle.std.specs.List.{AllByRecursion}
 use Rattle.std.specs.Ordering.{eq_by_cmp}
 use Rattle.cut_measure.specs.Codes.{code_cmp}
 use Rattle.shop_machine.specs.declared.changes.MaterialTotals.{MaterialTotals}
@@ -9,7 +10,7 @@ use Rattle.std.specs.FinMap.{entries}
 use Rattle.shop_tables.specs.Listing.{HaveTotals, named}
 use Rattle.shop_tables.specs.Shown.{Books}
 use Rattle.shop_store.specs.Rows.{row_at}
-use Rattle.shop_store.specs.Sums.{cells_for, counted_cells, sum_at, sums_key, totals_from}
+use Rattle.shop_store.specs.Sums.{cells_for, counted_cells, sum_at, sums_key, total_in, totals_from}
 use Rattle.shop_store.specs.declared.adders.PartAdder.{PartAdder}
 use Rattle.shop_store.specs.declared.sums.Sums.{Sums}
 
@@ -27,10 +28,15 @@ pub record IsLost (part : Part) (sums : List Sums) : Type 0 where
   pub none : has_sums part.material sums ≡ false
   pub counted : (column : Column) × (1 ≤ counted_cells column part)
 
--- a part is added where there are sums for its material, and 64 bits hold them; one that is lost is told
+-- 64 bits don't hold a column of the part's material with the part
+pub record IsOver (part : Part) (sums : List Sums) : Type 0 where
+  pub column : Column
+  pub large : 2 ^ 64 ≤ sum_at column part.material sums + counted_cells column part
+
+-- a part is added where there are sums for its material, and 64 bits hold them
 abbrev pub AddsPart : PartAdder → Part → Bool → PartAdder → Type 0
 AddsPart old part true new = IsAdded part old.sums.items new.sums.items
-AddsPart old part false new = new.lost ≡ true → IsLost part old.sums.items
+AddsPart old part false new = IsLost part old.sums.items ⊎ IsOver part old.sums.items
 
 -- whether some of these totals are the material's
 abbrev pub are_totals_for : List ℕ → List MaterialTotals → Bool
@@ -40,6 +46,10 @@ are_totals_for code (row ∷ rows) = cond (eq_by_cmp code_cmp code row.material)
 -- these are the totals of all materials, by rising code
 abbrev pub IsListOf : Books → List MaterialTotals → Type 0
 IsListOf b list = HaveTotals b × (list ≡ map named (entries b.totals))
+
+-- 64 bits hold each of these totals
+abbrev pub AreNarrow : List MaterialTotals → Type 0
+AreNarrow rows = AllByRecursion (λ (row : MaterialTotals). (column : Column) → total_in column row.totals < 2 ^ 64) rows
 
 -- each of these totals is the material's sums
 abbrev pub AreSumsIn : List Sums → List MaterialTotals → Type 0

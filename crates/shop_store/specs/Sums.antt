@@ -20,6 +20,15 @@ sum_in Kerf sums = sums.kerf
 sum_in Scrap sums = sums.scrap
 sum_in Returned sums = sums.returned
 
+abbrev pub total_in : Column → Totals → ℕ
+total_in Received totals = totals.received
+total_in Stock totals = totals.stock
+total_in Rack totals = totals.rack
+total_in Pieces totals = totals.pieces
+total_in Kerf totals = totals.kerf
+total_in Scrap totals = totals.scrap
+total_in Returned totals = totals.returned
+
 abbrev pub sums_key : Sums → List ℕ
 sums_key sums = sums.code
 

@@ -7,11 +7,10 @@ ghost use Rattle.shop_store.specs.Sums.{sum_at, sums_key};
 use crate::sums::Sums;
 
 /// Adds up the parts that are handed out, for the materials that it was made for. It stops at a part of another material
-/// that a column counts, which is lost then, and where 64 bits don't hold a sum.
+/// that a column counts, and where 64 bits don't hold a sum.
 #[derive(Drop)]
 pub struct PartAdder {
     pub sums: Vec<Sums>,
-    pub lost: bool,
     ghost rising: { IsTrue (rise sums_key code_cmp sums.items) },
     ghost room: { vec_len sums < vec_capacity sums },
     ghost small: { (column : Column) (code : List ℕ) → sum_at column code sums.items < 2 ^ 64 },

@@ -8,14 +8,14 @@ ghost use Rattle.shop_machine.specs.declared.records.Column.{Column as ColumnOf}
 ghost use Rattle.shop_tables.specs.Changing.{HasSums};
 ghost use Rattle.shop_tables.specs.Earlier.{SaysEarlier};
 ghost use Rattle.shop_tables.specs.Shown.{Leaves, Says};
-ghost use Rattle.shop_store.specs.Adding.{AddsPart, AreSumsIn, IsListOf, are_totals_for, has_sums};
+ghost use Rattle.shop_store.specs.Adding.{AddsPart, AreNarrow, AreSumsIn, IsListOf, are_totals_for, has_sums};
 ghost use Rattle.shop_store.specs.Rows.{rise};
-ghost use Rattle.shop_store.specs.Sums.{sum_at, sums_key};
+ghost use Rattle.shop_store.specs.Sums.{sum_at, sums_key, total_in};
 
 use crate::adders::PartAdder;
 use crate::rows::put;
-use crate::sums::{Sums, are_kept, count_part, has_totals, no_sums};
-use shop_machine::{MaterialTotals, Part, PartVisitor};
+use crate::sums::{Sums, count_part, has_totals, no_sums};
+use shop_machine::{MaterialTotals, Part, PartVisitor, Totals};
 use shop_tables::{Lent, TableFault, lend_all_parts, list_earlier_totals, list_totals};
 use sqlite::{Alter, Connection};
 use std::alloc::{AllocError, Global};
@@ -24,23 +24,31 @@ impl PartVisitor for PartAdder {
     ghost looks = { AddsPart };
 
     fn part(&mut self, part: &Part) -> bool {
-        self.lost = !are_kept(&self.sums, part.material);
         count_part(&mut self.sums, part)
     }
+}
+
+// Totals of the program are held by 64 bits.
+fn in_range(totals: Totals)
+    ensures { (column : ColumnOf) → total_in column totals < 2 ^ 64 }
+{
+    let _returned = totals.returned;
 }
 
 // Sums of nothing for each of these materials.
 fn adder_for(alloc: Global, totals: &[MaterialTotals]) -> Result<PartAdder, AllocError>
     ensures none { IfOk result (λ adder. (column : ColumnOf) (code : List ℕ) → sum_at column code adder.sums.items ≡ 0) }
     ensures there { IfOk result (λ adder. (code : List ℕ) → has_sums code adder.sums.items ≡ are_totals_for code totals.now) }
+    ensures narrow { IfOk result (λ _. AreNarrow totals.now) }
 {
     let mut sums = Vec::new(alloc);
     for row in totals {
+        in_range(row.totals);
         sums.reserve(1)?;
         let _ = put(&mut sums, no_sums(row.material));
     }
     sums.reserve(1)?;
-    Ok(PartAdder { sums, lost: false })
+    Ok(PartAdder { sums })
 }
 
 // Whether these totals are the sums.
@@ -71,8 +79,7 @@ fn are_sums_of_parts<S: Alter>(
     let mut adder = adder_for(alloc, totals)?;
     match lend_all_parts(conn, &mut adder)? {
         Lent::All => Ok(are_sums(&adder.sums, totals)),
-        Lent::Stopped if adder.lost => Ok(false),
-        Lent::Stopped => Err(TableFault::Store),
+        Lent::Stopped => Ok(false),
         Lent::Strange => Ok(false),
     }
 }

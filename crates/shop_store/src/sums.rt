@@ -1,11 +1,11 @@
-ghost use Rattle.std.specs.Prelude.{◌≡◌, ◌+◌, ◌*◌, ◌<◌, ◌≤◌, ◌^◌, ℕ, List, true, false, IsTrue, IfSome, IfNone, IsSome, vec_len, vec_capacity, slice_index};
+ghost use Rattle.std.specs.Prelude.{◌≡◌, ◌⊎◌, ◌+◌, ◌*◌, ◌<◌, ◌≤◌, ◌^◌, ℕ, List, true, false, IsTrue, IfSome, IfNone, IsSome, vec_len, vec_capacity, slice_index};
 ghost use Rattle.cut_measure.specs.Codes.{code_cmp};
 ghost use Rattle.shop_machine.specs.declared.records.Column.{Column as ColumnOf};
 ghost use Rattle.shop_store.specs.Rows.{rise};
 ghost use Rattle.std.specs.Bool.{Decides};
 ghost use Rattle.std.specs.Option.{ForSome};
 ghost use Rattle.shop_machine.specs.Content.{of_found};
-ghost use Rattle.shop_store.specs.Adding.{IsAdded, IsLost, has_sums};
+ghost use Rattle.shop_store.specs.Adding.{IsAdded, IsLost, IsOver};
 ghost use Rattle.shop_machine.specs.Columns.{is_counted};
 ghost use Rattle.shop_store.specs.Sums.{totals_from, sum_in, sums_key, sum_at, counted_cells, cells_for};
 
@@ -159,16 +159,33 @@ pub fn add_part(rows: &mut Vec<Sums>, part: &Part)
     let _ = put(rows, sums);
 }
 
-// Whether 64 bits hold each sum with a part more.
-fn have_room(sums: &Sums, part: &Part) -> bool
-    ensures { IsTrue result → (column : ColumnOf) → sum_in column sums.now + part.now.size.w * part.now.size.h < 2 ^ 64 }
+// A column whose sum 64 bits don't hold, if there is one.
+fn wide_column(sums: &Sums) -> Option<Column>
+    ensures some { IfSome result (λ column. 2 ^ 64 ≤ sum_in column sums.now) }
+    ensures none { IfNone result ((column : ColumnOf) → sum_in column sums.now < 2 ^ 64) }
 {
-    let room = TOO_LARGE - u128::from(part.size.cells());
-    sums.received < room
-        && (sums.stock < room
-            && (sums.rack < room
-                && (sums.pieces < room
-                    && (sums.kerf < room && (sums.scrap < room && sums.returned < room)))))
+    if TOO_LARGE <= sums.received {
+        return Some(Column::Received);
+    }
+    if TOO_LARGE <= sums.stock {
+        return Some(Column::Stock);
+    }
+    if TOO_LARGE <= sums.rack {
+        return Some(Column::Rack);
+    }
+    if TOO_LARGE <= sums.pieces {
+        return Some(Column::Pieces);
+    }
+    if TOO_LARGE <= sums.kerf {
+        return Some(Column::Kerf);
+    }
+    if TOO_LARGE <= sums.scrap {
+        return Some(Column::Scrap);
+    }
+    if TOO_LARGE <= sums.returned {
+        return Some(Column::Returned);
+    }
+    None
 }
 
 // A column that counts a part, if there is one.
@@ -201,14 +218,6 @@ fn has_cells(part: &Part) -> bool
     }
 }
 
-/// Whether a material has sums.
-pub fn are_kept(rows: &[Sums], material: Code) -> bool
-    requires { IsTrue (rise sums_key code_cmp rows.now) }
-    ensures { result ≡ has_sums material rows.now }
-{
-    find(rows, material).is_some()
-}
-
 /// Adds a part's cells to the sums of its material, where these are there and 64 bits hold them. A part without sums has to
 /// have no cells that a column counts.
 pub fn count_part(rows: &mut Vec<Sums>, part: &Part) -> bool
@@ -219,15 +228,17 @@ pub fn count_part(rows: &mut Vec<Sums>, part: &Part) -> bool
     ensures adds { IsTrue result → IsAdded part.now rows.old.items rows.new.items }
     ensures rising { IsTrue (rise sums_key code_cmp rows.new.items) }
     ensures room { vec_len rows.new < vec_capacity rows.new }
-    ensures lost { result ≡ false → has_sums part.now.material rows.old.items ≡ false → IsLost part.now rows.old.items }
+    ensures stopped { result ≡ false → IsLost part.now rows.old.items ⊎ IsOver part.now rows.old.items }
 {
     let Some(sums) = find(rows, part.material) else {
         return !has_cells(part);
     };
-    if !have_room(&sums, part) {
+    let _cells = part.size.cells();
+    let sums = with_part(sums, part);
+    if let Some(_column) = wide_column(&sums) {
         return false;
     }
-    let _ = put(rows, with_part(sums, part));
+    let _ = put(rows, sums);
     true
 }
 

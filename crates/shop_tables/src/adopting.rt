@@ -12,9 +12,9 @@ ghost use Rattle.shop_tables.specs.declared.adopting.Adopted.TheVariants.{Made, 
 ghost use Rattle.shop_tables.specs.declared.adopting.AdoptFault.TheVariants.{WrongVersion};
 
 use crate::TableFault;
-use crate::columns::number_in;
 use crate::laying::lay_tables;
 use crate::numbers::number_row;
+use crate::strange::has_number;
 use sqlite::{Alter, Connection, Error, ErrorCode};
 use sqlite_schema::schema::Schema;
 
@@ -128,8 +128,7 @@ fn has_version<S: Alter>(conn: &mut Connection<S>, wanted: u32) -> Result<bool, 
     let Some(row) = number_row(conn, "version")? else {
         return Ok(false);
     };
-    let version = number_in(&row, 0)?;
-    Ok(version == wanted)
+    Ok(has_number(&row, 0, wanted, wanted))
 }
 
 fn fault_of_store(error: Error) -> AdoptFault

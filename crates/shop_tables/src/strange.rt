@@ -33,7 +33,7 @@ fn int_in(row: &Row, at: usize) -> Option<i64>
 }
 
 // A number from the least to the most.
-fn has_number(row: &Row, at: usize, least: u32, most: u32) -> bool
+pub(crate) fn has_number(row: &Row, at: usize, least: u32, most: u32) -> bool
     ensures { (n : ℕ) → least ≤ n → n ≤ most → Shows row.now at (Int (pos n)) → IsTrue result }
 {
     match int_in(row, at) {

@@ -2,7 +2,7 @@ use Rattle.std.proofs.Common.{◌∙◌, ap, List}
 use Rattle.shop_store.specs.Adding.{has_sums}
 use Rattle.shop_store.specs.Sums.{sum_at}
 use Rattle.shop_store.specs.declared.sums.Sums.{Sums}
-use Rattle.shop_store.proofs.Counting.{put_nothing, there_after}
+use Rattle.shop_store.proofs.Counting.{more_narrow, put_nothing, there_after}
 use Rattle.shop_store.proofs.checking.adder_for.Goals as goal
 
 pub loop-row-preserved : goal.loop-row-preserved
@@ -14,4 +14,5 @@ loop-row-preserved c =
       there = λ code.
           there_after code c.no_sums.result c.reserve.new.self.items c.put.new.rows.items c.args.totals.now c.loop-row.row-index c.row-item.result c.put.ensures.put c.no_sums.ensures.code c.loop-row-test.true c.row-item.is
           (ap (has_sums code) c.reserve.ensures.items ∙ was.there code);
+      narrow = more_narrow c.args.totals.now c.loop-row.row-index c.row-item.result c.loop-row-test.true c.row-item.is was.narrow c.in_range.ensures;
     }

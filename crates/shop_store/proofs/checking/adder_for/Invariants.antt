@@ -2,7 +2,7 @@ use Rattle.std.proofs.Common.{◌≡◌, ℕ, List, take}
 use Rattle.std.specs.Prelude.{IsTrue}
 use Rattle.cut_measure.specs.Codes.{code_cmp}
 use Rattle.shop_machine.specs.declared.records.Column.{Column}
-use Rattle.shop_store.specs.Adding.{are_totals_for, has_sums}
+use Rattle.shop_store.specs.Adding.{AreNarrow, are_totals_for, has_sums}
 use Rattle.shop_store.specs.Rows.{rise}
 use Rattle.shop_store.specs.Sums.{sum_at, sums_key}
 use Rattle.shop_store.proofs.checking.adder_for.Given as goal
@@ -13,4 +13,5 @@ invariant-loop-row l =
       rising : IsTrue (rise sums_key code_cmp l.sums.items);
       none : (column : Column) (code : List ℕ) → sum_at column code l.sums.items ≡ 0;
       there : (code : List ℕ) → has_sums code l.sums.items ≡ are_totals_for code (take l.row-index l.totals);
+      narrow : AreNarrow (take l.row-index l.totals);
     }

@@ -3,7 +3,7 @@ use Rattle.std.specs.Bool.{Decides}
 use Rattle.sqlite.specs.Held.{state}
 use Rattle.shop_store.specs.Adding.{AreSumsIn}
 use Rattle.shop_tables.specs.Lending.{gone_through}
-use Rattle.shop_store.proofs.Counting.{added_all, lost_at}
+use Rattle.shop_store.proofs.Counting.{added_all, stopped_at}
 use Rattle.shop_store.proofs.Checked.{leaves_itself}
 use Rattle.shop_tables.specs.declared.lending.Lent.TheVariants.{Strange}
 use Rattle.shop_store.proofs.checking.are_sums_of_parts.Goals as goal
@@ -28,8 +28,8 @@ returns-in-All-clause-earlier g c clean b was list =
 pub returns-in-Stopped-clause-sums : goal.returns-in-Stopped-clause-sums
 returns-in-Stopped-clause-sums g c clean b was list =
     let v = c.lend_all_parts.ensures.visit in
-    lost_at b c.args.totals.now c.in_ok-adder.adder c.lend_all_parts.new.visitor (gone_through c.lend_all_parts.result) list c.in_ok-adder.ensures.there
-    (ap gone_through (c.in_ok-lend_all_parts.was ∙ ap Ok c.in-Stopped.is)) (search rules) (record { parts = v.parts; on = v.on; visitor = v.visitor; answer = v.answer; begins = v.begins clean b was })
+    stopped_at b c.args.totals.now c.in_ok-adder.adder c.lend_all_parts.new.visitor (gone_through c.lend_all_parts.result) list c.in_ok-adder.ensures.narrow c.in_ok-adder.ensures.none c.in_ok-adder.ensures.there
+    (ap gone_through (c.in_ok-lend_all_parts.was ∙ ap Ok c.in-Stopped.is)) (record { parts = v.parts; on = v.on; visitor = v.visitor; answer = v.answer; begins = v.begins clean b was })
 
 pub returns-clause-sums : goal.returns-clause-sums
 returns-clause-sums g c clean b was list =
@@ -38,8 +38,8 @@ returns-clause-sums g c clean b was list =
 pub returns-in-Stopped-clause-earlier : goal.returns-in-Stopped-clause-earlier
 returns-in-Stopped-clause-earlier g c clean b was list =
     let v = c.lend_all_parts.ensures.earlier in
-    lost_at b c.args.totals.now c.in_ok-adder.adder c.lend_all_parts.new.visitor (gone_through c.lend_all_parts.result) list c.in_ok-adder.ensures.there
-    (ap gone_through (c.in_ok-lend_all_parts.was ∙ ap Ok c.in-Stopped.is)) (search rules) (record { parts = v.parts; on = v.on; visitor = v.visitor; answer = v.answer; begins = v.begins clean b was })
+    stopped_at b c.args.totals.now c.in_ok-adder.adder c.lend_all_parts.new.visitor (gone_through c.lend_all_parts.result) list c.in_ok-adder.ensures.narrow c.in_ok-adder.ensures.none c.in_ok-adder.ensures.there
+    (ap gone_through (c.in_ok-lend_all_parts.was ∙ ap Ok c.in-Stopped.is)) (record { parts = v.parts; on = v.on; visitor = v.visitor; answer = v.answer; begins = v.begins clean b was })
 
 pub returns-clause-earlier : goal.returns-clause-earlier
 returns-clause-earlier g c clean b was list =

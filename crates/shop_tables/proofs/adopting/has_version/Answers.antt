@@ -1,6 +1,6 @@
-use Rattle.std.proofs.Common.{◌≡◌, pos, [], ◌∷◌, Some, None, ap, sym, refl, ◌∙◌}
+use Rattle.std.proofs.Common.{◌≡◌, pos, [], ◌∷◌, Some, None, refl, arith}
 use Rattle.sqlite_value.specs.declared.value.Value.TheVariants.{Int}
-use Rattle.sqlite_value.specs.Order.{column}
+use Rattle.shop_tables.proofs.StrangeRows.{shown_in}
 use Rattle.shop_tables.proofs.adopting.has_version.Goals as goal
 
 pub returns-in_default-clause-ours : goal.returns-in_default-clause-ours
@@ -13,14 +13,10 @@ pub returns-clause-ours : goal.returns-clause-ours
 returns-clause-ours g c two clean b was =
     let given : Some c.in-Some.row ≡ Some (Int (pos 2) ∷ []) = rw c.in-Some.is at (c.in_ok-row.ensures.row clean b was 2 refl) in
     let row : c.in-Some.row ≡ Int (pos 2) ∷ [] = cc in
-    let same : Int (pos c.in_ok-version.version) ≡ Int (pos 2) = sym c.in_ok-version.ensures ∙ ap (λ r. column r 0) row in
-    let is : c.in_ok-version.version ≡ 2 = cc in
-    rw (is, two) refl
+    c.has_number.ensures 2 (omega (arith, two)) (omega (arith, two)) (shown_in _ _ row 0 (Int (pos 2)) (omega arith) refl)
 
 pub returns-clause-one : goal.returns-clause-one
 returns-clause-one g c one clean b was =
     let given : Some c.in-Some.row ≡ Some (Int (pos 1) ∷ []) = rw c.in-Some.is at (c.in_ok-row.ensures.earlier clean b was 1 refl) in
     let row : c.in-Some.row ≡ Int (pos 1) ∷ [] = cc in
-    let same : Int (pos c.in_ok-version.version) ≡ Int (pos 1) = sym c.in_ok-version.ensures ∙ ap (λ r. column r 0) row in
-    let is : c.in_ok-version.version ≡ 1 = cc in
-    rw (is, one) refl
+    c.has_number.ensures 1 (omega (arith, one)) (omega (arith, one)) (shown_in _ _ row 0 (Int (pos 1)) (omega arith) refl)
