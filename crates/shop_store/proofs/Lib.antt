@@ -13,3 +13,4 @@ pub mod Taking
 pub mod Adopting
 pub mod Checked
 pub mod EarlierContents
+pub mod Renewals

@@ -16,6 +16,6 @@ mod takers;
 
 pub use books::{Book, BookFault, MOST_FAILURES};
 pub use memory::MemBook;
-pub use reopening::reopen_book;
+pub use reopening::{left_renewals_are_found, reopen_book};
 pub use shop_machine::PartVisitor;
 pub use sql::SqlBook;

@@ -2,10 +2,18 @@
 
 ghost use Rattle.std.specs.Prelude.{◌≡◌, IfSome, IsTrue};
 ghost use Rattle.sqlite.specs.Closing.{IsCopied};
-ghost use Rattle.sqlite.specs.Files.{file_state};
+ghost use Rattle.sqlite.specs.Files.{file_state, image_of, IsOpened, Finds};
+ghost use Rattle.sqlite.specs.Held.{Held, AreDatabases};
+ghost use Rattle.sqlite.specs.State.{HasCleanDisk, Survives};
+ghost use Rattle.sqlite_disk.specs.declared.Files.{Files as FilesOf};
+ghost use Rattle.sqlite_store.specs.FileStore as store;
+ghost use Rattle.sqlite_store.specs.declared.store.FileStore.{FileStore as StoreOf};
+ghost use Rattle.sqlite_trees.specs.Tree.{Trees};
 ghost use Rattle.sqlite_wal.specs.Reads.{AreClean};
+ghost use Rattle.sqlite_wal.specs.Recovery.{Image};
 ghost use Rattle.shop_machine.specs.Content.{Content};
-ghost use Rattle.shop_tables.specs.Held.{HoldsContent};
+ghost use Rattle.shop_store.specs.EarlierBooks.{IsSettledEarlierAt, IsSettledEitherAt};
+ghost use Rattle.shop_tables.specs.Held.{HoldsContent, StandsFor};
 
 use crate::SqlBook;
 use sqlite::{Connection, FileStore, Files, Options};
@@ -43,3 +51,16 @@ pub fn reopen_book<D: Disk + Drop>(
         Err(_) => None,
     }
 }
+
+/// What a crash in a renewal leaves is found again. A connection was settled at a content in tables of version 1, and an
+/// adopt of it came to another state, whatever exit that was (its clause `renewed_crash`); the store of that state was taken
+/// back. A connection that opened on files with what a crash then leaves is settled at the same content, in version 2 or
+/// in version 1. So a book that is adopted from it holds that content.
+pub fn left_renewals_are_found<D: Disk>()
+    ensures { (old after : Held (StoreOf D D.Disk)) (m : Content) → IsTrue (file_state old).is_open → IsSettledEarlierAt (file_state old) m
+        → HasCleanDisk (file_state after) → Survives (file_state old) (file_state after) (λ db. StandsFor db m)
+        → (it : StoreOf D D.Disk) → ((db : Trees) → store.recovers it db → (file_state after).may_leave db) → IsTrue (store.view it).is_numbered → AreDatabases (store.recovers it)
+        → (left : Image) → (store.state it).may_leave left → (files : FilesOf D) → image_of D.Disk files ≡ left
+        → (new : Held (StoreOf D D.Disk)) → IsOpened new → Finds files new
+        → ∥ IsSettledEitherAt (file_state new) m ∥₁ }
+{}

@@ -6,11 +6,11 @@ use Rattle.sqlite_disk.specs.declared.Files.{Files}
 use Rattle.sqlite_wal.specs.Reads.{AreClean}
 use Rattle.sqlite_store.specs.declared.store.FileStore.{FileStore}
 use Rattle.sqlite_catalog.proofs.ReadLemmas.{lists_once}
-use Rattle.sqlite_catalog.specs.Listing.{Lists}
+use Rattle.sqlite_catalog.specs.Listing.{IsSound, Lists}
 use Rattle.sqlite_trees.specs.Objects.{catalog_tree}
 use Rattle.sqlite.specs.Tree.{Trees}
 use Rattle.sqlite.specs.Effect.{Database, IsDatabase}
-use Rattle.sqlite.specs.State.{HasCleanDisk}
+use Rattle.sqlite.specs.State.{State, HasCleanDisk}
 use Rattle.sqlite.specs.Held.{Held, AreDatabases}
 use Rattle.sqlite.specs.Files.{file_state, image_of, HoldsDatabase, IsOpened, Finds}
 use Rattle.sqlite.specs.Closing.{IsCopied}
@@ -20,6 +20,7 @@ use Rattle.sqlite_store.specs.FileStore.{view, recovers}
 use Rattle.sqlite_store.specs.FileStore as store
 use Rattle.sqlite_wal.specs.Recovery.{Image}
 use Rattle.shop_machine.specs.Content.{Content}
+use Rattle.shop_tables.specs.Earlier.{IsSettledEarlier, StandsEarlier, StandsInEarlier, earlier_schema}
 use Rattle.shop_tables.specs.Layout.{IsShop}
 use Rattle.shop_tables.specs.Rows.{Stands}
 use Rattle.shop_tables.specs.Shown.{Books, IsSettled, Holds, StandsIn}
@@ -55,6 +56,22 @@ left_settled new b opened left =
       shows = record { schema = subst IsShop (sym schema) left.0.1; sound = live; stands = subst (λ (t : Trees). Stands t b.content b.totals) (sym trees) left.1; keyed = left.2 };
       committed = opened.0.clean;
     }
+
+-- The same of tables of version 1.
+pub left_settled_earlier : {D : Type 0} {g : Ghosts D} (new : Held (FileStore D g)) (b : Books) → IsOpened new → StandsInEarlier (file_state new).committed.trees b → IsSettledEarlier (file_state new) b
+left_settled_earlier new b opened left =
+    let live = (opened.1 opened.0.is_open).0 in
+    let trees : (file_state new).now.trees ≡ (file_state new).committed.trees = ap (λ (d : Database). d.trees) opened.0.clean in
+    let listed : Database = record { schema = earlier_schema; trees = (file_state new).committed.trees } in
+    record {
+      shows = record { schema = one_schema listed (file_state new).now left.0 live trees; sound = live; stands = subst (λ (t : Trees). StandsEarlier t b.content b.totals) (sym trees) left.1; keyed = left.2 };
+      committed = opened.0.clean;
+    }
+
+-- The last commit of tables of version 1 stands for the books that they show.
+pub committed_earlier : (s : State) (b : Books) → IsSettledEarlier s b → StandsInEarlier s.committed.trees b
+committed_earlier s b was =
+    subst (λ (d : Database). StandsInEarlier d.trees b) was.committed (subst (λ schema. IsSound schema s.now.trees) was.shows.schema was.shows.sound, was.shows.stands, was.shows.keyed)
 
 -- An open finds one of the databases that a crash could leave, and is settled at the content for which it stands.
 pub left_is_found : {D : Type 0} {g : Ghosts D} (it : FileStore D g) → IsTrue (view it).is_numbered → AreDatabases (recovers it) → (left : Image) → (store.state it).may_leave left

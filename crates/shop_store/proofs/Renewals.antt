@@ -1,0 +1,35 @@
+-- What a crash in a renewal leaves is found again, in version 1 or in version 2.
+use Rattle.std.proofs.Common.{◌≡◌, ◌⊎◌, IsTrue, inl, inr, sym, subst, ◌∙◌}
+use Rattle.std.proofs.Math.Logic.{∥∥₁_map}
+use Rattle.sqlite_disk.specs.declared.Disk.{Ghosts}
+use Rattle.sqlite_disk.specs.declared.Files.{Files}
+use Rattle.sqlite_wal.proofs.LogLemmas.{SeenMayStay}
+use Rattle.sqlite_store.specs.FileStore as store
+use Rattle.sqlite_store.specs.Laws.{settled_at}
+use Rattle.sqlite_store.specs.declared.store.FileStore.{FileStore}
+use Rattle.sqlite_trees.specs.Tree.{Trees}
+use Rattle.sqlite_wal.specs.Recovery.{Image}
+use Rattle.sqlite.specs.Files.{file_state, image_of, HoldsDatabase, IsOpened, Finds}
+use Rattle.sqlite.specs.Held.{Held, AreDatabases}
+use Rattle.sqlite.specs.State.{HasCleanDisk, Survives}
+use Rattle.sqlite.proofs.Theorems.{opens_again}
+use Rattle.shop_machine.specs.Content.{Content}
+use Rattle.shop_tables.specs.Earlier.{StandsInEarlier}
+use Rattle.shop_tables.specs.Held.{books, IsSettledAt, StandsFor}
+use Rattle.shop_tables.specs.Shown.{StandsIn}
+use Rattle.shop_tables.proofs.Reopened.{committed_earlier, left_settled, left_settled_earlier}
+use Rattle.shop_store.specs.EarlierBooks.{IsSettledEarlierAt, IsSettledEitherAt}
+
+pub left_renewal_is_found : {D : Type 0} {g : Ghosts D} (old after : Held (FileStore D g)) (m : Content) → IsTrue (file_state old).is_open → IsSettledEarlierAt (file_state old) m
+    → HasCleanDisk (file_state after) → Survives (file_state old) (file_state after) (λ db. StandsFor db m)
+    → (it : FileStore D g) → ((db : Trees) → store.recovers it db → (file_state after).may_leave db) → IsTrue (store.view it).is_numbered → AreDatabases (store.recovers it)
+    → (left : Image) → (store.state it).may_leave left → (files : Files D) → image_of g files ≡ left → (new : Held (FileStore D g)) → IsOpened new → Finds files new → SeenMayStay g
+    → ∥ IsSettledEitherAt (file_state new) m ∥₁
+left_renewal_is_found {D} {g} old after m up was clean survives it less numbered sound left may files seen new opened found stays = ∥∥₁_map (opens_again it numbered sound left may) (λ x.
+    let trees : (file_state new).committed.trees ≡ x.0 = found.holds x.0 (subst (λ i. HoldsDatabase i x.0) (sym seen) x.2) in
+    let r : IsSettledEitherAt (file_state new) m = elim (survives.crash clean x.0 (less x.0 x.1)) [
+      | inl before ↦
+          let kept : (file_state new).committed.trees ≡ (file_state old).committed.trees = trees ∙ settled_at old.store stays x.0 up before in
+          inr (record { totals = was.totals; sums = was.sums; settled = left_settled_earlier new (books m was.totals) opened (subst (λ db. StandsInEarlier db (books m was.totals)) (sym kept) (committed_earlier (file_state old) (books m was.totals) was.settled)) })
+      | inr stands ↦ inl (record { totals = stands.totals; sums = stands.sums; settled = left_settled new (books m stands.totals) opened (subst (λ db. StandsIn db (books m stands.totals)) (sym trees) stands.stands) })
+    ] in r)
