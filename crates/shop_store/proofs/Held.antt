@@ -9,10 +9,12 @@ use Rattle.std.specs.Ordering.{is_eq, match_ordering, nat_cmp}
 use Rattle.shop_machine.specs.declared.records.Column.{Column}
 use Rattle.shop_machine.specs.declared.records.Column.TheVariants as column
 use Rattle.cut_measure.specs.Codes.{code_cmp}
+use Rattle.cut_measure.specs.Names.{name_cmp}
 use Rattle.shop_machine.specs.declared.records.Material.{Material}
+use Rattle.shop_machine.specs.declared.records.Part.{Part}
 use Rattle.shop_machine.specs.declared.records.Job.{Job}
 use Rattle.shop_machine.specs.declared.records.Demand.{Demand}
-use Rattle.shop_machine.specs.Content.{Content, pair_cmp, cells_in, with_material, with_job, with_demands, with_kept, with_import, with_number}
+use Rattle.shop_machine.specs.Content.{Content, pair_cmp, cells_in, with_material, with_parts, with_job, with_demands, with_kept, with_import, with_number}
 use Rattle.shop_machine.specs.Soundness.{IsInRange}
 use Rattle.std.specs.Cmp.{IsTotalOrder}
 use Rattle.std.specs.BTreeMap.{insert_entry}
@@ -22,7 +24,7 @@ use Rattle.shop_machine.specs.declared.imports.ImportRow.{ImportRow}
 use Rattle.shop_machine.specs.declared.kept_texts.Pair.{Pair}
 use Rattle.shop_machine.specs.declared.kept_texts.Kept.{Kept}
 use Rattle.shop_machine.specs.declared.kept_texts.KeptMessage.{KeptMessage}
-use Rattle.shop_store.specs.Memory.{material_key, job_key, demand_key, import_key, put_kept, pairs_total}
+use Rattle.shop_store.specs.Memory.{material_key, part_key, job_key, demand_key, import_key, put_kept, pairs_total}
 use Rattle.shop_store.specs.Rows.{entries_of, rise, row_at, put_each, map_of, with_rows, ArePut}
 use Rattle.std.specs.Bool.{Decides}
 use Rattle.std.specs.Cmp.Lexicographic.{pointwise}
@@ -119,6 +121,10 @@ job_after (Some row) m = refl
 pub import_after : (row : Option ImportRow) (m : FinMap code_cmp ImportRow) → with_rows import_key code_cmp (option_to_list row) m ≡ with_import row m
 import_after None m = refl
 import_after (Some row) m = refl
+
+pub parts_after : (rows : List Part) (m : FinMap name_cmp Part) → with_rows part_key name_cmp rows m ≡ with_parts rows m
+parts_after [] m = refl
+parts_after (row ∷ rows) m = parts_after rows (insert m row.name row)
 
 pub demands_after : (rows : List Demand) (m : FinMap nat_cmp Demand) → with_rows demand_key nat_cmp rows m ≡ with_demands rows m
 demands_after [] m = refl

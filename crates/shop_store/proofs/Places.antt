@@ -1,11 +1,11 @@
 -- Where a row stands among rows that rise by their keys, and what it is to put one there.
 use Rattle.std.proofs.Common.{◌≡◌, inl, inr, ℕ, zero, suc, ◌-◌, ◌<◌, ◌≤◌, Bool, true, false, List, [], ◌∷◌, ◌++◌, length, take, drop, get_or, refl, sym, ap, subst, ◌∙◌, arith}
-use Rattle.std.specs.Prelude.{Some, None, T, cond}
+use Rattle.std.specs.Prelude.{Some, None, T, cond, ◌&&◌}
 use Rattle.std.specs.declared.cmp.Ordering.{Ordering}
 use Rattle.std.specs.declared.cmp.Ordering.TheVariants.{Less, Equal, Greater}
-use Rattle.std.specs.Ordering.{is_eq, ordering_index, ordering_reverse}
+use Rattle.std.specs.Ordering.{is_eq, is_lt, ordering_index, ordering_reverse}
 use Rattle.std.specs.Cmp.{IsTotalOrder, alike_right}
-use Rattle.std.specs.List.{insert, slice_get}
+use Rattle.std.specs.List.{insert, insert_slice, slice_get}
 use Rattle.std.specs.List.Sorted.{IsPartitionPoint, IsNonDecreasingBy}
 use Rattle.std.specs.FinMap.{IsAntisymmetric, is_sorted, put}
 use Rattle.std.specs.FinMap.Entries.{below_all, by_order, is_sorted-put}
@@ -13,9 +13,18 @@ use Rattle.std.proofs.Math.ListN.{set}
 use Rattle.std.proofs.Math.Seq.{drop-cons}
 use Rattle.std.proofs.lemmas.Bool.{cases_lt}
 use Rattle.std.proofs.lemmas.Option.{get_or_from_slice_get}
-use Rattle.std.proofs.lemmas.List.{get_or_default, set_split, map-append, take-append-drop}
+use Rattle.std.proofs.lemmas.List.{append_assoc, get_or_default, set_split, map-append, take-append-drop}
 use Rattle.shop_machine.proofs.Sums.{first, second, less}
-use Rattle.shop_store.specs.Rows.{entry_of, entries_of, rise, row_at, IsPut}
+use Rattle.shop_store.specs.Rows.{entry_of, entries_of, rise, row_at, put_each, IsPut, ArePut}
+
+lesser : (r : Ordering) → r ≡ Less → T (is_lt r)
+lesser Less e = tt
+lesser Equal e = absurd (cc)
+lesser Greater e = absurd (cc)
+
+pair_of : (a b : Bool) → T a → T b → T (a && b)
+pair_of true b p q = q
+pair_of false b p q = absurd p
 
 module _ {X K : Type 0} (key_of : X → K) (cmp : K → K → Ordering) (o : IsTotalOrder cmp) (exact : IsAntisymmetric cmp) where
   abbrev all : (X → Type 0) → List X → Type 0
@@ -148,6 +157,103 @@ module _ {X K : Type 0} (key_of : X → K) (cmp : K → K → Ordering) (o : IsT
         ∙ ap (λ ys. put cmp key row (entries_of key_of cmp ys)) (take-append-drop i xs)
         ∙ ap (λ k. put cmp k row (entries_of key_of cmp xs)) (sym e)
 
+  -- ---- rows that stand together
+
+  abbrev Above : List X → K → Type 0
+  Above front key = all (λ y. cmp key (key_of y) ≡ Greater) front
+
+  abbrev Below : List X → K → Type 0
+  Below back key = all (λ y. cmp key (key_of y) ≡ Less) back
+
+  all_append : (P : X → Type 0) (xs ys : List X) → all P xs → all P ys → all P (xs ++ ys)
+  all_append P [] ys h k = k
+  all_append P (x ∷ xs) ys h k = (h.0, all_append P xs ys h.1 k)
+
+  put_between : (row : X) (front back : List X) → Above front (key_of row) → Below back (key_of row)
+      → put cmp (key_of row) row (entries_of key_of cmp (front ++ back)) ≡ entries_of key_of cmp ((front ++ row ∷ []) ++ back)
+  put_between row front back under over =
+      put_past (key_of row) row front back under ∙ ap (λ es. entries_of key_of cmp front ++ es) (put_before (key_of row) row back over)
+      ∙ sym (map-append (entry_of key_of cmp) front (row ∷ back)) ∙ ap (entries_of key_of cmp) (sym (append_assoc front (row ∷ []) back))
+
+  one_more : (row : X) (rows front : List X) → T (below_all cmp (key_of row) (entries_of key_of cmp rows)) → all (λ r. Above front (key_of r)) rows → all (λ r. Above (front ++ row ∷ []) (key_of r)) rows
+  one_more row [] front h under = tt
+  one_more row (r ∷ rows) front h under =
+      (all_append (λ y. cmp (key_of r) (key_of y) ≡ Greater) front (row ∷ []) under.0 (flipped (key_of row) (key_of r) Less (less _ (first _ _ h)), tt), one_more row rows front (second _ _ h) under.1)
+
+  -- each is put behind what is before and before what is behind
+  put_together : (added front back : List X) → T (rise key_of cmp added) → all (λ r. Above front (key_of r)) added → all (λ r. Below back (key_of r)) added
+      → put_each key_of cmp added (entries_of key_of cmp (front ++ back)) ≡ entries_of key_of cmp (front ++ (added ++ back))
+  put_together [] front back up under over = refl
+  put_together (row ∷ rows) front back up under over =
+      ap (put_each key_of cmp rows) (put_between row front back under.0 over.0)
+      ∙ put_together rows (front ++ row ∷ []) back (second _ _ up) (one_more row rows front (first _ _ up) under.1) over.1
+      ∙ ap (entries_of key_of cmp) (append_assoc front (row ∷ []) (rows ++ back))
+
+  above_more : (key more : K) (front : List X) → cmp key more ≡ Less → Above front key → Above front more
+  above_more key more [] lt h = tt
+  above_more key more (y ∷ front) lt h = (flipped (key_of y) more Less (o.trans (key_of y) key more (flipped key (key_of y) Greater h.0) lt), above_more key more front lt h.1)
+
+  below_more : (less_key key : K) (back : List X) → cmp less_key key ≡ Less → Below back key → Below back less_key
+  below_more less_key key [] lt h = tt
+  below_more less_key key (y ∷ back) lt h = (o.trans less_key key (key_of y) lt h.0, below_more less_key key back lt h.1)
+
+  -- what the first stands behind, all stand behind
+  behind_front : (x : X) (rows front : List X) → T (below_all cmp (key_of x) (entries_of key_of cmp rows)) → Above front (key_of x) → all (λ r. Above front (key_of r)) rows
+  behind_front x [] front h under = tt
+  behind_front x (r ∷ rows) front h under = (above_more (key_of x) (key_of r) front (less _ (first _ _ h)) under, behind_front x rows front (second _ _ h) under)
+
+  -- what the last stands before, all stand before
+  before_back : (added back : List X) (x : X) → T (rise key_of cmp added) → slice_get added (length added - 1) ≡ Some x → Below back (key_of x) → all (λ r. Below back (key_of r)) added
+  before_back added back x up at h =
+      all_from (λ r. Below back (key_of r)) added 0 (λ k d le lt.
+      let here : get_or added (length added - 1) d ≡ x = get_or_from_slice_get added (length added - 1) x d at in
+      elim (cases_lt k (length added - 1)) [
+        | inl before ↦ below_more (key_of (get_or added k d)) (key_of x) back (ap (λ y. cmp (key_of (get_or added k d)) (key_of y)) (sym here) ∙ rising_at added up k (length added - 1) d before (omega arith)) h
+        | inr ge ↦ let same : k ≡ length added - 1 = omega arith in subst (λ y. Below back (key_of y)) (sym (ap (λ n. get_or added n d) same ∙ here)) h
+      ])
+
+  -- a key before a row is before those behind it
+  before_drop : (xs : List X) → T (rise key_of cmp xs) → (i : ℕ) (key : K) → (i < length xs → (d : X) → cmp (key_of (get_or xs i d)) key ≡ Greater) → Below (drop i xs) key
+  before_drop xs up i key h =
+      all_from (λ y. cmp key (key_of y) ≡ Less) xs i (λ k d le lt.
+      let here : cmp key (key_of (get_or xs i d)) ≡ Less = flipped (key_of (get_or xs i d)) key Greater (h (omega arith) d) in
+      elim (cases_lt i k) [
+        | inl behind ↦ o.trans key (key_of (get_or xs i d)) (key_of (get_or xs k d)) here (rising_at xs up i k d behind lt)
+        | inr ge ↦ let same : i ≡ k = omega arith in subst (λ n. cmp key (key_of (get_or xs n d)) ≡ Less) same here
+      ])
+
+  -- rows that rise, of which the first would stand where the row stands that the last comes before, are put there
+  pub put_at : (xs added : List X) (i : ℕ) (x y : X) → T (rise key_of cmp xs) → T (rise key_of cmp added) → i ≤ length xs
+      → slice_get added 0 ≡ Some x → slice_get added (length added - 1) ≡ Some y
+      → (IsNonDecreasingBy (λ z. ordering_index (cmp (key_of z) (key_of x))) xs → IsPartitionPoint (λ z. cmp (key_of z) (key_of x) ≡ Less) (λ z. cmp (key_of z) (key_of x) ≡ Greater) xs i)
+      → (i < length xs → (d : X) → cmp (key_of (get_or xs i d)) (key_of y) ≡ Greater)
+      → put_each key_of cmp added (entries_of key_of cmp xs) ≡ entries_of key_of cmp (insert_slice xs i added)
+  put_at xs [] i x y up rises within front last point before = absurd (none_some front)
+    where
+      none_some : {A : Type 0} {a : A} → None ≡ Some a → ⊥
+      none_some e = cc
+  put_at xs (z ∷ added) i x y up rises within front last point before =
+      let same : z ≡ x = cc in
+      let under : Above (take i xs) (key_of z) = subst (λ r. Above (take i xs) (key_of r)) (sym same) (low xs up i (key_of x) within point) in
+      let over = before_back (z ∷ added) (drop i xs) y rises last (before_drop xs up i (key_of y) before) in
+      ap (λ ys. put_each key_of cmp (z ∷ added) (entries_of key_of cmp ys)) (sym (take-append-drop i xs))
+      ∙ put_together (z ∷ added) (take i xs) (drop i xs) rises (under, behind_front z added (take i xs) (first _ _ rises) under) over
+      ∙ ap (entries_of key_of cmp) (sym (append_assoc (take i xs) (z ∷ added) (drop i xs)))
+
+  -- ---- rows of which each is below the next rise
+
+  far_below : (x y : K) (ys : List X) → cmp x y ≡ Less → T (below_all cmp y (entries_of key_of cmp ys)) → T (below_all cmp x (entries_of key_of cmp ys))
+  far_below x y [] lt h = tt
+  far_below x y (z ∷ ys) lt h = pair_of _ _ (lesser _ (o.trans x y (key_of z) lt (less _ (first _ _ h)))) (far_below x y ys lt (second _ _ h))
+
+  pub rise_by_steps : (xs : List X) → ((k : ℕ) (d : X) → suc k < length xs → cmp (key_of (get_or xs k d)) (key_of (get_or xs (suc k) d)) ≡ Less) → T (rise key_of cmp xs)
+  rise_by_steps [] h = tt
+  rise_by_steps (x ∷ []) h = tt
+  rise_by_steps (x ∷ y ∷ ys) h =
+      let rest : T (rise key_of cmp (y ∷ ys)) = rise_by_steps (y ∷ ys) (λ k d lt. h (suc k) d (omega arith)) in
+      let step : cmp (key_of x) (key_of y) ≡ Less = h 0 x (omega arith) in
+      pair_of _ _ (pair_of _ _ (lesser _ step) (far_below (key_of x) (key_of y) ys step (first _ _ rest))) rest
+
 -- ---- behind the last row
 
 lowest : (r : Ordering) → ordering_index r ≤ 0 → r ≡ Less
@@ -177,3 +283,11 @@ met false t = absurd t
 pub rise-put : {X K : Type 0} (key_of : X → K) (cmp : K → K → Ordering) → IsTotalOrder cmp → (row : X) (old new : List X) → IsPut key_of cmp row old new → rise key_of cmp old ≡ true → rise key_of cmp new ≡ true
 rise-put key_of cmp o row old new put_there up =
     ap (is_sorted cmp) put_there ∙ met _ (is_sorted-put cmp o (key_of row) row (entries_of key_of cmp old) (tested _ up))
+
+sorted_each : {X K : Type 0} (key_of : X → K) (cmp : K → K → Ordering) → IsTotalOrder cmp → (rows : List X) (entries : List (K × X)) → is_sorted cmp entries ≡ true → is_sorted cmp (put_each key_of cmp rows entries) ≡ true
+sorted_each key_of cmp o [] entries sorted = sorted
+sorted_each key_of cmp o (row ∷ rows) entries sorted = sorted_each key_of cmp o rows (put cmp (key_of row) row entries) (met _ (is_sorted-put cmp o (key_of row) row entries (tested _ sorted)))
+
+-- rows into which others were put one after another rise
+pub rise-put_each : {X K : Type 0} (key_of : X → K) (cmp : K → K → Ordering) → IsTotalOrder cmp → (added old new : List X) → ArePut key_of cmp added old new → rise key_of cmp old ≡ true → rise key_of cmp new ≡ true
+rise-put_each key_of cmp o added old new are_put up = ap (is_sorted cmp) are_put ∙ sorted_each key_of cmp o added (entries_of key_of cmp old) up

@@ -1,5 +1,5 @@
 -- Sums of parts, and a part more or less.
-use Rattle.std.proofs.Common.{◌≡◌, ℕ, ◌+◌, ◌*◌, ◌≤◌, Bool, true, false, List, [], ◌∷◌, length, map, refl, sym, ap, ◌∙◌, arith}
+use Rattle.std.proofs.Common.{◌≡◌, ℕ, ◌+◌, ◌*◌, ◌≤◌, Bool, true, false, List, [], ◌∷◌, ◌++◌, ◌<◌, length, get_or, take, drop, map, refl, sym, ap, ◌∙◌, arith}
 use Rattle.std.specs.Prelude.{Option, Some, sum_by, nat_le, ◌&&◌, cond, if◌then◌else◌}
 use Rattle.std.specs.declared.cmp.Ordering.{Ordering}
 use Rattle.std.specs.declared.cmp.Ordering.TheVariants.{Less, Equal, Greater}
@@ -9,7 +9,10 @@ use Rattle.std.specs.Cmp.Lexicographic.{nat_list_cmp_total}
 use Rattle.std.specs.FinMap.{put, find, slice_cmp-IsAntisymmetric, nat_cmp-IsAntisymmetric}
 use Rattle.std.specs.FinMap.Entries.{find-put, by_order}
 use Rattle.std.proofs.lemmas.Bool.{leb-true, le-leb}
-use Rattle.std.proofs.lemmas.List.Sums.{sum_by-cons}
+use Rattle.std.specs.List.{insert_slice}
+use Rattle.std.proofs.lemmas.List.{take-append-drop}
+use Rattle.std.proofs.lemmas.List.Folds.{list_all-append, list_all_more}
+use Rattle.std.proofs.lemmas.List.Sums.{sum_by-cons, sum_by-append, sum_by-take-drop, sum_by_more}
 use Rattle.cut_measure.specs.Codes.{code_cmp}
 use Rattle.cut_measure.specs.Names.{Name, name_cmp}
 use Rattle.shop_machine.specs.declared.records.Part.{Part}
@@ -76,6 +79,17 @@ module _ (column : Column) (code : List ℕ) (sums : Sums) (old new : List Sums)
         by_code false e =
             ap (λ b. sum_at column code new + (if b && is_counted column part then part.size.w * part.size.h else 0)) e
             ∙ less_nothing (sum_at column code new) (sum_at column code old) (put_by false (ap (λ c. is_eq (code_cmp c code)) of_it ∙ e))
+
+  -- a row of sums with the cells of parts more, all of its material
+  module _ (own : List ℕ) (parts : List Part) (of_it : sums.code ≡ own) (others : is_eq (code_cmp own code) ≡ false → cells_in column code parts ≡ 0) where
+    pub added_all : sum_in column sums ≡ sum_at column own old + cells_in column own parts → sum_at column code new ≡ sum_at column code old + cells_in column code parts
+    added_all is = by_code (is_eq (code_cmp own code)) refl
+      where
+        by_code : (b : Bool) → is_eq (code_cmp own code) ≡ b → sum_at column code new ≡ sum_at column code old + cells_in column code parts
+        by_code true e =
+            put_by true (ap (λ c. is_eq (code_cmp c code)) of_it ∙ e) ∙ is ∙ ap (λ c. sum_at column c old + cells_in column c parts) (same_code own code e)
+        by_code false e =
+            put_by false (ap (λ c. is_eq (code_cmp c code)) of_it ∙ e) ∙ plus_nothing (sum_at column code old) ∙ ap (λ n. sum_at column code old + n) (sym (others e))
 
 -- ---- a part put among parts
 
@@ -148,3 +162,34 @@ pub small-put : (part : Part) (old new : List Part) → part.size.w * part.size.
 small-put part old new own small is_put =
     ap all_small (sym (seconds part_key name_cmp new) ∙ ap (map (λ (e : Name × Part). e.1)) is_put)
     ∙ small_entries part (entries_of part_key name_cmp old) (le-leb (part.size.w * part.size.h) most_cells own) (ap all_small (seconds part_key name_cmp old) ∙ small)
+
+-- ---- parts that are put together
+
+abbrev is_small : Part → Bool
+is_small part = nat_le (part.size.w * part.size.h) most_cells
+
+pub cells-inserted : (column : Column) (code : List ℕ) (old added : List Part) (i : ℕ) → cells_in column code (insert_slice old i added) ≡ cells_in column code old + cells_in column code added
+cells-inserted column code old added i =
+    omega (arith, sum_by-append (cells_for column code) (take i old ++ added) (drop i old), sum_by-append (cells_for column code) (take i old) added, sum_by-take-drop (cells_for column code) old i)
+
+pub small-inserted : (old added : List Part) (i : ℕ) → all_small old ≡ true → all_small added ≡ true → all_small (insert_slice old i added) ≡ true
+small-inserted old added i small more =
+    let t = both (all_small (take i old)) (all_small (drop i old)) (sym (list_all-append is_small (take i old) (drop i old)) ∙ ap all_small (take-append-drop i old) ∙ small) in
+    list_all-append is_small (take i old ++ added) (drop i old) ∙ ap (λ b. b && all_small (drop i old)) (list_all-append is_small (take i old) added)
+    ∙ ap (λ b. (b && all_small added) && all_small (drop i old)) t.0 ∙ ap (λ b. b && all_small (drop i old)) more ∙ t.1
+
+-- ---- one part more of a list
+
+module _ (parts : List Part) (i : ℕ) (part : Part) (within : i < length parts) (is : part ≡ get_or parts i part) where
+  pub cells-more : (column : Column) (code : List ℕ) → cells_in column code (take (i + 1) parts) ≡ cells_in column code (take i parts) + cells_for column code part
+  cells-more column code = sum_by_more (cells_for column code) parts i part within ∙ ap (λ p. cells_in column code (take i parts) + cells_for column code p) (sym is)
+
+  pub small-more : part.size.w * part.size.h ≤ most_cells → all_small (take i parts) ≡ true → all_small (take (i + 1) parts) ≡ true
+  small-more own small =
+      list_all_more is_small parts i part within ∙ ap (λ p. all_small (take i parts) && is_small p) (sym is) ∙ ap (λ b. b && is_small part) small ∙ le-leb (part.size.w * part.size.h) most_cells own
+
+pub cells_own : (column : Column) (part : Part) (code : List ℕ) → part.material ≡ code → cells_for column code part ≡ counted_cells column part
+cells_own column part code e = ap (λ c. cells_for column c part) (sym e) ∙ counted_own column part
+
+pub cells_other : (column : Column) (part : Part) (own code : List ℕ) → part.material ≡ own → is_eq (code_cmp own code) ≡ false → cells_for column code part ≡ 0
+cells_other column part own code e other = ap (λ b. if b && is_counted column part then part.size.w * part.size.h else 0) (ap (λ c. is_eq (code_cmp c code)) e ∙ other)

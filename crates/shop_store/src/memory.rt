@@ -1,4 +1,4 @@
-ghost use Rattle.std.specs.Prelude.{◌≡◌, ◌≢◌, ◌+◌, ◌<◌, ◌≤◌, ◌^◌, ⊤, IfOk, IfErr, IfSome, IsOk, OnOk, OnErr, IsTrue, List, ℕ, ◌-◌, filter, length, vec_len, vec_capacity};
+ghost use Rattle.std.specs.Prelude.{◌≡◌, ◌≢◌, ◌+◌, ◌<◌, ◌≤◌, ◌^◌, ⊤, false, IfOk, IfErr, IfSome, IsOk, OnOk, OnErr, IsTrue, List, ℕ, ◌-◌, filter, length, vec_len, vec_capacity};
 ghost use Rattle.cut_measure.specs.Codes.{code_cmp};
 ghost use Rattle.cut_measure.specs.Names.{name_cmp};
 ghost use Rattle.std.specs.Ordering.{nat_cmp};
@@ -13,8 +13,8 @@ ghost use Rattle.shop_store.specs.Sums.{sums_key, AreSumsOf, all_small};
 
 use crate::books::{Book, BookFault};
 use crate::order_codes::{OrderCode, put_and_keep};
-use crate::rows::{at, find, put, put_all, put_some};
-use crate::sums::{Sums, add_part, take_replaced, totals_in};
+use crate::rows::{at, find, put, put_all, put_run, put_some};
+use crate::sums::{Sums, add_part, sums_of, take_replaced, totals_in, with_all};
 use cut_measure::{Code, PartName};
 use shop_machine::{
     Change, Demand, ImportRow, Job, Kept, Material, Pair, Part, PartList, PartVisitor, Totals,
@@ -209,7 +209,7 @@ fn put_part(parts: &mut Vec<Part>, totals: &mut Vec<Sums>, part: Part)
 }
 
 // Puts parts one after another.
-fn put_parts(parts: &mut Vec<Part>, totals: &mut Vec<Sums>, rows: &[Part])
+fn put_one_by_one(parts: &mut Vec<Part>, totals: &mut Vec<Sums>, rows: &[Part])
     requires parts { IsTrue (rise part_key name_cmp parts.old.items) }
     requires totals { IsTrue (rise sums_key code_cmp totals.old.items) }
     requires small { IsTrue (all_small parts.old.items) }
@@ -225,6 +225,58 @@ fn put_parts(parts: &mut Vec<Part>, totals: &mut Vec<Sums>, rows: &[Part])
     for part in rows {
         put_part(parts, totals, *part);
     }
+}
+
+// Puts parts of one material that stand together between two others, all by one move, and tells whether they do; else nothing
+// changes.
+fn put_together(parts: &mut Vec<Part>, totals: &mut Vec<Sums>, rows: &[Part]) -> bool
+    requires parts { IsTrue (rise part_key name_cmp parts.old.items) }
+    requires totals { IsTrue (rise sums_key code_cmp totals.old.items) }
+    requires small { IsTrue (all_small parts.old.items) }
+    requires sums { AreSumsOf parts.old.items totals.old.items }
+    requires parts_room { vec_len parts.old + length rows.now ≤ vec_capacity parts.old }
+    requires totals_room { vec_len totals.old + length rows.now ≤ vec_capacity totals.old }
+    ensures put { IsTrue result → map_of part_key name_cmp parts.new.items ≡ with_parts rows.now (map_of part_key name_cmp parts.old.items) }
+    ensures parts { IsTrue result → IsTrue (rise part_key name_cmp parts.new.items) }
+    ensures totals { IsTrue result → IsTrue (rise sums_key code_cmp totals.new.items) }
+    ensures small { IsTrue result → IsTrue (all_small parts.new.items) }
+    ensures sums { IsTrue result → AreSumsOf parts.new.items totals.new.items }
+    ensures same { result ≡ false → (parts.new ≡ parts.old) × (totals.new ≡ totals.old) }
+{
+    let Some(first) = rows.first() else {
+        return false;
+    };
+    let _len = parts.len();
+    let _room = parts.capacity();
+    let before = sums_of(totals, first.material);
+    let Some(sums) = with_all(before, rows) else {
+        return false;
+    };
+    if !put_run(parts, rows) {
+        return false;
+    }
+    let _ = put(totals, sums);
+    true
+}
+
+// Puts parts, as one after another.
+fn put_parts(parts: &mut Vec<Part>, totals: &mut Vec<Sums>, rows: &[Part])
+    requires parts { IsTrue (rise part_key name_cmp parts.old.items) }
+    requires totals { IsTrue (rise sums_key code_cmp totals.old.items) }
+    requires small { IsTrue (all_small parts.old.items) }
+    requires sums { AreSumsOf parts.old.items totals.old.items }
+    requires parts_room { vec_len parts.old + length rows.now ≤ vec_capacity parts.old }
+    requires totals_room { vec_len totals.old + length rows.now ≤ vec_capacity totals.old }
+    ensures put { map_of part_key name_cmp parts.new.items ≡ with_parts rows.now (map_of part_key name_cmp parts.old.items) }
+    ensures parts { IsTrue (rise part_key name_cmp parts.new.items) }
+    ensures totals { IsTrue (rise sums_key code_cmp totals.new.items) }
+    ensures small { IsTrue (all_small parts.new.items) }
+    ensures sums { AreSumsOf parts.new.items totals.new.items }
+{
+    if put_together(parts, totals, rows) {
+        return;
+    }
+    put_one_by_one(parts, totals, rows);
 }
 
 // Puts a part that moves, if there is one.

@@ -1,7 +1,7 @@
 ghost use Rattle.std.specs.declared.cmp.Ordering.{Ordering};
-ghost use Rattle.std.specs.declared.cmp.Ordering.TheVariants.{Equal};
-ghost use Rattle.std.specs.Prelude.{◌≡◌, ◌+◌, ◌<◌, ◌≤◌, IfSome, IsSome, IsTrue, Err, length, option_copied, vec_len, vec_capacity};
-ghost use Rattle.std.specs.List.{HoldsAt};
+ghost use Rattle.std.specs.declared.cmp.Ordering.TheVariants.{Equal, Greater};
+ghost use Rattle.std.specs.Prelude.{◌≡◌, ◌+◌, ◌++◌, ◌<◌, ◌≤◌, ℕ, List, IfSome, IsSome, IsTrue, Err, false, length, option_copied, vec_len, vec_capacity};
+ghost use Rattle.std.specs.List.{HoldsAt, insert_slice};
 ghost use Rattle.std.specs.List.Sorted.{IsBinarySearchResult, IsSearchInRange};
 ghost use Rattle.std.specs.Option.{option_to_list};
 ghost use Rattle.shop_store.specs.Rows.{rise, row_at, IsPut, ArePut};
@@ -73,6 +73,53 @@ fn place<R: Row>(rows: &[R], key: R::Key) -> Result<usize, usize>
     rows.binary_search_by(|row| row.compare(key))
 }
 
+// Whether rows rise by their keys.
+fn rises<R: Row>(rows: &[R]) -> bool
+    ensures { IsTrue result → IsTrue (rise R.key_of R.cmp rows.now) }
+{
+    for i in 1..rows.len() {
+        if !matches!(rows[i - 1].compare(rows[i].key()), Ordering::Less) {
+            return false;
+        }
+    }
+    true
+}
+
+// Whether a key comes before the row at a place, or there is none.
+fn is_before<R: Row>(rows: &[R], i: usize, key: R::Key) -> bool
+    ensures { IsTrue result → i < length rows.now → HoldsAt (λ row. R.cmp (R.key_of row) key ≡ Greater) rows.now i }
+{
+    match rows.get(i) {
+        Some(row) => matches!(row.compare(key), Ordering::Greater),
+        None => true,
+    }
+}
+
+// Where rows that rise would stand together between two others.
+fn run_place<R: Row>(rows: &[R], added: &[R]) -> Option<usize>
+    requires { IsTrue (rise R.key_of R.cmp rows.now) }
+    ensures range { IfSome result (λ i. i ≤ length rows.now) }
+    ensures put { IfSome result (λ i. ArePut R.key_of R.cmp added.now rows.now (insert_slice rows.now i added.now)) }
+    ensures rising { IfSome result (λ i. IsTrue (rise R.key_of R.cmp (insert_slice rows.now i added.now))) }
+{
+    let Some(first) = added.first() else {
+        return None;
+    };
+    let Some(last) = added.last() else {
+        return None;
+    };
+    if !rises(added) {
+        return None;
+    }
+    let Err(i) = place(rows, first.key()) else {
+        return None;
+    };
+    if !is_before(rows, i, last.key()) {
+        return None;
+    }
+    Some(i)
+}
+
 /// The row of a key, where it stands.
 pub fn at<R: Row>(rows: &[R], key: R::Key) -> Option<&R>
     requires { IsTrue (rise R.key_of R.cmp rows.now) }
@@ -135,8 +182,38 @@ pub fn put_some<R: Row>(rows: &mut Vec<R>, row: Option<R>)
     }
 }
 
-/// Puts rows in their places, one after another.
-pub fn put_all<R: Row + Copy>(rows: &mut Vec<R>, added: &[R])
+// Moves the rows from `from` on to a place before them.
+fn move_to<R: Row>(rows: &mut [R], from: usize, i: usize)
+    requires order { i ≤ from }
+    requires range { from ≤ length rows.old }
+    ensures { (front back : List R) → rows.old ≡ front ++ back → length front ≡ from → rows.new ≡ insert_slice front i back }
+{
+    rows[i..].rotate_left(from - i);
+}
+
+/// Puts rows that stand together between two others, all by one move, and tells whether they do; else nothing changes.
+pub fn put_run<R: Row + Copy>(rows: &mut Vec<R>, added: &[R]) -> bool
+    requires rising { IsTrue (rise R.key_of R.cmp rows.old.items) }
+    requires room { vec_len rows.old + length added.now ≤ vec_capacity rows.old }
+    ensures put { IsTrue result → ArePut R.key_of R.cmp added.now rows.old.items rows.new.items }
+    ensures run { IsTrue result → (i : ℕ) × (rows.new.items ≡ insert_slice rows.old.items i added.now) }
+    ensures rising { IsTrue result → IsTrue (rise R.key_of R.cmp rows.new.items) }
+    ensures same { result ≡ false → rows.new ≡ rows.old }
+{
+    let Some(i) = run_place(rows, added) else {
+        return false;
+    };
+    let from = rows.len();
+    match rows.extend_from_slice(added) {
+        Ok(()) => (),
+        Err(_) => unreachable!(),
+    }
+    move_to(rows, from, i);
+    true
+}
+
+// Puts rows in their places, one after another.
+fn put_each<R: Row + Copy>(rows: &mut Vec<R>, added: &[R])
     requires rising { IsTrue (rise R.key_of R.cmp rows.old.items) }
     requires room { vec_len rows.old + length added.now ≤ vec_capacity rows.old }
     ensures put { ArePut R.key_of R.cmp added.now rows.old.items rows.new.items }
@@ -145,4 +222,17 @@ pub fn put_all<R: Row + Copy>(rows: &mut Vec<R>, added: &[R])
     for row in added {
         let _ = put(rows, *row);
     }
+}
+
+/// Puts rows in their places, as one after another.
+pub fn put_all<R: Row + Copy>(rows: &mut Vec<R>, added: &[R])
+    requires rising { IsTrue (rise R.key_of R.cmp rows.old.items) }
+    requires room { vec_len rows.old + length added.now ≤ vec_capacity rows.old }
+    ensures put { ArePut R.key_of R.cmp added.now rows.old.items rows.new.items }
+    ensures rising { IsTrue (rise R.key_of R.cmp rows.new.items) }
+{
+    if put_run(rows, added) {
+        return;
+    }
+    put_each(rows, added);
 }

@@ -1,13 +1,14 @@
-ghost use Rattle.std.specs.Prelude.{◌≡◌, ◌⊎◌, ◌+◌, ◌*◌, ◌<◌, ◌≤◌, ◌^◌, ℕ, List, true, false, IsTrue, IfSome, IfNone, IsSome, vec_len, vec_capacity, slice_index};
+ghost use Rattle.std.specs.Prelude.{◌≡◌, ◌⊎◌, ◌+◌, ◌*◌, ◌<◌, ◌≤◌, ◌^◌, ℕ, List, true, false, IsTrue, IfSome, IfNone, IsSome, length, vec_len, vec_capacity, slice_index};
 ghost use Rattle.cut_measure.specs.Codes.{code_cmp};
 ghost use Rattle.shop_machine.specs.declared.records.Column.{Column as ColumnOf};
 ghost use Rattle.shop_store.specs.Rows.{rise};
 ghost use Rattle.std.specs.Bool.{Decides};
 ghost use Rattle.std.specs.Option.{ForSome};
-ghost use Rattle.shop_machine.specs.Content.{of_found};
+ghost use Rattle.shop_machine.specs.Content.{of_found, cells_in};
+ghost use Rattle.std.specs.Ordering.{is_eq};
 ghost use Rattle.shop_store.specs.Adding.{IsAdded, IsLost, IsOver};
 ghost use Rattle.shop_machine.specs.Columns.{is_counted};
-ghost use Rattle.shop_store.specs.Sums.{totals_from, sum_in, sums_key, sum_at, counted_cells, cells_for};
+ghost use Rattle.shop_store.specs.Sums.{totals_from, sum_in, sums_key, sum_at, counted_cells, cells_for, most_cells, all_small};
 
 use crate::rows::{Row, find, put};
 use cut_measure::Code;
@@ -114,6 +115,25 @@ fn with_part(sums: Sums, part: &Part) -> Sums
     }
 }
 
+/// The sums with parts more, where all are of their material.
+pub fn with_all(sums: Sums, parts: &[Part]) -> Option<Sums>
+    requires { (column : ColumnOf) → sum_in column sums + length parts.now * most_cells < 2 ^ 128 }
+    ensures code { IfSome result (λ more. more.code ≡ sums.code) }
+    ensures sums { IfSome result (λ more. (column : ColumnOf) → sum_in column more ≡ sum_in column sums + cells_in column sums.code parts.now) }
+    ensures others { IsSome result → (column : ColumnOf) (code : List ℕ) → is_eq (code_cmp sums.code code) ≡ false → cells_in column code parts.now ≡ 0 }
+    ensures small { IsSome result → IsTrue (all_small parts.now) }
+{
+    let mut more = sums;
+    for part in parts {
+        if !part.material.is(&sums.code) {
+            return None;
+        }
+        let _cells = part.size.cells();
+        more = with_part(more, part);
+    }
+    Some(more)
+}
+
 // The sums with a part less.
 fn without_part(sums: Sums, part: &Part) -> Sums
     requires { (column : ColumnOf) → counted_cells column part.now ≤ sum_in column sums }
@@ -132,8 +152,8 @@ fn without_part(sums: Sums, part: &Part) -> Sums
     }
 }
 
-// The sums of a material.
-fn sums_of(rows: &[Sums], code: Code) -> Sums
+/// The sums of a material.
+pub fn sums_of(rows: &[Sums], code: Code) -> Sums
     requires { IsTrue (rise sums_key code_cmp rows.now) }
     ensures code { result.code ≡ code }
     ensures sums { (column : ColumnOf) → sum_in column result ≡ sum_at column code rows.now }

@@ -6,7 +6,7 @@ use Rattle.shop_machine.specs.Content.{with_parts}
 use Rattle.shop_store.specs.Rows.{entries_of, map_of}
 use Rattle.shop_store.specs.Memory.{part_key, names_total}
 use Rattle.shop_store.proofs.Held.{put_is_insert}
-use Rattle.shop_store.proofs.memory.put_parts.Goals as goal
+use Rattle.shop_store.proofs.memory.put_one_by_one.Goals as goal
 
 pub loop-part-preserved : goal.loop-part-preserved
 loop-part-preserved c =

@@ -6,7 +6,7 @@ use Rattle.shop_machine.specs.Content.{with_parts}
 use Rattle.shop_store.specs.Rows.{rise, map_of}
 use Rattle.shop_store.specs.Sums.{sums_key, AreSumsOf, all_small}
 use Rattle.shop_store.specs.Memory.{part_key}
-use Rattle.shop_store.proofs.memory.put_parts.Given as goal
+use Rattle.shop_store.proofs.memory.put_one_by_one.Given as goal
 
 abbrev pub invariant-loop-part : goal.invariant-loop-part
 invariant-loop-part l =

@@ -1,7 +1,7 @@
 use Rattle.std.proofs.Common.{◌≡◌, ◌+◌, ◌-◌, ◌≤◌, length, drop, vec_len, vec_capacity}
 use Rattle.std.specs.Prelude.{IsTrue}
 use Rattle.shop_store.specs.Rows.{rise, entries_of, put_each}
-use Rattle.shop_store.proofs.rows.put_all.Given as goal
+use Rattle.shop_store.proofs.rows.put_each.Given as goal
 
 abbrev pub invariant-loop-row : goal.invariant-loop-row
 invariant-loop-row g l =
