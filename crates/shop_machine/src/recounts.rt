@@ -1,5 +1,6 @@
 ghost use Rattle.std.specs.Prelude.{◌≡◌, ◌≢◌, IfOk, IsTrue, ℕ, Option, OnOk, All, ◌<◌, ◌^◌, Any, false};
 ghost use Rattle.cut_tree.specs.Counting.{is_demand_piece};
+ghost use Rattle.cut_tree.specs.Tree.{count_of};
 ghost use Rattle.shop_machine.specs.declared.records.Demand.{Demand as DemandOf};
 ghost use Rattle.shop_machine.specs.Recounts.{AreRecounted, plan_leaves, AreDemandsFound, leaves_in, recount_by, HasRoom, HasRow, IsAddedOnce, pieces_in};
 
@@ -81,14 +82,22 @@ fn has_number(rows: &[Demand], number: u32) -> bool
     rows.iter().any(|row| row.number == number)
 }
 
-// Puts a row behind the others, unless one of its number is there.
-fn add_once(rows: &mut DemandList, row: Demand) -> Result<(), AllocError>
-    ensures { OnOk result (IsAddedOnce rows.old row rows.new) }
+// Puts the row of a demand behind the others, recounted by its pieces in a plan, unless one of its number is there.
+fn add_once(
+    rows: &mut DemandList,
+    how: Recount,
+    plan: &Plan,
+    of: u32,
+    demand: &Demand,
+) -> Result<(), AllocError>
+    requires { HasRoom how (count_of plan.now.tree of) demand.now }
+    ensures { OnOk result (IsAddedOnce rows.old (recount_by how.entry (count_of plan.now.tree of) demand.now) rows.new) }
 {
-    if has_number(rows.as_slice(), row.number) {
+    if has_number(rows.as_slice(), demand.number) {
         return Ok(());
     }
-    rows.push(row)
+    let count = plan.count(of);
+    rows.push(recounted(how, count, demand))
 }
 
 /// The rows of a plan's demands, each once, recounted.
@@ -107,8 +116,7 @@ pub fn recounted_rows(
         let Some(demand) = &found.demand else {
             unreachable!()
         };
-        let count = plan.count(found.leaf.demand);
-        add_once(&mut rows, recounted(how, count, demand))?;
+        add_once(&mut rows, how, plan, found.leaf.demand, demand)?;
     }
     Ok(rows)
 }
