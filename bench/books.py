@@ -15,44 +15,14 @@ folder, with copies of the crates of FOLDER (by default of this repository).
 
 import argparse
 import os
-import shutil
 import subprocess
 import tempfile
 import time
 
 import busy_shop
+from building import build
 
 HERE = os.path.dirname(os.path.abspath(__file__))
-
-
-def build(folder, root):
-    crates = os.path.join(folder, "crates")
-    os.makedirs(crates)
-    with open(os.path.join(root, "crates.txt")) as file:
-        named = [line for line in file if line.strip() and not line.startswith("#")]
-    below = {line.split(":")[0]: line.split(":")[1].split() for line in named}
-    wanted, more = set(), ["shop_wire", "shop_store"]
-    while more:
-        name = more.pop()
-        if name in below and name not in wanted:
-            wanted.add(name)
-            more += below[name]
-    for name in wanted:
-        shutil.copytree(os.path.join(root, "crates", name), os.path.join(crates, name))
-    shutil.copytree(os.path.join(HERE, "books"), os.path.join(crates, "book_bench"))
-    # The gate reads every source in the repository, so the program's file stands here as text.
-    source = os.path.join(crates, "book_bench", "src", "main.rt")
-    os.rename(source + ".txt", source)
-    with open(os.path.join(folder, "crates.txt"), "w") as file:
-        file.writelines(line for line in named if line.split(":")[0] in wanted)
-        file.write("book_bench: shop_wire shop_text shop_store sqlite\n")
-    shutil.copy(os.path.join(root, "HANDLES"), folder)
-    program = os.path.join(crates, "book_bench")
-    made = subprocess.run(["rt", "run", "--jobs", "2"], cwd=program, stdin=subprocess.DEVNULL, capture_output=True, text=True)
-    built = os.path.join(program, "out", "book_bench")
-    if not os.path.exists(built):
-        raise SystemExit(made.stdout + made.stderr)
-    return built
 
 
 def timed(words, given):
@@ -89,7 +59,7 @@ def main():
     parser.add_argument("--root", default=os.path.join(HERE, ".."))
     given = parser.parse_args()
     with tempfile.TemporaryDirectory() as room:
-        program = given.program or build(room, given.root)
+        program = given.program or build(room, given.root, "books", "book_bench", ["shop_wire", "shop_text", "shop_store", "sqlite"])
         for count in given.lines:
             lines = busy_shop.lines(count, 1)
             text = ("\n".join(lines) + "\n").encode()

@@ -3,7 +3,7 @@
 
     bench/planners.py [--runs N] [--root FOLDER]
 
-Makes a repository of its own in a temporary folder: links to the four crates of the planners (of FOLDER, by default this
+Makes a repository of its own in a temporary folder: copies of the crates of the planners (of FOLDER, by default this
 repository) beside the program in bench/planners, which `rt run` proves and builds there. Each case is planned in a fresh
 process, some runs a case; the least time counts. Printed: the case, milliseconds, and the worth (0 where there is no plan);
 then how often the time is taken where the length, the wants or the side are doubled, or the wants are four times as many.
@@ -11,17 +11,12 @@ then how often the time is taken where the length, the wants or the side are dou
 
 import argparse
 import os
-import shutil
 import subprocess
 import tempfile
 
+from building import build
+
 HERE = os.path.dirname(os.path.abspath(__file__))
-CRATES = """cut_measure:
-cut_tree: cut_measure
-cut_table: cut_measure cut_tree
-cut_plan: cut_measure cut_tree cut_table
-planner_bench: cut_measure cut_table cut_plan anyhow
-"""
 
 # name, then width, height, kerf, step, wants, shortest side, spread of sides, unit of sides, left of each, factor of worths
 CASES = [
@@ -47,33 +42,13 @@ GROWTH = [
 ]
 
 
-def build(folder, root):
-    crates = os.path.join(folder, "crates")
-    os.makedirs(crates)
-    for name in ("cut_measure", "cut_tree", "cut_table", "cut_plan"):
-        shutil.copytree(os.path.join(root, "crates", name), os.path.join(crates, name))
-    shutil.copytree(os.path.join(HERE, "planners"), os.path.join(crates, "planner_bench"))
-    # The gate reads every source in the repository, so the program's files stand here as text.
-    for place, _, files in os.walk(os.path.join(crates, "planner_bench")):
-        for file in files:
-            os.rename(os.path.join(place, file), os.path.join(place, file.removesuffix(".txt")))
-    with open(os.path.join(folder, "crates.txt"), "w") as file:
-        file.write(CRATES)
-    program = os.path.join(crates, "planner_bench")
-    made = subprocess.run(["rt", "run", "--jobs", "2"], cwd=program, capture_output=True, text=True)
-    built = os.path.join(program, "out", "planner_bench")
-    if not os.path.exists(built):
-        raise SystemExit(made.stdout + made.stderr)
-    return built
-
-
 def main():
     parser = argparse.ArgumentParser()
     parser.add_argument("--runs", type=int, default=5)
     parser.add_argument("--root", default=os.path.join(HERE, ".."))
     arguments = parser.parse_args()
     with tempfile.TemporaryDirectory() as folder:
-        program = build(folder, arguments.root)
+        program = build(folder, arguments.root, "planners", "planner_bench", ["cut_measure", "cut_table", "cut_plan", "anyhow"])
         times = {}
         for name, *numbers in CASES:
             words = [program] + [str(number) for number in numbers]
