@@ -148,8 +148,8 @@ pub fn serve_one<S: Source, W: Sink, B: Book>(
     ensures write { result ≡ Err Write → HasFailed (W.failed sink.old) (W.failed sink.new) }
     ensures worked { OnOk result (W.failed sink.new ≡ W.failed sink.old) }
 {
-    let Ok(routes) = Routes::new(alloc) else {
-        return Err(WireFault::NoMemory);
-    };
-    serve_with(alloc, &routes, source, sink, book)
+    match Routes::new(alloc) {
+        Ok(routes) => serve_with(alloc, &routes, source, sink, book),
+        Err(_) => Err(WireFault::NoMemory),
+    }
 }
