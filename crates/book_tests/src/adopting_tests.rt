@@ -1,3 +1,4 @@
+use crate::databases::{is_handed_back, number, table_count};
 use shop_store::{BookFault, SqlBook};
 use shop_tables::*;
 use sqlite::{Connection, MemStore};
@@ -30,23 +31,11 @@ fn shop(alloc: Global, batch: &str) -> Result<Connection<MemStore>, TableFault> 
     Ok(conn)
 }
 
-fn number(conn: &mut Connection<MemStore>, query: &str) -> Result<i64, TableFault> {
-    let row = conn.query_row(query, &[])?;
-    Ok(row.get(0)?)
-}
-
-fn tables(conn: &mut Connection<MemStore>) -> Result<i64, TableFault> {
-    number(
-        conn,
-        "SELECT count(*) FROM sqlite_schema WHERE type = 'table'",
-    )
-}
-
 #[test]
 fn an_empty_database_becomes_a_shop(rt: HostRuntime) -> Result<(), TableFault> {
     let mut conn = Connection::open_in_memory(rt.alloc())?;
     assert!(rt; adopted(&mut conn)?.is_none());
-    assert!(rt; tables(&mut conn)? == 10);
+    assert!(rt; table_count(&mut conn)? == 10);
     assert!(rt; find_version(&mut conn)? == 2);
     assert!(rt; find_last_act(&mut conn)? == 0);
     Ok(())
@@ -56,7 +45,7 @@ fn an_empty_database_becomes_a_shop(rt: HostRuntime) -> Result<(), TableFault> {
 fn a_shop_goes_on(rt: HostRuntime) -> Result<(), TableFault> {
     let mut conn = shop(rt.alloc(), "UPDATE meta SET value = 7 WHERE name = 'act'")?;
     assert!(rt; adopted(&mut conn)?.is_none());
-    assert!(rt; tables(&mut conn)? == 10);
+    assert!(rt; table_count(&mut conn)? == 10);
     assert!(rt; find_last_act(&mut conn)? == 7);
     Ok(())
 }
@@ -68,7 +57,7 @@ const BESIDE: &str =
 fn a_shop_is_made_beside_another_table(rt: HostRuntime) -> Result<(), TableFault> {
     let mut conn = database(rt.alloc(), BESIDE)?;
     assert!(rt; adopted(&mut conn)?.is_none());
-    assert!(rt; tables(&mut conn)? == 11);
+    assert!(rt; table_count(&mut conn)? == 11);
     assert!(rt; adopted(&mut conn)?.is_none());
     assert!(rt; find_version(&mut conn)? == 2);
     Ok(())
@@ -78,7 +67,7 @@ fn a_shop_is_made_beside_another_table(rt: HostRuntime) -> Result<(), TableFault
 fn another_table_is_made_beside_a_shop(rt: HostRuntime) -> Result<(), TableFault> {
     let mut conn = shop(rt.alloc(), BESIDE)?;
     assert!(rt; adopted(&mut conn)?.is_none());
-    assert!(rt; tables(&mut conn)? == 11);
+    assert!(rt; table_count(&mut conn)? == 11);
     assert!(rt; find_version(&mut conn)? == 2);
     Ok(())
 }
@@ -101,7 +90,7 @@ fn a_name_that_is_taken_is_a_wrong_version(rt: HostRuntime) -> Result<(), TableF
     'taken: for (batch, count) in TAKEN {
         let mut conn = database(rt.alloc(), batch)?;
         assert!(rt; adopted(&mut conn)? == Some(AdoptFault::WrongVersion));
-        assert!(rt; tables(&mut conn)? == *count);
+        assert!(rt; table_count(&mut conn)? == *count);
     }
     Ok(())
 }
@@ -132,10 +121,25 @@ const BAR: &str =
 const ITS_TOTALS: &str =
     "INSERT INTO totals2 (material, received, stock, rack, pieces, kerf, scrap, returned) VALUES ('STEEL', 100, 100, 0, 0, 0, 0, 0)";
 
-// The fault of a book that is made of a shop with a bar, in which this was done, if there is one.
-fn fault_of_book(alloc: Global, batch: &str) -> Result<Option<BookFault>, TableFault> {
+// A shop with a bar and these totals.
+fn shop_with_bar(alloc: Global, totals: &str) -> Result<Connection<MemStore>, TableFault> {
     let mut conn = shop(alloc, BAR)?;
+    conn.execute_batch(totals)?;
+    Ok(conn)
+}
+
+// A shop with a bar and its totals, in which this was done.
+fn changed_shop(alloc: Global, batch: &str) -> Result<Connection<MemStore>, TableFault> {
+    let mut conn = shop_with_bar(alloc, ITS_TOTALS)?;
     conn.execute_batch(batch)?;
+    Ok(conn)
+}
+
+// The fault of a book that is made of a shop, if there is one.
+fn fault_of_book(
+    alloc: Global,
+    conn: Connection<MemStore>,
+) -> Result<Option<BookFault>, TableFault> {
     if !conn.is_autocommit() {
         return Err(TableFault::Store);
     }
@@ -147,7 +151,8 @@ fn fault_of_book(alloc: Global, batch: &str) -> Result<Option<BookFault>, TableF
 
 #[test]
 fn totals_that_are_sums_are_adopted(rt: HostRuntime) -> Result<(), TableFault> {
-    assert!(rt; fault_of_book(rt.alloc(), ITS_TOTALS)?.is_none());
+    let conn = shop_with_bar(rt.alloc(), ITS_TOTALS)?;
+    assert!(rt; fault_of_book(rt.alloc(), conn)?.is_none());
     Ok(())
 }
 
@@ -161,25 +166,10 @@ const WRONG_TOTALS: &[&str] = &[
 #[test]
 fn totals_that_are_no_sums_are_a_wrong_version(rt: HostRuntime) -> Result<(), TableFault> {
     'wrong: for batch in WRONG_TOTALS {
-        assert!(rt; fault_of_book(rt.alloc(), batch)? == Some(BookFault::WrongVersion));
+        let conn = shop_with_bar(rt.alloc(), batch)?;
+        assert!(rt; fault_of_book(rt.alloc(), conn)? == Some(BookFault::WrongVersion));
     }
     Ok(())
-}
-
-// The parts of a database that is handed back as a wrong version, after this was done to a shop with a bar and its totals.
-fn parts_handed_back(alloc: Global, batch: &str) -> Result<Option<i64>, TableFault> {
-    let mut conn = shop(alloc, BAR)?;
-    conn.execute_batch(ITS_TOTALS)?;
-    conn.execute_batch(batch)?;
-    if !conn.is_autocommit() {
-        return Err(TableFault::Store);
-    }
-    match SqlBook::adopt(alloc, conn) {
-        Err((BookFault::WrongVersion, mut conn)) => {
-            Ok(Some(number(&mut conn, "SELECT count(*) FROM parts")?))
-        }
-        _ => Ok(None),
-    }
 }
 
 // States that there aren't, a standing part's detail, and numbers below 0.
@@ -195,7 +185,8 @@ const STRANGE_ROWS: &[&str] = &[
 #[test]
 fn strange_rows_are_a_wrong_version(rt: HostRuntime) -> Result<(), TableFault> {
     'strange: for batch in STRANGE_ROWS {
-        assert!(rt; parts_handed_back(rt.alloc(), batch)? == Some(1));
+        let conn = changed_shop(rt.alloc(), batch)?;
+        assert!(rt; is_handed_back(rt.alloc(), conn, &["SELECT count(*) FROM parts"])?);
     }
     Ok(())
 }
@@ -219,7 +210,8 @@ const OUT_OF_RANGE: &[&str] = &[
 #[test]
 fn values_out_of_range_are_a_wrong_version(rt: HostRuntime) -> Result<(), TableFault> {
     'wide: for batch in OUT_OF_RANGE {
-        assert!(rt; parts_handed_back(rt.alloc(), batch)? == Some(1));
+        let conn = changed_shop(rt.alloc(), batch)?;
+        assert!(rt; is_handed_back(rt.alloc(), conn, &["SELECT count(*) FROM parts"])?);
     }
     Ok(())
 }
@@ -233,13 +225,8 @@ const GREATEST: &[&str] = &[
 #[test]
 fn greatest_values_are_adopted(rt: HostRuntime) -> Result<(), TableFault> {
     'great: for batch in GREATEST {
-        let mut conn = shop(rt.alloc(), BAR)?;
-        conn.execute_batch(ITS_TOTALS)?;
-        conn.execute_batch(batch)?;
-        if !conn.is_autocommit() {
-            return Err(TableFault::Store);
-        }
-        assert!(rt; SqlBook::adopt(rt.alloc(), conn).is_ok());
+        let conn = changed_shop(rt.alloc(), batch)?;
+        assert!(rt; fault_of_book(rt.alloc(), conn)?.is_none());
     }
     Ok(())
 }

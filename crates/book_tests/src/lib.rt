@@ -1,4 +1,4 @@
-//! Tests of the tables and of the books over them.
+//! Tests of books, their tables and their files, by public calls alone.
 #![tactic(auto)]
 
 #[cfg(test)]
@@ -8,6 +8,20 @@ mod books_tests;
 #[cfg(test)]
 mod commit_tests;
 #[cfg(test)]
+mod databases;
+#[cfg(test)]
+mod earlier_tests;
+#[cfg(test)]
+mod lines;
+#[cfg(test)]
+mod opened_tests;
+#[cfg(test)]
+mod served_tests;
+#[cfg(test)]
 mod sql_tests;
+#[cfg(test)]
+mod stopped_tests;
+#[cfg(test)]
+mod strange_tests;
 #[cfg(test)]
 mod tables_tests;

@@ -1,3 +1,4 @@
+use crate::databases::number;
 use cut_measure::{Code, Kind, Limits, PartName, Size};
 use cut_tree::Plan;
 use shop_machine::{
@@ -175,12 +176,6 @@ fn moved(alloc: Global) -> Result<Connection<MemStore>, TableFault> {
     set_sums(&mut tx)?;
     tx.commit()?;
     Ok(conn)
-}
-
-// What a program that knows no shop sees in the tables.
-fn number(conn: &mut Connection<MemStore>, query: &str) -> Result<i64, TableFault> {
-    let row = conn.query_row(query, &[])?;
-    Ok(row.get(0)?)
 }
 
 #[test]

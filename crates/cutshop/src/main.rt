@@ -3,23 +3,14 @@
 //! book of a store file.
 #![tactic(auto)]
 
-mod faults;
-#[cfg(test)]
-mod file_tests;
-mod files;
-mod perform;
-mod plans;
-mod replays;
-#[cfg(test)]
-mod store_tests;
-mod stored;
-#[cfg(test)]
-mod tests;
-mod words;
-
-use files::write_text;
-use perform::perform_over;
-use shop_text::Counted;
+use shop_commands::perform;
+use shop_opening::Opens;
+use shop_store::SqlBook;
+use shop_text::{Counted, Sink, Source, write_all};
+use sqlite::Alter;
+use std::alloc::Global;
+use std::fs::Files;
+use std::net::{Net, TcpListener, TcpStream};
 use std::process::ExitCode;
 use std::{env, io};
 
@@ -33,14 +24,34 @@ fn words_of(rt: &HostRuntime) -> io::Result<Vec<String>> {
 fn unread(rt: &HostRuntime, error: &io::Error) -> u8 {
     let mut errors = Counted::new(rt.stderr());
     if error.kind() == io::ErrorKind::OutOfMemory {
-        let _ = write_text(&mut errors, "fault memory\n");
+        let _ = write_all(&mut errors, b"fault memory\n");
         return 1;
     }
-    let _ = write_text(&mut errors, "error: a word is no UTF-8\n");
+    let _ = write_all(&mut errors, b"error: a word is no UTF-8\n");
     2
 }
 
-// Does what the words ask for, over the streams that the program was given.
+// Does what the words ask for, over books in SQL tables, of any kind of store.
+fn perform_over<
+    R: Files + Net<Listener = TcpListener, Stream = TcpStream>,
+    D: Alter + Drop,
+    O: Opens<SqlBook<D>>,
+    S: Source,
+    W: Sink,
+    E: Sink,
+>(
+    rt: &R,
+    stores: &O,
+    alloc: Global,
+    words: &[String],
+    source: &mut S,
+    sink: &mut W,
+    errors: &mut E,
+) -> u8 {
+    perform(rt, stores, alloc, words, source, sink, errors)
+}
+
+// Does it over the streams that the program was given.
 fn run_words(rt: &HostRuntime, words: &[String]) -> u8 {
     let mut source = Counted::new(rt.stdin());
     let mut sink = Counted::new(rt.stdout());

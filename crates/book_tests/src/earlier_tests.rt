@@ -1,0 +1,94 @@
+//! Files of version 1, which an adopt brings to version 2.
+
+use crate::databases::{is_handed_back, number};
+use crate::opened_tests::{adopted, filled, filled_book, opened_book};
+use crate::stopped_tests::{MOST_CALLS, stopped, stopping};
+use shop_store::SqlBook;
+use sqlite::{Alter, Connection, FileStore, Files};
+use sqlite_disk::{Crash, Disk, Fuse, Memory};
+use std::alloc::Global;
+use std::test::Fail;
+
+// What makes tables of version 1 of those of version 2, where nothing was returned.
+const TO_VERSION_ONE: &str =
+    "INSERT INTO totals (material, received, stock, rack, pieces, kerf, scrap) SELECT material, received, stock, rack, pieces, kerf, scrap FROM totals2;DROP TABLE totals2;UPDATE meta SET value = 1 WHERE name = 'version'";
+
+// A shop of version 1 in files, in which all messages were handled.
+fn earlier(alloc: Global) -> Result<Connection<FileStore<Memory>>, Fail> {
+    let mut conn = filled_book(alloc)?.into_connection();
+    conn.execute_batch(TO_VERSION_ONE)?;
+    Ok(conn)
+}
+
+// Its tables are those of version 2.
+fn is_renewed<S: Alter + Drop>(book: SqlBook<S>) -> Result<bool, Fail> {
+    let mut conn = book.into_connection();
+    Ok(
+        number(&mut conn, "SELECT value FROM meta WHERE name = 'version'")? == 2
+            && number(&mut conn, "SELECT count(*) FROM totals")? == 0
+            && number(&mut conn, "SELECT count(*) FROM totals2")? == 1,
+    )
+}
+
+#[test]
+fn a_shop_of_version_one_goes_on(rt: HostRuntime) -> Result<(), Fail> {
+    let book = adopted(rt.alloc(), earlier(rt.alloc())?)?;
+    assert!(rt; is_renewed(filled(rt.alloc(), book)?)?);
+    Ok(())
+}
+
+// The tables of version 1, as they were.
+const ITS_OWN: &[&str] = &[
+    "SELECT value FROM meta WHERE name = 'version'",
+    "SELECT count(*) FROM totals",
+];
+
+#[test]
+fn a_wrong_total_of_version_one_is_a_wrong_version(rt: HostRuntime) -> Result<(), Fail> {
+    let mut conn = earlier(rt.alloc())?;
+    conn.execute_batch("UPDATE totals SET kerf = kerf + 1")?;
+    assert!(rt; is_handed_back(rt.alloc(), conn, ITS_OWN)?);
+    Ok(())
+}
+
+fn files_of<D: Disk + Drop>(conn: Connection<FileStore<D>>) -> Files<D> {
+    conn.into_store().close()
+}
+
+// Its files, of which one stops after so many calls.
+fn stopping_files(alloc: Global, in_log: bool, calls: u64) -> Result<Files<Fuse<Memory>>, Fail> {
+    Ok(stopping(files_of(earlier(alloc)?), in_log, calls))
+}
+
+// What an adopt and a crash left is opened and adopted, and is the content; whether the adopt was answered before.
+fn is_content_after<D: Crash + Drop>(alloc: Global, files: Files<D>) -> Result<bool, Fail> {
+    let left = stopped(alloc, files, false)?;
+    let was_adopted = left.adopted;
+    let book = filled(alloc, opened_book(alloc, left.rest)?)?;
+    if !is_renewed(book)? {
+        return Err(Fail::from("not renewed"));
+    }
+    Ok(was_adopted)
+}
+
+// One of the files stops while the tables are brought to version 2, up to the first time that they were.
+fn sweep_renewals(alloc: Global, in_log: bool) -> Result<u64, Fail> {
+    for calls in 0..MOST_CALLS {
+        if is_content_after(alloc, stopping_files(alloc, in_log, calls)?)? {
+            return Ok(calls);
+        }
+    }
+    Err(Fail::from("too many calls"))
+}
+
+#[test]
+fn a_renewal_whose_log_stops(rt: HostRuntime) -> Result<(), Fail> {
+    assert!(rt; sweep_renewals(rt.alloc(), true)? > 0);
+    Ok(())
+}
+
+#[test]
+fn a_renewal_whose_database_stops(rt: HostRuntime) -> Result<(), Fail> {
+    assert!(rt; sweep_renewals(rt.alloc(), false)? > 0);
+    Ok(())
+}

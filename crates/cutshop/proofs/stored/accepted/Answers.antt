@@ -1,5 +1,0 @@
-use Rattle.cutshop.proofs.Opened.{unaccepted}
-use Rattle.cutshop.proofs.stored.accepted.Goals as goal
-
-pub returns-in-Err-clause-err : goal.returns-in-Err-clause-err
-returns-in-Err-clause-err g c = unaccepted g.B.Book c.args.book.now c.serve_on.new.book c.args.limit c.in-Err.fault c.from.result c.from.ensures c.in-Err.ensures.err

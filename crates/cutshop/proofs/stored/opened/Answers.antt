@@ -1,5 +1,0 @@
-use Rattle.cutshop.proofs.Opened.{unopened}
-use Rattle.cutshop.proofs.stored.opened.Goals as goal
-
-pub returns-in-Err-clause-err : goal.returns-in-Err-clause-err
-returns-in-Err-clause-err g c = unopened c.in-Err.fault c.from.result c.from.ensures

@@ -1,0 +1,89 @@
+-- What stops the program's work, and the line that tells it.
+use Rattle.std.specs.Prelude.{ℕ, List, ◌++◌, codes}
+use Rattle.std.specs.Fmt.{decimal}
+use Rattle.cut_plan.specs.declared.faults.PlanFault.{PlanFault}
+use Rattle.cut_plan.specs.declared.faults.PlanFault.TheVariants as planner
+use Rattle.shop_files.specs.declared.problems.TextCause.{TextCause}
+use Rattle.shop_files.specs.declared.problems.TextCause.TheVariants as text
+use Rattle.shop_files.specs.declared.problems.TextFault.{TextFault}
+use Rattle.shop_files.specs.declared.shops.ShopFault.{ShopFault}
+use Rattle.shop_files.specs.declared.shops.ShopFault.TheVariants as shop
+use Rattle.shop_machine.specs.declared.refusals.Refusal.TheVariants as refusal
+use Rattle.shop_machine.specs.Refusals.{refusal_number, refusal_name}
+use Rattle.shop_opening.specs.declared.shops.AddFault.{AddFault}
+use Rattle.shop_opening.specs.declared.shops.AddFault.TheVariants as add
+use Rattle.shop_serve.specs.declared.serving.ServeFault.{ServeFault}
+use Rattle.shop_serve.specs.declared.serving.ServeFault.TheVariants as serve
+use Rattle.shop_store.specs.declared.books.BookFault.{BookFault}
+use Rattle.shop_store.specs.declared.books.BookFault.TheVariants as store
+use Rattle.shop_text.specs.declared.printing.PrintFault.{PrintFault}
+use Rattle.shop_text.specs.declared.printing.PrintFault.TheVariants as print
+use Rattle.shop_wire.specs.declared.faults.ReplayFault.{ReplayFault}
+use Rattle.shop_wire.specs.declared.faults.ReplayFault.TheVariants as replay
+use Rattle.shop_commands.specs.declared.faults.Fault.{Fault}
+use Rattle.shop_commands.specs.declared.faults.Fault.TheVariants.{File, Text, ShopText, ShopEntry, Entry, Refused, Read, Write, NoMemory, Store, Version, Port}
+
+abbrev pub cause_word : TextCause → List ℕ
+cause_word text.Long = codes "Long"
+cause_word text.Byte = codes "Byte"
+cause_word text.Number = codes "Number"
+cause_word text.Short = codes "Short"
+cause_word text.NoMemory = codes "NoMemory"
+
+-- what the line says
+abbrev pub fault_text : Fault → List ℕ
+fault_text File = codes "fault file"
+fault_text (Text fault) = codes "fault text " ++ decimal fault.offset ++ codes " " ++ cause_word fault.cause
+fault_text ShopText = codes "fault shop text"
+fault_text (ShopEntry entry) = codes "fault shop entry " ++ decimal entry
+fault_text (Entry e) =
+    codes "shop entry " ++ decimal e.entry ++ codes " refused " ++ decimal (refusal_number e.refusal) ++ codes " " ++ refusal_name e.refusal
+fault_text (Refused r) = codes "refused " ++ decimal (refusal_number r) ++ codes " " ++ refusal_name r
+fault_text Read = codes "fault read"
+fault_text Write = codes "fault write"
+fault_text NoMemory = codes "fault memory"
+fault_text Store = codes "fault store"
+fault_text Version = codes "fault version"
+fault_text Port = codes "fault port"
+
+-- the planner's fault is the refusal of this name
+abbrev pub planner_fault : PlanFault → Fault
+planner_fault planner.NothingFits = Refused refusal.NothingFits
+planner_fault planner.TableTooLarge = Refused refusal.TableTooLarge
+planner_fault planner.BadStep = Refused refusal.BadStep
+planner_fault planner.BadWant = Refused refusal.BadWant
+planner_fault planner.NoMemory = NoMemory
+
+abbrev pub fault_by : TextCause → TextFault → Fault
+fault_by text.NoMemory fault = NoMemory
+fault_by cause fault = Text fault
+
+abbrev pub file_fault : TextFault → Fault
+file_fault fault = fault_by fault.cause fault
+
+abbrev pub replay_fault : ReplayFault → Fault
+replay_fault replay.Read = Read
+replay_fault replay.Write = Write
+replay_fault replay.NoMemory = NoMemory
+
+abbrev pub shop_fault : ShopFault → Fault
+shop_fault shop.NoMemory = NoMemory
+shop_fault shop.Text = ShopText
+shop_fault (shop.Entry entry) = ShopEntry entry
+
+abbrev pub store_fault : BookFault → Fault
+store_fault store.NoMemory = NoMemory
+store_fault store.Store = Store
+store_fault store.WrongVersion = Version
+
+abbrev pub add_fault : AddFault → Fault
+add_fault add.NoMemory = NoMemory
+add_fault (add.Refused e) = Entry e
+
+abbrev pub print_fault : PrintFault → Fault
+print_fault (print.Refused r) = Refused r
+print_fault print.Write = Write
+
+abbrev pub serve_fault : ServeFault → Fault
+serve_fault serve.NoMemory = NoMemory
+serve_fault serve.Port = Port

@@ -1,0 +1,107 @@
+-- What the commands on a store do: tickets, yield reports, and serving. A real file tells no bytes, so that a file was read or
+-- a store was opened is said of some bytes and of some book that the store's opener may give.
+use Rattle.std.specs.Prelude.{◌≡◌, ◌<◌, ◌⊎◌, ℕ, List, ◌++◌, codes, Option, Result, Ok, Err, All}
+use Rattle.std.specs.Fmt.{decimal}
+use Rattle.std.specs.Io.KnownBytes.{Appends}
+use Rattle.shop_files.specs.Shops.{IsShop, IsShopFault}
+use Rattle.shop_files.specs.declared.shops.MaterialEntry.{MaterialEntry}
+use Rattle.shop_files.specs.declared.shops.ShopFault.{ShopFault}
+use Rattle.shop_machine.specs.Content.{Content}
+use Rattle.shop_machine.specs.declared.refusals.Refusal.{Refusal}
+use Rattle.shop_serve.specs.Serving.{HasServed}
+use Rattle.shop_opening.specs.declared.shops.EntryRefused.{EntryRefused}
+use Rattle.shop_opening.specs.Shops.{HasShop, IsAccepted, IsFirstRefused}
+use Rattle.shop_store.specs.declared.books.Book.{Ghosts}
+use Rattle.shop_store.specs.Kept.{Says}
+use Rattle.shop_text.specs.Printing.{IsPrinted}
+use Rattle.shop_text.specs.Streams.{HasFailed}
+use Rattle.shop_text.specs.declared.printing.PrintFault.{PrintFault}
+use Rattle.shop_text.specs.declared.printing.PrintFault.TheVariants as print
+use Rattle.shop_commands.specs.declared.faults.Fault.{Fault}
+use Rattle.shop_commands.specs.declared.faults.Fault.TheVariants.{File, Entry, Refused, Write, NoMemory, Store, Version, Port}
+use Rattle.shop_commands.specs.Faults.{shop_fault}
+use Rattle.shop_commands.specs.Written.{AppendsFront}
+
+-- a shop file's bytes spell these entries
+abbrev pub IsShopRead : List MaterialEntry → Type 0
+IsShopRead entries = (bytes : List ℕ) × IsShop bytes entries
+
+-- the shop file can't be read, or its bytes have this fault
+abbrev pub IsUnread : Fault → Type 0
+IsUnread fault = ((fault ≡ NoMemory) ⊎ (fault ≡ File)) ⊎ ((bytes : List ℕ) × (f : ShopFault) × IsShopFault bytes f × (fault ≡ shop_fault f))
+
+-- a store can't be opened
+abbrev pub IsUnopened : Fault → Type 0
+IsUnopened fault = (fault ≡ NoMemory) ⊎ ((fault ≡ Store) ⊎ (fault ≡ Version))
+
+abbrev pub listening_line : ℕ → List ℕ
+listening_line port = codes "listening on 127.0.0.1:" ++ decimal port ++ codes "\n"
+
+-- the port can't be listened to, or memory for its line is wanting, or the line can't be written
+abbrev pub IsUnannounced : ℕ → Fault → (held_old held_new : Option (List ℕ)) → (failed_old failed_new : ℕ) → Type 0
+IsUnannounced port fault old new failed_old failed_new =
+    (((fault ≡ Port) ⊎ (fault ≡ NoMemory)) × (new ≡ old)) ⊎ ((fault ≡ Write) × AppendsFront old new (listening_line port) × HasFailed failed_old failed_new)
+
+module _ {B : Type 0} (book : Ghosts B) where
+  -- A book that the opener gave was printed from: on each content that it held, an honest one, this came of what there is to say.
+  pub record IsPrintedFrom (gives : B → Type 0) (said : Content → Result (List ℕ) Refusal) (old new : Option (List ℕ)) (result : Result (Unit {0}) PrintFault) : Type 0 where
+    pub before : B
+    pub after : B
+    pub given : gives before
+    pub printed : Says book before after (λ m. IsPrinted (book.failed before) (book.failed after) old new result (said m))
+
+  abbrev pub IsTextDone : (B → Type 0) → (Content → Result (List ℕ) Refusal) → (held_old held_new : Option (List ℕ)) → Type 0
+  IsTextDone gives said old new = IsPrintedFrom gives said old new (Ok tt)
+
+  -- a store that isn't opened and a refusal write nothing, and a failed write leaves a first part
+  abbrev pub IsTextStopped : (B → Type 0) → (Content → Result (List ℕ) Refusal) → Fault → (held_old held_new : Option (List ℕ)) → (failed_old failed_new : ℕ) → Type 0
+  IsTextStopped gives said fault old new failed_old failed_new =
+      (IsUnopened fault × (new ≡ old))
+      ⊎ (((r : Refusal) × (fault ≡ Refused r) × IsPrintedFrom gives said old new (Err (print.Refused r)) × (new ≡ old))
+      ⊎ ((fault ≡ Write) × IsPrintedFrom gives said old new (Err print.Write) × HasFailed failed_old failed_new))
+
+  -- All entries are there, as the machine has it.
+  abbrev pub IsShopped : B → B → List MaterialEntry → Type 0
+  IsShopped before after entries = HasShop book before after entries (All IsAccepted)
+
+  -- the entries are there, the port was told, and so many connections were served
+  pub record IsBookServed (before after : B) (entries : List MaterialEntry) (port count : ℕ) (old new : Option (List ℕ)) : Type 0 where
+    pub mid : B
+    pub shop : IsShopped before mid entries
+    pub told : Appends old new (listening_line port)
+    pub served : HasServed book mid after count
+
+  -- memory was wanting, and nothing was done, or an entry was refused
+  abbrev pub IsUnadded : B → B → List MaterialEntry → Fault → Type 0
+  IsUnadded before after entries fault =
+      ((fault ≡ NoMemory) × (after ≡ before)) ⊎ ((e : EntryRefused) × (fault ≡ Entry e) × HasShop book before after entries (λ replies. IsFirstRefused replies e))
+
+  -- memory was wanting before the first connection, or fewer were accepted
+  abbrev pub IsUnaccepted : B → B → ℕ → Fault → Type 0
+  IsUnaccepted before after limit fault = ((fault ≡ NoMemory) × (after ≡ before)) ⊎ ((fault ≡ Port) × ((count : ℕ) × (count < limit) × HasServed book before after count))
+
+  -- the entries are there, the port was told, and then serving stopped
+  pub record IsBookLeft (before after : B) (entries : List MaterialEntry) (port limit : ℕ) (fault : Fault) (old new : Option (List ℕ)) : Type 0 where
+    pub mid : B
+    pub shop : IsShopped before mid entries
+    pub told : Appends old new (listening_line port)
+    pub left : IsUnaccepted mid after limit fault
+
+  -- the entries aren't all there; or they are, and the port isn't told; or it is, and serving stopped
+  abbrev pub IsBookUnserved : (before after : B) → List MaterialEntry → (port limit : ℕ) → Fault → (held_old held_new : Option (List ℕ)) → (failed_old failed_new : ℕ) → Type 0
+  IsBookUnserved before after entries port limit fault old new failed_old failed_new =
+      (IsUnadded before after entries fault × (new ≡ old))
+      ⊎ ((IsShopped before after entries × IsUnannounced port fault old new failed_old failed_new)
+      ⊎ IsBookLeft before after entries port limit fault old new)
+
+  -- a shop file's entries were added to the book of a store, which was served
+  abbrev pub IsServeDone : (B → Type 0) → (port limit : ℕ) → (held_old held_new : Option (List ℕ)) → Type 0
+  IsServeDone gives port limit old new =
+      (entries : List MaterialEntry) × IsShopRead entries × (before after : B) × gives before × IsBookServed before after entries port limit old new
+
+  -- the shop file's fault, the store's, or what stopped the serving of its book
+  abbrev pub IsServeStopped : (B → Type 0) → (port limit : ℕ) → Fault → (held_old held_new : Option (List ℕ)) → (failed_old failed_new : ℕ) → Type 0
+  IsServeStopped gives port limit fault old new failed_old failed_new =
+      (IsUnread fault × (new ≡ old))
+      ⊎ ((IsUnopened fault × (new ≡ old))
+      ⊎ ((entries : List MaterialEntry) × IsShopRead entries × (before after : B) × gives before × IsBookUnserved before after entries port limit fault old new failed_old failed_new))

@@ -1,0 +1,11 @@
+//! The commands of the shop's program: what the words of its command line ask for, done over the streams that it is given.
+#![tactic(auto)]
+
+mod faults;
+mod files;
+mod performing;
+mod plans;
+mod replays;
+mod stored;
+
+pub use performing::perform;

@@ -1,0 +1,188 @@
+ghost use Rattle.std.specs.Prelude.{◌≡◌, ◌+◌, ◌≤◌, IfOk, IfErr, OnOk, map, string_bytes};
+ghost use Rattle.cut_measure.specs.declared.ranges.TheConstants.{MOST_KERF};
+ghost use Rattle.clap.specs.Words.{kind_of};
+ghost use Rattle.shop_text.specs.Streams.{HasFailed};
+ghost use Rattle.shop_wire.specs.Streams.{most_reads};
+ghost use Rattle.shop_words.specs.CommandLine.{HasKerf};
+ghost use Rattle.shop_commands.specs.Performs as spec;
+ghost use Rattle.shop_commands.specs.Performs.{Concludes, IsDone, IsHelped, IsPerformed, IsPlanDone, IsPlanStopped, IsReplayDone, IsReplayStopped, IsStopped, IsTold, TellsFault};
+
+use crate::faults::Fault;
+use crate::files::{read_file, write_text};
+use crate::plans::plan_file;
+use crate::replays::replay_fresh;
+use crate::stored::{print_ticket, print_yield, serve};
+use clap::Error;
+use clap::error::ErrorKind;
+use shop_opening::Opens;
+use shop_store::Book;
+use shop_text::{Sink, Source};
+use shop_words::{Request, request_of};
+use std::alloc::{AllocError, Global};
+use std::fs::Files;
+use std::net::{Net, TcpListener, TcpStream};
+
+fn fault_line(alloc: Global, fault: Fault) -> Result<String, AllocError>
+    ensures { IfOk result (λ text. string_bytes text ≡ spec.fault_line fault) }
+{
+    let mut text = String::new(alloc);
+    write!(text, "{fault}\n")?;
+    Ok(text)
+}
+
+// Writes the line of a fault, and gives the status of a program that stopped.
+fn tell<E: Sink>(alloc: Global, fault: Fault, errors: &mut E) -> u8
+    ensures status { result ≡ 1 }
+    ensures told { TellsFault fault (E.held errors.old) (E.held errors.new) }
+{
+    let _ = match fault_line(alloc, fault) {
+        Ok(line) => write_text(errors, line.as_str()),
+        Err(_) => write_text(errors, "fault memory\n"),
+    };
+    1
+}
+
+// Writes the plan of a problem file.
+fn plan<R: Files, W: Sink>(
+    rt: &R,
+    alloc: Global,
+    file: &str,
+    kerf: u32,
+    step: u32,
+    sink: &mut W,
+) -> Result<(), Fault>
+    requires { kerf ≤ MOST_KERF }
+    ensures ok { OnOk result (IsPlanDone kerf step (W.held sink.old) (W.held sink.new)) }
+    ensures err { IfErr result (λ f. IsPlanStopped kerf step f (W.held sink.old) (W.held sink.new) (W.failed sink.old) (W.failed sink.new)) }
+{
+    let bytes = read_file(rt, alloc, file)?;
+    let lines = plan_file(alloc, &bytes, kerf, step)?;
+    write_text(sink, lines.as_str())
+}
+
+// Writes the replies to the lines of the input.
+fn answer_lines<S: Source, W: Sink>(
+    alloc: Global,
+    source: &mut S,
+    sink: &mut W,
+) -> Result<(), Fault>
+    ensures ok { OnOk result (IsReplayDone (S.left source.old) (W.held sink.old) (W.held sink.new)) }
+    ensures err { IfErr result (λ f. IsReplayStopped f (S.left source.old) (W.held sink.old) (W.held sink.new) (W.failed sink.old) (W.failed sink.new)) }
+    ensures reads { S.reads source.new ≤ S.reads source.old + most_reads }
+{
+    let _count = replay_fresh(alloc, source, sink)?;
+    Ok(())
+}
+
+// Does what is asked, or stops.
+fn work<
+    R: Files + Net<Listener = TcpListener, Stream = TcpStream>,
+    B: Book + Drop,
+    O: Opens<B>,
+    S: Source,
+    W: Sink,
+>(
+    rt: &R,
+    stores: &O,
+    alloc: Global,
+    request: Request<'_>,
+    source: &mut S,
+    sink: &mut W,
+) -> Result<(), Fault>
+    requires { HasKerf request }
+    ensures ok { OnOk result (IsDone B.Book (O.gives stores.now) request.entry (S.left source.old) (W.held sink.old) (W.held sink.new)) }
+    ensures err { IfErr result (λ f. IsStopped B.Book (O.gives stores.now) request.entry f (S.left source.old) (W.held sink.old) (W.held sink.new) (W.failed sink.old) (W.failed sink.new)) }
+    ensures reads { S.reads source.new ≤ S.reads source.old + most_reads }
+{
+    match request {
+        Request::Replay => answer_lines(alloc, source, sink),
+        Request::Plan { file, kerf, step } => plan(rt, alloc, file, kerf, step, sink),
+        Request::Serve {
+            port,
+            store,
+            shop,
+            limit,
+        } => serve(rt, stores, alloc, port, store, shop, limit, sink),
+        Request::Ticket { store, job } => print_ticket(stores, alloc, store, job, sink),
+        Request::Yield { store, material } => print_yield(stores, alloc, store, material, sink),
+    }
+}
+
+// The status of what was done, or of what stopped, which is told.
+fn conclude<E: Sink>(alloc: Global, outcome: Result<(), Fault>, errors: &mut E) -> u8
+    ensures { Concludes outcome (E.held errors.old) (E.held errors.new) result }
+{
+    match outcome {
+        Ok(()) => 0,
+        Err(fault) => tell(alloc, fault, errors),
+    }
+}
+
+// What `clap` says.
+fn error_text(alloc: Global, error: &Error) -> Result<String, AllocError> {
+    let mut text = String::new(alloc);
+    write!(text, "{error}")?;
+    Ok(text)
+}
+
+// Writes help.
+fn help<W: Sink, E: Sink>(alloc: Global, text: &str, sink: &mut W, errors: &mut E) -> u8
+    ensures { IsHelped (W.held sink.old) (W.held sink.new) (E.held errors.old) (E.held errors.new) result }
+{
+    match write_text(sink, text) {
+        Ok(()) => 0,
+        Err(unwritten) => tell(alloc, unwritten, errors),
+    }
+}
+
+// Says what `clap` says where the words ask for nothing.
+fn explain<W: Sink, E: Sink>(alloc: Global, error: &Error, sink: &mut W, errors: &mut E) -> u8
+    ensures { IsTold (W.held sink.old) (W.held sink.new) (E.held errors.old) (E.held errors.new) (kind_of error.now) result }
+{
+    let Ok(text) = error_text(alloc, error) else {
+        return tell(alloc, Fault::NoMemory, errors);
+    };
+    match error.kind() {
+        ErrorKind::OutOfMemory => tell(alloc, Fault::NoMemory, errors),
+        ErrorKind::DisplayHelp => help(alloc, text.as_str(), sink, errors),
+        _ => {
+            let _ = write_text(errors, text.as_str());
+            2
+        }
+    }
+}
+
+/// Does what the words ask for, the program's own name before them, and gives the status: 0 where it was done and for
+/// help, 2 for a mistake in the words, and else 1, with the fault as one line of `errors`.
+pub fn perform<
+    R: Files + Net<Listener = TcpListener, Stream = TcpStream>,
+    B: Book + Drop,
+    O: Opens<B>,
+    S: Source,
+    W: Sink,
+    E: Sink,
+>(
+    rt: &R,
+    stores: &O,
+    alloc: Global,
+    words: &[String],
+    source: &mut S,
+    sink: &mut W,
+    errors: &mut E,
+) -> u8
+    ensures done { IsPerformed B.Book (O.gives stores.now) (map string_bytes words.now) (S.left source.old) (W.held sink.old) (W.held sink.new) (W.failed sink.old) (W.failed sink.new)
+        (E.held errors.old) (E.held errors.new) result }
+    ensures reads { S.reads source.new ≤ S.reads source.old + most_reads }
+{
+    match request_of(alloc, words) {
+        Ok(Some(request)) => {
+            let outcome = work(rt, stores, alloc, request, source, sink);
+            conclude(alloc, outcome, errors)
+        }
+        Ok(None) => {
+            let _ = write_text(errors, "error: the words ask for nothing; try '--help'\n");
+            2
+        }
+        Err(error) => explain(alloc, &error, sink, errors),
+    }
+}

@@ -1,0 +1,219 @@
+ghost use Rattle.std.specs.Prelude.{◌≡◌, ◌≤◌, IfOk, IfErr, OnOk, length, string_bytes};
+ghost use Rattle.shop_files.specs.declared.limits.TheConstants.{MOST_ENTRIES};
+ghost use Rattle.shop_text.specs.Tickets.{ticket_of};
+ghost use Rattle.shop_text.specs.Yields.{yield_of};
+ghost use Rattle.shop_machine.specs.Content.{Content};
+ghost use Rattle.shop_commands.specs.declared.faults.Fault.TheVariants as fault;
+ghost use Rattle.shop_commands.specs.Faults.{shop_fault};
+ghost use Rattle.shop_commands.specs.Stored as spec;
+ghost use Rattle.shop_commands.specs.Stored.{IsTextDone, IsTextStopped, IsShopRead, IsUnread, IsUnopened, IsShopped, IsUnadded, IsUnannounced, IsUnaccepted, IsBookServed, IsBookUnserved, IsServeDone, IsServeStopped};
+ghost use Rattle.shop_files.specs.Shops.{IsShop, IsShopFault};
+ghost use Rattle.shop_files.specs.declared.shops.ShopFault.{ShopFault as ShopFaultOf};
+ghost use Rattle.shop_serve.specs.Serving.{HasServed};
+ghost use Rattle.std.specs.Io.KnownBytes.{Appends};
+
+use crate::faults::Fault;
+use crate::files::{read_file, write_text};
+use cut_measure::Code;
+use shop_files::{MaterialEntry, RowList, read_shop};
+use shop_opening::{Opens, add_shop};
+use shop_serve::serve_on;
+use shop_store::Book;
+use shop_text::{Sink, ticket, yield_report};
+use std::alloc::{AllocError, Global};
+use std::fs::Files;
+use std::net::{Ipv4Addr, Net, TcpListener, TcpStream};
+
+// Opens the book of a store.
+fn opened<B: Book + Drop, O: Opens<B>>(stores: &O, alloc: Global, store: &str) -> Result<B, Fault>
+    ensures ok { IfOk result (O.gives stores.now store.now) }
+    ensures err { IfErr result IsUnopened }
+{
+    match stores.open(alloc, store) {
+        Ok(book) => Ok(book),
+        Err(fault) => Err(Fault::from(fault)),
+    }
+}
+
+/// Prints the ticket of a job of a store.
+pub fn print_ticket<B: Book + Drop, O: Opens<B>, W: Sink>(
+    stores: &O,
+    alloc: Global,
+    store: &str,
+    job: u32,
+    sink: &mut W,
+) -> Result<(), Fault>
+    ensures ok { OnOk result (IsTextDone B.Book (O.gives stores.now store.now) (λ m. ticket_of m job) (W.held sink.old) (W.held sink.new)) }
+    ensures err { IfErr result (λ f. IsTextStopped B.Book (O.gives stores.now store.now) (λ m. ticket_of m job) f (W.held sink.old) (W.held sink.new) (W.failed sink.old) (W.failed sink.new)) }
+{
+    let mut book = opened(stores, alloc, store)?;
+    let printed = ticket(alloc, &mut book, job, sink);
+    stores.close(book);
+    match printed {
+        Ok(()) => Ok(()),
+        Err(fault) => Err(Fault::from(fault)),
+    }
+}
+
+/// Prints the yield report of a material of a store.
+pub fn print_yield<B: Book + Drop, O: Opens<B>, W: Sink>(
+    stores: &O,
+    alloc: Global,
+    store: &str,
+    material: Code,
+    sink: &mut W,
+) -> Result<(), Fault>
+    ensures ok { OnOk result (IsTextDone B.Book (O.gives stores.now store.now) (λ m. yield_of m material) (W.held sink.old) (W.held sink.new)) }
+    ensures err { IfErr result (λ f. IsTextStopped B.Book (O.gives stores.now store.now) (λ m. yield_of m material) f (W.held sink.old) (W.held sink.new) (W.failed sink.old) (W.failed sink.new)) }
+{
+    let mut book = opened(stores, alloc, store)?;
+    let printed = yield_report(alloc, &mut book, material, sink);
+    stores.close(book);
+    match printed {
+        Ok(()) => Ok(()),
+        Err(fault) => Err(Fault::from(fault)),
+    }
+}
+
+// The entries that bytes spell.
+fn entries_in(alloc: Global, bytes: &[u8]) -> Result<RowList<MaterialEntry>, Fault>
+    ensures ok { IfOk result (λ entries. IsShop bytes.now entries × (length entries ≤ MOST_ENTRIES)) }
+    ensures err { IfErr result (λ f. (g : ShopFaultOf) × IsShopFault bytes.now g × (f ≡ shop_fault g)) }
+{
+    match read_shop(alloc, bytes) {
+        Ok(entries) => Ok(entries),
+        Err(fault) => Err(Fault::from(fault)),
+    }
+}
+
+// The entries of a shop file.
+fn shop_entries<R: Files>(
+    rt: &R,
+    alloc: Global,
+    path: &str,
+) -> Result<RowList<MaterialEntry>, Fault>
+    ensures ok { IfOk result (λ entries. IsShopRead entries × (length entries ≤ MOST_ENTRIES)) }
+    ensures err { IfErr result IsUnread }
+{
+    let bytes = read_file(rt, alloc, path)?;
+    let entries = entries_in(alloc, &bytes)?;
+    Ok(entries)
+}
+
+// Adds the entries to a book.
+fn added<B: Book>(alloc: Global, book: &mut B, entries: &[MaterialEntry]) -> Result<(), Fault>
+    requires { length entries.now ≤ MOST_ENTRIES }
+    ensures ok { OnOk result (IsShopped B.Book book.old book.new entries.now) }
+    ensures err { IfErr result (IsUnadded B.Book book.old book.new entries.now) }
+{
+    match add_shop(alloc, book, entries) {
+        Ok(()) => Ok(()),
+        Err(fault) => Err(Fault::from(fault)),
+    }
+}
+
+// The line that tells the port.
+fn listening_line(alloc: Global, port: u32) -> Result<String, AllocError>
+    ensures { IfOk result (λ text. string_bytes text ≡ spec.listening_line port) }
+{
+    format!(in alloc; "listening on 127.0.0.1:{port}\n")
+}
+
+// Listens on a port of this machine alone.
+fn listen<R: Net<Listener = TcpListener, Stream = TcpStream>>(
+    rt: &R,
+    port: u32,
+) -> Result<TcpListener, Fault>
+    ensures { IfErr result (λ f. f ≡ fault.Port) }
+{
+    let Ok(number) = u16::try_from(port) else {
+        return Err(Fault::Port);
+    };
+    match TcpListener::bind(rt, (Ipv4Addr::LOCALHOST, number)) {
+        Ok(listener) => Ok(listener),
+        Err(_) => Err(Fault::Port),
+    }
+}
+
+// Tells the port, once it is listened to.
+fn announced<R: Net<Listener = TcpListener, Stream = TcpStream>, W: Sink>(
+    rt: &R,
+    alloc: Global,
+    port: u32,
+    sink: &mut W,
+) -> Result<TcpListener, Fault>
+    ensures ok { OnOk result (Appends (W.held sink.old) (W.held sink.new) (spec.listening_line port)) }
+    ensures err { IfErr result (λ f. IsUnannounced port f (W.held sink.old) (W.held sink.new) (W.failed sink.old) (W.failed sink.new)) }
+{
+    let listener = listen(rt, port)?;
+    let line = listening_line(alloc, port)?;
+    write_text(sink, line.as_str())?;
+    Ok(listener)
+}
+
+// Serves connections.
+fn accepted<B: Book>(
+    alloc: Global,
+    listener: &TcpListener,
+    limit: u32,
+    book: &mut B,
+) -> Result<(), Fault>
+    ensures ok { OnOk result (HasServed B.Book book.old book.new limit) }
+    ensures err { IfErr result (IsUnaccepted B.Book book.old book.new limit) }
+{
+    match serve_on(alloc, listener, limit, book) {
+        Ok(()) => Ok(()),
+        Err(fault) => Err(Fault::from(fault)),
+    }
+}
+
+// Adds the shop's entries to a book and serves it on a port.
+fn serve_book<R: Net<Listener = TcpListener, Stream = TcpStream>, B: Book, W: Sink>(
+    rt: &R,
+    alloc: Global,
+    port: u32,
+    limit: u32,
+    entries: &[MaterialEntry],
+    sink: &mut W,
+    book: &mut B,
+) -> Result<(), Fault>
+    requires { length entries.now ≤ MOST_ENTRIES }
+    ensures ok { OnOk result (IsBookServed B.Book book.old book.new entries.now port limit (W.held sink.old) (W.held sink.new)) }
+    ensures err { IfErr result (λ f. IsBookUnserved B.Book book.old book.new entries.now port limit f (W.held sink.old) (W.held sink.new) (W.failed sink.old) (W.failed sink.new)) }
+{
+    added(alloc, book, entries)?;
+    let listener = announced(rt, alloc, port, sink)?;
+    match accepted(alloc, &listener, limit, book) {
+        Ok(()) => Ok(()),
+        Err(fault) => Err(fault),
+    }
+}
+
+/// Adds the materials of a shop file to the book of a store, tells the port, and serves connections on it.
+pub fn serve<
+    R: Files + Net<Listener = TcpListener, Stream = TcpStream>,
+    B: Book + Drop,
+    O: Opens<B>,
+    W: Sink,
+>(
+    rt: &R,
+    stores: &O,
+    alloc: Global,
+    port: u32,
+    store: &str,
+    shop: &str,
+    limit: u32,
+    sink: &mut W,
+) -> Result<(), Fault>
+    ensures ok { OnOk result (IsServeDone B.Book (O.gives stores.now store.now) port limit (W.held sink.old) (W.held sink.new)) }
+    ensures err { IfErr result (λ f. IsServeStopped B.Book (O.gives stores.now store.now) port limit f (W.held sink.old) (W.held sink.new) (W.failed sink.old) (W.failed sink.new)) }
+{
+    let entries = shop_entries(rt, alloc, shop)?;
+    let mut book = opened(stores, alloc, store)?;
+    let served = serve_book(rt, alloc, port, limit, entries.as_slice(), sink, &mut book);
+    stores.close(book);
+    match served {
+        Ok(()) => Ok(()),
+        Err(fault) => Err(fault),
+    }
+}

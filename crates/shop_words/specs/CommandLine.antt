@@ -1,0 +1,139 @@
+-- The program's command line, in the words of `clap`: its commands, and what they ask for.
+use Rattle.std.specs.Prelude.{◌≡◌, ◌≤◌, ℕ, List, ◌∷◌, [], Option, Some, None, codes, true, pos, ⊤}
+use Rattle.std.specs.Str.Parse.{IsNumeral, digits_value, without_leading_plus}
+use Rattle.clap.specs.Words.{App, Row, Rule, Text, new_app, new_rule, with_rule, with_subcommand, first_of, one_of}
+use Rattle.clap.specs.Simple.{on_top}
+use Rattle.clap.specs.declared.builder.action.ArgAction.TheVariants.{Set}
+use Rattle.clap.specs.declared.builder.value_parser.ValueParser.{ValueParser}
+use Rattle.clap.specs.declared.builder.value_parser.ValueParser.TheVariants.{Signed}
+use Rattle.cut_measure.specs.Codes.{code_of}
+use Rattle.cut_measure.specs.declared.ranges.TheConstants.{MOST_KERF, MOST_NUMBERS}
+use Rattle.shop_words.specs.declared.words.TheConstants.{LONGEST_STEP, LAST_PORT, MOST_CONNECTIONS}
+use Rattle.shop_words.specs.declared.words.Request.{Request}
+use Rattle.shop_words.specs.declared.words.Request.TheVariants.{Replay, Plan, Serve, Ticket, Yield}
+use Rattle.shop_words.specs.declared.words.Word.{Word}
+use Rattle.shop_words.specs.declared.words.Word.TheVariants as word
+
+-- an option with one value
+abbrev pub option_rule : Text → Rule
+option_rule name = record (new_rule name) { long = Some name; action = Some Set; value_names = 1 }
+
+-- one that is required, with a number
+abbrev pub number_rule : Text → ValueParser → Rule
+number_rule name range = record (option_rule name) { parser = Some range; required = true }
+
+-- one that is required, with a path
+abbrev pub path_rule : Text → Rule
+path_rule name = record (option_rule name) { required = true }
+
+-- a word that is required
+abbrev pub word_rule : Text → Rule
+word_rule name = record (new_rule name) { action = Some Set; required = true }
+
+abbrev pub store_rule : Rule
+store_rule = path_rule (codes "store")
+
+abbrev pub port_rule : Rule
+port_rule = number_rule (codes "port") (Signed (pos 1) (pos 65535))
+
+-- without it the limit is 1000000
+abbrev pub limit_rule : Rule
+limit_rule = record (option_rule (codes "limit")) { parser = Some (Signed (pos 1) (pos 1000000)); defaults = codes "1000000" ∷ [] }
+
+abbrev pub job_rule : Rule
+job_rule = record (word_rule (codes "JOB")) { parser = Some (Signed (pos 1) (pos 2147483647)) }
+
+-- `plan FILE --kerf N --step N`
+abbrev pub plan_app : App
+plan_app =
+    with_rule (with_rule (with_rule (new_app (codes "plan")) (word_rule (codes "FILE")))
+    (number_rule (codes "kerf") (Signed (pos 0) (pos 200))))
+    (number_rule (codes "step") (Signed (pos 0) (pos 200000)))
+
+abbrev pub replay_app : App
+replay_app = new_app (codes "replay")
+
+-- `serve --port N --store FILE --shop FILE [--limit N]`
+abbrev pub serve_app : App
+serve_app = with_rule (with_rule (with_rule (with_rule (new_app (codes "serve")) port_rule) store_rule) (path_rule (codes "shop"))) limit_rule
+
+-- `ticket --store FILE JOB`
+abbrev pub ticket_app : App
+ticket_app = with_rule (with_rule (new_app (codes "ticket")) store_rule) job_rule
+
+-- `yield --store FILE MATERIAL`
+abbrev pub yield_app : App
+yield_app = with_rule (with_rule (new_app (codes "yield")) store_rule) (word_rule (codes "MATERIAL"))
+
+-- the commands that need no store
+abbrev pub plain_app : App
+plain_app =
+    with_subcommand (with_subcommand (on_top (λ s. record s { subcommand_required = true }) (new_app (codes "cutshop"))) replay_app.top) plan_app.top
+
+-- one of the five commands
+abbrev pub shop_app : App
+shop_app = with_subcommand (with_subcommand (with_subcommand plain_app serve_app.top) ticket_app.top) yield_app.top
+
+-- the number that an option's value stands for
+abbrev pub IsNumber : Option Text → ℕ → Type 0
+IsNumber None n = ⊥
+IsNumber (Some text) n = IsNumeral 10 (without_leading_plus text) × (digits_value 10 (without_leading_plus text) ≡ n)
+
+-- the value under a name is a number in a range
+abbrev pub HasNumber : Text → List Row → (least most n : ℕ) → Type 0
+HasNumber name rows least most n = IsNumber (one_of name rows) n × (least ≤ n) × (n ≤ most)
+
+-- the value under a name is a code
+abbrev pub IsCode : Option Text → List ℕ → Type 0
+IsCode None code = ⊥
+IsCode (Some text) code = code_of text ≡ Some code
+
+-- the values of a plan's words
+abbrev pub IsPlanAsked : List Row → Request → Type 0
+IsPlanAsked rows (Plan file kerf step) =
+    (first_of (codes "FILE") rows ≡ Some file.now) × HasNumber (codes "kerf") rows 0 MOST_KERF kerf × HasNumber (codes "step") rows 0 LONGEST_STEP step
+IsPlanAsked rows _ = ⊥
+
+abbrev pub IsServeAsked : List Row → Request → Type 0
+IsServeAsked rows (Serve port store shop limit) =
+    HasNumber (codes "port") rows 1 LAST_PORT port × (first_of (codes "store") rows ≡ Some store.now)
+    × (first_of (codes "shop") rows ≡ Some shop.now) × HasNumber (codes "limit") rows 1 MOST_CONNECTIONS limit
+IsServeAsked rows _ = ⊥
+
+abbrev pub IsTicketAsked : List Row → Request → Type 0
+IsTicketAsked rows (Ticket store job) = (first_of (codes "store") rows ≡ Some store.now) × HasNumber (codes "JOB") rows 1 MOST_NUMBERS job
+IsTicketAsked rows _ = ⊥
+
+abbrev pub IsYieldAsked : List Row → Request → Type 0
+IsYieldAsked rows (Yield store material) = (first_of (codes "store") rows ≡ Some store.now) × IsCode (first_of (codes "MATERIAL") rows) material
+IsYieldAsked rows _ = ⊥
+
+-- the words of the commands
+abbrev pub word_text : Word → Text
+word_text word.Replay = codes "replay"
+word_text word.Plan = codes "plan"
+word_text word.Serve = codes "serve"
+word_text word.Ticket = codes "ticket"
+word_text word.Yield = codes "yield"
+
+-- a command with these values asks for this
+abbrev pub IsAsked : Word → List Row → Request → Type 0
+IsAsked word.Replay rows request = request ≡ Replay
+IsAsked word.Plan rows request = IsPlanAsked rows request
+IsAsked word.Serve rows request = IsServeAsked rows request
+IsAsked word.Ticket rows request = IsTicketAsked rows request
+IsAsked word.Yield rows request = IsYieldAsked rows request
+
+-- the kerf of a plan is in range
+abbrev pub HasKerf : Request → Type 0
+HasKerf (Plan file kerf step) = kerf ≤ MOST_KERF
+HasKerf _ = ⊤
+
+-- the command that was read, with its values, asks for this
+abbrev pub Asks : Option (Text × List Row) → Request → Type 0
+Asks None request = ⊥
+Asks (Some (name, rows)) request = (w : Word) × (name ≡ word_text w) × IsAsked w rows request
+
+-- it asks for nothing
+abbrev pub AsksNothing : Option (Text × List Row) → Type 0
+AsksNothing found = (request : Request) → Asks found request → ⊥
