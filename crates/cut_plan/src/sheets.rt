@@ -127,6 +127,7 @@ fn lay_out(
 
 // The plan, if it has few enough cuts.
 fn proposal_of(
+    alloc: Global,
     size: Size,
     kerf: u32,
     step: u32,
@@ -139,13 +140,15 @@ fn proposal_of(
     requires few { cut_count (tree_of laid.root) < 2 ^ 32 }
     requires ceiling { spec.IsCeiling size kerf step wants.now laid.ceiling }
     ensures ok { IfOk result (spec.IsSheetProposal size kerf step wants.now) }
-    ensures err { IfErr result (λ fault. (fault ≡ TableTooLarge) × spec.HasManyKept size kerf step wants.now) }
+    ensures err { IfErr result (λ fault. (fault ≡ NoMemory) ⊎ ((fault ≡ TableTooLarge) × spec.HasManyKept size kerf step wants.now)) }
 {
     if count_cuts(&laid.root) > MOST_CUTS {
         return Err(PlanFault::TableTooLarge);
     }
     let _sides = (size.w(), size.h());
-    let plan = Plan::of(laid.root, size, kerf);
+    let Ok(plan) = Plan::of(alloc, laid.root, size, kerf) else {
+        return Err(PlanFault::NoMemory);
+    };
     Ok(SheetProposal {
         plan,
         worth: laid.worth,
@@ -168,7 +171,7 @@ fn faultless_sheet(
     ensures err { IfErr result (λ fault. (fault ≡ NoMemory) ⊎ ((fault ≡ TableTooLarge) × spec.HasManyKept size kerf step wants.now)) }
 {
     match lay_out(alloc, size, kerf, step, wants) {
-        Ok(laid) => proposal_of(size, kerf, step, wants, laid),
+        Ok(laid) => proposal_of(alloc, size, kerf, step, wants, laid),
         Err(_) => Err(PlanFault::NoMemory),
     }
 }

@@ -14,7 +14,7 @@ use crate::bars::{BarFault, bar_root};
 use crate::halts::{Halt, Stop, are_closed, is_among, rise};
 use crate::lay::{Rect, Row, lay_node};
 use crate::leaves::{Leaf, add_leaves};
-use crate::node::{Node, copy_node, count_cuts, count_pieces, is_same};
+use crate::node::{Node, count_cuts, count_pieces, is_same};
 use crate::read::{SpellFault, behind, read_node, words_of};
 use crate::steps::{Step, step_node};
 use crate::token::{Cause, MOST_CUTS, Sides};
@@ -22,12 +22,13 @@ use crate::write::write_node;
 use cut_measure::{MOST_KERF, Size};
 use std::alloc::{AllocError, Global};
 use std::marker::Model;
+use std::rc::Rc;
 
 /// A cutting tree on a unit's size, under a saw's kerf. It follows the rule of cuts, has at most 255 of them, and its
-/// demands are 1 to 2147483647.
+/// demands are 1 to 2147483647. Its nodes never change, so equal plans share them.
 #[derive(Drop)]
 pub struct Plan {
-    root: Node,
+    root: Rc<Node>,
     size: Size,
     kerf: u32,
 }
@@ -79,11 +80,13 @@ impl Plan {
         if read.next < words.len() {
             return Err(behind(words, read.next));
         }
-        Ok(Plan {
-            root: read.node,
-            size,
-            kerf,
-        })
+        match Plan::of(alloc, read.node, size, kerf) {
+            Ok(plan) => Ok(plan),
+            Err(_) => Err(SpellFault {
+                token: 0,
+                cause: Cause::NoMemory,
+            }),
+        }
     }
 
     /// Appends the plan's text, or leaves the string as it was.
@@ -125,16 +128,11 @@ impl Plan {
         count_pieces(&self.root, demand)
     }
 
-    /// The same plan in memory of its own.
-    pub fn copy(&self, alloc: Global) -> Result<Plan, AllocError>
+    /// The same plan.
+    pub fn copy(&self, _alloc: Global) -> Result<Plan, AllocError>
         ensures { IfOk result (λ copy. copy ≡ self.now) }
     {
-        let root = copy_node(alloc, &self.root)?;
-        Ok(Plan {
-            root,
-            size: self.size,
-            kerf: self.kerf,
-        })
+        self.clone()
     }
 
     /// Whether two plans are the same: tree, size and kerf.
@@ -226,27 +224,27 @@ impl Plan {
 
 impl Plan {
     /// The plan of these nodes on a unit of this size, under this kerf.
-    pub fn of(root: Node, size: Size, kerf: u32) -> Plan
+    pub fn of(alloc: Global, root: Node, size: Size, kerf: u32) -> Result<Plan, AllocError>
         requires { IsPlan (record { tree = tree_of root; w = size.w; h = size.h; kerf = kerf }) }
-        ensures { result ≡ record { tree = tree_of root; w = size.w; h = size.h; kerf = kerf } }
+        ensures { IfOk result (λ plan. plan ≡ record { tree = tree_of root; w = size.w; h = size.h; kerf = kerf }) }
     {
-        Plan { root, size, kerf }
+        let root = Rc::new(alloc, root)?;
+        Ok(Plan { root, size, kerf })
     }
 }
 
-/// The same plan in memory of its own.
+/// The same plan, whose nodes are shared.
 impl Clone for Plan {
     ghost use Rattle.std.specs.Prelude.{◌≡◌};
 
     ghost is_clone = { λ s t. t ≡ s };
 
     fn clone(&self) -> Result<Plan, AllocError> {
-        let Plan { root, size, kerf } = self;
-        let root = root.clone()?;
+        let root = Rc::clone(&self.root)?;
         Ok(Plan {
             root,
-            size: *size,
-            kerf: *kerf,
+            size: self.size,
+            kerf: self.kerf,
         })
     }
 }
@@ -287,5 +285,8 @@ pub fn bar_plan(
 {
     let root = bar_root(alloc, size.w(), kerf, pieces)?;
     let _height = size.h();
-    Ok(Plan { root, size, kerf })
+    match Plan::of(alloc, root, size, kerf) {
+        Ok(plan) => Ok(plan),
+        Err(_) => Err(BarFault::NoMemory),
+    }
 }

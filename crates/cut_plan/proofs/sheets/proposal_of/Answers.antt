@@ -1,12 +1,12 @@
-use Rattle.std.proofs.Common.{arith, refl, ◌<◌}
+use Rattle.std.proofs.Common.{arith, refl, ◌<◌, inr}
 use Rattle.cut_tree.specs.declared.token.TheConstants.{MOST_CUTS}
 use Rattle.cut_plan.proofs.SheetPlans.{demands_of, shaped_of}
 use Rattle.cut_tree.specs.Tree.{cut_count}
 use Rattle.cut_tree.specs.Nodes.{tree_of}
 use Rattle.cut_plan.proofs.sheets.proposal_of.Goals as goal
 
-pub of-plan-requires : goal.of-plan-requires
-of-plan-requires c = record {
+pub of-requires : goal.of-requires
+of-requires c = record {
   shaped = shaped_of c.args.wants.now c.args.kerf _ c.args.size.w c.args.size.h c.requires.laid.legal;
   few_cuts = omega arith;
   demands = demands_of c.args.wants.now c.args.kerf _ c.args.size.w c.args.size.h c.requires.demands c.requires.laid.legal;
@@ -19,7 +19,7 @@ of-plan-requires c = record {
 
 pub returns-then-count_cuts-gt-MOST_CUTS-clause-err : goal.returns-then-count_cuts-gt-MOST_CUTS-clause-err
 returns-then-count_cuts-gt-MOST_CUTS-clause-err c =
-    let many : MOST_CUTS < cut_count (tree_of c.args.laid.root) = omega (arith, c.if-count_cuts-gt-MOST_CUTS.true, c.count_cuts.ensures) in (
+    let many : MOST_CUTS < cut_count (tree_of c.args.laid.root) = omega (arith, c.if-count_cuts-gt-MOST_CUTS.true, c.count_cuts.ensures) in inr (
       refl,
       record {
         tree = _;

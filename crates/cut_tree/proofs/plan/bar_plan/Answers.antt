@@ -1,10 +1,11 @@
 use Rattle.std.proofs.Common.{ap, ◌∙◌}
+use Rattle.cut_tree.specs.Patterns.{Pattern}
 use Rattle.cut_tree.specs.Tree.{leaf_sum}
 use Rattle.cut_tree.proofs.BarTrees.{fits_spent, leaf_sum-bar_tree, CutsInto-bar_tree, HasDemands-bar_tree}
 use Rattle.cut_tree.proofs.plan.bar_plan.Goals as goal
 
-pub invariant_of-result : goal.invariant_of-result
-invariant_of-result c =
+pub of-requires : goal.of-requires
+of-requires c =
     let r = rw c.w.ensures.value at c.in_ok-root.ensures in
     let fits = fits_spent c.args.pieces.now c.args.size.w c.args.kerf r.fits in
     rw r.tree
@@ -19,8 +20,9 @@ invariant_of-result c =
       narrow = c.requires.narrow;
     })
 
-pub returns-clause-sums : goal.returns-clause-sums
-returns-clause-sums c = λ f.
+pub returns-in-Ok-clause-sums : goal.returns-in-Ok-clause-sums
+returns-in-Ok-clause-sums c = λ f.
     let r = rw c.w.ensures.value at c.in_ok-root.ensures in
-    ap (leaf_sum f) r.tree
+    ap (λ (p : Pattern). leaf_sum f p.tree) c.in-Ok.ensures
+    ∙ ap (leaf_sum f) r.tree
     ∙ leaf_sum-bar_tree f c.args.pieces.now c.args.size.w c.args.kerf (λ i d l. (c.requires.pieces i d l).2) (fits_spent c.args.pieces.now c.args.size.w c.args.kerf r.fits)

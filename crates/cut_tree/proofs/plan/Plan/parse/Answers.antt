@@ -8,8 +8,8 @@ use Rattle.cut_tree.proofs.FirstWords.{read_fault, behind_fault, all_taken}
 use Rattle.cut_tree.proofs.SpelledTexts.{spelled_numbers}
 use Rattle.cut_tree.proofs.plan.Plan.parse.Goals as goal
 
-pub invariant_of-result : goal.invariant_of-result
-invariant_of-result c =
+pub of-requires : goal.of-requires
+of-requires c =
     let r = c.in_ok-read.ensures.ok in
     record {
       shaped = rw (← c.w.ensures.value, ← c.h.ensures.value) r.shaped;
@@ -37,16 +37,17 @@ returns-then-read-words-clause-fault c =
     (tree_of c.in_ok-read.read.node) (ap (map (λ w. w.now)) c.as_slice-words.ensures.value ∙ c.in-Ok.ensures)
     (omega (arith, c.in_ok-read.ensures.near, r.few_cuts)) r c.behind.ensures.cause)
 
-pub returns-clause-spelled : goal.returns-clause-spelled
-returns-clause-spelled c =
+pub returns-in-Ok-of-clause-spelled : goal.returns-in-Ok-of-clause-spelled
+returns-in-Ok-of-clause-spelled c =
     let r = c.in_ok-read.ensures.ok in
     let is : map (λ w. w.now) c.as_slice-words.result.now ≡ take 512 (words c.args.text.now) = ap (map (λ w. w.now)) c.as_slice-words.ensures.value ∙ c.in-Ok.ensures in
     let short : length (take 512 (words c.args.text.now)) < 512 =
     rw (← is, length-map) (omega (arith, c.if-read-words.false, c.in_ok-read.ensures.near, r.few_cuts)) in
-    record {
+    rw c.in-Ok-of.ensures
+    (record {
       shaped = rw (← c.w.ensures.value, ← c.h.ensures.value) r.shaped;
       numbers = spelled_numbers _ 0 (tokens (tree_of c.in_ok-read.read.node)) r.spelled;
       text_is = spelled_text c.args.text.now (map (λ w. w.now) c.as_slice-words.result.now) (tree_of c.in_ok-read.read.node)
           (is ∙ all_taken 512 (words c.args.text.now) short) r.spelled
           (rw length-map (omega (arith, r.upto, c.if-read-words.false)));
-    }
+    })
