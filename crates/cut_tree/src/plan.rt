@@ -25,7 +25,8 @@ use std::marker::Model;
 use std::rc::Rc;
 
 /// A cutting tree on a unit's size, under a saw's kerf. It follows the rule of cuts, has at most 255 of them, and its
-/// demands are 1 to 2147483647. Its nodes never change, so equal plans share them.
+/// demands are 1 to 2147483647. Its nodes never change, so a plan and its copies
+/// share them.
 #[derive(Drop)]
 pub struct Plan {
     root: Rc<Node>,
@@ -128,7 +129,7 @@ impl Plan {
         count_pieces(&self.root, demand)
     }
 
-    /// The same plan.
+    /// The same plan. Its nodes are shared, so the allocator isn't asked.
     pub fn copy(&self, _alloc: Global) -> Result<Plan, AllocError>
         ensures { IfOk result (λ copy. copy ≡ self.now) }
     {

@@ -131,7 +131,7 @@ pub struct Job {
 impl Job {
     ghost use Rattle.std.specs.Prelude.{◌≡◌, IfOk};
 
-    /// The same job in memory of its own.
+    /// The same job. It shares the nodes of its plan.
     pub fn copy(&self, alloc: Global) -> Result<Job, AllocError>
         ensures { IfOk result (λ copy. copy ≡ self.now) }
     {
