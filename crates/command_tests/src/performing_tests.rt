@@ -118,8 +118,33 @@ pub fn ends(
     Ok(())
 }
 
+/// A line, its input, and its status, output and text of errors.
+#[derive(Clone, Copy)]
+pub struct Case(
+    pub &'static str,
+    pub &'static str,
+    pub u8,
+    pub &'static str,
+    pub &'static str,
+);
+
+/// Each line, in order, comes to what its case says.
+pub fn all_end(
+    rt: &(impl Abort
+        + AllocGlobal
+        + Files
+        + Net<Listener = TcpListener, Stream = TcpStream>
+        + Opens<StoreBook>),
+    cases: &[Case],
+) -> Result<(), Fail> {
+    for case in cases {
+        ends(rt, case.0, case.1, case.2, case.3, case.4)?;
+    }
+    Ok(())
+}
+
 // Words that ask for nothing: their mistake is told, and nothing is written as output.
-pub fn is_mistaken(
+fn is_mistaken(
     rt: &(impl Abort
         + AllocGlobal
         + Files
@@ -179,63 +204,193 @@ fn plans(
 
 const FINE: &str = "--kerf 0 --step 1";
 
-#[test]
-fn lines_are_answered(rt: HostRuntime) -> Result<(), Fail> {
-    let lines =
+const REPLAYED: [Case; 3] = [
+    Case(
+        "replay",
         "{\"do\":\"material\",\"kerf\":3,\"kind\":\"bar\",\"material\":\"STEEL\",\"min_long\":20,\"min_short\":1,\"number\":1,\"terminal\":1}
 {\"batch\":\"B-1\",\"count\":2,\"do\":\"receive\",\"h\":1,\"material\":\"STEEL\",\"number\":2,\"terminal\":1,\"w\":100}
 {\"ask\":\"totals\",\"material\":\"STEEL\"}
-";
-    let replies = "{\"material\":\"STEEL\",\"ok\":\"material\"}
+",
+        0,
+        "{\"material\":\"STEEL\",\"ok\":\"material\"}
 {\"act\":1,\"count\":2,\"ok\":\"receive\"}
 {\"kerf\":0,\"material\":\"STEEL\",\"ok\":\"totals\",\"pieces\":0,\"rack\":0,\"received\":200,\"returned\":0,\"scrap\":0,\"stock\":200}
-";
-    ends(&rt, "replay", lines, 0, replies, "")?;
-    ends(&rt, "replay", "", 0, "", "")?;
-    ends(
-        &rt,
+",
+        "",
+    ),
+    Case("replay", "", 0, "", ""),
+    Case(
         "replay",
         "\n",
         0,
         "{\"name\":\"BadMessage\",\"refused\":10}\n",
         "",
-    )?;
-    Ok(())
-}
+    ),
+];
 
 #[test]
-fn problems_are_planned(rt: HostRuntime) -> Result<(), Fail> {
-    const FILE: &str = "planned.txt";
-    let whole = "worth 12\nceiling 12\ndropped 0\ntree p1\n";
-    let rest = "worth 0\nceiling 9\ndropped 0\ntree r\n";
-    plans(&rt, FILE, b"1 4 3 4 3 1 12", FINE, 0, whole, "")?;
-    plans(
-        &rt,
-        FILE,
-        b"1 4 3 4 3 1 12",
-        "--step=1 --kerf=200",
-        0,
-        whole,
-        "",
-    )?;
-    plans(
-        &rt,
-        FILE,
+fn lines_are_answered(rt: HostRuntime) -> Result<(), Fail> {
+    all_end(&rt, &REPLAYED)
+}
+
+// The text of a problem, kerf and step, and the status, output and text of errors of its plan.
+#[derive(Clone, Copy)]
+struct Problem(&'static [u8], &'static str, u8, &'static str, &'static str);
+
+const WHOLE: &str = "worth 12\nceiling 12\ndropped 0\ntree p1\n";
+
+const BAD_STEP: &str = "refused 92 BadStep\n";
+
+const PROBLEMS: [Problem; 14] = [
+    Problem(b"1 4 3 4 3 1 12", FINE, 0, WHOLE, ""),
+    Problem(b"1 4 3 4 3 1 12", "--step=1 --kerf=200", 0, WHOLE, ""),
+    Problem(
         b"1 5 3 5 3 1 9",
         "--kerf 0 --step 2",
         0,
-        rest,
+        "worth 0\nceiling 9\ndropped 0\ntree r\n",
         "",
-    )?;
-    plans(
-        &rt,
-        FILE,
+    ),
+    Problem(
         b"1 500 1 500 1 1 7",
         FINE,
         0,
         "worth 7\nceiling 7\ndropped 0\ntree p1\n",
         "",
-    )?;
+    ),
+    Problem(
+        b"2 10 8 4 3 2 66 5 8 1",
+        FINE,
+        1,
+        "",
+        "fault text 21 Short\n",
+    ),
+    Problem(
+        b"2 10 8 4 3 2 66 5 8 1 40 7",
+        FINE,
+        1,
+        "",
+        "fault text 25 Long\n",
+    ),
+    Problem(
+        b"2 10 8 4 3 2 66.0 5 8 1 40",
+        FINE,
+        1,
+        "",
+        "fault text 15 Byte\n",
+    ),
+    Problem(b"0 10 8", FINE, 1, "", "fault text 0 Number\n"),
+    Problem(b"", FINE, 1, "", "fault text 0 Short\n"),
+    Problem(b"1 4 3 5 3 1 9", FINE, 1, "", "refused 90 NothingFits\n"),
+    Problem(
+        b"1 501 1 1 1 1 1",
+        FINE,
+        1,
+        "",
+        "refused 91 TableTooLarge\n",
+    ),
+    Problem(b"1 10 10 5 5 2 25", "--kerf 0 --step 6", 1, "", BAD_STEP),
+    Problem(b"1 10 10 5 5 2 25", "--kerf 0 --step 0", 1, "", BAD_STEP),
+    Problem(
+        b"1 10 10 5 5 2 25",
+        "--kerf 200 --step 200000",
+        1,
+        "",
+        BAD_STEP,
+    ),
+];
+
+#[test]
+fn problems_are_planned(rt: HostRuntime) -> Result<(), Fail> {
+    for problem in PROBLEMS {
+        plans(
+            &rt,
+            "problem.txt",
+            problem.0,
+            problem.1,
+            problem.2,
+            problem.3,
+            problem.4,
+        )?;
+    }
+    Ok(())
+}
+
+const UNREAD: [Case; 2] = [
+    Case("plan no.txt --kerf 0 --step 1", "", 1, "", "fault file\n"),
+    Case("plan . --kerf 0 --step 1", "", 1, "", "fault file\n"),
+];
+
+#[test]
+fn what_is_no_file_is_told(rt: HostRuntime) -> Result<(), Fail> {
+    all_end(&rt, &UNREAD)
+}
+
+const MISTAKEN: [&str; 23] = [
+    "",
+    "serve",
+    "--version",
+    "replay lines.txt",
+    "replay --kerf 1",
+    "plan --kerf 1 --step 1",
+    "plan a.txt b.txt --kerf 1 --step 1",
+    "plan a.txt --kerf 1",
+    "plan a.txt --kerf 201 --step 1",
+    "plan a.txt --kerf -1 --step 1",
+    "plan a.txt --kerf 1x --step 1",
+    "plan a.txt --kerf 1 --step 200001",
+    "plan a.txt --kerf 1 --kerf 2 --step 1",
+    "ticket --store a.db 0",
+    "ticket --store a.db 2147483648",
+    "ticket 1",
+    "yield --store a.db steel",
+    "yield --store a.db ABCDEFGHIJKLMNOPQ",
+    "serve --port 0 --store a.db --shop a.toml",
+    "serve --port 65536 --store a.db --shop a.toml",
+    "serve --port 1 --store a.db --shop a.toml --limit 0",
+    "serve --port 1 --store a.db --shop a.toml --limit 1000001",
+    "serve --port 1 --store a.db",
+];
+
+#[test]
+fn words_are_mistaken(rt: HostRuntime) -> Result<(), Fail> {
+    for line in MISTAKEN {
+        is_mistaken(&rt, line)?;
+    }
+    Ok(())
+}
+
+const REPLAY: &str = "cutshop replay < lines.txt";
+
+const PLAN: &str = "cutshop plan sheet.txt --kerf 30 --step 10";
+
+const SERVE: &str = "cutshop serve --port 8017 --store shop.db --shop shop.toml";
+
+const TICKET: &str = "cutshop ticket --store shop.db 2";
+
+const REPORT: &str = "cutshop yield --store shop.db STEEL";
+
+// Words that ask for help, and an example that it shows.
+#[derive(Clone, Copy)]
+struct Help(&'static str, &'static str);
+
+const HELPS: [Help; 9] = [
+    Help("--help", REPLAY),
+    Help("--help", PLAN),
+    Help("help plan", PLAN),
+    Help("plan --help", PLAN),
+    Help("replay --help", REPLAY),
+    Help("serve --help", SERVE),
+    Help("ticket --help", TICKET),
+    Help("yield --help", REPORT),
+    Help("help", SERVE),
+];
+
+#[test]
+fn help_is_output(rt: HostRuntime) -> Result<(), Fail> {
+    for help in HELPS {
+        is_helped(&rt, help.0, help.1)?;
+    }
     Ok(())
 }
 
@@ -276,50 +431,6 @@ fn two_kinds_are_planned(rt: HostRuntime) -> Result<(), Fail> {
     Ok(())
 }
 
-#[test]
-fn bad_texts_are_told(rt: HostRuntime) -> Result<(), Fail> {
-    const FILE: &str = "bad.txt";
-    plans(
-        &rt,
-        FILE,
-        b"2 10 8 4 3 2 66 5 8 1",
-        FINE,
-        1,
-        "",
-        "fault text 21 Short\n",
-    )?;
-    plans(
-        &rt,
-        FILE,
-        b"2 10 8 4 3 2 66 5 8 1 40 7",
-        FINE,
-        1,
-        "",
-        "fault text 25 Long\n",
-    )?;
-    plans(
-        &rt,
-        FILE,
-        b"2 10 8 4 3 2 66.0 5 8 1 40",
-        FINE,
-        1,
-        "",
-        "fault text 15 Byte\n",
-    )?;
-    plans(&rt, FILE, b"0 10 8", FINE, 1, "", "fault text 0 Number\n")?;
-    plans(&rt, FILE, b"", FINE, 1, "", "fault text 0 Short\n")?;
-    ends(
-        &rt,
-        "plan no.txt --kerf 0 --step 1",
-        "",
-        1,
-        "",
-        "fault file\n",
-    )?;
-    ends(&rt, "plan . --kerf 0 --step 1", "", 1, "", "fault file\n")?;
-    Ok(())
-}
-
 // A text of spaces, and of them so many.
 #[test]
 fn long_texts_are_told(rt: HostRuntime) -> Result<(), Fail> {
@@ -345,35 +456,6 @@ fn long_texts_are_told(rt: HostRuntime) -> Result<(), Fail> {
         "",
         "fault text 65536 Long\n",
     )?;
-    Ok(())
-}
-
-#[test]
-fn planless_problems_are_refused(rt: HostRuntime) -> Result<(), Fail> {
-    const FILE: &str = "planless.txt";
-    let square = b"1 10 10 5 5 2 25";
-    let step = "refused 92 BadStep\n";
-    plans(
-        &rt,
-        FILE,
-        b"1 4 3 5 3 1 9",
-        FINE,
-        1,
-        "",
-        "refused 90 NothingFits\n",
-    )?;
-    plans(
-        &rt,
-        FILE,
-        b"1 501 1 1 1 1 1",
-        FINE,
-        1,
-        "",
-        "refused 91 TableTooLarge\n",
-    )?;
-    plans(&rt, FILE, square, "--kerf 0 --step 6", 1, "", step)?;
-    plans(&rt, FILE, square, "--kerf 0 --step 0", 1, "", step)?;
-    plans(&rt, FILE, square, "--kerf 200 --step 200000", 1, "", step)?;
     Ok(())
 }
 
@@ -410,53 +492,6 @@ fn many_pieces_are_refused(rt: HostRuntime) -> Result<(), Fail> {
         "",
         "refused 93 BadWant\n",
     )?;
-    Ok(())
-}
-
-#[test]
-fn commands_are_mistaken(rt: HostRuntime) -> Result<(), Fail> {
-    is_mistaken(&rt, "")?;
-    is_mistaken(&rt, "serve")?;
-    is_mistaken(&rt, "--version")?;
-    is_mistaken(&rt, "replay lines.txt")?;
-    is_mistaken(&rt, "replay --kerf 1")?;
-    is_mistaken(&rt, "plan --kerf 1 --step 1")?;
-    is_mistaken(&rt, "plan a.txt b.txt --kerf 1 --step 1")?;
-    Ok(())
-}
-
-#[test]
-fn numbers_are_mistaken(rt: HostRuntime) -> Result<(), Fail> {
-    is_mistaken(&rt, "plan a.txt --kerf 1")?;
-    is_mistaken(&rt, "plan a.txt --kerf 201 --step 1")?;
-    is_mistaken(&rt, "plan a.txt --kerf -1 --step 1")?;
-    is_mistaken(&rt, "plan a.txt --kerf 1x --step 1")?;
-    is_mistaken(&rt, "plan a.txt --kerf 1 --step 200001")?;
-    is_mistaken(&rt, "plan a.txt --kerf 1 --kerf 2 --step 1")?;
-    Ok(())
-}
-
-#[test]
-fn help_is_output(rt: HostRuntime) -> Result<(), Fail> {
-    let replay = "cutshop replay < lines.txt";
-    let plan = "cutshop plan sheet.txt --kerf 30 --step 10";
-    is_helped(&rt, "--help", replay)?;
-    is_helped(&rt, "--help", plan)?;
-    is_helped(&rt, "help plan", plan)?;
-    is_helped(&rt, "plan --help", plan)?;
-    is_helped(&rt, "replay --help", replay)?;
-    Ok(())
-}
-
-#[test]
-fn help_on_stores_is_output(rt: HostRuntime) -> Result<(), Fail> {
-    let serve = "cutshop serve --port 8017 --store shop.db --shop shop.toml";
-    let ticket = "cutshop ticket --store shop.db 2";
-    let report = "cutshop yield --store shop.db STEEL";
-    is_helped(&rt, "serve --help", serve)?;
-    is_helped(&rt, "ticket --help", ticket)?;
-    is_helped(&rt, "yield --help", report)?;
-    is_helped(&rt, "help", serve)?;
     Ok(())
 }
 

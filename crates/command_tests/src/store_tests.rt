@@ -1,6 +1,6 @@
 //! Tests of the commands on a store: stores that are made or refused, shop files, and connections over loopback.
 
-use crate::performing_tests::{ends, is_mistaken};
+use crate::performing_tests::{Case, all_end, ends};
 use shop_files::read_shop;
 use shop_opening::{Opens, StoreBook, add_shop};
 use shop_serve::serve_on;
@@ -20,74 +20,38 @@ min_long = \"2.0\"
 min_short = \"0.1\"
 ";
 
-// A store that isn't there is made, and holds nothing.
-#[test]
-fn empty_stores_have_no_texts(rt: HostRuntime) -> Result<(), Fail> {
-    ends(
-        &rt,
-        "ticket --store empty.db 1",
-        "",
-        1,
-        "",
-        "refused 70 NoJob\n",
-    )?;
-    ends(
-        &rt,
+// Stores that aren't there are made, and hold nothing; what is no store is told, and so is what can't be made. The tables of
+// something else stand under a name of ours.
+const STORES: [Case; 8] = [
+    Case("ticket --store empty.db 1", "", 1, "", "refused 70 NoJob\n"),
+    Case(
         "yield --store empty.db STEEL",
         "",
         1,
         "",
         "refused 20 NoMaterial\n",
-    )?;
-    ends(
-        &rt,
+    ),
+    Case(
         "ticket --store empty.db 2147483647",
         "",
         1,
         "",
         "refused 70 NoJob\n",
-    )?;
-    Ok(())
-}
+    ),
+    Case("ticket --store junk.db 1", "", 1, "", "fault store\n"),
+    Case("yield --store . STEEL", "", 1, "", "fault store\n"),
+    Case("ticket --store no/such.db 1", "", 1, "", "fault store\n"),
+    Case("ticket --store other.db 1", "", 1, "", "fault version\n"),
+    Case("yield --store other.db STEEL", "", 1, "", "fault version\n"),
+];
 
 #[test]
-fn bad_stores_are_told(rt: HostRuntime) -> Result<(), Fail> {
+fn stores_are_opened_or_told(rt: HostRuntime) -> Result<(), Fail> {
     fs::write(&rt, "junk.db", "no database")?;
-    ends(&rt, "ticket --store junk.db 1", "", 1, "", "fault store\n")?;
-    ends(&rt, "yield --store . STEEL", "", 1, "", "fault store\n")?;
-    ends(
-        &rt,
-        "ticket --store no/such.db 1",
-        "",
-        1,
-        "",
-        "fault store\n",
-    )?;
+    make_other(&rt)?;
+    all_end(&rt, &STORES)?;
     let left = fs::read_to_string(&rt, "junk.db")?;
     assert_eq!(rt; left.as_str(), "no database");
-    Ok(())
-}
-
-// The tables of something else stand under a name of ours.
-#[test]
-fn other_tables_are_told(rt: HostRuntime) -> Result<(), Fail> {
-    make_other(&rt)?;
-    ends(
-        &rt,
-        "ticket --store other.db 1",
-        "",
-        1,
-        "",
-        "fault version\n",
-    )?;
-    ends(
-        &rt,
-        "yield --store other.db STEEL",
-        "",
-        1,
-        "",
-        "fault version\n",
-    )?;
     Ok(())
 }
 
@@ -98,90 +62,58 @@ fn make_other(rt: &HostRuntime) -> Result<(), Fail> {
     Ok(())
 }
 
-#[test]
-fn stores_are_mistaken(rt: HostRuntime) -> Result<(), Fail> {
-    is_mistaken(&rt, "ticket --store a.db 0")?;
-    is_mistaken(&rt, "ticket --store a.db 2147483648")?;
-    is_mistaken(&rt, "ticket 1")?;
-    is_mistaken(&rt, "yield --store a.db steel")?;
-    is_mistaken(&rt, "yield --store a.db ABCDEFGHIJKLMNOPQ")?;
-    Ok(())
-}
-
-#[test]
-fn ports_are_mistaken(rt: HostRuntime) -> Result<(), Fail> {
-    is_mistaken(&rt, "serve --port 0 --store a.db --shop a.toml")?;
-    is_mistaken(&rt, "serve --port 65536 --store a.db --shop a.toml")?;
-    is_mistaken(&rt, "serve --port 1 --store a.db --shop a.toml --limit 0")?;
-    is_mistaken(
-        &rt,
-        "serve --port 1 --store a.db --shop a.toml --limit 1000001",
-    )?;
-    is_mistaken(&rt, "serve --port 1 --store a.db")?;
-    Ok(())
-}
-
-// Both ends of a range are taken: the shop file is what is missing.
-#[test]
-fn ports_are_taken(rt: HostRuntime) -> Result<(), Fail> {
-    let missing = "fault file\n";
-    ends(
-        &rt,
+// Both ends of a range are taken: the shop file is what is missing. Shop files that are none are told, and then the store.
+const SHOPS: [Case; 6] = [
+    Case(
         "serve --port 1 --store a.db --shop no.toml --limit 1",
         "",
         1,
         "",
-        missing,
-    )?;
-    ends(
-        &rt,
+        "fault file\n",
+    ),
+    Case(
         "serve --port 65535 --store a.db --shop no.toml --limit 1000000",
         "",
         1,
         "",
-        missing,
-    )?;
-    ends(
-        &rt,
+        "fault file\n",
+    ),
+    Case(
         "serve --port 65535 --store a.db --shop no.toml",
         "",
         1,
         "",
-        missing,
-    )?;
-    Ok(())
-}
-
-#[test]
-fn shop_files_are_told(rt: HostRuntime) -> Result<(), Fail> {
-    fs::write(&rt, "text.toml", "material = 1")?;
-    ends(
-        &rt,
+        "fault file\n",
+    ),
+    Case(
         "serve --port 1 --store . --shop text.toml",
         "",
         1,
         "",
         "fault shop text\n",
-    )?;
-    fs::write(&rt, "entry.toml", "material = [1]")?;
-    ends(
-        &rt,
+    ),
+    Case(
         "serve --port 1 --store . --shop entry.toml",
         "",
         1,
         "",
         "fault shop entry 1\n",
-    )?;
-    fs::write(&rt, "shop.toml", STEEL)?;
-    ends(
-        &rt,
+    ),
+    Case(
         "serve --port 1 --store . --shop shop.toml",
         "",
         1,
         "",
         "fault store\n",
-    )?;
-    Ok(())
+    ),
+];
+
+#[test]
+fn shop_files_are_told(rt: HostRuntime) -> Result<(), Fail> {
+    fs::write(&rt, "text.toml", "material = 1")?;
+    fs::write(&rt, "entry.toml", "material = [1]")?;
+    fs::write(&rt, "shop.toml", STEEL)?;
+    all_end(&rt, &SHOPS)
 }
 
 // A listener of the test's own takes the port, so that the shop's entries are judged and nothing is served.

@@ -11,10 +11,10 @@ use Rattle.shop_files.specs.Shops.{AreEntries}
 use Rattle.shop_serve.specs.Serving.{IsUnserved}
 use Rattle.shop_serve.specs.declared.serving.ServeFault.{ServeFault}
 use Rattle.shop_serve.specs.declared.serving.ServeFault.TheVariants as serve
-use Rattle.shop_store.specs.declared.books.Book.{Ghosts}
-use Rattle.shop_store.specs.declared.books.BookFault.{BookFault}
-use Rattle.shop_store.specs.declared.books.BookFault.TheVariants as store
-use Rattle.shop_store.specs.Kept.{Says}
+use Rattle.shop_book.specs.declared.books.Book.{Ghosts}
+use Rattle.shop_book.specs.declared.books.BookFault.{BookFault}
+use Rattle.shop_book.specs.declared.books.BookFault.TheVariants as store
+use Rattle.shop_book.specs.Kept.{Says}
 use Rattle.shop_text.specs.Printing.{IsPrinted}
 use Rattle.shop_text.specs.Streams.{HasFailed}
 use Rattle.shop_text.specs.declared.printing.PrintFault.{PrintFault}

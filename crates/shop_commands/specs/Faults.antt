@@ -14,8 +14,8 @@ use Rattle.shop_opening.specs.declared.shops.AddFault.{AddFault}
 use Rattle.shop_opening.specs.declared.shops.AddFault.TheVariants as add
 use Rattle.shop_serve.specs.declared.serving.ServeFault.{ServeFault}
 use Rattle.shop_serve.specs.declared.serving.ServeFault.TheVariants as serve
-use Rattle.shop_store.specs.declared.books.BookFault.{BookFault}
-use Rattle.shop_store.specs.declared.books.BookFault.TheVariants as store
+use Rattle.shop_book.specs.declared.books.BookFault.{BookFault}
+use Rattle.shop_book.specs.declared.books.BookFault.TheVariants as store
 use Rattle.shop_text.specs.declared.printing.PrintFault.{PrintFault}
 use Rattle.shop_text.specs.declared.printing.PrintFault.TheVariants as print
 use Rattle.shop_wire.specs.declared.faults.ReplayFault.{ReplayFault}

@@ -11,8 +11,8 @@ use Rattle.shop_machine.specs.declared.refusals.Refusal.{Refusal}
 use Rattle.shop_serve.specs.Serving.{HasServed}
 use Rattle.shop_opening.specs.declared.shops.EntryRefused.{EntryRefused}
 use Rattle.shop_opening.specs.Shops.{HasShop, IsAccepted, IsFirstRefused}
-use Rattle.shop_store.specs.declared.books.Book.{Ghosts}
-use Rattle.shop_store.specs.Kept.{Says}
+use Rattle.shop_book.specs.declared.books.Book.{Ghosts}
+use Rattle.shop_book.specs.Kept.{Says}
 use Rattle.shop_text.specs.Printing.{IsPrinted}
 use Rattle.shop_text.specs.Streams.{HasFailed}
 use Rattle.shop_text.specs.declared.printing.PrintFault.{PrintFault}

@@ -2,8 +2,8 @@
 use Rattle.std.proofs.Common.{◌≡◌, ℕ, ◌+◌, List, [], ◌∷◌, ◌++◌, Option, Some, None, inl, inr, refl, sym, subst, arith}
 use Rattle.std.specs.Prelude.{Bool, true, false, nat_lt, if◌then◌else◌, MatchOption}
 use Rattle.std.proofs.lemmas.Bool.Decides.{nat_tests}
-use Rattle.shop_store.specs.declared.books.TheConstants.{MOST_FAILURES}
-use Rattle.shop_store.specs.Failures.{one_more_failure}
+use Rattle.shop_book.specs.declared.books.TheConstants.{MOST_FAILURES}
+use Rattle.shop_book.specs.Failures.{one_more_failure}
 use Rattle.shop_machine.specs.declared.refusals.Refusal.{Refusal}
 use Rattle.shop_machine.specs.declared.refusals.Refusal.TheVariants.{StoreFault}
 use Rattle.shop_machine.specs.declared.messages.Reply.{Reply}

@@ -7,7 +7,7 @@ use Rattle.shop_machine.specs.declared.records.RackRow.{RackRow}
 use Rattle.shop_machine.specs.Content.{rack_rows}
 use Rattle.shop_machine.specs.Columns.{is_whole, rack_row}
 use Rattle.shop_machine.specs.Visits.{GoesOn, HasSeen, IsVisit}
-use Rattle.shop_store.specs.declared.books.BookFault.{BookFault}
+use Rattle.shop_book.specs.declared.books.BookFault.{BookFault}
 use Rattle.shop_desk.specs.declared.racks.RackTaker.{RackTaker}
 use Rattle.shop_desk.specs.Racks.{TakesRack}
 

@@ -6,8 +6,8 @@ use Rattle.shop_machine.specs.declared.messages.Reply.{Reply}
 use Rattle.shop_machine.specs.declared.messages.Reply.TheVariants.{Refused}
 use Rattle.shop_machine.specs.Messages.{refusal_in}
 use Rattle.shop_machine.specs.History.{IsIn}
-use Rattle.shop_store.specs.declared.books.TheConstants.{MOST_FAILURES}
-use Rattle.shop_store.specs.Failures.{one_more_failure}
+use Rattle.shop_book.specs.declared.books.TheConstants.{MOST_FAILURES}
+use Rattle.shop_book.specs.Failures.{one_more_failure}
 
 -- the count of failures rose, or was at its greatest value
 abbrev pub StoreFailed : ℕ → ℕ → Type 0

@@ -7,7 +7,7 @@ use Rattle.shop_machine.specs.Content.{Content, kept_at}
 use Rattle.shop_machine.specs.Machine.{StepNew, Step, Run}
 use Rattle.shop_machine.specs.History.{Entry, messages_of, Gives, IsAccountOf, history_after}
 use Rattle.shop_machine.specs.Soundness.{IsSound}
-use Rattle.shop_store.specs.declared.books.Book.{Ghosts}
+use Rattle.shop_book.specs.declared.books.Book.{Ghosts}
 use Rattle.shop_desk.specs.Faults.{TellOfFailures}
 
 module _ (texts : Texts) {Left : Type 0} (stands : Left → Content → Type 0) where

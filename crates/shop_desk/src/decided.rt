@@ -4,8 +4,8 @@ ghost use Rattle.shop_machine.specs.Messages.{is_accepted};
 ghost use Rattle.cut_measure.specs.Names.{Name};
 ghost use Rattle.shop_machine.specs.Content.{Content, demand_at};
 ghost use Rattle.shop_machine.specs.Recounts.{plan_leaves, AreDemandsFound, IsNumbered, leaves_in};
-ghost use Rattle.shop_store.specs.Failures.{CountsFailure};
-ghost use Rattle.shop_store.specs.Kept.{KeepsBook, Says};
+ghost use Rattle.shop_book.specs.Failures.{CountsFailure};
+ghost use Rattle.shop_book.specs.Kept.{KeepsBook, Says};
 ghost use Rattle.shop_machine.specs.declared.messages.Command.TheVariants.{AddMaterial, Receive, AddOrder, Reserve, Done, Break, Release, Scrap, GiveBack};
 ghost use Rattle.shop_machine.specs.declared.messages.Reply.TheVariants.{Refused};
 ghost use Rattle.shop_machine.specs.declared.refusals.Refusal.TheVariants.{BadMessage};
@@ -22,7 +22,7 @@ use shop_rules::{
     Refusal, Reply, Text, Totals, decide_break, decide_done, decide_give_back, decide_material,
     decide_order, decide_receive, decide_release, decide_reserve, decide_scrap,
 };
-use shop_store::{Book, BookFault};
+use shop_book::{Book, BookFault};
 use std::alloc::{AllocError, Global};
 
 // Adds a material.

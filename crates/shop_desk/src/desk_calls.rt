@@ -10,8 +10,8 @@ ghost use Rattle.shop_machine.specs.declared.messages.Query.TheVariants.{Totals,
 ghost use Rattle.shop_machine.specs.declared.messages.Reply.TheVariants.{Refused, Rack as RackParts};
 ghost use Rattle.shop_machine.specs.declared.refusals.Refusal.TheVariants.{NoMemory, StoreFault};
 ghost use Rattle.shop_rules.specs.Forms.{json_texts};
-ghost use Rattle.shop_store.specs.Failures.{CountsFailure};
-ghost use Rattle.shop_store.specs.Kept.{KeepsBook, Says};
+ghost use Rattle.shop_book.specs.Failures.{CountsFailure};
+ghost use Rattle.shop_book.specs.Kept.{KeepsBook, Says};
 ghost use Rattle.shop_desk.specs.Faults.{CountsReply, CountsOrContradicts, CountsUp, StoreFailed};
 ghost use Rattle.shop_desk.specs.Handled.{IsHandled, HasRun};
 
@@ -23,7 +23,7 @@ use shop_rules::{
     Code, FoundList, Kept, KeptMessage, Material, Message, Pair, Part, Query, RackList, Refusal,
     Reply, Text, answer_bound, answer_plan, kept_reply, message_text, reply_text,
 };
-use shop_store::{Book, BookFault};
+use shop_book::{Book, BookFault};
 use std::alloc::{AllocError, Global};
 
 // Whether two texts are one.

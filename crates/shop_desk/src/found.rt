@@ -10,15 +10,15 @@ ghost use Rattle.shop_machine.specs.Recounts.{plan_leaves, AreDemandsFound, IsNu
 ghost use Rattle.shop_machine.specs.Ordering.{AreMaterialsFound, lines_in};
 ghost use Rattle.shop_machine.specs.Planning.{AreAsked, AreFound, numbers_in};
 ghost use Rattle.shop_rules.specs.Forms.{json_texts};
-ghost use Rattle.shop_store.specs.Failures.{CountsFailure};
-ghost use Rattle.shop_store.specs.Kept.{KeepsBook, Says};
+ghost use Rattle.shop_book.specs.Failures.{CountsFailure};
+ghost use Rattle.shop_book.specs.Kept.{KeepsBook, Says};
 
 use cut_tree::{Cause, Leaf, Plan};
 use shop_rules::{
     Demand, FoundDemand, FoundLeaf, FoundLine, FoundList, Job, Material, OrderLine, Part, Totals,
     can_be_planned, no_totals,
 };
-use shop_store::{Book, BookFault};
+use shop_book::{Book, BookFault};
 use std::alloc::{AllocError, Global};
 
 /// The material of a part that was found.

@@ -13,7 +13,7 @@ ghost use Rattle.shop_machine.specs.Content.{Content, import_at};
 ghost use Rattle.shop_machine.specs.Importing.{IsRepeat, Tells};
 ghost use Rattle.shop_machine.specs.Soundness.{IsSound};
 ghost use Rattle.shop_rules.specs.Forms.{json_texts};
-ghost use Rattle.shop_store.specs.Kept.{KeepsBook, Says};
+ghost use Rattle.shop_book.specs.Kept.{KeepsBook, Says};
 ghost use Rattle.shop_desk.specs.Decided.{IsJudged, CountsOrDisagrees};
 
 use crate::found::found_lines;
@@ -23,7 +23,7 @@ use shop_rules::{
     Change, Form, ImportRow, LineList, Refusal, Reply, Text, decide_again, decide_lines,
     decide_problem, kept_reply, problem_lines, repeats, unread_refusal,
 };
-use shop_store::Book;
+use shop_book::Book;
 use std::alloc::{AllocError, Global};
 
 // The lines of an order file, where the text is one.

@@ -1,48 +1,28 @@
 ghost use Rattle.std.specs.Prelude.{◌≤◌};
 
+use serde_json::Value;
 use shop_desk::*;
 use shop_rules::{
-    Change, Code, Command, FoundLine, Kind, Limits, Material, Message, OrderLine, Query, Refusal,
-    Reply, Size, Text, Totals, decide_material, decide_problem, decide_receive, no_totals,
+    Change, Code, FoundLine, Kind, Limits, Material, Message, OrderLine, Query, Refusal, Reply,
+    Size, Text, Totals, decide_material, decide_problem, decide_receive, no_totals, read_message,
 };
 use shop_store::{Book, MemBook};
 use std::alloc::Global;
 use std::test::Fail;
 
+const STEEL: &str =
+    r#"{"do":"material","kerf":3,"kind":"bar","material":"STEEL","min_long":20,"min_short":1,"number":1,"terminal":1}"#;
+
 fn code(text: &str) -> Result<Code, Fail> {
     Ok(Code::read(text).ok_or("no code")?)
 }
 
-fn material(number: u32, text: &str, kind: Kind) -> Result<Message, Fail> {
-    let (kerf, min_long, min_short) = match kind {
-        Kind::Bar => (3, 20, 1),
-        Kind::Sheet => (1, 5, 4),
-    };
-    Ok(Message {
-        terminal: 1,
-        number,
-        command: Command::AddMaterial {
-            material: code(text)?,
-            kind,
-            kerf,
-            min_long,
-            min_short,
-        },
-    })
-}
-
-fn receive(number: u32, text: &str, w: u32, h: u32, count: u32) -> Result<Message, Fail> {
-    Ok(Message {
-        terminal: 1,
-        number,
-        command: Command::Receive {
-            material: code(text)?,
-            batch: code("B-1")?,
-            w,
-            h,
-            count,
-        },
-    })
+fn message(alloc: Global, line: &str) -> Result<Message, Fail> {
+    let value = Value::from_str(alloc, line)?;
+    match read_message(alloc, &value) {
+        Ok(message) => Ok(message),
+        Err(_) => Err(Fail::from("no message")),
+    }
 }
 
 // Received and stock of a material, where nothing else was made of it.
@@ -245,121 +225,46 @@ fn the_last_cell_of_a_problem(rt: HostRuntime) -> Result<(), Fail> {
     Ok(())
 }
 
-#[test]
-fn an_empty_shop(rt: HostRuntime) -> Result<(), Fail> {
-    let mut book = MemBook::new(rt.alloc());
-    assert_eq!(rt; run(rt.alloc(), &mut book, &[])?.len(), 0);
-    let steel = code("STEEL")?;
-    let told = ask(rt.alloc(), &mut book, &Query::Totals { material: steel });
-    assert_eq!(rt; refused(&told), 20);
-    assert_eq!(rt; book.failures(), 0);
-    Ok(())
-}
+// A receipt that comes again, and then with another count; a receipt before its material is there, and after; a material
+// again.
+const SENT: [&str; 8] = [
+    STEEL,
+    r#"{"batch":"B-1","count":2,"do":"receive","h":1,"material":"STEEL","number":2,"terminal":1,"w":100}"#,
+    r#"{"batch":"B-1","count":2,"do":"receive","h":1,"material":"STEEL","number":2,"terminal":1,"w":100}"#,
+    r#"{"batch":"B-1","count":3,"do":"receive","h":1,"material":"STEEL","number":2,"terminal":1,"w":100}"#,
+    r#"{"batch":"B-1","count":1,"do":"receive","h":1,"material":"IRON","number":9,"terminal":1,"w":100}"#,
+    r#"{"do":"material","kerf":3,"kind":"bar","material":"IRON","min_long":20,"min_short":1,"number":3,"terminal":1}"#,
+    r#"{"batch":"B-1","count":1,"do":"receive","h":1,"material":"IRON","number":9,"terminal":1,"w":100}"#,
+    STEEL,
+];
 
-// A receipt that comes again, and then with another count.
-fn send_again(sent: &mut Vec<Message>) -> Result<(), Fail> {
-    sent.push(material(1, "STEEL", Kind::Bar)?)?;
-    sent.push(receive(2, "STEEL", 100, 1, 2)?)?;
-    sent.push(receive(2, "STEEL", 100, 1, 2)?)?;
-    sent.push(receive(2, "STEEL", 100, 1, 3)?)?;
-    Ok(())
-}
-
-// A receipt before its material is there, and after.
-fn send_early(sent: &mut Vec<Message>) -> Result<(), Fail> {
-    sent.push(receive(9, "IRON", 100, 1, 1)?)?;
-    sent.push(material(3, "IRON", Kind::Bar)?)?;
-    sent.push(receive(9, "IRON", 100, 1, 1)?)?;
-    sent.push(material(1, "STEEL", Kind::Bar)?)?;
-    Ok(())
-}
+// The refusal's number of each, and its act.
+const TOLD: [(u32, u32); 8] = [
+    (0, 0),
+    (0, 1),
+    (0, 1),
+    (11, 0),
+    (20, 0),
+    (0, 0),
+    (0, 2),
+    (0, 0),
+];
 
 #[test]
 fn each_message_once(rt: HostRuntime) -> Result<(), Fail> {
-    let mut book = MemBook::new(rt.alloc());
-    let mut asked = Vec::new(rt.alloc());
-    send_again(&mut asked)?;
-    send_early(&mut asked)?;
-    let replies = run(rt.alloc(), &mut book, &asked)?;
-    assert_eq!(rt; replies.len(), 8);
-    let told = [
-        (refused(&replies[0]), act_of(&replies[0])),
-        (refused(&replies[1]), act_of(&replies[1])),
-        (refused(&replies[2]), act_of(&replies[2])),
-        (refused(&replies[3]), act_of(&replies[3])),
-        (refused(&replies[4]), act_of(&replies[4])),
-        (refused(&replies[5]), act_of(&replies[5])),
-        (refused(&replies[6]), act_of(&replies[6])),
-        (refused(&replies[7]), act_of(&replies[7])),
-    ];
-    let wanted = [
-        (0, 0),
-        (0, 1),
-        (0, 1),
-        (11, 0),
-        (20, 0),
-        (0, 0),
-        (0, 2),
-        (0, 0),
-    ];
-    assert_eq!(rt; told, wanted);
-    assert_eq!(rt; stock(rt.alloc(), &mut book, "STEEL")?, (200, 200));
-    assert_eq!(rt; stock(rt.alloc(), &mut book, "IRON")?, (100, 100));
-    assert_eq!(rt; book.failures(), 0);
-    Ok(())
-}
-
-// The refusals' numbers of messages to a new book, 0 for one that is accepted.
-fn told(alloc: Global, messages: &[Message]) -> Result<Vec<u32>, Fail> {
+    let alloc = rt.alloc();
     let mut book = MemBook::new(alloc);
-    let mut numbers = Vec::new(alloc);
-    for message in messages {
-        let reply = handle(alloc, &mut book, message);
-        numbers.push(refused(&reply))?;
+    let mut asked = Vec::new(alloc);
+    for line in SENT {
+        asked.push(message(alloc, line)?)?;
     }
-    Ok(numbers)
-}
-
-#[test]
-fn bars_at_their_limits(rt: HostRuntime) -> Result<(), Fail> {
-    let messages = [
-        material(1, "STEEL", Kind::Bar)?,
-        receive(2, "STEEL", 200_000, 1, 1)?,
-        receive(3, "STEEL", 200_001, 1, 1)?,
-        receive(4, "STEEL", 100, 2, 1)?,
-    ];
-    assert_eq!(rt;
-        told(rt.alloc(), &messages)?.as_slice(),
-        [0, 0, 30, 30].as_slice()
-    );
-    Ok(())
-}
-
-#[test]
-fn sheets_at_their_limits(rt: HostRuntime) -> Result<(), Fail> {
-    let messages = [
-        material(1, "GLASS", Kind::Sheet)?,
-        receive(2, "GLASS", 1, 60_000, 1)?,
-        receive(3, "GLASS", 1, 60_001, 1)?,
-    ];
-    assert_eq!(rt;
-        told(rt.alloc(), &messages)?.as_slice(),
-        [0, 0, 30].as_slice()
-    );
-    Ok(())
-}
-
-#[test]
-fn counts_at_their_limits(rt: HostRuntime) -> Result<(), Fail> {
-    let messages = [
-        material(1, "STEEL", Kind::Bar)?,
-        receive(2, "STEEL", 100, 1, 100)?,
-        receive(3, "STEEL", 100, 1, 101)?,
-        receive(4, "STEEL", 100, 1, 0)?,
-    ];
-    assert_eq!(rt;
-        told(rt.alloc(), &messages)?.as_slice(),
-        [0, 0, 31, 31].as_slice()
-    );
+    let replies = run(alloc, &mut book, &asked)?;
+    assert_eq!(rt; replies.len(), 8);
+    for (reply, wanted) in replies.iter().zip(TOLD.iter()) {
+        assert_eq!(rt; (refused(reply), act_of(reply)), *wanted);
+    }
+    assert_eq!(rt; stock(alloc, &mut book, "STEEL")?, (200, 200));
+    assert_eq!(rt; stock(alloc, &mut book, "IRON")?, (100, 100));
+    assert_eq!(rt; book.failures(), 0);
     Ok(())
 }

@@ -8,8 +8,8 @@ use Rattle.shop_machine.specs.Messages.{refusal_in}
 use Rattle.shop_machine.specs.Soundness.{IsSound}
 use Rattle.shop_desk.specs.Handled.{HasRun}
 use Rattle.shop_rules.specs.Forms.{json_texts}
-use Rattle.shop_store.specs.declared.books.Book.{Ghosts}
-use Rattle.shop_store.specs.Kept.{Says}
+use Rattle.shop_book.specs.declared.books.Book.{Ghosts}
+use Rattle.shop_book.specs.Kept.{Says}
 use Rattle.shop_opening.specs.declared.shops.AddFault.{AddFault}
 use Rattle.shop_opening.specs.declared.shops.AddFault.TheVariants.{NoMemory, Refused}
 use Rattle.shop_opening.specs.declared.shops.EntryRefused.{EntryRefused}

@@ -5,7 +5,7 @@ ghost use Rattle.shop_machine.specs.Messages.{refusal_in};
 ghost use Rattle.shop_rules.specs.Forms.{json_texts};
 ghost use Rattle.shop_opening.specs.Shops as spec;
 ghost use Rattle.shop_opening.specs.Shops.{HasShop, IsAccepted, IsFirstRefused, IsUnshopped};
-ghost use Rattle.shop_store.specs.Kept.{Says};
+ghost use Rattle.shop_book.specs.Kept.{Says};
 
 use shop_desk::run;
 use shop_files::MaterialEntry;

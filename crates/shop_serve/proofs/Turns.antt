@@ -7,7 +7,7 @@ use Rattle.shop_desk.proofs.Accounts.{account_same, account_more}
 use Rattle.shop_machine.specs.Content.{Content}
 use Rattle.shop_request.specs.Requests.{Sense, silent}
 use Rattle.shop_rules.specs.Forms.{json_texts}
-use Rattle.shop_store.specs.declared.books.Book.{Ghosts}
+use Rattle.shop_book.specs.declared.books.Book.{Ghosts}
 use Rattle.shop_wire.specs.AnswerBytes.{Telling, printed}
 use Rattle.shop_wire.specs.Serves.{SenseStep, exchanged, IsServed}
 use Rattle.shop_serve.specs.Serving.{InTurn, exchanges, HasServed, HasServedTurns}

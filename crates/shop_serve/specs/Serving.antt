@@ -10,8 +10,8 @@ use Rattle.shop_request.specs.Requests.{Sense}
 use Rattle.shop_rules.specs.Forms.{json_texts}
 use Rattle.shop_serve.specs.declared.serving.ServeFault.{ServeFault}
 use Rattle.shop_serve.specs.declared.serving.ServeFault.TheVariants.{NoMemory, Port}
-use Rattle.shop_store.specs.declared.books.Book.{Ghosts}
-use Rattle.shop_store.specs.Kept.{Says}
+use Rattle.shop_book.specs.declared.books.Book.{Ghosts}
+use Rattle.shop_book.specs.Kept.{Says}
 use Rattle.shop_wire.specs.AnswerBytes.{Telling}
 use Rattle.shop_wire.specs.Serves.{SenseStep, exchanged}
 

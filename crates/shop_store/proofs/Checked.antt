@@ -5,7 +5,7 @@ use Rattle.sqlite.specs.State.{State}
 use Rattle.shop_tables.specs.Shown.{Leaves}
 use Rattle.shop_tables.proofs.Steps.{within_itself}
 use Rattle.shop_store.specs.SqlBooks.{EitherWay}
-use Rattle.shop_store.specs.declared.books.BookFault.{BookFault}
+use Rattle.shop_book.specs.declared.books.BookFault.{BookFault}
 
 module _ {B C : Type 0} (conn_of : B → C) (P : C → Type 0) where
   pub either_way : {Q : C → Type 0} → ((c : C) → P c → Q c) → (r : Result B (BookFault × C)) → EitherWay conn_of P r → EitherWay conn_of Q r

@@ -7,7 +7,7 @@ use Rattle.shop_machine.specs.Visits.{GoesOn, HasSeen, IsVisit}
 use Rattle.shop_store.specs.declared.takers.PartTaker.{PartTaker}
 use Rattle.shop_store.specs.SqlBooks.{told}
 use Rattle.shop_store.specs.Takers.{TakesPart}
-use Rattle.shop_store.specs.declared.books.BookFault.{BookFault}
+use Rattle.shop_book.specs.declared.books.BookFault.{BookFault}
 use Rattle.shop_store.proofs.Telling.{as_told}
 use Rattle.shop_tables.specs.declared.faults.TableFault.{TableFault}
 

@@ -7,8 +7,8 @@ use Rattle.shop_machine.specs.Content.{Content}
 use Rattle.shop_tables.specs.Shown.{Books, Leaves, Says}
 use Rattle.shop_tables.specs.Held.{books, HoldsContent}
 use Rattle.shop_tables.specs.declared.faults.TableFault.{TableFault}
-use Rattle.shop_store.specs.Books.{Keeps}
-use Rattle.shop_store.specs.declared.books.BookFault.{BookFault}
+use Rattle.shop_book.specs.Books.{Keeps}
+use Rattle.shop_book.specs.declared.books.BookFault.{BookFault}
 use Rattle.shop_store.specs.SqlBooks.{told}
 
 pub if_ok_told : {T : Type 0} (P : T → Type 0) (r : Result T TableFault) → IfOk r P → IfOk (told r) P

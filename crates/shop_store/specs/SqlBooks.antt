@@ -4,8 +4,8 @@ use Rattle.shop_tables.specs.declared.adopting.AdoptFault.{AdoptFault}
 use Rattle.shop_tables.specs.declared.adopting.AdoptFault.TheVariants as adopt
 use Rattle.shop_tables.specs.declared.faults.TableFault.{TableFault}
 use Rattle.shop_tables.specs.declared.faults.TableFault.TheVariants as table
-use Rattle.shop_store.specs.declared.books.BookFault.{BookFault}
-use Rattle.shop_store.specs.declared.books.BookFault.TheVariants.{NoMemory, Store, WrongVersion}
+use Rattle.shop_book.specs.declared.books.BookFault.{BookFault}
+use Rattle.shop_book.specs.declared.books.BookFault.TheVariants.{NoMemory, Store, WrongVersion}
 
 -- the tables' fault as the book's
 abbrev pub book_fault : TableFault → BookFault

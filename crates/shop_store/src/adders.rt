@@ -1,10 +1,10 @@
 ghost use Rattle.std.specs.Prelude.{◌<◌, ◌^◌, ℕ, List, IsTrue, vec_len, vec_capacity};
 ghost use Rattle.cut_measure.specs.Codes.{code_cmp};
 ghost use Rattle.shop_machine.specs.declared.records.Column.{Column};
-ghost use Rattle.shop_store.specs.Rows.{rise};
-ghost use Rattle.shop_store.specs.Sums.{sum_at, sums_key};
+ghost use Rattle.shop_rows.specs.Rows.{rise};
+ghost use Rattle.shop_rows.specs.Sums.{sum_at, sums_key};
 
-use crate::sums::Sums;
+use shop_rows::Sums;
 
 /// Adds up the parts that are handed out, for the materials that it was made for. It stops at a part of another material
 /// that a column counts, and where 64 bits don't hold a sum.

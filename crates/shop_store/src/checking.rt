@@ -8,14 +8,14 @@ ghost use Rattle.shop_machine.specs.declared.records.Column.{Column as ColumnOf}
 ghost use Rattle.shop_tables.specs.Changing.{HasSums};
 ghost use Rattle.shop_tables.specs.Earlier.{SaysEarlier};
 ghost use Rattle.shop_tables.specs.Shown.{Leaves, Says};
-ghost use Rattle.shop_store.specs.Adding.{AddsPart, AreNarrow, AreSumsIn, IsListOf, are_totals_for, has_sums};
-ghost use Rattle.shop_store.specs.Rows.{rise};
-ghost use Rattle.shop_store.specs.Sums.{sum_at, sums_key, total_in};
+ghost use Rattle.shop_rows.specs.Adding.{has_sums};
+ghost use Rattle.shop_store.specs.Checking.{AddsPart, AreNarrow, AreSumsIn, IsListOf, are_totals_for};
+ghost use Rattle.shop_rows.specs.Rows.{rise};
+ghost use Rattle.shop_rows.specs.Sums.{sum_at, sums_key, total_in};
 
 use crate::adders::PartAdder;
-use crate::rows::put;
-use crate::sums::{Sums, count_part, has_totals, no_sums};
 use shop_machine::{MaterialTotals, Part, PartVisitor, Totals};
+use shop_rows::{Sums, count_part, has_totals, no_sums, put};
 use shop_tables::{Lent, TableFault, lend_all_parts, list_earlier_totals, list_totals};
 use sqlite::{Alter, Connection};
 use std::alloc::{AllocError, Global};

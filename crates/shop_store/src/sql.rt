@@ -10,14 +10,14 @@ ghost use Rattle.shop_tables.specs.Layout.{no_schema, IsShop};
 ghost use Rattle.shop_tables.specs.Changing.{HasSums};
 ghost use Rattle.shop_tables.specs.Shown.{Books, Holds, IsSettled, Leaves, Says};
 ghost use Rattle.shop_store.specs.EarlierBooks.{HoldsEarlierContent, IsSettledEarlierAt};
-ghost use Rattle.shop_store.specs.Failures.{CountsFailure};
+ghost use Rattle.shop_book.specs.Failures.{CountsFailure};
 ghost use Rattle.shop_store.specs.SqlBooks.{adopt_fault, book_fault, told as as_told, EitherWay};
-ghost use Rattle.shop_store.specs.declared.books.BookFault.TheVariants.{WrongVersion};
+ghost use Rattle.shop_book.specs.declared.books.BookFault.TheVariants.{WrongVersion};
 
-use crate::books::{Book, BookFault};
 use crate::checking::{have_earlier_sums, have_sums};
 use crate::takers::PartTaker;
 use cut_measure::{Code, PartName};
+use shop_book::{Book, BookFault};
 use shop_machine::{
     Change, Demand, ImportRow, Job, Kept, Material, Pair, Part, PartList, PartVisitor, Totals,
     no_totals,

@@ -272,7 +272,7 @@ fn write_numbers<S: Alter>(tx: &mut Transaction<'_, S>, change: &Change) -> Resu
 
 /// Writes the rows of a change, its kept message first, and runs a statement in any case. A change that fits the content
 /// makes the changed content of it.
-pub fn write_change<S: Alter>(
+pub(crate) fn write_change<S: Alter>(
     alloc: Global,
     tx: &mut Transaction<'_, S>,
     change: &Change,

@@ -63,7 +63,10 @@ pub fn find_demand<S: Alter>(
 }
 
 /// Puts a new demand.
-pub fn put_demand<S: Alter>(tx: &mut Transaction<'_, S>, demand: &Demand) -> Result<(), TableFault>
+pub(crate) fn put_demand<S: Alter>(
+    tx: &mut Transaction<'_, S>,
+    demand: &Demand,
+) -> Result<(), TableFault>
     ensures same_reference { tx.new.conn.ghost_name ≡ tx.old.conn.ghost_name }
     ensures ran { OnOk result (Ran (state S.Store tx.old.conn.now) (state S.Store tx.new.conn.now)) }
     ensures put { (b : Books) → demand_at b.content demand.now.number ≡ None → OnOk result (Makes (state S.Store tx.old.conn.now) (state S.Store tx.new.conn.now) b (with_demand demand.now b)) }
@@ -89,7 +92,7 @@ pub fn put_demand<S: Alter>(tx: &mut Transaction<'_, S>, demand: &Demand) -> Res
 }
 
 /// Gives a demand that is there the counts of this one, which is the same but for them.
-pub fn count_demand<S: Alter>(
+pub(crate) fn count_demand<S: Alter>(
     tx: &mut Transaction<'_, S>,
     demand: &Demand,
 ) -> Result<(), TableFault>

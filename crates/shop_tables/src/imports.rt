@@ -56,7 +56,7 @@ pub fn find_import<S: Alter>(
 }
 
 /// Keeps the import that a new order came by.
-pub fn put_import<S: Alter>(
+pub(crate) fn put_import<S: Alter>(
     tx: &mut Transaction<'_, S>,
     import: &ImportRow,
 ) -> Result<(), TableFault>

@@ -120,7 +120,7 @@ fn tree_text(alloc: Global, job: &Job) -> Result<String, AllocError>
 }
 
 /// Puts a new job.
-pub fn put_job<S: Alter>(
+pub(crate) fn put_job<S: Alter>(
     alloc: Global,
     tx: &mut Transaction<'_, S>,
     job: &Job,
@@ -145,7 +145,7 @@ pub fn put_job<S: Alter>(
 }
 
 /// Gives a job that is there the state of this one, which is the same but for it.
-pub fn move_job<S: Alter>(tx: &mut Transaction<'_, S>, job: &Job) -> Result<(), TableFault>
+pub(crate) fn move_job<S: Alter>(tx: &mut Transaction<'_, S>, job: &Job) -> Result<(), TableFault>
     ensures same_reference { tx.new.conn.ghost_name ≡ tx.old.conn.ghost_name }
     ensures ran { OnOk result (Ran (state S.Store tx.old.conn.now) (state S.Store tx.new.conn.now)) }
     ensures put { (b : Books) → (was : JobRecord) → job_at b.content job.now.act ≡ Some was → job.now ≡ record was { state = job.now.state } → OnOk result (Makes (state S.Store tx.old.conn.now) (state S.Store tx.new.conn.now) b (with_job job.now b)) }

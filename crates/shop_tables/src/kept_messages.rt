@@ -51,7 +51,7 @@ pub fn find_kept<S: Alter>(conn: &mut Connection<S>, pair: Pair) -> Result<Optio
 }
 
 /// Keeps an accepted message of a new pair.
-pub fn put_kept<S: Alter>(
+pub(crate) fn put_kept<S: Alter>(
     tx: &mut Transaction<'_, S>,
     message: &KeptMessage,
 ) -> Result<(), TableFault>

@@ -56,7 +56,7 @@ pub fn find_material<S: Alter>(
 }
 
 /// Puts a new material.
-pub fn put_material<S: Alter>(
+pub(crate) fn put_material<S: Alter>(
     tx: &mut Transaction<'_, S>,
     material: &Material,
 ) -> Result<(), TableFault>

@@ -39,15 +39,6 @@ fn number_of<S: Alter>(conn: &mut Connection<S>, word: &str) -> Result<u32, Tabl
     number_in(&row, 0)
 }
 
-/// Which tables these are: 2.
-pub fn find_version<S: Alter>(conn: &mut Connection<S>) -> Result<u32, TableFault>
-    ensures number { Says (state S.Store conn.old) (state S.Store conn.new) (λ books. IfOk result (λ number. number ≡ 2)) }
-    ensures leaves { Leaves (state S.Store conn.old) (state S.Store conn.new) }
-    ensures mode { conn.old.in_transaction ≡ false → conn.new.in_transaction ≡ false }
-{
-    number_of(conn, "version")
-}
-
 /// The number of the last act, 0 at first.
 pub fn find_last_act<S: Alter>(conn: &mut Connection<S>) -> Result<u32, TableFault>
     ensures number { Says (state S.Store conn.old) (state S.Store conn.new) (λ books. IfOk result (λ number. number ≡ books.content.last_act)) }
@@ -67,7 +58,10 @@ pub fn find_last_demand<S: Alter>(conn: &mut Connection<S>) -> Result<u32, Table
 }
 
 /// Gives the last act this number.
-pub fn set_last_act<S: Alter>(tx: &mut Transaction<'_, S>, act: u32) -> Result<(), TableFault>
+pub(crate) fn set_last_act<S: Alter>(
+    tx: &mut Transaction<'_, S>,
+    act: u32,
+) -> Result<(), TableFault>
     ensures same_reference { tx.new.conn.ghost_name ≡ tx.old.conn.ghost_name }
     ensures ran { OnOk result (Ran (state S.Store tx.old.conn.now) (state S.Store tx.new.conn.now)) }
     ensures put { (b : Books) → OnOk result (Makes (state S.Store tx.old.conn.now) (state S.Store tx.new.conn.now) b (with_last_act act b)) }
@@ -81,7 +75,10 @@ pub fn set_last_act<S: Alter>(tx: &mut Transaction<'_, S>, act: u32) -> Result<(
 }
 
 /// Gives the last demand this number.
-pub fn set_last_demand<S: Alter>(tx: &mut Transaction<'_, S>, demand: u32) -> Result<(), TableFault>
+pub(crate) fn set_last_demand<S: Alter>(
+    tx: &mut Transaction<'_, S>,
+    demand: u32,
+) -> Result<(), TableFault>
     ensures same_reference { tx.new.conn.ghost_name ≡ tx.old.conn.ghost_name }
     ensures ran { OnOk result (Ran (state S.Store tx.old.conn.now) (state S.Store tx.new.conn.now)) }
     ensures put { (b : Books) → OnOk result (Makes (state S.Store tx.old.conn.now) (state S.Store tx.new.conn.now) b (with_last_demand demand b)) }

@@ -30,7 +30,7 @@ pub fn find_order<S: Alter>(conn: &mut Connection<S>, code: Code) -> Result<bool
 }
 
 /// Puts a new order's code.
-pub fn put_order<S: Alter>(tx: &mut Transaction<'_, S>, code: Code) -> Result<(), TableFault>
+pub(crate) fn put_order<S: Alter>(tx: &mut Transaction<'_, S>, code: Code) -> Result<(), TableFault>
     ensures same_reference { tx.new.conn.ghost_name ≡ tx.old.conn.ghost_name }
     ensures ran { OnOk result (Ran (state S.Store tx.old.conn.now) (state S.Store tx.new.conn.now)) }
     ensures put { (b : Books) → has_order b.content code ≡ false → OnOk result (Makes (state S.Store tx.old.conn.now) (state S.Store tx.new.conn.now) b (with_order code b)) }

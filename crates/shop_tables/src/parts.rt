@@ -71,7 +71,7 @@ fn in_ranges(part: Part)
 }
 
 /// Puts a new part.
-pub fn put_part<S: Alter>(tx: &mut Transaction<'_, S>, part: &Part) -> Result<(), TableFault>
+pub(crate) fn put_part<S: Alter>(tx: &mut Transaction<'_, S>, part: &Part) -> Result<(), TableFault>
     ensures same_reference { tx.new.conn.ghost_name ≡ tx.old.conn.ghost_name }
     ensures ran { OnOk result (Ran (state S.Store tx.old.conn.now) (state S.Store tx.new.conn.now)) }
     ensures put { (b : Books) → part_at b.content part.now.name ≡ None → OnOk result (Makes (state S.Store tx.old.conn.now) (state S.Store tx.new.conn.now) b (with_part part.now b)) }
@@ -99,7 +99,10 @@ pub fn put_part<S: Alter>(tx: &mut Transaction<'_, S>, part: &Part) -> Result<()
 }
 
 /// Gives a part that is there the state of this one, which is the same but for it.
-pub fn move_part<S: Alter>(tx: &mut Transaction<'_, S>, part: &Part) -> Result<(), TableFault>
+pub(crate) fn move_part<S: Alter>(
+    tx: &mut Transaction<'_, S>,
+    part: &Part,
+) -> Result<(), TableFault>
     ensures same_reference { tx.new.conn.ghost_name ≡ tx.old.conn.ghost_name }
     ensures ran { OnOk result (Ran (state S.Store tx.old.conn.now) (state S.Store tx.new.conn.now)) }
     ensures put { (b : Books) → (was : PartRecord) → part_at b.content part.now.name ≡ Some was → part.now ≡ in_state part.now.state was → OnOk result (Makes (state S.Store tx.old.conn.now) (state S.Store tx.new.conn.now) b (with_part part.now b)) }

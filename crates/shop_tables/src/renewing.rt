@@ -44,7 +44,7 @@ pub fn list_earlier_totals<S: Alter>(
 }
 
 /// Brings tables of version 1 to version 2: the totals move to a table of their own, where 0 of each material was returned.
-pub fn renew_tables<S: Alter>(tx: &mut Transaction<'_, S>) -> Result<(), Error>
+pub(crate) fn renew_tables<S: Alter>(tx: &mut Transaction<'_, S>) -> Result<(), Error>
     ensures same_reference { tx.new.conn.ghost_name ≡ tx.old.conn.ghost_name }
     ensures renewed { (b : Books) → (HasCleanDisk (state S.Store tx.old.conn.now) → IsTrue (state S.Store tx.old.conn.now).is_open → ShowsEarlier (state S.Store tx.old.conn.now) b)
         → OnOk result (Renews (state S.Store tx.old.conn.now) (state S.Store tx.new.conn.now) b) }

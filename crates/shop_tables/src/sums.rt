@@ -97,7 +97,7 @@ fn counts_of(totals: &Totals) -> Result<Counts, TableFault>
 }
 
 /// Puts the totals of a new material, each below 9223372036854775808.
-pub fn put_totals<S: Alter>(
+pub(crate) fn put_totals<S: Alter>(
     tx: &mut Transaction<'_, S>,
     material: Code,
     totals: &Totals,
@@ -125,7 +125,7 @@ pub fn put_totals<S: Alter>(
 }
 
 /// Gives a material that has totals these, each below 9223372036854775808.
-pub fn set_totals<S: Alter>(
+pub(crate) fn set_totals<S: Alter>(
     tx: &mut Transaction<'_, S>,
     material: Code,
     totals: &Totals,

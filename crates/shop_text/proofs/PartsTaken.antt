@@ -7,7 +7,7 @@ use Rattle.shop_machine.specs.declared.records.Material.{Material}
 use Rattle.shop_machine.specs.declared.records.Totals.{Totals}
 use Rattle.shop_machine.specs.Content.{Content, material_at, totals_of, parts_of}
 use Rattle.shop_machine.specs.Visits.{GoesOn, HasSeen, IsVisit}
-use Rattle.shop_store.specs.declared.books.BookFault.{BookFault}
+use Rattle.shop_book.specs.declared.books.BookFault.{BookFault}
 use Rattle.shop_text.specs.declared.yields.PartLines.{PartLines}
 use Rattle.shop_text.specs.Yields.{TakesLine, part_line, yield_head, yield_found, yield_of}
 

@@ -4,8 +4,8 @@ ghost use Rattle.shop_machine.specs.declared.records.Demand.{Demand as DemandOf}
 ghost use Rattle.shop_machine.specs.declared.refusals.Refusal.{Refusal as RefusalOf};
 ghost use Rattle.shop_machine.specs.Content.{demand_at};
 ghost use Rattle.shop_text.specs.declared.printing.PrintFault.TheVariants.{Refused, Write};
-ghost use Rattle.shop_store.specs.Kept.{KeepsBook, Says};
-ghost use Rattle.shop_store.specs.Failures.{CountsFailure};
+ghost use Rattle.shop_book.specs.Kept.{KeepsBook, Says};
+ghost use Rattle.shop_book.specs.Failures.{CountsFailure};
 ghost use Rattle.shop_text.specs.Printing.{IsTold, IsPrinted, CountsRefusal, CountsPrint};
 ghost use Rattle.shop_text.specs.Streams.{HasFailed};
 ghost use Rattle.shop_text.specs.Tickets.{AddsLine, AreNodesFound, IsMade, cut_text, demand_for, demand_text, job_line, job_state_text, node_line, node_lines, node_text, piece_text, rest_text, spot_text, steps_in, ticket_end, ticket_of, ticket_with, unit_line};
@@ -15,7 +15,7 @@ use crate::streams::Sink;
 use cut_measure::{Axis, Kind, write_mm};
 use cut_tree::{Plan, Step, Token};
 use shop_machine::{Demand, Job, JobState, Material, Part, Refusal};
-use shop_store::{Book, BookFault};
+use shop_book::{Book, BookFault};
 use std::alloc::{AllocError, Global};
 
 /// A node of a plan, with the row of its demand where it is a piece.

@@ -2,7 +2,7 @@ ghost use Rattle.std.specs.Prelude.{◌≡◌, ◌++◌, OnOk, Err, string_bytes
 ghost use Rattle.cut_measure.specs.Lengths.{mm_text};
 ghost use Rattle.shop_machine.specs.declared.refusals.Refusal.{Refusal as RefusalOf};
 ghost use Rattle.shop_machine.specs.Content.{totals_of, parts_of};
-ghost use Rattle.shop_store.specs.Kept.{KeepsBook, Says};
+ghost use Rattle.shop_book.specs.Kept.{KeepsBook, Says};
 ghost use Rattle.shop_text.specs.declared.printing.PrintFault.TheVariants.{Refused, Write};
 ghost use Rattle.shop_text.specs.Printing.{IsTold, IsPrinted, CountsRefusal, CountsPrint};
 ghost use Rattle.shop_text.specs.Streams.{HasFailed};
@@ -12,7 +12,7 @@ use crate::printing::{PrintFault, print, push_number, push_part_start, push_size
 use crate::streams::Sink;
 use cut_measure::{Code, Kind};
 use shop_machine::{Part, PartVisitor, Refusal, State, Totals};
-use shop_store::Book;
+use shop_book::Book;
 use std::alloc::{AllocError, Global};
 
 fn kind_word(kind: Kind) -> &'static str

@@ -13,9 +13,9 @@ use Rattle.shop_machine.specs.Content.{Content, kept_at}
 use Rattle.shop_machine.specs.Machine.{Step, Answers}
 use Rattle.shop_machine.specs.Soundness.{IsSound}
 use Rattle.shop_rules.specs.Forms.{json_texts}
-use Rattle.shop_store.specs.declared.books.Book.{Ghosts}
-use Rattle.shop_store.specs.declared.books.TheConstants.{MOST_FAILURES}
-use Rattle.shop_store.specs.Failures.{one_more_failure}
+use Rattle.shop_book.specs.declared.books.Book.{Ghosts}
+use Rattle.shop_book.specs.declared.books.TheConstants.{MOST_FAILURES}
+use Rattle.shop_book.specs.Failures.{one_more_failure}
 use Rattle.shop_desk.specs.Faults.{CountsUp, StoreFailed}
 use Rattle.shop_desk.specs.Handled.{HasAccount}
 use Rattle.shop_desk.proofs.Steps.{fault_step}

@@ -16,7 +16,7 @@ use Rattle.shop_machine.specs.Messages.{IsMessage, pair_of}
 use Rattle.shop_machine.specs.Content.{Content, kept_at}
 use Rattle.shop_machine.specs.Machine.{Step, Answers}
 use Rattle.shop_machine.specs.Soundness.{IsSound}
-use Rattle.shop_store.specs.declared.books.Book.{Ghosts}
+use Rattle.shop_book.specs.declared.books.Book.{Ghosts}
 use Rattle.serde_json.specs.Data.{Data}
 use Rattle.serde_json.specs.Read.{read}
 use Rattle.shop_rules.specs.Forms.{message_of, query_of, json_texts}

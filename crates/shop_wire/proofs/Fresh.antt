@@ -4,7 +4,7 @@ use Rattle.std.specs.Prelude.{IfOk, IfErr}
 use Rattle.shop_machine.specs.Content.{fresh}
 use Rattle.shop_machine.proofs.Sound.{gives_sound}
 use Rattle.shop_rules.specs.Forms.{json_texts}
-use Rattle.shop_store.specs.declared.books.Book.{Ghosts}
+use Rattle.shop_book.specs.declared.books.Book.{Ghosts}
 use Rattle.shop_wire.specs.declared.faults.ReplayFault.{ReplayFault}
 use Rattle.shop_wire.specs.declared.faults.ReplayFault.TheVariants.{Read}
 use Rattle.shop_wire.specs.Lines.{AreLines}

@@ -2,7 +2,7 @@
 use Rattle.std.proofs.Common.{◌≡◌, ℕ, List, [], ◌++◌, length, Option, Result, Ok, Err, refl, sym, ap, subst, ◌∙◌, append_assoc, append-nil}
 use Rattle.std.specs.Prelude.{IfOk, IfErr}
 use Rattle.std.specs.Io.KnownBytes.{Appends}
-use Rattle.shop_store.specs.declared.books.Book.{Ghosts}
+use Rattle.shop_book.specs.declared.books.Book.{Ghosts}
 use Rattle.shop_wire.specs.declared.faults.ReplayFault.{ReplayFault}
 use Rattle.shop_wire.specs.declared.faults.ReplayFault.TheVariants.{Read}
 use Rattle.shop_wire.specs.Lines.{AreLines}

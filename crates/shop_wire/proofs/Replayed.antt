@@ -15,8 +15,8 @@ use Rattle.shop_machine.specs.Content.{Content}
 use Rattle.shop_machine.specs.Soundness.{IsSound}
 use Rattle.shop_rules.specs.Forms.{message_of, json_texts}
 use Rattle.shop_wire.specs.Lines.{lines_of, AreLines, GivesLine, kept_of}
-use Rattle.shop_store.specs.declared.books.Book.{Ghosts}
-use Rattle.shop_store.specs.Kept.{Says}
+use Rattle.shop_book.specs.declared.books.Book.{Ghosts}
+use Rattle.shop_book.specs.Kept.{Says}
 use Rattle.shop_desk.specs.Faults.{CountsUp}
 use Rattle.shop_desk.specs.Handled.{HasAccount}
 use Rattle.shop_desk.proofs.Blame.{tell_more}

@@ -8,7 +8,7 @@ use Rattle.shop_machine.specs.declared.refusals.Refusal.TheVariants.{BadMessage}
 use Rattle.shop_machine.specs.Content.{Content}
 use Rattle.shop_machine.specs.Soundness.{IsSound}
 use Rattle.shop_rules.specs.Forms.{json_texts}
-use Rattle.shop_store.specs.declared.books.Book.{Ghosts}
+use Rattle.shop_book.specs.declared.books.Book.{Ghosts}
 use Rattle.shop_desk.proofs.Accounts.{account_same}
 use Rattle.shop_request.specs.declared.faults.Fault.{Fault}
 use Rattle.shop_request.specs.Requests.{Sense, silent, faulty}

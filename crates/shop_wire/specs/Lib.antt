@@ -7,4 +7,4 @@ pub mod Serves
 pub mod Tellings
 pub use Rattle.shop_desk.specs.Faults
 pub use Rattle.shop_desk.specs.Handled
-pub use Rattle.shop_store.specs.Kept
+pub use Rattle.shop_book.specs.Kept

@@ -14,8 +14,8 @@ use Rattle.shop_machine.specs.Soundness.{IsSound}
 use Rattle.serde_json.specs.Data.{Data}
 use Rattle.serde_json.specs.Read.{read}
 use Rattle.shop_rules.specs.Forms.{message_of, query_of, json_texts}
-use Rattle.shop_store.specs.declared.books.Book.{Ghosts}
-use Rattle.shop_store.specs.Kept.{Says}
+use Rattle.shop_book.specs.declared.books.Book.{Ghosts}
+use Rattle.shop_book.specs.Kept.{Says}
 use Rattle.shop_desk.specs.Faults.{TellOfFailures}
 use Rattle.shop_desk.specs.Handled.{HasAccount}
 use Rattle.shop_wire.specs.Lines.{longest_line}

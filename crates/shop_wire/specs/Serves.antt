@@ -18,8 +18,8 @@ use Rattle.shop_machine.specs.Content.{Content}
 use Rattle.shop_machine.specs.Machine.{Step, Answers}
 use Rattle.shop_machine.specs.Soundness.{IsSound}
 use Rattle.shop_rules.specs.Forms.{query_of, json_texts}
-use Rattle.shop_store.specs.declared.books.Book.{Ghosts}
-use Rattle.shop_store.specs.Kept.{Says}
+use Rattle.shop_book.specs.declared.books.Book.{Ghosts}
+use Rattle.shop_book.specs.Kept.{Says}
 use Rattle.shop_desk.specs.Faults.{StoreFailed}
 use Rattle.shop_desk.specs.Handled.{HasAccount}
 use Rattle.shop_text.specs.Tickets.{ticket_of}

@@ -2,7 +2,7 @@ ghost use Rattle.std.specs.Prelude.{◌≡◌, ◌∷◌, [], IfOk, OnErr, None}
 ghost use Rattle.serde_json.specs.View.{view};
 ghost use Rattle.shop_machine.specs.Soundness.{IsSound};
 ghost use Rattle.shop_rules.specs.Forms.{message_of, json_texts};
-ghost use Rattle.shop_store.specs.Kept.{Says};
+ghost use Rattle.shop_book.specs.Kept.{Says};
 ghost use Rattle.shop_desk.specs.Faults.{CountsUp};
 ghost use Rattle.shop_wire.specs.Replays.{HasAnswered, LineStep, ValueStep, data_of, line_message, reply_line};
 ghost use Rattle.shop_wire.specs.Tellings.{IsRead};
@@ -11,7 +11,7 @@ use crate::limits::LONGEST_LINE;
 use serde_json::Value;
 use shop_desk::{ask, handle};
 use shop_rules::{Refusal, Reply, Text, read_message, read_query, reply_text};
-use shop_store::Book;
+use shop_book::Book;
 use std::alloc::{AllocError, Global};
 
 // The reply to a value that is no message.

@@ -3,7 +3,7 @@ ghost use Rattle.shop_machine.specs.declared.messages.Reply.TheVariants.{Refused
 ghost use Rattle.shop_machine.specs.declared.refusals.Refusal.TheVariants.{StoreFault};
 ghost use Rattle.shop_machine.specs.Soundness.{IsSound};
 ghost use Rattle.shop_rules.specs.Forms.{json_texts};
-ghost use Rattle.shop_store.specs.Kept.{KeepsBook, Says};
+ghost use Rattle.shop_book.specs.Kept.{KeepsBook, Says};
 ghost use Rattle.shop_desk.specs.Faults.{CountsReply, CountsUp, StoreFailed};
 ghost use Rattle.shop_request.specs.Requests.{asking};
 ghost use Rattle.shop_request.specs.declared.routes.Route.TheVariants.{Message as AtMessage, Ticket as AtTicket, Yield as AtYield};
@@ -18,7 +18,7 @@ use cut_measure::{MOST_NUMBERS, read_number};
 use shop_desk::{ask, handle};
 use shop_request::Route;
 use shop_rules::{Code, Message, PartName, Query, Refusal, Reply, read_message, read_query};
-use shop_store::Book;
+use shop_book::Book;
 use shop_text::{report_text, ticket_text};
 use std::alloc::Global;
 use std::str;

@@ -12,7 +12,7 @@ use crate::answers::{answer, line_text};
 use crate::faults::ReplayFault;
 use crate::limits::MOST_HELD;
 use crate::reader::LineReader;
-use shop_store::Book;
+use shop_book::Book;
 use shop_text::{Sink, Source, write_all};
 use std::alloc::Global;
 

@@ -11,7 +11,7 @@ use crate::asking::tell;
 use crate::faults::WireFault;
 use crate::telling::{fault_text, told_text};
 use shop_request::{Fault, Inbound, Route, Routes, StreamFault, read_request};
-use shop_store::Book;
+use shop_book::Book;
 use shop_text::{Sink, Source, write_all};
 use std::alloc::{AllocError, Global};
 

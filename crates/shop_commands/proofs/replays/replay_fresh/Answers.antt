@@ -1,4 +1,4 @@
-use Rattle.shop_store.specs.contracts.memory.MemBookBook.TheImpl as mem
+use Rattle.shop_book.specs.contracts.memory.MemBookBook.TheImpl as mem
 use Rattle.shop_wire.proofs.Fresh.{ok_from_fresh, err_from_fresh}
 use Rattle.shop_commands.proofs.replays.replay_fresh.Goals as goal
 

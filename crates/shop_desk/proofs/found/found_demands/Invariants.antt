@@ -1,7 +1,7 @@
 use Rattle.std.proofs.Common.{◌≡◌, take}
 use Rattle.shop_machine.specs.Content.{Content, demand_at}
 use Rattle.shop_machine.specs.Planning.{AreFound, numbers_in}
-use Rattle.shop_store.specs.Kept.{KeepsBook}
+use Rattle.shop_book.specs.Kept.{KeepsBook}
 use Rattle.shop_desk.proofs.found.found_demands.Given as goal
 
 abbrev pub invariant-loop-number : goal.invariant-loop-number

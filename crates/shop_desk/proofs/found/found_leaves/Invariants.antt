@@ -2,7 +2,7 @@ use Rattle.std.proofs.Common.{◌≡◌, take}
 use Rattle.std.specs.Prelude.{All}
 use Rattle.shop_machine.specs.Content.{Content, demand_at}
 use Rattle.shop_machine.specs.Recounts.{AreDemandsFound, IsNumbered, leaves_in}
-use Rattle.shop_store.specs.Kept.{KeepsBook}
+use Rattle.shop_book.specs.Kept.{KeepsBook}
 use Rattle.shop_desk.proofs.found.found_leaves.Given as goal
 
 abbrev pub invariant-loop-leaf : goal.invariant-loop-leaf

@@ -1,7 +1,7 @@
 use Rattle.std.proofs.Common.{◌≡◌, take}
 use Rattle.shop_machine.specs.Content.{Content, material_at}
 use Rattle.shop_machine.specs.Ordering.{AreMaterialsFound, lines_in}
-use Rattle.shop_store.specs.Kept.{KeepsBook}
+use Rattle.shop_book.specs.Kept.{KeepsBook}
 use Rattle.shop_desk.proofs.found.found_lines.Given as goal
 
 abbrev pub invariant-loop-line : goal.invariant-loop-line

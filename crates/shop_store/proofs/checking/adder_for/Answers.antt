@@ -1,8 +1,9 @@
 use Rattle.std.proofs.Common.{◌∙◌, ap, List}
-use Rattle.shop_store.specs.Adding.{has_sums}
-use Rattle.shop_store.specs.Sums.{sum_at}
-use Rattle.shop_store.specs.declared.sums.Sums.{Sums}
-use Rattle.shop_store.proofs.Counting.{more_narrow, put_nothing, there_after}
+use Rattle.shop_rows.specs.Adding.{has_sums}
+use Rattle.shop_rows.specs.Sums.{sum_at}
+use Rattle.shop_rows.specs.declared.sums.Sums.{Sums}
+use Rattle.shop_store.proofs.Counting.{more_narrow, there_after}
+use Rattle.shop_rows.proofs.Counting.{put_nothing}
 use Rattle.shop_store.proofs.checking.adder_for.Goals as goal
 
 pub loop-row-preserved : goal.loop-row-preserved

@@ -2,9 +2,10 @@ use Rattle.std.proofs.Common.{◌≡◌, ℕ, List, take}
 use Rattle.std.specs.Prelude.{IsTrue}
 use Rattle.cut_measure.specs.Codes.{code_cmp}
 use Rattle.shop_machine.specs.declared.records.Column.{Column}
-use Rattle.shop_store.specs.Adding.{AreNarrow, are_totals_for, has_sums}
-use Rattle.shop_store.specs.Rows.{rise}
-use Rattle.shop_store.specs.Sums.{sum_at, sums_key}
+use Rattle.shop_rows.specs.Adding.{has_sums}
+use Rattle.shop_store.specs.Checking.{AreNarrow, are_totals_for}
+use Rattle.shop_rows.specs.Rows.{rise}
+use Rattle.shop_rows.specs.Sums.{sum_at, sums_key}
 use Rattle.shop_store.proofs.checking.adder_for.Given as goal
 
 abbrev pub invariant-loop-row : goal.invariant-loop-row

@@ -1,0 +1,5 @@
+-- what a book in memory holds, and hands out
+pub mod Orders
+pub mod Replaced
+pub mod Held
+pub mod Handed

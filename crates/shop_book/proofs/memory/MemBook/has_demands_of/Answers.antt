@@ -1,0 +1,14 @@
+use Rattle.std.proofs.Common.{ap, sym, ◌∙◌}
+use Rattle.std.specs.Ordering.{nat_cmp}
+use Rattle.std.proofs.lemmas.Bool.Decides.{Decides-like}
+use Rattle.shop_rows.specs.Keys.{demand_key}
+use Rattle.shop_book.specs.Equal.{demand_decides}
+use Rattle.shop_book.proofs.Held.{rows_decide}
+use Rattle.shop_book.proofs.memory.MemBook.has_demands_of.Goals as goal
+
+pub returns : goal.returns
+returns c =
+    let mine = ap (λ book. book.content.demands) c.self.view_is in
+    let its = ap (λ book. book.content.demands) c.other.view_is in
+    Decides-like c.eq.result (λ p. sym mine ∙ p ∙ its) (λ p. mine ∙ p ∙ sym its)
+    (rows_decide demand_key nat_cmp demand_decides c.self.inside.demands.items c.other.inside.demands.items c.eq.result c.eq.ensures c.self.invariant.demands c.other.invariant.demands)

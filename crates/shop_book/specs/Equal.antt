@@ -1,0 +1,351 @@
+-- When two books contain the same.
+use Rattle.std.specs.Prelude.{◌≡◌, Bool, true, false, ◌&&◌, ◌==◌, nat_eq}
+use Rattle.std.specs.Prelude.{T, refl}
+use Rattle.std.proofs.Common.{ap, sym, subst, ◌∙◌}
+use Rattle.std.specs.Bool.{Decides}
+use Rattle.std.specs.Cmp.{IsPartialEquivalence, unsigned_Decides, booleans_Decides, decided}
+use Rattle.std.specs.Cmp.Lexicographic.{pointwise, pointwise_decides, bytes_decides}
+use Rattle.std.proofs.lemmas.Bool.Decides.{Decides-and, Decides-like}
+use Rattle.std.specs.declared.cmp.Ordering.{Ordering}
+use Rattle.std.specs.FinMap.{FinMap, entries, same_entries_map, slice_cmp-IsAntisymmetric, nat_cmp-IsAntisymmetric}
+use Rattle.std.specs.FinSet.{FinSet, items, contains-items, same_set}
+use Rattle.std.specs.Cmp.Lexicographic.{nat_list_cmp_total}
+use Rattle.std.specs.List.{list_any}
+use Rattle.std.specs.Ordering.{eq_by_cmp}
+use Rattle.cut_measure.specs.Codes.{code_cmp}
+use Rattle.cut_measure.specs.Measures.{Extent, Rule}
+use Rattle.cut_measure.specs.Names.{Name}
+use Rattle.cut_measure.specs.declared.sizes.Kind.{Kind}
+use Rattle.cut_measure.specs.declared.sizes.Kind.TheVariants.{Bar, Sheet}
+use Rattle.shop_machine.specs.declared.records.Material.{Material}
+use Rattle.shop_machine.specs.declared.records.Part.{Part}
+use Rattle.shop_machine.specs.declared.records.Job.{Job}
+use Rattle.shop_machine.specs.declared.records.JobState.{JobState}
+use Rattle.shop_machine.specs.declared.records.JobState.TheVariants as job_state
+use Rattle.shop_machine.specs.declared.records.Demand.{Demand}
+use Rattle.shop_machine.specs.declared.records.State.{State}
+use Rattle.shop_machine.specs.declared.records.State.TheVariants as state
+use Rattle.shop_machine.specs.declared.kept_texts.Pair.{Pair}
+use Rattle.shop_machine.specs.declared.kept_texts.Kept.{Kept}
+use Rattle.shop_machine.specs.declared.imports.Form.{Form}
+use Rattle.shop_machine.specs.declared.imports.Form.TheVariants.{Csv, Cgcut}
+use Rattle.shop_machine.specs.declared.imports.ImportRow.{ImportRow}
+use Rattle.shop_machine.specs.Content.{Content}
+use Rattle.shop_machine.specs.Same.{same_name, same_pair}
+use Rattle.shop_machine.specs.contracts.records.MaterialPartialEq.TheImpl as material_eq
+use Rattle.cut_measure.specs.contracts.sizes.KindPartialEq.TheImpl as kind_eq
+use Rattle.shop_machine.specs.contracts.records.StatePartialEq.TheImpl as state_eq
+use Rattle.shop_machine.specs.contracts.records.PartPartialEq.TheImpl as part_eq
+use Rattle.shop_machine.specs.contracts.records.JobPartialEq.TheImpl as job_eq
+use Rattle.shop_machine.specs.contracts.records.JobStatePartialEq.TheImpl as job_state_eq
+use Rattle.shop_machine.specs.contracts.records.DemandPartialEq.TheImpl as demand_eq
+use Rattle.cut_tree.specs.SamePatterns.{same_pattern_decides}
+use Rattle.shop_machine.specs.contracts.kept_texts.KeptPartialEq.TheImpl as kept_eq
+use Rattle.shop_machine.specs.contracts.imports.FormPartialEq.TheImpl as form_eq
+use Rattle.shop_machine.specs.contracts.imports.ImportRowPartialEq.TheImpl as import_eq
+use Rattle.shop_book.specs.Memory.{MemoryBook}
+
+-- ---- tests, as `==` makes them
+
+abbrev pub same_material : Material → Material → Bool
+same_material = material_eq.ghosts.eq
+
+abbrev pub same_part : Part → Part → Bool
+same_part = part_eq.ghosts.eq
+
+abbrev pub same_job : Job → Job → Bool
+same_job = job_eq.ghosts.eq
+
+abbrev pub same_demand : Demand → Demand → Bool
+same_demand = demand_eq.ghosts.eq
+
+abbrev pub same_kept : Kept → Kept → Bool
+same_kept = kept_eq.ghosts.eq
+
+abbrev pub same_import : ImportRow → ImportRow → Bool
+same_import = import_eq.ghosts.eq
+
+-- whether two maps have the same entries
+abbrev pub same_entries : {K X : Type 0} {R : K → K → Ordering} → (K → K → Bool) → (X → X → Bool) → FinMap R X → FinMap R X → Bool
+same_entries E F m n = pointwise (λ e f. E e.0 f.0 && F e.1 f.1) (entries m) (entries n)
+
+-- whether two sets have the same members
+abbrev pub same_codes : FinSet code_cmp → FinSet code_cmp → Bool
+same_codes s t = pointwise (pointwise nat_eq) (items s) (items t)
+
+abbrev pub same_content : Content → Content → Bool
+same_content m n =
+    same_entries (pointwise nat_eq) same_material m.materials n.materials
+    && (same_entries same_name same_part m.parts n.parts
+    && (same_entries nat_eq same_job m.jobs n.jobs
+    && (same_codes m.orders n.orders
+    && (same_entries nat_eq same_demand m.demands n.demands && (same_entries same_pair same_kept m.kept n.kept
+    && (same_entries (pointwise nat_eq) same_import m.imports n.imports && (m.last_act == n.last_act && m.last_demand == n.last_demand)))))))
+
+-- the same contents, whatever failed
+abbrev pub same_books : MemoryBook → MemoryBook → Bool
+same_books a b = same_content a.content b.content
+
+-- ---- they tell contents apart
+
+pub maps_decide : {K X : Type 0} {R : K → K → Ordering} {E : K → K → Bool} {F : X → X → Bool} → ((a b : K) → Decides (E a b) (a ≡ b)) → ((a b : X) → Decides (F a b) (a ≡ b)) → (m n : FinMap R X)
+    → Decides (same_entries E F m n) (m ≡ n)
+maps_decide keys values m n =
+    Decides-like _ (same_entries_map m n) (ap entries)
+    (pointwise_decides (λ e f. Decides-like _ (λ p i. (p.0 i, p.1 i)) (λ p. (ap (λ g. g.0) p, ap (λ g. g.1) p)) (Decides-and _ _ (keys e.0 f.0) (values e.1 f.1))) (entries m) (entries n))
+
+one_set : (s t : FinSet code_cmp) → items s ≡ items t → s ≡ t
+one_set s t e =
+    same_set nat_list_cmp_total (slice_cmp-IsAntisymmetric nat_cmp-IsAntisymmetric) s t
+    (λ code. contains-items s code ∙ ap (list_any (eq_by_cmp code_cmp code)) e ∙ sym (contains-items t code))
+
+pub codes_decide : (s t : FinSet code_cmp) → Decides (same_codes s t) (s ≡ t)
+codes_decide s t = Decides-like _ (one_set s t) (ap items) (pointwise_decides bytes_decides (items s) (items t))
+
+no : {A : Type 0} → false ≡ true → A
+no e = absurd (subst T (sym e) tt)
+
+one_kind : (a b : Kind) → kind_eq.ghosts.eq a b ≡ true → a ≡ b
+one_kind Bar Bar e = refl
+one_kind Bar Sheet e = no e
+one_kind Sheet Bar e = no e
+one_kind Sheet Sheet e = refl
+
+own_kind : (a : Kind) → kind_eq.ghosts.eq a a ≡ true
+own_kind Bar = refl
+own_kind Sheet = refl
+
+kind_decides : (a b : Kind) → Decides (kind_eq.ghosts.eq a b) (a ≡ b)
+kind_decides a b = (one_kind a b, λ e. subst (λ k. kind_eq.ghosts.eq a k ≡ true) e (own_kind a))
+
+abbrev same_state : State → State → Bool
+same_state = state_eq.ghosts.eq
+
+one_state : (a b : State) → same_state a b ≡ true → a ≡ b
+one_state state.Standing state.Standing e = refl
+one_state state.Standing (state.Reserved b) e = no e
+one_state state.Standing (state.Cut b) e = no e
+one_state state.Standing (state.Piece b) e = no e
+one_state state.Standing state.Kerf e = no e
+one_state state.Standing state.Scrap e = no e
+one_state state.Standing state.Returned e = no e
+one_state (state.Reserved a) state.Standing e = no e
+one_state (state.Reserved a) (state.Reserved b) e = ap state.Reserved ((unsigned_Decides a b).0 e)
+one_state (state.Reserved a) (state.Cut b) e = no e
+one_state (state.Reserved a) (state.Piece b) e = no e
+one_state (state.Reserved a) state.Kerf e = no e
+one_state (state.Reserved a) state.Scrap e = no e
+one_state (state.Reserved a) state.Returned e = no e
+one_state (state.Cut a) state.Standing e = no e
+one_state (state.Cut a) (state.Reserved b) e = no e
+one_state (state.Cut a) (state.Cut b) e = ap state.Cut ((unsigned_Decides a b).0 e)
+one_state (state.Cut a) (state.Piece b) e = no e
+one_state (state.Cut a) state.Kerf e = no e
+one_state (state.Cut a) state.Scrap e = no e
+one_state (state.Cut a) state.Returned e = no e
+one_state (state.Piece a) state.Standing e = no e
+one_state (state.Piece a) (state.Reserved b) e = no e
+one_state (state.Piece a) (state.Cut b) e = no e
+one_state (state.Piece a) (state.Piece b) e = ap state.Piece ((unsigned_Decides a b).0 e)
+one_state (state.Piece a) state.Kerf e = no e
+one_state (state.Piece a) state.Scrap e = no e
+one_state (state.Piece a) state.Returned e = no e
+one_state state.Kerf state.Standing e = no e
+one_state state.Kerf (state.Reserved b) e = no e
+one_state state.Kerf (state.Cut b) e = no e
+one_state state.Kerf (state.Piece b) e = no e
+one_state state.Kerf state.Kerf e = refl
+one_state state.Kerf state.Scrap e = no e
+one_state state.Kerf state.Returned e = no e
+one_state state.Scrap state.Standing e = no e
+one_state state.Scrap (state.Reserved b) e = no e
+one_state state.Scrap (state.Cut b) e = no e
+one_state state.Scrap (state.Piece b) e = no e
+one_state state.Scrap state.Kerf e = no e
+one_state state.Scrap state.Scrap e = refl
+one_state state.Scrap state.Returned e = no e
+one_state state.Returned state.Standing e = no e
+one_state state.Returned (state.Reserved b) e = no e
+one_state state.Returned (state.Cut b) e = no e
+one_state state.Returned (state.Piece b) e = no e
+one_state state.Returned state.Kerf e = no e
+one_state state.Returned state.Scrap e = no e
+one_state state.Returned state.Returned e = refl
+
+own_state : (a : State) → same_state a a ≡ true
+own_state state.Standing = refl
+own_state (state.Reserved a) = (unsigned_Decides a a).1 refl
+own_state (state.Cut a) = (unsigned_Decides a a).1 refl
+own_state (state.Piece a) = (unsigned_Decides a a).1 refl
+own_state state.Kerf = refl
+own_state state.Scrap = refl
+own_state state.Returned = refl
+
+state_decides : (a b : State) → Decides (same_state a b) (a ≡ b)
+state_decides a b = (one_state a b, λ e. subst (λ k. same_state a k ≡ true) e (own_state a))
+
+rule_decides : (a b : Rule) → Decides (nat_eq a.kerf b.kerf && (nat_eq a.min_long b.min_long && nat_eq a.min_short b.min_short)) (a ≡ b)
+rule_decides a b =
+    Decides-like _ (λ p i. record { kerf = p.0 i; min_long = p.1.0 i; min_short = p.1.1 i }) (λ p. (ap (λ r. r.kerf) p, (ap (λ r. r.min_long) p, ap (λ r. r.min_short) p)))
+    (Decides-and _ _ (unsigned_Decides a.kerf b.kerf) (Decides-and _ _ (unsigned_Decides a.min_long b.min_long) (unsigned_Decides a.min_short b.min_short)))
+
+size_decides : (a b : Extent) → Decides (nat_eq a.w b.w && nat_eq a.h b.h) (a ≡ b)
+size_decides a b =
+    Decides-like _ (λ p i. record { w = p.0 i; h = p.1 i }) (λ p. (ap (λ s. s.w) p, ap (λ s. s.h) p)) (Decides-and _ _ (unsigned_Decides a.w b.w) (unsigned_Decides a.h b.h))
+
+pub material_decides : (a b : Material) → Decides (same_material a b) (a ≡ b)
+material_decides a b =
+    Decides-like _ (λ p i. record { code = p.0 i; kind = p.1.0 i; limits = p.1.1 i }) (λ p. (ap (λ m. m.code) p, (ap (λ m. m.kind) p, ap (λ m. m.limits) p)))
+    (Decides-and _ _ (bytes_decides a.code b.code) (Decides-and _ _ (kind_decides a.kind b.kind) (rule_decides a.limits b.limits)))
+
+pub name_decides : (a b : Name) → Decides (same_name a b) (a ≡ b)
+name_decides a b =
+    Decides-like _ (λ p i. record { act = p.0 i; node = p.1 i }) (λ p. (ap (λ n. n.act) p, ap (λ n. n.node) p)) (Decides-and _ _ (unsigned_Decides a.act b.act) (unsigned_Decides a.node b.node))
+
+pub part_decides : (a b : Part) → Decides (same_part a b) (a ≡ b)
+part_decides a b =
+    Decides-like _
+    (λ p i. record { name = p.0 i; material = p.1.0 i; batch = p.1.1.0 i; root = p.1.1.1.0 i; x = p.1.1.1.1.0 i; y = p.1.1.1.1.1.0 i; size = p.1.1.1.1.1.1.0 i; state = p.1.1.1.1.1.1.1 i })
+    (λ p. (ap (λ r. r.name) p, (ap (λ r. r.material) p, (ap (λ r. r.batch) p, (ap (λ r. r.root) p, (ap (λ r. r.x) p, (ap (λ r. r.y) p, (ap (λ r. r.size) p, ap (λ r. r.state) p))))))))
+    (Decides-and _ _ (name_decides a.name b.name)
+    (Decides-and _ _ (bytes_decides a.material b.material)
+    (Decides-and _ _ (bytes_decides a.batch b.batch)
+    (Decides-and _ _ (name_decides a.root b.root)
+    (Decides-and _ _ (unsigned_Decides a.x b.x) (Decides-and _ _ (unsigned_Decides a.y b.y) (Decides-and _ _ (size_decides a.size b.size) (state_decides a.state b.state))))))))
+
+abbrev same_job_state : JobState → JobState → Bool
+same_job_state = job_state_eq.ghosts.eq
+
+one_job_state : (a b : JobState) → same_job_state a b ≡ true → a ≡ b
+one_job_state job_state.Waiting job_state.Waiting e = refl
+one_job_state job_state.Waiting job_state.Done e = no e
+one_job_state job_state.Waiting job_state.Broken e = no e
+one_job_state job_state.Waiting job_state.Released e = no e
+one_job_state job_state.Done job_state.Waiting e = no e
+one_job_state job_state.Done job_state.Done e = refl
+one_job_state job_state.Done job_state.Broken e = no e
+one_job_state job_state.Done job_state.Released e = no e
+one_job_state job_state.Broken job_state.Waiting e = no e
+one_job_state job_state.Broken job_state.Done e = no e
+one_job_state job_state.Broken job_state.Broken e = refl
+one_job_state job_state.Broken job_state.Released e = no e
+one_job_state job_state.Released job_state.Waiting e = no e
+one_job_state job_state.Released job_state.Done e = no e
+one_job_state job_state.Released job_state.Broken e = no e
+one_job_state job_state.Released job_state.Released e = refl
+
+own_job_state : (a : JobState) → same_job_state a a ≡ true
+own_job_state job_state.Waiting = refl
+own_job_state job_state.Done = refl
+own_job_state job_state.Broken = refl
+own_job_state job_state.Released = refl
+
+job_state_decides : (a b : JobState) → Decides (same_job_state a b) (a ≡ b)
+job_state_decides a b = (one_job_state a b, λ e. subst (λ k. same_job_state a k ≡ true) e (own_job_state a))
+
+pub job_decides : (a b : Job) → Decides (same_job a b) (a ≡ b)
+job_decides a b =
+    Decides-like _ (λ p i. record { act = p.0 i; part = p.1.0 i; kerf = p.1.1.0 i; plan = p.1.1.1.0 i; state = p.1.1.1.1 i })
+    (λ p. (ap (λ j. j.act) p, (ap (λ j. j.part) p, (ap (λ j. j.kerf) p, (ap (λ j. j.plan) p, ap (λ j. j.state) p)))))
+    (Decides-and _ _ (unsigned_Decides a.act b.act)
+    (Decides-and _ _ (name_decides a.part b.part)
+    (Decides-and _ _ (unsigned_Decides a.kerf b.kerf) (Decides-and _ _ (same_pattern_decides a.plan b.plan) (job_state_decides a.state b.state)))))
+
+pub demand_decides : (a b : Demand) → Decides (same_demand a b) (a ≡ b)
+demand_decides a b =
+    Decides-like _
+    (λ p i.
+    record {
+      number = p.0 i;
+      order = p.1.0 i;
+      line = p.1.1.0 i;
+      material = p.1.1.1.0 i;
+      size = p.1.1.1.1.0 i;
+      may_turn = p.1.1.1.1.1.0 i;
+      worth = p.1.1.1.1.1.1.0 i;
+      wanted = p.1.1.1.1.1.1.1.0 i;
+      reserved = p.1.1.1.1.1.1.1.1.0 i;
+      made = p.1.1.1.1.1.1.1.1.1 i;
+    })
+    (λ p. (
+      ap (λ d. d.number) p,
+      (
+        ap (λ d. d.order) p,
+        (
+          ap (λ d. d.line) p,
+          (ap (λ d. d.material) p, (ap (λ d. d.size) p, (ap (λ d. d.may_turn) p, (ap (λ d. d.worth) p, (ap (λ d. d.wanted) p, (ap (λ d. d.reserved) p, ap (λ d. d.made) p)))))),
+        ),
+      ),
+    ))
+    (Decides-and _ _ (unsigned_Decides a.number b.number)
+    (Decides-and _ _ (bytes_decides a.order b.order)
+    (Decides-and _ _ (unsigned_Decides a.line b.line)
+    (Decides-and _ _ (bytes_decides a.material b.material)
+    (Decides-and _ _ (size_decides a.size b.size)
+    (Decides-and _ _ (booleans_Decides a.may_turn b.may_turn)
+    (Decides-and _ _ (unsigned_Decides a.worth b.worth)
+    (Decides-and _ _ (unsigned_Decides a.wanted b.wanted) (Decides-and _ _ (unsigned_Decides a.reserved b.reserved) (unsigned_Decides a.made b.made))))))))))
+
+pub pair_decides : (a b : Pair) → Decides (same_pair a b) (a ≡ b)
+pair_decides a b =
+    Decides-like _ (λ p i. record { terminal = p.0 i; number = p.1 i }) (λ p. (ap (λ n. n.terminal) p, ap (λ n. n.number) p)) (Decides-and _ _ (unsigned_Decides a.terminal b.terminal) (unsigned_Decides a.number b.number))
+
+pub kept_decides : (a b : Kept) → Decides (same_kept a b) (a ≡ b)
+kept_decides a b =
+    Decides-like _ (λ p i. record { command = p.0 i; reply = p.1 i }) (λ p. (ap (λ n. n.command) p, ap (λ n. n.reply) p)) (Decides-and _ _ (bytes_decides a.command b.command) (bytes_decides a.reply b.reply))
+
+abbrev same_form : Form → Form → Bool
+same_form = form_eq.ghosts.eq
+
+one_form : (a b : Form) → same_form a b ≡ true → a ≡ b
+one_form Csv Csv e = refl
+one_form Csv (Cgcut b) e = no e
+one_form (Cgcut a) Csv e = no e
+one_form (Cgcut a) (Cgcut b) e = ap Cgcut ((bytes_decides a b).0 e)
+
+own_form : (a : Form) → same_form a a ≡ true
+own_form Csv = refl
+own_form (Cgcut a) = (bytes_decides a a).1 refl
+
+form_decides : (a b : Form) → Decides (same_form a b) (a ≡ b)
+form_decides a b = (one_form a b, λ e. subst (λ k. same_form a k ≡ true) e (own_form a))
+
+pub import_decides : (a b : ImportRow) → Decides (same_import a b) (a ≡ b)
+import_decides a b =
+    Decides-like _ (λ p i. record { order = p.0 i; form = p.1.0 i; text = p.1.1.0 i; reply = p.1.1.1 i }) (λ p. (ap (λ r. r.order) p, (ap (λ r. r.form) p, (ap (λ r. r.text) p, ap (λ r. r.reply) p))))
+    (Decides-and _ _ (bytes_decides a.order b.order) (Decides-and _ _ (form_decides a.form b.form) (Decides-and _ _ (bytes_decides a.text b.text) (bytes_decides a.reply b.reply))))
+
+pub content_decides : (m n : Content) → Decides (same_content m n) (m ≡ n)
+content_decides m n =
+    Decides-like _
+    (λ p i.
+    record {
+      materials = p.0 i;
+      parts = p.1.0 i;
+      jobs = p.1.1.0 i;
+      orders = p.1.1.1.0 i;
+      demands = p.1.1.1.1.0 i;
+      kept = p.1.1.1.1.1.0 i;
+      imports = p.1.1.1.1.1.1.0 i;
+      last_act = p.1.1.1.1.1.1.1.0 i;
+      last_demand = p.1.1.1.1.1.1.1.1 i;
+    })
+    (λ p. (
+      ap (λ c. c.materials) p,
+      (ap (λ c. c.parts) p, (ap (λ c. c.jobs) p, (ap (λ c. c.orders) p, (ap (λ c. c.demands) p, (ap (λ c. c.kept) p, (ap (λ c. c.imports) p, (ap (λ c. c.last_act) p, ap (λ c. c.last_demand) p))))))),
+    ))
+    (Decides-and _ _ (maps_decide bytes_decides material_decides m.materials n.materials)
+    (Decides-and _ _ (maps_decide name_decides part_decides m.parts n.parts)
+    (Decides-and _ _ (maps_decide unsigned_Decides job_decides m.jobs n.jobs)
+    (Decides-and _ _ (codes_decide m.orders n.orders)
+    (Decides-and _ _ (maps_decide unsigned_Decides demand_decides m.demands n.demands)
+    (Decides-and _ _ (maps_decide pair_decides kept_decides m.kept n.kept)
+    (Decides-and _ _ (maps_decide bytes_decides import_decides m.imports n.imports) (Decides-and _ _ (unsigned_Decides m.last_act n.last_act) (unsigned_Decides m.last_demand n.last_demand)))))))))
+
+pub same_books_laws : IsPartialEquivalence same_books
+same_books_laws =
+    let is = decided same_content content_decides in
+    record {
+      symm = λ a b. is.symm a.content b.content;
+      trans = λ a b c e f. is.congr a.content b.content c.content e ∙ f;
+    }

@@ -1,0 +1,13 @@
+-- What is kept of a book, and said of what it held, over the words of a book.
+use Rattle.std.specs.Prelude.{ℕ}
+use Rattle.shop_machine.specs.Content.{Content}
+use Rattle.shop_book.specs.declared.books.Book.{Ghosts}
+use Rattle.shop_book.specs.Books.{Keeps}
+
+-- the book is left as it was, and counts its failures so
+abbrev pub KeepsBook : {B : Type 0} → Ghosts B → (ℕ → ℕ → Type 0) → B → B → Type 0
+KeepsBook book counts old new = Keeps book.is_honest book.holds book.may_leave book.failed counts old new
+
+-- on a book that is still honest, this of each content that it held
+abbrev pub Says : {B : Type 0} → Ghosts B → B → B → (Content → Type 0) → Type 0
+Says book old new what = book.is_honest new → (m : Content) → book.holds old m → what m

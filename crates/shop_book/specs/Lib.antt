@@ -1,0 +1,8 @@
+-- what a book promises
+pub mod Failures
+pub mod Books
+pub mod Kept
+-- a book in memory
+pub mod Memory
+pub mod Equal
+pub mod MemBooks

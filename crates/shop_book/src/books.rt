@@ -1,0 +1,182 @@
+ghost use Rattle.std.specs.Prelude.{◌≡◌, ◌+◌, ◌≤◌, ◌⊎◌, ℕ, IfOk, IfSome, OnOk, OnErr};
+ghost use Rattle.shop_machine.specs.Content.{Content, material_at, part_at, job_at, has_order, demand_at, kept_at, import_at, totals_of, parts_of as listed_parts, changed};
+ghost use Rattle.shop_machine.specs.Soundness.{Fits};
+ghost use Rattle.shop_book.specs.Failures.{CountsFailure};
+ghost use Rattle.shop_book.specs.Books.{Keeps};
+ghost use Rattle.shop_machine.specs.Visits.{IsVisit};
+
+use cut_measure::{Code, PartName};
+use shop_machine::{
+    Change, Demand, ImportRow, Job, Kept, Material, Part, PartList, PartVisitor, Refusal, Totals,
+};
+use std::alloc::{AllocError, Global};
+use std::error::Error;
+use std::fmt;
+
+/// The greatest number of failures that is counted.
+pub const MOST_FAILURES: u64 = 18446744073709551615;
+
+/// Why a book has no answer.
+#[derive(Clone, Copy, Debug, PartialEq, Eq)]
+pub enum BookFault {
+    /// Memory was wanting.
+    NoMemory,
+    /// The store failed; the book counts it.
+    Store,
+    /// The database is no book's, or of another version. No call of a book answers it.
+    WrongVersion,
+}
+
+impl fmt::Display for BookFault {
+    ghost use Rattle.std.specs.Prelude.{Some};
+    ghost use Rattle.shop_book.specs.Failures.{book_fault_text};
+
+    ghost output = { λ fault. Some (book_fault_text fault) };
+
+    fn fmt<W: fmt::Write>(&self, f: &mut fmt::Formatter<W>) -> fmt::Result {
+        f.write_str(match self {
+            BookFault::NoMemory => "fault memory",
+            BookFault::Store => "fault store",
+            BookFault::WrongVersion => "fault version",
+        })
+    }
+}
+
+impl Error for BookFault {}
+
+impl From<BookFault> for Refusal {
+    ghost use Rattle.std.specs.Prelude.{◌≡◌};
+    ghost use Rattle.shop_book.specs.Failures.{refusal_for};
+
+    ghost from_gives = { λ fault refusal. refusal ≡ refusal_for fault };
+
+    fn from(fault: BookFault) -> Refusal {
+        match fault {
+            BookFault::NoMemory => Refusal::NoMemory,
+            BookFault::Store => Refusal::StoreFault,
+            BookFault::WrongVersion => Refusal::StoreFault,
+        }
+    }
+}
+
+impl From<AllocError> for BookFault {
+    ghost use Rattle.std.specs.Prelude.{◌≡◌};
+    ghost use Rattle.shop_book.specs.declared.books.BookFault.TheVariants.{NoMemory};
+
+    ghost from_gives = { λ _ fault. fault ≡ NoMemory };
+
+    fn from(_error: AllocError) -> BookFault {
+        BookFault::NoMemory
+    }
+}
+
+/// What the shop contains, wherever it is kept.
+///
+/// A reading answers the content's row and changes nothing. `commit` makes a change as a whole, or not at all. What is
+/// promised of the content stands under the premise that the store gave back what was put into it; that failures are
+/// counted, and the ranges that a decision rests on, stand without it.
+pub trait Book {
+    /// What a crash may leave, as a later open finds it.
+    ghost Left: { Type 0 };
+
+    /// What was left stands for this content.
+    ghost stands: { Left → Content → Type 0 };
+
+    /// A crash at this moment may leave this.
+    ghost may_leave: { Self → Left → Type 0 };
+
+    /// The book holds this content.
+    ghost holds: { Self → Content → Type 0 };
+
+    /// So far the store gave back what was put into it.
+    ghost is_honest: { Self → Type 0 };
+
+    /// How often the store failed, up to the greatest number that is counted.
+    ghost failed: { Self → ℕ };
+
+    /// The material of a code.
+    fn material(&mut self, code: Code) -> Result<Option<Material>, BookFault>
+        ensures row { is_honest self.new → (m : Content) → holds self.old m → IfOk result (λ row. row ≡ material_at m code) }
+        ensures keeps { Keeps is_honest holds may_leave failed (CountsFailure result) self.old self.new };
+
+    /// The part of a name.
+    fn part(&mut self, name: PartName) -> Result<Option<Part>, BookFault>
+        ensures row { is_honest self.new → (m : Content) → holds self.old m → IfOk result (λ row. row ≡ part_at m name) }
+        ensures keeps { Keeps is_honest holds may_leave failed (CountsFailure result) self.old self.new };
+
+    /// The job under the number of the reservation's act.
+    fn job(&mut self, alloc: Global, number: u32) -> Result<Option<Job>, BookFault>
+        ensures row { is_honest self.new → (m : Content) → holds self.old m → IfOk result (λ row. row ≡ job_at m number) }
+        ensures keeps { Keeps is_honest holds may_leave failed (CountsFailure result) self.old self.new };
+
+    /// Whether there is an order of this code.
+    fn order(&mut self, code: Code) -> Result<bool, BookFault>
+        ensures row { is_honest self.new → (m : Content) → holds self.old m → IfOk result (λ there. there ≡ has_order m code) }
+        ensures keeps { Keeps is_honest holds may_leave failed (CountsFailure result) self.old self.new };
+
+    /// The demand of a number.
+    fn demand(&mut self, number: u32) -> Result<Option<Demand>, BookFault>
+        ensures row { is_honest self.new → (m : Content) → holds self.old m → IfOk result (λ row. row ≡ demand_at m number) }
+        ensures key { IfOk result (λ row. IfSome row (λ demand. demand.number ≡ number)) }
+        ensures keeps { Keeps is_honest holds may_leave failed (CountsFailure result) self.old self.new };
+
+    /// What is kept of the accepted message with this pair.
+    fn kept(&mut self, alloc: Global, terminal: u32, number: u32) -> Result<Option<Kept>, BookFault>
+        ensures row { is_honest self.new → (m : Content) → holds self.old m
+            → IfOk result (λ row. row ≡ kept_at m (record { terminal = terminal; number = number })) }
+        ensures keeps { Keeps is_honest holds may_leave failed (CountsFailure result) self.old self.new };
+
+    /// What is kept of the import that the order of this code came by.
+    fn import(&mut self, alloc: Global, order: Code) -> Result<Option<ImportRow>, BookFault>
+        ensures row { is_honest self.new → (m : Content) → holds self.old m → IfOk result (λ row. row ≡ import_at m order) }
+        ensures keeps { Keeps is_honest holds may_leave failed (CountsFailure result) self.old self.new };
+
+    /// The number of the next act, 1 on a fresh book.
+    fn next_act(&mut self) -> Result<u32, BookFault>
+        ensures number { is_honest self.new → (m : Content) → holds self.old m → IfOk result (λ act. act ≡ m.last_act + 1) }
+        ensures least { IfOk result (λ act. 1 ≤ act) }
+        ensures keeps { Keeps is_honest holds may_leave failed (CountsFailure result) self.old self.new };
+
+    /// The number of the next demand, 1 on a fresh book.
+    fn next_demand(&mut self) -> Result<u32, BookFault>
+        ensures number { is_honest self.new → (m : Content) → holds self.old m → IfOk result (λ demand. demand ≡ m.last_demand + 1) }
+        ensures least { IfOk result (λ demand. 1 ≤ demand) }
+        ensures keeps { Keeps is_honest holds may_leave failed (CountsFailure result) self.old self.new };
+
+    /// The cells of a material, received and by what became of them.
+    fn totals(&mut self, material: Code) -> Result<Totals, BookFault>
+        ensures sums { is_honest self.new → (m : Content) → holds self.old m → IfOk result (λ totals. totals ≡ totals_of m material) }
+        ensures keeps { Keeps is_honest holds may_leave failed (CountsFailure result) self.old self.new };
+
+    /// The standing and the reserved parts of a material, by rising act and then node.
+    fn parts_of(&mut self, alloc: Global, material: Code) -> Result<PartList, BookFault>
+        ensures rows { is_honest self.new → (m : Content) → holds self.old m → IfOk result (λ rows. rows ≡ listed_parts m material) }
+        ensures keeps { Keeps is_honest holds may_leave failed (CountsFailure result) self.old self.new };
+
+    /// Hands out the list of `parts_of` in order, one part at a time, for as long as the visitor answers true. The answer is
+    /// true where that was all of the list and false where the visitor stopped; after an `Err` too the parts that were
+    /// handed out begin the list, and the visitor is what they in turn made of it.
+    fn visit_parts<V: PartVisitor>(
+        &mut self,
+        material: Code,
+        visitor: &mut V,
+    ) -> Result<bool, BookFault>
+        ensures visit { IsVisit V.looks (λ what. is_honest self.new → (m : Content) → holds self.old m → what (listed_parts m material)) visitor.old result visitor.new }
+        ensures keeps { Keeps is_honest holds may_leave failed (CountsFailure result) self.old self.new };
+
+    /// Makes a change that fits the content as a whole, or not at all. After an `Err` the content is what it was, whatever
+    /// the change.
+    fn commit(&mut self, change: Change) -> Result<(), BookFault>
+        ensures ok { is_honest self.new → (m : Content) → holds self.old m → Fits m change → OnOk result (holds self.new (changed m change)) }
+        ensures err { is_honest self.new → (m : Content) → holds self.old m → OnErr result (holds self.new m) }
+        ensures crash { is_honest self.new → (m : Content) → holds self.old m → Fits m change
+            → (left : Left) → may_leave self.new left → may_leave self.old left ⊎ stands left (changed m change) }
+        ensures lasts { is_honest self.new → (m : Content) → holds self.old m → Fits m change
+            → OnOk result ((left : Left) → may_leave self.new left → stands left (changed m change)) }
+        ensures honest { is_honest self.new → is_honest self.old }
+        ensures failures { CountsFailure result (failed self.old) (failed self.new) };
+
+    /// How often the store failed, up to `MOST_FAILURES`.
+    fn failures(&self) -> u64
+        ensures { result ≡ failed self.now };
+}

@@ -1,0 +1,10 @@
+//! What is promised of a book, which keeps what the shop contains, and the book in memory.
+#![tactic(auto)]
+
+mod books;
+mod keeping;
+mod memory;
+mod order_codes;
+
+pub use books::{Book, BookFault, MOST_FAILURES};
+pub use memory::MemBook;

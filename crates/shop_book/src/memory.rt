@@ -1,0 +1,623 @@
+ghost use Rattle.std.specs.Prelude.{◌≡◌, ◌≢◌, ◌+◌, ◌<◌, ◌≤◌, ◌^◌, ⊤, false, IfOk, IfErr, IfSome, IsOk, OnOk, OnErr, IsTrue, List, ℕ, ◌-◌, filter, length, vec_len, vec_capacity};
+ghost use Rattle.cut_measure.specs.Codes.{code_cmp};
+ghost use Rattle.cut_measure.specs.Names.{name_cmp};
+ghost use Rattle.std.specs.Ordering.{nat_cmp};
+ghost use Rattle.shop_machine.specs.Content.{Content, material_at, part_at, job_at, has_order, demand_at, kept_at, import_at, totals_of, parts_of as listed_parts, changed, is_listed, with_parts, with_moved, with_material, with_job, with_order, with_demands, pair_cmp};
+ghost use Rattle.shop_machine.specs.Soundness.{IsInRange};
+ghost use Rattle.shop_rows.specs.Keys.{material_key, part_key, job_key, import_key};
+ghost use Rattle.std.specs.FinMap.{find as find_entry};
+ghost use Rattle.shop_rows.specs.Rows.{rise, row_at, map_of, IsPut};
+ghost use Rattle.shop_machine.specs.Visits.{IsVisit};
+ghost use Rattle.shop_book.specs.declared.books.BookFault.{BookFault as Fault};
+ghost use Rattle.shop_rows.specs.Sums.{sums_key, AreSumsOf, all_small};
+
+use crate::books::{Book, BookFault};
+use crate::order_codes::{OrderCode, put_and_keep};
+use cut_measure::{Code, PartName};
+use shop_machine::{
+    Change, Demand, ImportRow, Job, Kept, Material, Pair, Part, PartList, PartVisitor, Totals,
+};
+use shop_rows::{
+    Sums, add_part, at, find, put, put_all, put_run, put_some, sums_of, take_replaced, totals_in,
+    with_all,
+};
+use std::alloc::{AllocError, Global};
+use std::collections::{BTreeMap, BTreeSet};
+use std::marker::Model;
+
+/// A book in memory.
+#[derive(Drop)]
+pub struct MemBook {
+    materials: Vec<Material>,
+    parts: Vec<Part>,
+    totals: Vec<Sums>,
+    jobs: Vec<Job>,
+    orders: BTreeSet<OrderCode>,
+    demands: Vec<Demand>,
+    kept: BTreeMap<Pair, Kept>,
+    imports: Vec<ImportRow>,
+    last_act: u32,
+    last_demand: u32,
+    failures: u64,
+}
+
+impl Model for MemBook {
+    ghost use Rattle.shop_book.specs.Memory.{MemoryBook, memory_code};
+
+    ghost Value = { MemoryBook };
+
+    ghost coded = { memory_code };
+
+    ghost use Rattle.shop_book.specs.MemBooks.{book_of, IsConsistent};
+
+    ghost view = { book_of };
+
+    ghost invariant = { IsConsistent };
+}
+
+impl MemBook {
+    ghost use Rattle.std.specs.Prelude.{◌≡◌};
+    ghost use Rattle.shop_machine.specs.Content.{fresh};
+
+    /// A book of a shop in which nothing was done yet.
+    pub fn new(alloc: Global) -> MemBook
+        ensures content { result.content ≡ fresh }
+        ensures failures { result.failures ≡ 0 }
+    {
+        MemBook {
+            materials: Vec::new(alloc),
+            parts: Vec::new(alloc),
+            totals: Vec::new(alloc),
+            jobs: Vec::new(alloc),
+            orders: BTreeSet::new(alloc),
+            demands: Vec::new(alloc),
+            kept: BTreeMap::new(alloc),
+            imports: Vec::new(alloc),
+            last_act: 0,
+            last_demand: 0,
+            failures: 0,
+        }
+    }
+}
+
+impl MemBook {
+    ghost use Rattle.std.specs.Prelude.{◌≡◌, IfOk};
+
+    /// An equal book.
+    pub fn copy(&self, alloc: Global) -> Result<MemBook, AllocError>
+        ensures { IfOk result (λ copy. copy ≡ self.now) }
+    {
+        let materials = Vec::from_slice(alloc, &self.materials)?;
+        let parts = Vec::from_slice(alloc, &self.parts)?;
+        let totals = Vec::from_slice(alloc, &self.totals)?;
+        let jobs = self.jobs.clone()?;
+        let orders = self.orders.clone()?;
+        let demands = Vec::from_slice(alloc, &self.demands)?;
+        let kept = self.kept.clone()?;
+        let imports = self.imports.clone()?;
+        Ok(MemBook {
+            materials,
+            parts,
+            totals,
+            jobs,
+            orders,
+            demands,
+            kept,
+            imports,
+            last_act: self.last_act,
+            last_demand: self.last_demand,
+            failures: self.failures,
+        })
+    }
+}
+
+// The listed parts of a material.
+fn listed(alloc: Global, parts: &[Part], material: Code) -> Result<PartList, AllocError>
+    ensures { IfOk result (λ rows. rows ≡ filter (is_listed material) parts.now) }
+{
+    let mut rows = PartList::new(alloc);
+    for part in parts {
+        if part.is_listed(&material) {
+            rows.push(*part)?;
+        }
+    }
+    Ok(rows)
+}
+
+// Hands out the listed parts of a material, for as long as the visitor answers true.
+fn visit<V: PartVisitor>(parts: &[Part], material: Code, visitor: &mut V) -> bool
+    ensures { IsVisit V.looks {Fault = Fault} (λ what. what (filter (is_listed material) parts.now)) visitor.old (Ok result) visitor.new }
+{
+    for part in parts {
+        if part.is_listed(&material) && !visitor.part(part) {
+            return false;
+        }
+    }
+    true
+}
+
+// A copy of the job of a number.
+fn find_job(alloc: Global, jobs: &[Job], number: u32) -> Result<Option<Job>, AllocError>
+    requires { IsTrue (rise job_key nat_cmp jobs.now) }
+    ensures { IfOk result (λ row. row ≡ row_at job_key nat_cmp number jobs.now) }
+{
+    match at(jobs, number) {
+        None => Ok(None),
+        Some(job) => {
+            let copy = job.copy(alloc)?;
+            Ok(Some(copy))
+        }
+    }
+}
+
+// A copy of what is kept of the import of an order.
+fn find_import(
+    alloc: Global,
+    imports: &[ImportRow],
+    order: Code,
+) -> Result<Option<ImportRow>, AllocError>
+    requires { IsTrue (rise import_key code_cmp imports.now) }
+    ensures { IfOk result (λ row. row ≡ row_at import_key code_cmp order imports.now) }
+{
+    match at(imports, order) {
+        None => Ok(None),
+        Some(row) => {
+            let copy = row.copy(alloc)?;
+            Ok(Some(copy))
+        }
+    }
+}
+
+// What is kept under a pair.
+fn find_kept(
+    alloc: Global,
+    kept: &BTreeMap<Pair, Kept>,
+    pair: Pair,
+) -> Result<Option<Kept>, AllocError>
+    ensures { IfOk result (λ row. row ≡ find_entry pair_cmp pair kept.now.entries) }
+{
+    match kept.get(&pair) {
+        None => Ok(None),
+        Some(row) => {
+            let copy = row.copy(alloc)?;
+            Ok(Some(copy))
+        }
+    }
+}
+
+// Puts a part, and keeps the sums.
+fn put_part(parts: &mut Vec<Part>, totals: &mut Vec<Sums>, part: Part)
+    requires parts { IsTrue (rise part_key name_cmp parts.old.items) }
+    requires totals { IsTrue (rise sums_key code_cmp totals.old.items) }
+    requires small { IsTrue (all_small parts.old.items) }
+    requires sums { AreSumsOf parts.old.items totals.old.items }
+    requires parts_room { vec_len parts.old < vec_capacity parts.old }
+    requires totals_room { vec_len totals.old < vec_capacity totals.old }
+    ensures put { IsPut part_key name_cmp part parts.old.items parts.new.items }
+    ensures parts { IsTrue (rise part_key name_cmp parts.new.items) }
+    ensures totals { IsTrue (rise sums_key code_cmp totals.new.items) }
+    ensures small { IsTrue (all_small parts.new.items) }
+    ensures sums { AreSumsOf parts.new.items totals.new.items }
+    ensures parts_len { vec_len parts.new ≤ vec_len parts.old + 1 }
+    ensures totals_len { vec_len totals.new ≤ vec_len totals.old + 1 }
+    ensures parts_capacity { vec_capacity parts.old ≤ vec_capacity parts.new }
+    ensures totals_capacity { vec_capacity totals.old ≤ vec_capacity totals.new }
+{
+    let _len = parts.len();
+    let _cells = part.size.cells();
+    let replaced = put(parts, part);
+    take_replaced(totals, replaced);
+    add_part(totals, &part);
+}
+
+// Puts parts one after another.
+fn put_one_by_one(parts: &mut Vec<Part>, totals: &mut Vec<Sums>, rows: &[Part])
+    requires parts { IsTrue (rise part_key name_cmp parts.old.items) }
+    requires totals { IsTrue (rise sums_key code_cmp totals.old.items) }
+    requires small { IsTrue (all_small parts.old.items) }
+    requires sums { AreSumsOf parts.old.items totals.old.items }
+    requires parts_room { vec_len parts.old + length rows.now ≤ vec_capacity parts.old }
+    requires totals_room { vec_len totals.old + length rows.now ≤ vec_capacity totals.old }
+    ensures put { map_of part_key name_cmp parts.new.items ≡ with_parts rows.now (map_of part_key name_cmp parts.old.items) }
+    ensures parts { IsTrue (rise part_key name_cmp parts.new.items) }
+    ensures totals { IsTrue (rise sums_key code_cmp totals.new.items) }
+    ensures small { IsTrue (all_small parts.new.items) }
+    ensures sums { AreSumsOf parts.new.items totals.new.items }
+{
+    for part in rows {
+        put_part(parts, totals, *part);
+    }
+}
+
+// Puts parts of one material that stand together between two others, all by one move, and tells whether they do; else nothing
+// changes.
+fn put_together(parts: &mut Vec<Part>, totals: &mut Vec<Sums>, rows: &[Part]) -> bool
+    requires parts { IsTrue (rise part_key name_cmp parts.old.items) }
+    requires totals { IsTrue (rise sums_key code_cmp totals.old.items) }
+    requires small { IsTrue (all_small parts.old.items) }
+    requires sums { AreSumsOf parts.old.items totals.old.items }
+    requires parts_room { vec_len parts.old + length rows.now ≤ vec_capacity parts.old }
+    requires totals_room { vec_len totals.old + length rows.now ≤ vec_capacity totals.old }
+    ensures put { IsTrue result → map_of part_key name_cmp parts.new.items ≡ with_parts rows.now (map_of part_key name_cmp parts.old.items) }
+    ensures parts { IsTrue result → IsTrue (rise part_key name_cmp parts.new.items) }
+    ensures totals { IsTrue result → IsTrue (rise sums_key code_cmp totals.new.items) }
+    ensures small { IsTrue result → IsTrue (all_small parts.new.items) }
+    ensures sums { IsTrue result → AreSumsOf parts.new.items totals.new.items }
+    ensures same { result ≡ false → (parts.new ≡ parts.old) × (totals.new ≡ totals.old) }
+{
+    let Some(first) = rows.first() else {
+        return false;
+    };
+    let _len = parts.len();
+    let _room = parts.capacity();
+    let before = sums_of(totals, first.material);
+    let Some(sums) = with_all(before, rows) else {
+        return false;
+    };
+    if !put_run(parts, rows) {
+        return false;
+    }
+    let _ = put(totals, sums);
+    true
+}
+
+// Puts parts, as one after another.
+fn put_parts(parts: &mut Vec<Part>, totals: &mut Vec<Sums>, rows: &[Part])
+    requires parts { IsTrue (rise part_key name_cmp parts.old.items) }
+    requires totals { IsTrue (rise sums_key code_cmp totals.old.items) }
+    requires small { IsTrue (all_small parts.old.items) }
+    requires sums { AreSumsOf parts.old.items totals.old.items }
+    requires parts_room { vec_len parts.old + length rows.now ≤ vec_capacity parts.old }
+    requires totals_room { vec_len totals.old + length rows.now ≤ vec_capacity totals.old }
+    ensures put { map_of part_key name_cmp parts.new.items ≡ with_parts rows.now (map_of part_key name_cmp parts.old.items) }
+    ensures parts { IsTrue (rise part_key name_cmp parts.new.items) }
+    ensures totals { IsTrue (rise sums_key code_cmp totals.new.items) }
+    ensures small { IsTrue (all_small parts.new.items) }
+    ensures sums { AreSumsOf parts.new.items totals.new.items }
+{
+    if put_together(parts, totals, rows) {
+        return;
+    }
+    put_one_by_one(parts, totals, rows);
+}
+
+// Puts a part that moves, if there is one.
+fn put_moved(parts: &mut Vec<Part>, totals: &mut Vec<Sums>, row: Option<Part>)
+    requires parts { IsTrue (rise part_key name_cmp parts.old.items) }
+    requires totals { IsTrue (rise sums_key code_cmp totals.old.items) }
+    requires small { IsTrue (all_small parts.old.items) }
+    requires sums { AreSumsOf parts.old.items totals.old.items }
+    requires parts_room { vec_len parts.old < vec_capacity parts.old }
+    requires totals_room { vec_len totals.old < vec_capacity totals.old }
+    ensures put { map_of part_key name_cmp parts.new.items ≡ with_moved row (map_of part_key name_cmp parts.old.items) }
+    ensures parts { IsTrue (rise part_key name_cmp parts.new.items) }
+    ensures totals { IsTrue (rise sums_key code_cmp totals.new.items) }
+    ensures small { IsTrue (all_small parts.new.items) }
+    ensures sums { AreSumsOf parts.new.items totals.new.items }
+    ensures parts_len { vec_len parts.new ≤ vec_len parts.old + 1 }
+    ensures totals_len { vec_len totals.new ≤ vec_len totals.old + 1 }
+    ensures parts_capacity { vec_capacity parts.old ≤ vec_capacity parts.new }
+    ensures totals_capacity { vec_capacity totals.old ≤ vec_capacity totals.new }
+{
+    if let Some(row) = row {
+        put_part(parts, totals, row);
+    }
+}
+
+// Makes room for the rows of a change.
+fn reserve(
+    materials: &mut Vec<Material>,
+    parts: &mut Vec<Part>,
+    totals: &mut Vec<Sums>,
+    count: usize,
+) -> Result<(), AllocError>
+    ensures materials { materials.new.items ≡ materials.old.items }
+    ensures parts { parts.new.items ≡ parts.old.items }
+    ensures totals { totals.new.items ≡ totals.old.items }
+    ensures room { OnOk result ((vec_len materials.new < vec_capacity materials.new)
+        × (vec_len parts.new + count ≤ vec_capacity parts.new) × (vec_len totals.new + count ≤ vec_capacity totals.new)) }
+{
+    materials.reserve(1)?;
+    parts.reserve(count)?;
+    totals.reserve(count)?;
+    Ok(())
+}
+
+// Makes room for a job, demands and an import.
+fn reserve_demands(
+    jobs: &mut Vec<Job>,
+    demands: &mut Vec<Demand>,
+    imports: &mut Vec<ImportRow>,
+    count: usize,
+) -> Result<(), AllocError>
+    ensures jobs { jobs.new.items ≡ jobs.old.items }
+    ensures demands { demands.new.items ≡ demands.old.items }
+    ensures imports { imports.new.items ≡ imports.old.items }
+    ensures room { OnOk result ((vec_len jobs.new < vec_capacity jobs.new) × (vec_len demands.new + count ≤ vec_capacity demands.new) × (vec_len imports.new < vec_capacity imports.new)) }
+{
+    jobs.reserve(1)?;
+    demands.reserve(count)?;
+    imports.reserve(1)?;
+    Ok(())
+}
+
+impl MemBook {
+    ghost use Rattle.std.specs.Prelude.{◌≡◌};
+    ghost use Rattle.shop_book.specs.Failures.{one_more_failure};
+    ghost use Rattle.shop_book.specs.declared.books.BookFault.TheVariants.{Store};
+
+    // Counts a failure of the store.
+    fn fault(&mut self) -> BookFault
+        ensures fault { result ≡ Store }
+        ensures content { self.new.content ≡ self.old.content }
+        ensures failures { self.new.failures ≡ one_more_failure self.old.failures }
+    {
+        self.failures = self.failures.saturating_add(1);
+        BookFault::Store
+    }
+}
+
+impl MemBook {
+    ghost use Rattle.std.specs.Prelude.{◌≡◌, ◌↔◌, IsTrue};
+
+    fn has_materials_of(&self, other: &MemBook) -> bool
+        ensures { IsTrue result ↔ (self.now.content.materials ≡ other.now.content.materials) }
+    {
+        self.materials == other.materials
+    }
+
+    fn has_parts_of(&self, other: &MemBook) -> bool
+        ensures { IsTrue result ↔ (self.now.content.parts ≡ other.now.content.parts) }
+    {
+        self.parts == other.parts
+    }
+
+    fn has_jobs_of(&self, other: &MemBook) -> bool
+        ensures { IsTrue result ↔ (self.now.content.jobs ≡ other.now.content.jobs) }
+    {
+        self.jobs == other.jobs
+    }
+
+    fn has_orders_of(&self, other: &MemBook) -> bool
+        ensures { IsTrue result ↔ (self.now.content.orders ≡ other.now.content.orders) }
+    {
+        self.orders == other.orders
+    }
+
+    fn has_demands_of(&self, other: &MemBook) -> bool
+        ensures { IsTrue result ↔ (self.now.content.demands ≡ other.now.content.demands) }
+    {
+        self.demands == other.demands
+    }
+
+    fn has_kept_of(&self, other: &MemBook) -> bool
+        ensures { IsTrue result ↔ (self.now.content.kept ≡ other.now.content.kept) }
+    {
+        self.kept == other.kept
+    }
+
+    fn has_imports_of(&self, other: &MemBook) -> bool
+        ensures { IsTrue result ↔ (self.now.content.imports ≡ other.now.content.imports) }
+    {
+        self.imports == other.imports
+    }
+
+    // Whether the contents are equal.
+    fn has_content_of(&self, other: &MemBook) -> bool
+        ensures { IsTrue result ↔ (self.now.content ≡ other.now.content) }
+    {
+        self.has_materials_of(other)
+            && self.has_parts_of(other)
+            && self.has_jobs_of(other)
+            && self.has_orders_of(other)
+            && self.has_demands_of(other)
+            && self.has_kept_of(other)
+            && self.has_imports_of(other)
+            && self.last_act == other.last_act
+            && self.last_demand == other.last_demand
+    }
+}
+
+/// Two books are equal exactly where their contents are, whatever failed.
+impl PartialEq for MemBook {
+    ghost use Rattle.std.specs.Prelude.{◌≡◌, ◌↔◌, IsTrue};
+    ghost use Rattle.shop_book.specs.Equal.{same_books, same_books_laws};
+
+    ghost eq = { same_books };
+
+    ghost laws = { same_books_laws };
+
+    fn eq(&self, other: &MemBook) -> bool
+        ensures test { result ≡ same_books self.now other.now }
+        ensures same { IsTrue result ↔ (self.now.content ≡ other.now.content) }
+    {
+        self.has_content_of(other)
+    }
+}
+
+/// Each call answers exactly, and none answers `Store` on a content as histories give it.
+impl Book for MemBook {
+    ghost use Rattle.std.specs.Prelude.{◌≡◌, ⊤};
+    ghost use Rattle.shop_machine.specs.Content.{Content};
+    ghost use Rattle.shop_machine.specs.Soundness.{IsInRange};
+    ghost use Rattle.shop_book.specs.Failures.{CountsFailure};
+    ghost use Rattle.shop_book.specs.declared.books.BookFault.TheVariants.{NoMemory};
+
+    ghost Left = { Content };
+
+    ghost stands = { λ left m. left ≡ m };
+
+    ghost may_leave = { λ book left. ⊥ };
+
+    ghost holds = { λ book m. book.content ≡ m };
+
+    ghost is_honest = { λ book. ⊤ };
+
+    ghost failed = { λ book. book.failures };
+
+    fn material(&mut self, code: Code) -> Result<Option<Material>, BookFault>
+        ensures row { result ≡ Ok (material_at self.old.content code) }
+        ensures same { self.new ≡ self.old }
+    {
+        Ok(find(&self.materials, code))
+    }
+
+    fn part(&mut self, name: PartName) -> Result<Option<Part>, BookFault>
+        ensures row { result ≡ Ok (part_at self.old.content name) }
+        ensures same { self.new ≡ self.old }
+    {
+        Ok(find(&self.parts, name))
+    }
+
+    fn job(&mut self, alloc: Global, number: u32) -> Result<Option<Job>, BookFault>
+        ensures row { IfOk result (λ row. row ≡ job_at self.old.content number) }
+        ensures memory { IfErr result (λ fault. fault ≡ NoMemory) }
+        ensures same { self.new ≡ self.old }
+    {
+        let row = find_job(alloc, &self.jobs, number)?;
+        Ok(row)
+    }
+
+    fn order(&mut self, code: Code) -> Result<bool, BookFault>
+        ensures row { result ≡ Ok (has_order self.old.content code) }
+        ensures same { self.new ≡ self.old }
+    {
+        Ok(self.orders.contains(&OrderCode::of(code)))
+    }
+
+    fn demand(&mut self, number: u32) -> Result<Option<Demand>, BookFault>
+        ensures row { result ≡ Ok (demand_at self.old.content number) }
+        ensures key { IfOk result (λ row. IfSome row (λ demand. demand.number ≡ number)) }
+        ensures same { self.new ≡ self.old }
+    {
+        Ok(find(&self.demands, number))
+    }
+
+    fn kept(&mut self, alloc: Global, terminal: u32, number: u32) -> Result<Option<Kept>, BookFault>
+        ensures row { IfOk result (λ row. row ≡ kept_at self.old.content (record { terminal = terminal; number = number })) }
+        ensures memory { IfErr result (λ fault. fault ≡ NoMemory) }
+        ensures same { self.new ≡ self.old }
+    {
+        let row = find_kept(alloc, &self.kept, Pair { terminal, number })?;
+        Ok(row)
+    }
+
+    fn import(&mut self, alloc: Global, order: Code) -> Result<Option<ImportRow>, BookFault>
+        ensures row { IfOk result (λ row. row ≡ import_at self.old.content order) }
+        ensures memory { IfErr result (λ fault. fault ≡ NoMemory) }
+        ensures same { self.new ≡ self.old }
+    {
+        let row = find_import(alloc, &self.imports, order)?;
+        Ok(row)
+    }
+
+    fn next_act(&mut self) -> Result<u32, BookFault>
+        ensures number { IfOk result (λ act. act ≡ self.old.content.last_act + 1) }
+        ensures sure { self.old.content.last_act < 2 ^ 32 - 1 → IsOk result }
+        ensures content { self.new.content ≡ self.old.content }
+        ensures failures { CountsFailure result self.old.failures self.new.failures }
+    {
+        match self.last_act.checked_add(1) {
+            Some(act) => Ok(act),
+            None => Err(self.fault()),
+        }
+    }
+
+    fn next_demand(&mut self) -> Result<u32, BookFault>
+        ensures number { IfOk result (λ demand. demand ≡ self.old.content.last_demand + 1) }
+        ensures sure { self.old.content.last_demand < 2 ^ 32 - 1 → IsOk result }
+        ensures content { self.new.content ≡ self.old.content }
+        ensures failures { CountsFailure result self.old.failures self.new.failures }
+    {
+        match self.last_demand.checked_add(1) {
+            Some(demand) => Ok(demand),
+            None => Err(self.fault()),
+        }
+    }
+
+    fn totals(&mut self, material: Code) -> Result<Totals, BookFault>
+        ensures sums { IfOk result (λ totals. totals ≡ totals_of self.old.content material) }
+        ensures sure { IsInRange self.old.content → IsOk result }
+        ensures content { self.new.content ≡ self.old.content }
+        ensures failures { CountsFailure result self.old.failures self.new.failures }
+    {
+        match totals_in(&self.totals, material) {
+            Some(totals) => Ok(totals),
+            None => Err(self.fault()),
+        }
+    }
+
+    fn parts_of(&mut self, alloc: Global, material: Code) -> Result<PartList, BookFault>
+        ensures rows { IfOk result (λ rows. rows ≡ listed_parts self.old.content material) }
+        ensures memory { IfErr result (λ fault. fault ≡ NoMemory) }
+        ensures same { self.new ≡ self.old }
+    {
+        let rows = listed(alloc, &self.parts, material)?;
+        Ok(rows)
+    }
+
+    fn visit_parts<V: PartVisitor>(
+        &mut self,
+        material: Code,
+        visitor: &mut V,
+    ) -> Result<bool, BookFault>
+        ensures visit { IsVisit V.looks (λ what. what (listed_parts self.old.content material)) visitor.old result visitor.new }
+        ensures sure { IsOk result }
+        ensures same { self.new ≡ self.old }
+    {
+        let on = visit(&self.parts, material, visitor);
+        Ok(on)
+    }
+
+    fn commit(&mut self, change: Change) -> Result<(), BookFault>
+        ensures ok { OnOk result (self.new.content ≡ changed self.old.content change) }
+        ensures err { OnErr result (self.new.content ≡ self.old.content) }
+        ensures memory { IfErr result (λ fault. fault ≡ NoMemory) }
+        ensures failures { self.new.failures ≡ self.old.failures }
+    {
+        let Change {
+            material,
+            parts,
+            moved,
+            job,
+            order,
+            demands,
+            totals: _,
+            act,
+            demand,
+            import,
+            kept,
+            reply: _,
+        } = change;
+        let rows = parts.as_slice();
+        let wanted = demands.as_slice();
+        reserve(
+            &mut self.materials,
+            &mut self.parts,
+            &mut self.totals,
+            rows.len() + 1,
+        )?;
+        reserve_demands(
+            &mut self.jobs,
+            &mut self.demands,
+            &mut self.imports,
+            wanted.len(),
+        )?;
+        put_and_keep(&mut self.orders, &mut self.kept, order, kept)?;
+        put_some(&mut self.materials, material);
+        put_moved(&mut self.parts, &mut self.totals, moved);
+        put_parts(&mut self.parts, &mut self.totals, rows);
+        put_some(&mut self.jobs, job);
+        put_all(&mut self.demands, wanted);
+        put_some(&mut self.imports, import);
+        self.last_act = act.unwrap_or(self.last_act);
+        self.last_demand = demand.unwrap_or(self.last_demand);
+        Ok(())
+    }
+
+    fn failures(&self) -> u64
+        ensures { result ≡ self.now.failures }
+    {
+        self.failures
+    }
+}

@@ -1,0 +1,293 @@
+-- Where a row stands among rows that rise by their keys, and what it is to put one there.
+use Rattle.std.proofs.Common.{◌≡◌, inl, inr, ℕ, zero, suc, ◌-◌, ◌<◌, ◌≤◌, Bool, true, false, List, [], ◌∷◌, ◌++◌, length, take, drop, get_or, refl, sym, ap, subst, ◌∙◌, arith}
+use Rattle.std.specs.Prelude.{Some, None, T, cond, ◌&&◌}
+use Rattle.std.specs.declared.cmp.Ordering.{Ordering}
+use Rattle.std.specs.declared.cmp.Ordering.TheVariants.{Less, Equal, Greater}
+use Rattle.std.specs.Ordering.{is_eq, is_lt, ordering_index, ordering_reverse}
+use Rattle.std.specs.Cmp.{IsTotalOrder, alike_right}
+use Rattle.std.specs.List.{insert, insert_slice, slice_get}
+use Rattle.std.specs.List.Sorted.{IsPartitionPoint, IsNonDecreasingBy}
+use Rattle.std.specs.FinMap.{IsAntisymmetric, is_sorted, put}
+use Rattle.std.specs.FinMap.Entries.{below_all, by_order, is_sorted-put}
+use Rattle.std.proofs.Math.ListN.{set}
+use Rattle.std.proofs.Math.Seq.{drop-cons}
+use Rattle.std.proofs.lemmas.Bool.{cases_lt}
+use Rattle.std.proofs.lemmas.Option.{get_or_from_slice_get}
+use Rattle.std.proofs.lemmas.List.{append_assoc, get_or_default, set_split, map-append, take-append-drop}
+use Rattle.shop_machine.proofs.Sums.{first, second, less}
+use Rattle.shop_rows.specs.Rows.{entry_of, entries_of, rise, row_at, put_each, IsPut, ArePut}
+
+lesser : (r : Ordering) → r ≡ Less → T (is_lt r)
+lesser Less e = tt
+lesser Equal e = absurd (cc)
+lesser Greater e = absurd (cc)
+
+pair_of : (a b : Bool) → T a → T b → T (a && b)
+pair_of true b p q = q
+pair_of false b p q = absurd p
+
+module _ {X K : Type 0} (key_of : X → K) (cmp : K → K → Ordering) (o : IsTotalOrder cmp) (exact : IsAntisymmetric cmp) where
+  abbrev all : (X → Type 0) → List X → Type 0
+  all P [] = Unit {0}
+  all P (x ∷ xs) = P x × all P xs
+
+  -- ---- behind what is before, and before what is behind
+
+  find_past : (key : K) (front rest : List X) → all (λ x. cmp key (key_of x) ≡ Greater) front → row_at key_of cmp key (front ++ rest) ≡ row_at key_of cmp key rest
+  find_past key [] rest h = refl
+  find_past key (x ∷ front) rest h = ap (λ r. cond (is_eq r) (Some x) (row_at key_of cmp key (front ++ rest))) h.0 ∙ find_past key front rest h.1
+
+  put_past : (key : K) (row : X) (front rest : List X) → all (λ x. cmp key (key_of x) ≡ Greater) front
+      → put cmp key row (entries_of key_of cmp (front ++ rest)) ≡ entries_of key_of cmp front ++ put cmp key row (entries_of key_of cmp rest)
+  put_past key row [] rest h = refl
+  put_past key row (x ∷ front) rest h =
+      ap (λ r. by_order r ((key, row) ∷ entries_of key_of cmp (x ∷ front ++ rest)) ((key_of x, row) ∷ entries_of key_of cmp (front ++ rest)) ((key_of x, x) ∷ put cmp key row (entries_of key_of cmp (front ++ rest)))) h.0
+      ∙ ap (λ es. (key_of x, x) ∷ es) (put_past key row front rest h.1)
+
+  find_before : (key : K) (rest : List X) → all (λ x. cmp key (key_of x) ≡ Less) rest → row_at key_of cmp key rest ≡ None
+  find_before key [] h = refl
+  find_before key (x ∷ rest) h = ap (λ r. cond (is_eq r) (Some x) (row_at key_of cmp key rest)) h.0 ∙ find_before key rest h.1
+
+  put_before : (key : K) (row : X) (rest : List X) → all (λ x. cmp key (key_of x) ≡ Less) rest → put cmp key row (entries_of key_of cmp rest) ≡ (key, row) ∷ entries_of key_of cmp rest
+  put_before key row [] h = refl
+  put_before key row (x ∷ rest) h =
+      ap (λ r. by_order r ((key, row) ∷ entries_of key_of cmp (x ∷ rest)) ((key_of x, row) ∷ entries_of key_of cmp rest) ((key_of x, x) ∷ put cmp key row (entries_of key_of cmp rest))) h.0
+
+  -- ---- by index
+
+  all_before : (P : X → Type 0) (xs : List X) (i : ℕ) → i ≤ length xs → ((k : ℕ) (d : X) → k < i → P (get_or xs k d)) → all P (take i xs)
+  all_before P xs zero h p = tt
+  all_before P [] (suc i) h p = absurd (omega arith)
+  all_before P (x ∷ xs) (suc i) h p = (p 0 x (omega arith), all_before P xs i (omega arith) (λ k d lt. p (suc k) d (omega arith)))
+
+  all_from : (P : X → Type 0) (xs : List X) (i : ℕ) → ((k : ℕ) (d : X) → i ≤ k → k < length xs → P (get_or xs k d)) → all P (drop i xs)
+  all_from P [] zero p = tt
+  all_from P [] (suc i) p = tt
+  all_from P (x ∷ xs) zero p = (p 0 x (omega arith) (omega arith), all_from P xs zero (λ k d le lt. p (suc k) d (omega arith) (omega arith)))
+  all_from P (x ∷ xs) (suc i) p = all_from P xs i (λ k d le lt. p (suc k) d (omega arith) (omega arith))
+
+  below_at : (x : X) (xs : List X) → T (below_all cmp (key_of x) (entries_of key_of cmp xs)) → (k : ℕ) (d : X) → k < length xs → cmp (key_of x) (key_of (get_or xs k d)) ≡ Less
+  below_at x [] h k d lt = absurd (omega arith)
+  below_at x (y ∷ ys) h zero d lt = less _ (first _ _ h)
+  below_at x (y ∷ ys) h (suc k) d lt = below_at x ys (second _ _ h) k d (omega arith)
+
+  -- the keys rise
+  pub rising_at : (xs : List X) → T (rise key_of cmp xs) → (i j : ℕ) (d : X) → i < j → j < length xs → cmp (key_of (get_or xs i d)) (key_of (get_or xs j d)) ≡ Less
+  rising_at [] h i j d lt within = absurd (omega arith)
+  rising_at (x ∷ xs) h zero zero d lt within = absurd (omega arith)
+  rising_at (x ∷ xs) h zero (suc j) d lt within = below_at x xs (first _ _ h) j d (omega arith)
+  rising_at (x ∷ xs) h (suc i) zero d lt within = absurd (omega arith)
+  rising_at (x ∷ xs) h (suc i) (suc j) d lt within = rising_at xs (second _ _ h) i j d (omega arith) (omega arith)
+
+  flipped : (a b : K) (r : Ordering) → cmp a b ≡ r → cmp b a ≡ ordering_reverse r
+  flipped a b r e = o.antisymm b a ∙ ap ordering_reverse e
+
+  -- ---- a row with the key
+
+  module _ (xs : List X) (up : T (rise key_of cmp xs)) (i : ℕ) (x : X) (key : K) (within : i < length xs) (here : x ≡ get_or xs i x) (holds : (d : X) → cmp (key_of (get_or xs i d)) key ≡ Equal) where
+    ties : cmp (key_of x) key ≡ Equal
+    ties = ap (λ y. cmp (key_of y) key) here ∙ holds x
+
+    lower : (k : ℕ) (d : X) → k < i → cmp key (key_of (get_or xs k d)) ≡ Greater
+    lower k d lt =
+        flipped (key_of (get_or xs k d)) key Less
+        (sym (alike_right o (key_of x) key (key_of (get_or xs k d)) ties)
+        ∙ ap (λ y. cmp (key_of (get_or xs k d)) (key_of y)) here ∙ ap (λ y. cmp (key_of y) (key_of (get_or xs i x))) (at_default k d x (omega arith))
+        ∙ rising_at xs up k i x lt within)
+      where
+        at_default : (k : ℕ) (d e : X) → k < length xs → get_or xs k d ≡ get_or xs k e
+        at_default k d e lt = get_or_default xs k d e lt
+
+    split : xs ≡ take i xs ++ x ∷ drop (suc i) xs
+    split = sym (take-append-drop i xs) ∙ ap (λ ys. take i xs ++ ys) (drop-cons xs i x within) ∙ ap (λ y. take i xs ++ y ∷ drop (suc i) xs) (sym here)
+
+    passed : all (λ y. cmp key (key_of y) ≡ Greater) (take i xs)
+    passed = all_before (λ y. cmp key (key_of y) ≡ Greater) xs i (omega arith) lower
+
+    pub row_found : row_at key_of cmp key xs ≡ Some x
+    row_found =
+        ap (row_at key_of cmp key) split ∙ find_past key (take i xs) (x ∷ drop (suc i) xs) passed
+        ∙ ap (λ r. cond (is_eq r) (Some x) (row_at key_of cmp key (drop (suc i) xs))) (flipped (key_of x) key Equal ties)
+
+    pub put_found : (row : X) → key_of row ≡ key → IsPut key_of cmp row xs (set xs i row)
+    put_found row e =
+        ap (entries_of key_of cmp) (set_split xs i row within) ∙ map-append (entry_of key_of cmp) (take i xs) (row ∷ drop (suc i) xs)
+        ∙ ap (λ k. entries_of key_of cmp (take i xs) ++ (k, row) ∷ entries_of key_of cmp (drop (suc i) xs)) (e ∙ sym (exact (key_of x) key ties))
+        ∙ ap (λ es. entries_of key_of cmp (take i xs) ++ es) (sym (ap (λ r. by_order r ((key, row) ∷ entries_of key_of cmp (x ∷ drop (suc i) xs)) ((key_of x, row) ∷ entries_of key_of cmp (drop (suc i) xs)) ((key_of x, x) ∷ put cmp key row (entries_of key_of cmp (drop (suc i) xs)))) (flipped (key_of x) key Equal ties)))
+        ∙ sym (put_past key row (take i xs) (x ∷ drop (suc i) xs) passed)
+        ∙ ap (λ ys. put cmp key row (entries_of key_of cmp ys)) (sym split)
+        ∙ ap (λ k. put cmp k row (entries_of key_of cmp xs)) (sym e)
+
+  -- ---- no row with the key
+
+  ranked : (x y key : K) (r : Ordering) → cmp x y ≡ Less → cmp y key ≡ r → ordering_index (cmp x key) ≤ ordering_index (cmp y key)
+  ranked x y key Less lt e = subst (λ q. ordering_index q ≤ ordering_index (cmp y key)) (sym (o.trans x y key lt e)) (omega arith)
+  ranked x y key Equal lt e = subst (λ q. ordering_index q ≤ ordering_index (cmp y key)) (sym (sym (alike_right o y key x e) ∙ lt)) (omega arith)
+  ranked x y key Greater lt e = subst (λ q. ordering_index (cmp x key) ≤ ordering_index q) (sym e) (at_most (cmp x key))
+    where
+      at_most : (q : Ordering) → ordering_index q ≤ 2
+      at_most Less = omega arith
+      at_most Equal = omega arith
+      at_most Greater = omega arith
+
+  searchable : (xs : List X) → T (rise key_of cmp xs) → (key : K) → IsNonDecreasingBy (λ y. ordering_index (cmp (key_of y) key)) xs
+  searchable xs up key i j d le within =
+      elim (cases_lt i j) [
+        | inl lt ↦ ranked (key_of (get_or xs i d)) (key_of (get_or xs j d)) key (cmp (key_of (get_or xs j d)) key) (rising_at xs up i j d lt within) refl
+        | inr ge ↦ let same : i ≡ j = omega arith in subst (λ k. ordering_index (cmp (key_of (get_or xs i d)) key) ≤ ordering_index (cmp (key_of (get_or xs k d)) key)) same (omega arith)
+      ]
+
+  module _ (xs : List X) (up : T (rise key_of cmp xs)) (i : ℕ) (key : K) (within : i ≤ length xs)
+      (point : IsNonDecreasingBy (λ y. ordering_index (cmp (key_of y) key)) xs → IsPartitionPoint (λ y. cmp (key_of y) key ≡ Less) (λ y. cmp (key_of y) key ≡ Greater) xs i) where
+    low : all (λ y. cmp key (key_of y) ≡ Greater) (take i xs)
+    low = all_before (λ y. cmp key (key_of y) ≡ Greater) xs i within (λ k d lt. flipped (key_of (get_or xs k d)) key Less ((point (searchable xs up key)).0 k d (omega arith) lt))
+
+    high : all (λ y. cmp key (key_of y) ≡ Less) (drop i xs)
+    high = all_from (λ y. cmp key (key_of y) ≡ Less) xs i (λ k d le lt. flipped (key_of (get_or xs k d)) key Greater ((point (searchable xs up key)).1 k d le lt))
+
+    pub row_missed : row_at key_of cmp key xs ≡ None
+    row_missed = ap (row_at key_of cmp key) (sym (take-append-drop i xs)) ∙ find_past key (take i xs) (drop i xs) low ∙ find_before key (drop i xs) high
+
+    pub put_missed : (row : X) → key_of row ≡ key → IsPut key_of cmp row xs (insert xs i row)
+    put_missed row e =
+        map-append (entry_of key_of cmp) (take i xs) (row ∷ drop i xs)
+        ∙ ap (λ k. entries_of key_of cmp (take i xs) ++ (k, row) ∷ entries_of key_of cmp (drop i xs)) e
+        ∙ ap (λ es. entries_of key_of cmp (take i xs) ++ es) (sym (put_before key row (drop i xs) high))
+        ∙ sym (put_past key row (take i xs) (drop i xs) low)
+        ∙ ap (λ ys. put cmp key row (entries_of key_of cmp ys)) (take-append-drop i xs)
+        ∙ ap (λ k. put cmp k row (entries_of key_of cmp xs)) (sym e)
+
+  -- ---- rows that stand together
+
+  abbrev Above : List X → K → Type 0
+  Above front key = all (λ y. cmp key (key_of y) ≡ Greater) front
+
+  abbrev Below : List X → K → Type 0
+  Below back key = all (λ y. cmp key (key_of y) ≡ Less) back
+
+  all_append : (P : X → Type 0) (xs ys : List X) → all P xs → all P ys → all P (xs ++ ys)
+  all_append P [] ys h k = k
+  all_append P (x ∷ xs) ys h k = (h.0, all_append P xs ys h.1 k)
+
+  put_between : (row : X) (front back : List X) → Above front (key_of row) → Below back (key_of row)
+      → put cmp (key_of row) row (entries_of key_of cmp (front ++ back)) ≡ entries_of key_of cmp ((front ++ row ∷ []) ++ back)
+  put_between row front back under over =
+      put_past (key_of row) row front back under ∙ ap (λ es. entries_of key_of cmp front ++ es) (put_before (key_of row) row back over)
+      ∙ sym (map-append (entry_of key_of cmp) front (row ∷ back)) ∙ ap (entries_of key_of cmp) (sym (append_assoc front (row ∷ []) back))
+
+  one_more : (row : X) (rows front : List X) → T (below_all cmp (key_of row) (entries_of key_of cmp rows)) → all (λ r. Above front (key_of r)) rows → all (λ r. Above (front ++ row ∷ []) (key_of r)) rows
+  one_more row [] front h under = tt
+  one_more row (r ∷ rows) front h under =
+      (all_append (λ y. cmp (key_of r) (key_of y) ≡ Greater) front (row ∷ []) under.0 (flipped (key_of row) (key_of r) Less (less _ (first _ _ h)), tt), one_more row rows front (second _ _ h) under.1)
+
+  -- each is put behind what is before and before what is behind
+  put_together : (added front back : List X) → T (rise key_of cmp added) → all (λ r. Above front (key_of r)) added → all (λ r. Below back (key_of r)) added
+      → put_each key_of cmp added (entries_of key_of cmp (front ++ back)) ≡ entries_of key_of cmp (front ++ (added ++ back))
+  put_together [] front back up under over = refl
+  put_together (row ∷ rows) front back up under over =
+      ap (put_each key_of cmp rows) (put_between row front back under.0 over.0)
+      ∙ put_together rows (front ++ row ∷ []) back (second _ _ up) (one_more row rows front (first _ _ up) under.1) over.1
+      ∙ ap (entries_of key_of cmp) (append_assoc front (row ∷ []) (rows ++ back))
+
+  above_more : (key more : K) (front : List X) → cmp key more ≡ Less → Above front key → Above front more
+  above_more key more [] lt h = tt
+  above_more key more (y ∷ front) lt h = (flipped (key_of y) more Less (o.trans (key_of y) key more (flipped key (key_of y) Greater h.0) lt), above_more key more front lt h.1)
+
+  below_more : (less_key key : K) (back : List X) → cmp less_key key ≡ Less → Below back key → Below back less_key
+  below_more less_key key [] lt h = tt
+  below_more less_key key (y ∷ back) lt h = (o.trans less_key key (key_of y) lt h.0, below_more less_key key back lt h.1)
+
+  -- what the first stands behind, all stand behind
+  behind_front : (x : X) (rows front : List X) → T (below_all cmp (key_of x) (entries_of key_of cmp rows)) → Above front (key_of x) → all (λ r. Above front (key_of r)) rows
+  behind_front x [] front h under = tt
+  behind_front x (r ∷ rows) front h under = (above_more (key_of x) (key_of r) front (less _ (first _ _ h)) under, behind_front x rows front (second _ _ h) under)
+
+  -- what the last stands before, all stand before
+  before_back : (added back : List X) (x : X) → T (rise key_of cmp added) → slice_get added (length added - 1) ≡ Some x → Below back (key_of x) → all (λ r. Below back (key_of r)) added
+  before_back added back x up at h =
+      all_from (λ r. Below back (key_of r)) added 0 (λ k d le lt.
+      let here : get_or added (length added - 1) d ≡ x = get_or_from_slice_get added (length added - 1) x d at in
+      elim (cases_lt k (length added - 1)) [
+        | inl before ↦ below_more (key_of (get_or added k d)) (key_of x) back (ap (λ y. cmp (key_of (get_or added k d)) (key_of y)) (sym here) ∙ rising_at added up k (length added - 1) d before (omega arith)) h
+        | inr ge ↦ let same : k ≡ length added - 1 = omega arith in subst (λ y. Below back (key_of y)) (sym (ap (λ n. get_or added n d) same ∙ here)) h
+      ])
+
+  -- a key before a row is before those behind it
+  before_drop : (xs : List X) → T (rise key_of cmp xs) → (i : ℕ) (key : K) → (i < length xs → (d : X) → cmp (key_of (get_or xs i d)) key ≡ Greater) → Below (drop i xs) key
+  before_drop xs up i key h =
+      all_from (λ y. cmp key (key_of y) ≡ Less) xs i (λ k d le lt.
+      let here : cmp key (key_of (get_or xs i d)) ≡ Less = flipped (key_of (get_or xs i d)) key Greater (h (omega arith) d) in
+      elim (cases_lt i k) [
+        | inl behind ↦ o.trans key (key_of (get_or xs i d)) (key_of (get_or xs k d)) here (rising_at xs up i k d behind lt)
+        | inr ge ↦ let same : i ≡ k = omega arith in subst (λ n. cmp key (key_of (get_or xs n d)) ≡ Less) same here
+      ])
+
+  -- rows that rise, of which the first would stand where the row stands that the last comes before, are put there
+  pub put_at : (xs added : List X) (i : ℕ) (x y : X) → T (rise key_of cmp xs) → T (rise key_of cmp added) → i ≤ length xs
+      → slice_get added 0 ≡ Some x → slice_get added (length added - 1) ≡ Some y
+      → (IsNonDecreasingBy (λ z. ordering_index (cmp (key_of z) (key_of x))) xs → IsPartitionPoint (λ z. cmp (key_of z) (key_of x) ≡ Less) (λ z. cmp (key_of z) (key_of x) ≡ Greater) xs i)
+      → (i < length xs → (d : X) → cmp (key_of (get_or xs i d)) (key_of y) ≡ Greater)
+      → put_each key_of cmp added (entries_of key_of cmp xs) ≡ entries_of key_of cmp (insert_slice xs i added)
+  put_at xs [] i x y up rises within front last point before = absurd (none_some front)
+    where
+      none_some : {A : Type 0} {a : A} → None ≡ Some a → ⊥
+      none_some e = cc
+  put_at xs (z ∷ added) i x y up rises within front last point before =
+      let same : z ≡ x = cc in
+      let under : Above (take i xs) (key_of z) = subst (λ r. Above (take i xs) (key_of r)) (sym same) (low xs up i (key_of x) within point) in
+      let over = before_back (z ∷ added) (drop i xs) y rises last (before_drop xs up i (key_of y) before) in
+      ap (λ ys. put_each key_of cmp (z ∷ added) (entries_of key_of cmp ys)) (sym (take-append-drop i xs))
+      ∙ put_together (z ∷ added) (take i xs) (drop i xs) rises (under, behind_front z added (take i xs) (first _ _ rises) under) over
+      ∙ ap (entries_of key_of cmp) (sym (append_assoc (take i xs) (z ∷ added) (drop i xs)))
+
+  -- ---- rows of which each is below the next rise
+
+  far_below : (x y : K) (ys : List X) → cmp x y ≡ Less → T (below_all cmp y (entries_of key_of cmp ys)) → T (below_all cmp x (entries_of key_of cmp ys))
+  far_below x y [] lt h = tt
+  far_below x y (z ∷ ys) lt h = pair_of _ _ (lesser _ (o.trans x y (key_of z) lt (less _ (first _ _ h)))) (far_below x y ys lt (second _ _ h))
+
+  pub rise_by_steps : (xs : List X) → ((k : ℕ) (d : X) → suc k < length xs → cmp (key_of (get_or xs k d)) (key_of (get_or xs (suc k) d)) ≡ Less) → T (rise key_of cmp xs)
+  rise_by_steps [] h = tt
+  rise_by_steps (x ∷ []) h = tt
+  rise_by_steps (x ∷ y ∷ ys) h =
+      let rest : T (rise key_of cmp (y ∷ ys)) = rise_by_steps (y ∷ ys) (λ k d lt. h (suc k) d (omega arith)) in
+      let step : cmp (key_of x) (key_of y) ≡ Less = h 0 x (omega arith) in
+      pair_of _ _ (pair_of _ _ (lesser _ step) (far_below (key_of x) (key_of y) ys step (first _ _ rest))) rest
+
+-- ---- behind the last row
+
+lowest : (r : Ordering) → ordering_index r ≤ 0 → r ≡ Less
+lowest Less h = refl
+lowest Equal h = absurd (omega arith)
+lowest Greater h = absurd (omega arith)
+
+-- where the last row is too low, and the rows don't fall, each is
+pub behind_last : {X : Type 0} (rank : X → Ordering) (xs : List X) (x : X) → slice_get xs (length xs - 1) ≡ Some x → rank x ≡ Less
+    → IsNonDecreasingBy (λ y. ordering_index (rank y)) xs → IsPartitionPoint (λ y. rank y ≡ Less) (λ y. rank y ≡ Greater) xs (length xs)
+behind_last rank xs x at low up = (
+  λ k d le lt.
+      let last : ordering_index (rank (get_or xs k d)) ≤ ordering_index (rank (get_or xs (length xs - 1) d)) = up k (length xs - 1) d (omega arith) (omega arith) in
+      let least : ordering_index (rank (get_or xs (length xs - 1) d)) ≡ 0 = ap (λ y. ordering_index (rank y)) (get_or_from_slice_get xs (length xs - 1) x d at) ∙ ap ordering_index low in
+      lowest (rank (get_or xs k d)) (omega (arith, last, least)),
+  λ k d le lt. absurd (omega arith),
+)
+
+pub tested : (b : Bool) → b ≡ true → T b
+tested b e = subst T (sym e) tt
+
+pub met : (b : Bool) → T b → b ≡ true
+met true t = refl
+met false t = absurd t
+
+-- rows into which one was put rise
+pub rise-put : {X K : Type 0} (key_of : X → K) (cmp : K → K → Ordering) → IsTotalOrder cmp → (row : X) (old new : List X) → IsPut key_of cmp row old new → rise key_of cmp old ≡ true → rise key_of cmp new ≡ true
+rise-put key_of cmp o row old new put_there up =
+    ap (is_sorted cmp) put_there ∙ met _ (is_sorted-put cmp o (key_of row) row (entries_of key_of cmp old) (tested _ up))
+
+sorted_each : {X K : Type 0} (key_of : X → K) (cmp : K → K → Ordering) → IsTotalOrder cmp → (rows : List X) (entries : List (K × X)) → is_sorted cmp entries ≡ true → is_sorted cmp (put_each key_of cmp rows entries) ≡ true
+sorted_each key_of cmp o [] entries sorted = sorted
+sorted_each key_of cmp o (row ∷ rows) entries sorted = sorted_each key_of cmp o rows (put cmp (key_of row) row entries) (met _ (is_sorted-put cmp o (key_of row) row entries (tested _ sorted)))
+
+-- rows into which others were put one after another rise
+pub rise-put_each : {X K : Type 0} (key_of : X → K) (cmp : K → K → Ordering) → IsTotalOrder cmp → (added old new : List X) → ArePut key_of cmp added old new → rise key_of cmp old ≡ true → rise key_of cmp new ≡ true
+rise-put_each key_of cmp o added old new are_put up = ap (is_sorted cmp) are_put ∙ sorted_each key_of cmp o added (entries_of key_of cmp old) up

@@ -1,0 +1,13 @@
+use Rattle.std.proofs.Common.{◌≡◌, ◌+◌, ◌-◌, ◌≤◌, length, drop, vec_len, vec_capacity}
+use Rattle.std.specs.Prelude.{IsTrue}
+use Rattle.shop_rows.specs.Rows.{rise, entries_of, put_each}
+use Rattle.shop_rows.proofs.rows.put_each.Given as goal
+
+abbrev pub invariant-loop-row : goal.invariant-loop-row
+invariant-loop-row g l =
+    record {
+      rising : IsTrue (rise g.R.Row.key_of g.R.Row.cmp l.rows.items);
+      room : vec_len l.rows + (length l.added - l.row-index) ≤ vec_capacity l.rows;
+      rest : put_each g.R.Row.key_of g.R.Row.cmp (drop l.row-index l.added) (entries_of g.R.Row.key_of g.R.Row.cmp l.rows.items)
+          ≡ put_each g.R.Row.key_of g.R.Row.cmp l.added (entries_of g.R.Row.key_of g.R.Row.cmp l.fn.rows.items);
+    }

@@ -1,0 +1,35 @@
+-- The keys of rows.
+use Rattle.std.specs.Prelude.{ℕ, List}
+use Rattle.std.proofs.Common.{ap}
+use Rattle.std.proofs.lemmas.Map.Lookups.{exact_pairs, exact_unsigned}
+use Rattle.std.specs.Ordering.{nat_cmp}
+use Rattle.std.specs.FinMap.{IsAntisymmetric}
+use Rattle.std.specs.Cmp.{IsTotalOrder, on_total, then_total, nat_cmp_total}
+use Rattle.cut_measure.specs.Names.{Name, name_cmp}
+use Rattle.shop_machine.specs.declared.records.Material.{Material}
+use Rattle.shop_machine.specs.declared.records.Part.{Part}
+use Rattle.shop_machine.specs.declared.records.Job.{Job}
+use Rattle.shop_machine.specs.declared.records.Demand.{Demand}
+use Rattle.shop_machine.specs.declared.imports.ImportRow.{ImportRow}
+
+abbrev pub material_key : Material → List ℕ
+material_key m = m.code
+
+abbrev pub part_key : Part → Name
+part_key p = p.name
+
+abbrev pub job_key : Job → ℕ
+job_key j = j.act
+
+abbrev pub demand_key : Demand → ℕ
+demand_key d = d.number
+
+abbrev pub import_key : ImportRow → List ℕ
+import_key row = row.order
+
+pub names_total : IsTotalOrder name_cmp
+names_total = then_total (on_total (λ n. n.act) nat_cmp_total) (on_total (λ n. n.node) nat_cmp_total)
+
+-- only equal names tie
+pub names_exact : IsAntisymmetric name_cmp
+names_exact a b h = ap (λ (p : ℕ × ℕ). record { act = p.0; node = p.1 }) (exact_pairs nat_cmp nat_cmp exact_unsigned exact_unsigned (a.act, a.node) (b.act, b.node) h)

@@ -1,0 +1,4 @@
+pub mod Rows
+pub mod Keys
+pub mod Sums
+pub mod Adding

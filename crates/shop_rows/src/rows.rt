@@ -1,0 +1,238 @@
+ghost use Rattle.std.specs.declared.cmp.Ordering.{Ordering};
+ghost use Rattle.std.specs.declared.cmp.Ordering.TheVariants.{Equal, Greater};
+ghost use Rattle.std.specs.Prelude.{◌≡◌, ◌+◌, ◌++◌, ◌<◌, ◌≤◌, ℕ, List, IfSome, IsSome, IsTrue, Err, false, length, option_copied, vec_len, vec_capacity};
+ghost use Rattle.std.specs.List.{HoldsAt, insert_slice};
+ghost use Rattle.std.specs.List.Sorted.{IsBinarySearchResult, IsSearchInRange};
+ghost use Rattle.std.specs.Option.{option_to_list};
+ghost use Rattle.shop_rows.specs.Rows.{rise, row_at, IsPut, ArePut};
+
+use std::cmp::Ordering;
+use std::mem::replace;
+
+/// Rows that are kept in the order of their keys.
+pub trait Row: Drop {
+    ghost use Rattle.std.specs.Cmp.{IsTotalOrder};
+    ghost use Rattle.std.specs.FinMap.{IsAntisymmetric};
+
+    type Key: Copy;
+
+    ghost key_of: { Self → Self.Key };
+
+    ghost cmp: { Self.Key → Self.Key → Ordering };
+
+    /// The order of the row's key and another.
+    fn compare(&self, key: Self::Key) -> Ordering
+        ensures { result ≡ cmp (key_of self.now) key };
+
+    fn key(&self) -> Self::Key
+        ensures { result ≡ key_of self.now };
+
+    /// Where the row of a key is looked for first, among so many. What is found is the same wherever that is.
+    fn near(_key: Self::Key, len: usize) -> usize {
+        len
+    }
+
+    ghost total: { IsTotalOrder cmp };
+
+    ghost exact: { IsAntisymmetric cmp };
+}
+
+// Whether the row of a key stands at this place.
+fn stands_at<R: Row>(rows: &[R], key: R::Key, i: usize) -> bool
+    ensures { IsTrue result → i < length rows.now × HoldsAt (λ row. R.cmp (R.key_of row) key ≡ Equal) rows.now i }
+{
+    match rows.get(i) {
+        Some(row) => matches!(row.compare(key), Ordering::Equal),
+        None => false,
+    }
+}
+
+// Whether a key comes behind the last row.
+fn is_behind<R: Row>(rows: &[R], key: R::Key) -> bool
+    ensures { IsTrue result → IsBinarySearchResult (λ row. R.cmp (R.key_of row) key) rows.now (Err (length rows.now)) }
+{
+    match rows.last() {
+        Some(row) => matches!(row.compare(key), Ordering::Less),
+        None => true,
+    }
+}
+
+/// Where the row of a key stands, or where it would. Only where it neither stands at its likely place nor comes behind the
+/// last row are the rows searched.
+fn place<R: Row>(rows: &[R], key: R::Key) -> Result<usize, usize>
+    ensures range { IsSearchInRange result (length rows.now) }
+    ensures position { IsBinarySearchResult (λ row. R.cmp (R.key_of row) key) rows.now result }
+{
+    let near = R::near(key, rows.len());
+    if stands_at(rows, key, near) {
+        return Ok(near);
+    }
+    if is_behind(rows, key) {
+        return Err(rows.len());
+    }
+    rows.binary_search_by(|row| row.compare(key))
+}
+
+// Whether rows rise by their keys.
+fn rises<R: Row>(rows: &[R]) -> bool
+    ensures { IsTrue result → IsTrue (rise R.key_of R.cmp rows.now) }
+{
+    for i in 1..rows.len() {
+        if !matches!(rows[i - 1].compare(rows[i].key()), Ordering::Less) {
+            return false;
+        }
+    }
+    true
+}
+
+// Whether a key comes before the row at a place, or there is none.
+fn is_before<R: Row>(rows: &[R], i: usize, key: R::Key) -> bool
+    ensures { IsTrue result → i < length rows.now → HoldsAt (λ row. R.cmp (R.key_of row) key ≡ Greater) rows.now i }
+{
+    match rows.get(i) {
+        Some(row) => matches!(row.compare(key), Ordering::Greater),
+        None => true,
+    }
+}
+
+// Where rows that rise would stand together between two others.
+fn run_place<R: Row>(rows: &[R], added: &[R]) -> Option<usize>
+    requires { IsTrue (rise R.key_of R.cmp rows.now) }
+    ensures range { IfSome result (λ i. i ≤ length rows.now) }
+    ensures put { IfSome result (λ i. ArePut R.key_of R.cmp added.now rows.now (insert_slice rows.now i added.now)) }
+    ensures rising { IfSome result (λ i. IsTrue (rise R.key_of R.cmp (insert_slice rows.now i added.now))) }
+{
+    let Some(first) = added.first() else {
+        return None;
+    };
+    let Some(last) = added.last() else {
+        return None;
+    };
+    if !rises(added) {
+        return None;
+    }
+    let Err(i) = place(rows, first.key()) else {
+        return None;
+    };
+    if !is_before(rows, i, last.key()) {
+        return None;
+    }
+    Some(i)
+}
+
+/// The row of a key, where it stands.
+pub fn at<R: Row>(rows: &[R], key: R::Key) -> Option<&R>
+    requires { IsTrue (rise R.key_of R.cmp rows.now) }
+    ensures row { option_copied result ≡ row_at R.key_of R.cmp key rows.now }
+    ensures key { IfSome result (λ row. R.key_of row.now ≡ key) }
+{
+    match place(rows, key) {
+        Ok(i) => Some(&rows[i]),
+        Err(_) => None,
+    }
+}
+
+/// The row of a key.
+pub fn find<R: Row + Copy>(rows: &[R], key: R::Key) -> Option<R>
+    requires { IsTrue (rise R.key_of R.cmp rows.now) }
+    ensures row { result ≡ row_at R.key_of R.cmp key rows.now }
+    ensures key { IfSome result (λ row. R.key_of row ≡ key) }
+{
+    match at(rows, key) {
+        Some(row) => Some(*row),
+        None => None,
+    }
+}
+
+/// Puts a row in its place, and gives the one that it replaced.
+pub fn put<R: Row>(rows: &mut Vec<R>, row: R) -> Option<R>
+    requires rising { IsTrue (rise R.key_of R.cmp rows.old.items) }
+    requires room { vec_len rows.old < vec_capacity rows.old }
+    ensures put { IsPut R.key_of R.cmp row rows.old.items rows.new.items }
+    ensures replaced { result ≡ row_at R.key_of R.cmp (R.key_of row) rows.old.items }
+    ensures rising { IsTrue (rise R.key_of R.cmp rows.new.items) }
+    ensures len { vec_len rows.new ≤ vec_len rows.old + 1 }
+    ensures same_len { IsSome result → vec_len rows.new ≡ vec_len rows.old }
+    ensures capacity { vec_capacity rows.old ≤ vec_capacity rows.new }
+{
+    match place(rows, row.key()) {
+        Ok(i) => {
+            let old = replace(&mut rows[i], row);
+            Some(old)
+        }
+        Err(i) => {
+            match rows.insert(i, row) {
+                Ok(()) => (),
+                Err(_) => unreachable!(),
+            }
+            None
+        }
+    }
+}
+
+/// Puts a row in its place, if there is one.
+pub fn put_some<R: Row>(rows: &mut Vec<R>, row: Option<R>)
+    requires rising { IsTrue (rise R.key_of R.cmp rows.old.items) }
+    requires room { vec_len rows.old < vec_capacity rows.old }
+    ensures put { ArePut R.key_of R.cmp (option_to_list row) rows.old.items rows.new.items }
+    ensures rising { IsTrue (rise R.key_of R.cmp rows.new.items) }
+{
+    if let Some(row) = row {
+        let _ = put(rows, row);
+    }
+}
+
+// Moves the rows from `from` on to a place before them.
+fn move_to<R: Row>(rows: &mut [R], from: usize, i: usize)
+    requires order { i ≤ from }
+    requires range { from ≤ length rows.old }
+    ensures { (front back : List R) → rows.old ≡ front ++ back → length front ≡ from → rows.new ≡ insert_slice front i back }
+{
+    rows[i..].rotate_left(from - i);
+}
+
+/// Puts rows that stand together between two others, all by one move, and tells whether they do; else nothing changes.
+pub fn put_run<R: Row + Copy>(rows: &mut Vec<R>, added: &[R]) -> bool
+    requires rising { IsTrue (rise R.key_of R.cmp rows.old.items) }
+    requires room { vec_len rows.old + length added.now ≤ vec_capacity rows.old }
+    ensures put { IsTrue result → ArePut R.key_of R.cmp added.now rows.old.items rows.new.items }
+    ensures run { IsTrue result → (i : ℕ) × (rows.new.items ≡ insert_slice rows.old.items i added.now) }
+    ensures rising { IsTrue result → IsTrue (rise R.key_of R.cmp rows.new.items) }
+    ensures same { result ≡ false → rows.new ≡ rows.old }
+{
+    let Some(i) = run_place(rows, added) else {
+        return false;
+    };
+    let from = rows.len();
+    match rows.extend_from_slice(added) {
+        Ok(()) => (),
+        Err(_) => unreachable!(),
+    }
+    move_to(rows, from, i);
+    true
+}
+
+// Puts rows in their places, one after another.
+fn put_each<R: Row + Copy>(rows: &mut Vec<R>, added: &[R])
+    requires rising { IsTrue (rise R.key_of R.cmp rows.old.items) }
+    requires room { vec_len rows.old + length added.now ≤ vec_capacity rows.old }
+    ensures put { ArePut R.key_of R.cmp added.now rows.old.items rows.new.items }
+    ensures rising { IsTrue (rise R.key_of R.cmp rows.new.items) }
+{
+    for row in added {
+        let _ = put(rows, *row);
+    }
+}
+
+/// Puts rows in their places, as one after another.
+pub fn put_all<R: Row + Copy>(rows: &mut Vec<R>, added: &[R])
+    requires rising { IsTrue (rise R.key_of R.cmp rows.old.items) }
+    requires room { vec_len rows.old + length added.now ≤ vec_capacity rows.old }
+    ensures put { ArePut R.key_of R.cmp added.now rows.old.items rows.new.items }
+    ensures rising { IsTrue (rise R.key_of R.cmp rows.new.items) }
+{
+    if put_run(rows, added) {
+        return;
+    }
+    put_each(rows, added);
+}
