@@ -1,27 +1,24 @@
 -- Sums of parts, and a part more or less.
-use Rattle.std.proofs.Common.{◌≡◌, ℕ, ◌+◌, ◌*◌, ◌≤◌, Bool, true, false, List, [], ◌∷◌, ◌++◌, ◌<◌, length, get_or, take, drop, map, refl, sym, ap, ◌∙◌, arith}
-use Rattle.std.specs.Prelude.{Option, Some, sum_by, nat_le, ◌&&◌, cond, if◌then◌else◌}
+use Rattle.std.proofs.Common.{◌≡◌, ℕ, ◌+◌, ◌*◌, ◌≤◌, Bool, true, false, List, [], ◌∷◌, ◌<◌, length, get_or, take, refl, sym, ap, ◌∙◌, arith}
+use Rattle.std.specs.Prelude.{Some, nat_le, ◌&&◌, cond, if◌then◌else◌}
 use Rattle.std.specs.declared.cmp.Ordering.{Ordering}
 use Rattle.std.specs.declared.cmp.Ordering.TheVariants.{Less, Equal, Greater}
 use Rattle.std.specs.Ordering.{is_eq, ordering_reverse}
 use Rattle.std.specs.Cmp.{tied_itself}
 use Rattle.std.specs.Cmp.Lexicographic.{nat_list_cmp_total}
-use Rattle.std.specs.FinMap.{put, find, slice_cmp-IsAntisymmetric, nat_cmp-IsAntisymmetric}
-use Rattle.std.specs.FinMap.Entries.{find-put, by_order}
+use Rattle.std.specs.FinMap.{find, slice_cmp-IsAntisymmetric, nat_cmp-IsAntisymmetric}
+use Rattle.std.specs.FinMap.Entries.{find-put}
 use Rattle.std.proofs.lemmas.Bool.{leb-true, le-leb}
-use Rattle.std.specs.List.{insert_slice}
-use Rattle.std.proofs.lemmas.List.{take-append-drop}
-use Rattle.std.proofs.lemmas.List.Folds.{list_all-append, list_all_more}
-use Rattle.std.proofs.lemmas.List.Sums.{sum_by-cons, sum_by-append, sum_by-take-drop, sum_by_more}
+use Rattle.std.proofs.lemmas.List.Folds.{list_all_more}
+use Rattle.std.proofs.lemmas.List.Sums.{sum_by-cons, sum_by_more}
 use Rattle.cut_measure.specs.Codes.{code_cmp}
-use Rattle.cut_measure.specs.Names.{Name, name_cmp}
 use Rattle.shop_machine.specs.declared.records.Part.{Part}
 use Rattle.shop_machine.specs.declared.records.Column.{Column}
 use Rattle.shop_machine.specs.Columns.{is_counted}
-use Rattle.shop_machine.specs.Content.{of_found, counts_for, cells_in}
+use Rattle.shop_machine.specs.Content.{counts_for, cells_in}
 use Rattle.shop_rows.specs.declared.sums.Sums.{Sums}
-use Rattle.shop_rows.specs.Rows.{entries_of, rise, row_at, IsPut}
-use Rattle.shop_rows.specs.Sums.{sum_in, sums_key, found_sum, sum_at, counted_cells, cells_for, AreSumsOf, most_cells, all_small}
+use Rattle.shop_rows.specs.Rows.{entries_of, row_at, IsPut}
+use Rattle.shop_rows.specs.Sums.{sum_in, sums_key, found_sum, sum_at, counted_cells, cells_for, most_cells, all_small}
 
 equal : (o : Ordering) → is_eq o ≡ true → o ≡ Equal
 equal Less e = cc

@@ -1,9 +1,9 @@
 -- Parts that are added up, and totals that are their sums.
 use Rattle.std.proofs.Common.{◌≡◌, ℕ, ◌+◌, ◌<◌, ◌≤◌, ◌^◌, Bool, true, false, cond, ◌&&◌, List, [], ◌∷◌, ◌++◌, length, map, take, get_or, Option, Some, None, is_some, Ok, Err, Result, inl, inr, refl, sym, ap, subst, ◌∙◌, arith, append-nil, IsTrue, Vec}
-use Rattle.std.specs.Prelude.{unwrap_or, IfOk, T, ◌*◌, if◌then◌else◌}
+use Rattle.std.specs.Prelude.{unwrap_or, IfOk, T}
 use Rattle.std.specs.Bool.{Decides}
 use Rattle.std.specs.FinMap.{entries, entries_sorted, find, get, get-entries, is_sorted, values}
-use Rattle.std.specs.FinMap.Entries.{below_all, find-put}
+use Rattle.std.specs.FinMap.Entries.{below_all}
 use Rattle.std.specs.Cmp.{tied_itself}
 use Rattle.std.specs.declared.cmp.Ordering.TheVariants.{Equal}
 use Rattle.std.specs.Cmp.Lexicographic.{nat_list_cmp_total}
@@ -17,7 +17,6 @@ use Rattle.shop_machine.specs.declared.changes.MaterialTotals.{MaterialTotals}
 use Rattle.shop_machine.specs.declared.records.Column.{Column}
 use Rattle.shop_machine.specs.declared.records.Column.TheVariants.{Received, Stock, Rack, Pieces, Kerf, Scrap, Returned}
 use Rattle.shop_machine.specs.declared.records.Part.{Part}
-use Rattle.shop_machine.specs.Columns.{is_counted}
 use Rattle.shop_machine.specs.declared.records.Totals.{Totals}
 use Rattle.shop_tables.specs.Changing.{HasSums}
 use Rattle.shop_tables.specs.Listing.{AreAllTotals, HaveTotals, named}
@@ -25,8 +24,8 @@ use Rattle.shop_tables.specs.Shown.{Books}
 use Rattle.shop_tables.specs.declared.faults.TableFault.{TableFault}
 use Rattle.shop_store.specs.Checking.{AddsPart, AreNarrow, AreSumsIn, IsListOf, are_totals_for}
 use Rattle.shop_rows.specs.Adding.{has_sums}
-use Rattle.shop_rows.specs.Rows.{entries_of, row_at, IsPut}
-use Rattle.shop_rows.specs.Sums.{cells_for, counted_cells, found_sum, sum_at, sum_in, sums_key, total_in, totals_from}
+use Rattle.shop_rows.specs.Rows.{row_at, IsPut}
+use Rattle.shop_rows.specs.Sums.{cells_for, found_sum, sum_at, sums_key, total_in, totals_from}
 use Rattle.shop_store.specs.declared.adders.PartAdder.{PartAdder}
 use Rattle.shop_rows.specs.declared.sums.Sums.{Sums}
 use Rattle.shop_tables.proofs.Finding.{code_total, code_same}

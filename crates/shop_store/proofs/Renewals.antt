@@ -1,5 +1,5 @@
 -- What a crash in a renewal leaves is found again, in version 1 or in version 2.
-use Rattle.std.proofs.Common.{◌≡◌, ◌⊎◌, IsTrue, inl, inr, sym, subst, ◌∙◌}
+use Rattle.std.proofs.Common.{◌≡◌, IsTrue, inl, inr, sym, subst, ◌∙◌}
 use Rattle.std.proofs.Math.Logic.{∥∥₁_map}
 use Rattle.sqlite_disk.specs.declared.Disk.{Ghosts}
 use Rattle.sqlite_disk.specs.declared.Files.{Files}
@@ -15,7 +15,7 @@ use Rattle.sqlite.specs.State.{HasCleanDisk, Survives}
 use Rattle.sqlite.proofs.Theorems.{opens_again}
 use Rattle.shop_machine.specs.Content.{Content}
 use Rattle.shop_tables.specs.Earlier.{StandsInEarlier}
-use Rattle.shop_tables.specs.Held.{books, IsSettledAt, StandsFor}
+use Rattle.shop_tables.specs.Held.{books, StandsFor}
 use Rattle.shop_tables.specs.Shown.{StandsIn}
 use Rattle.shop_tables.proofs.Reopened.{committed_earlier, left_settled, left_settled_earlier}
 use Rattle.shop_store.specs.EarlierBooks.{IsSettledEarlierAt, IsSettledEitherAt}

@@ -1,4 +1,4 @@
-use Rattle.std.proofs.Common.{Ok, IfOk, ◌≡◌, refl, ap, subst, rules, ◌∙◌}
+use Rattle.std.proofs.Common.{Ok, IfOk, ◌≡◌, refl, ap, subst, ◌∙◌}
 use Rattle.std.specs.Bool.{Decides}
 use Rattle.sqlite.specs.Held.{state}
 use Rattle.shop_store.specs.Checking.{AreSumsIn}
