@@ -184,6 +184,7 @@ fn copies_are_equal_until_a_commit(rt: HostRuntime) -> Result<(), Fail> {
     let code = material.code;
     let (first, second) = (bar(code, 0)?, bar(code, 1)?);
     book.commit(receipt(rt.alloc(), material, first, second)?)?;
+    book.commit(worked(rt.alloc(), job(rt.alloc(), JobState::Waiting)?))?;
     let copy = book.copy(rt.alloc())?;
     assert!(rt; book == copy);
     book.commit(act(rt.alloc(), 2))?;
