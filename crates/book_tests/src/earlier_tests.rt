@@ -1,7 +1,7 @@
 //! Files of version 1, which an adopt brings to version 2.
 
 use crate::databases::{is_handed_back, number};
-use crate::opened_tests::{adopted, filled, filled_book, opened_book, stopping};
+use crate::opened_tests::{adopted, filled, filled_book, opened_book, stopping, whole_files};
 use crate::stopped_tests::{MOST_CALLS, stopped};
 use shop_store::SqlBook;
 use sqlite::{Alter, Connection, FileStore, Files};
@@ -13,9 +13,12 @@ use std::test::Fail;
 const TO_VERSION_ONE: &str =
     "INSERT INTO totals (material, received, stock, rack, pieces, kerf, scrap) SELECT material, received, stock, rack, pieces, kerf, scrap FROM totals2;DROP TABLE totals2;UPDATE meta SET value = 1 WHERE name = 'version'";
 
-// A shop of version 1 in files, in which all messages were handled.
-fn earlier(alloc: Global) -> Result<Connection<FileStore<Fuse<Memory>>>, Fail> {
-    let mut conn = filled_book(alloc)?.into_connection();
+// A shop of version 1 in these files, in which all messages were handled.
+fn earlier<D: Disk + Drop>(
+    alloc: Global,
+    files: Files<D>,
+) -> Result<Connection<FileStore<D>>, Fail> {
+    let mut conn = filled_book(alloc, files)?.into_connection();
     conn.execute_batch(TO_VERSION_ONE)?;
     Ok(conn)
 }
@@ -30,10 +33,15 @@ fn is_renewed<S: Alter + Drop>(book: SqlBook<S>) -> Result<bool, Fail> {
     )
 }
 
+// The shop of version 1 in these files is adopted, and goes on.
+fn is_adopted<D: Disk + Drop>(alloc: Global, files: Files<D>) -> Result<bool, Fail> {
+    let book = adopted(alloc, earlier(alloc, files)?)?;
+    is_renewed(filled(alloc, book)?)
+}
+
 #[test]
 fn a_shop_of_version_one_goes_on(rt: HostRuntime) -> Result<(), Fail> {
-    let book = adopted(rt.alloc(), earlier(rt.alloc())?)?;
-    assert!(rt; is_renewed(filled(rt.alloc(), book)?)?);
+    assert!(rt; is_adopted(rt.alloc(), whole_files(rt.alloc()))?);
     Ok(())
 }
 
@@ -43,11 +51,16 @@ const ITS_OWN: &[&str] = &[
     "SELECT count(*) FROM totals",
 ];
 
+// With another total it is handed back.
+fn is_wrong<D: Disk + Drop>(alloc: Global, files: Files<D>) -> Result<bool, Fail> {
+    let mut conn = earlier(alloc, files)?;
+    conn.execute_batch("UPDATE totals SET kerf = kerf + 1")?;
+    Ok(is_handed_back(alloc, conn, ITS_OWN)?)
+}
+
 #[test]
 fn a_wrong_total_of_version_one_is_a_wrong_version(rt: HostRuntime) -> Result<(), Fail> {
-    let mut conn = earlier(rt.alloc())?;
-    conn.execute_batch("UPDATE totals SET kerf = kerf + 1")?;
-    assert!(rt; is_handed_back(rt.alloc(), conn, ITS_OWN)?);
+    assert!(rt; is_wrong(rt.alloc(), whole_files(rt.alloc()))?);
     Ok(())
 }
 
@@ -59,13 +72,14 @@ fn copied(alloc: Global, disk: &Memory) -> Result<Memory, Fail> {
     Ok(copy)
 }
 
-fn files_of<D: Disk + Drop>(conn: Connection<FileStore<D>>) -> Files<D> {
-    conn.into_store().close()
+// The files of a shop of version 1.
+fn earlier_files<D: Disk + Drop>(alloc: Global, files: Files<D>) -> Result<Files<D>, Fail> {
+    Ok(earlier(alloc, files)?.into_store().close())
 }
 
 // Its files, of which one stops after so many calls.
 fn stopping_files(alloc: Global, in_log: bool, calls: u64) -> Result<Files<Fuse<Memory>>, Fail> {
-    let files = files_of(earlier(alloc)?);
+    let files = earlier_files(alloc, whole_files(alloc))?;
     let log = copied(alloc, files.log.inner())?;
     let db = copied(alloc, files.db.inner())?;
     Ok(stopping(log, db, in_log, calls))

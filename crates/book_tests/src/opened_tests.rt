@@ -30,6 +30,11 @@ pub fn stopping(log: Memory, db: Memory, in_log: bool, calls: u64) -> Files<Fuse
     }
 }
 
+/// New files of which none stops.
+pub fn whole_files(alloc: Global) -> Files<Fuse<Memory>> {
+    new_files(alloc, true, u64::MAX)
+}
+
 /// New files, of which one stops after so many calls.
 pub fn new_files(alloc: Global, in_log: bool, calls: u64) -> Files<Fuse<Memory>> {
     stopping(Memory::new(alloc), Memory::new(alloc), in_log, calls)
@@ -100,9 +105,12 @@ pub fn filled<B: Book + Drop>(alloc: Global, mut book: B) -> Result<B, Fail> {
     Ok(book)
 }
 
-/// A book over new files, in which all messages were handled.
-pub fn filled_book(alloc: Global) -> Result<SqlBook<FileStore<Fuse<Memory>>>, Fail> {
-    filled(alloc, opened_book(alloc, new_files(alloc, true, u64::MAX))?)
+/// The book of these files, in which all messages were handled.
+pub fn filled_book<D: Disk + Drop>(
+    alloc: Global,
+    files: Files<D>,
+) -> Result<SqlBook<FileStore<D>>, Fail> {
+    filled(alloc, opened_book(alloc, files)?)
 }
 
 // The answers are those at the end, and the last message under its old number gets its kept reply; no failure is counted.
@@ -124,10 +132,15 @@ fn is_made<B: Book + Drop>(alloc: Global, made: Option<B>) -> Result<bool, Fail>
     }
 }
 
+// The files' book is closed and opened again.
+fn is_opened_again<D: Disk + Drop>(alloc: Global, files: Files<D>) -> Result<bool, Fail> {
+    let again = reopen_book(alloc, filled_book(alloc, files)?, options());
+    is_made(alloc, again)
+}
+
 #[test]
 fn a_book_is_opened_again(rt: HostRuntime) -> Result<(), Fail> {
-    let again = reopen_book(rt.alloc(), filled_book(rt.alloc())?, options());
-    assert!(rt; is_made(rt.alloc(), again)?);
+    assert!(rt; is_opened_again(rt.alloc(), whole_files(rt.alloc()))?);
     Ok(())
 }
 
@@ -137,9 +150,13 @@ fn goes_on_adopted<S: Alter + Drop>(alloc: Global, book: SqlBook<S>) -> Result<b
     is_made(alloc, Some(again))
 }
 
+fn is_adopted_again<D: Disk + Drop>(alloc: Global, files: Files<D>) -> Result<bool, Fail> {
+    goes_on_adopted(alloc, filled_book(alloc, files)?)
+}
+
 #[test]
 fn a_connection_is_adopted_again(rt: HostRuntime) -> Result<(), Fail> {
-    assert!(rt; goes_on_adopted(rt.alloc(), filled_book(rt.alloc())?)?);
+    assert!(rt; is_adopted_again(rt.alloc(), whole_files(rt.alloc()))?);
     Ok(())
 }
 
