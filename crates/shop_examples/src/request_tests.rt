@@ -1,48 +1,14 @@
-ghost use Rattle.std.specs.Prelude.{None};
-
+use crate::{Pieces, SIZES};
 use shop_request::{Fault, Inbound, Route, Routes, read_request};
-use shop_text::{Failed, Source};
+use shop_text::Counted;
 use std::alloc::Global;
 use std::process::Abort;
 use std::test::Fail;
 
-// Gives at most so many bytes a read.
-#[derive(Drop)]
-struct Pieces<'a> {
-    rest: &'a [u8],
-    size: usize,
-    reads: u64,
-}
-
-impl Source for Pieces<'_> {
-    ghost left = { λ _. None };
-
-    ghost failed = { λ _. 0 };
-
-    ghost reads = { λ s. s.reads };
-
-    fn read(&mut self, buffer: &mut [u8]) -> Result<usize, Failed> {
-        self.reads = self.reads.saturating_add(1);
-        let count = self.size.min(self.rest.len()).min(buffer.len());
-        buffer[..count].copy_from_slice(&self.rest[..count]);
-        self.rest = &self.rest[count..];
-        Ok(count)
-    }
-
-    fn failures(&self) -> u64 {
-        0
-    }
-}
-
-const SIZES: [usize; 8] = [1, 2, 3, 17, 64, 8191, 8192, 300_000];
-
 fn read_in(alloc: Global, input: &[u8], size: usize) -> Result<Inbound, Fail> {
     let routes = Routes::new(alloc)?;
-    let mut source = Pieces {
-        rest: input,
-        size,
-        reads: 0,
-    };
+    let mut pieces = Pieces { rest: input, size };
+    let mut source = Counted::new(&mut pieces);
     match read_request(alloc, &routes, &mut source) {
         Ok(inbound) => Ok(inbound),
         Err(_) => Err("not read")?,
