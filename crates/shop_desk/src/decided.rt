@@ -17,12 +17,12 @@ use crate::found::{found_leaves, found_lines, material_for, part_for, plan_for, 
 use crate::importing::import_order;
 use cut_measure::{Kind, PartName};
 use cut_tree::{Halt, Plan};
+use shop_book::{Book, BookFault};
 use shop_rules::{
     Change, Code, Command, FoundLeaf, ImportRow, Job, KeptMessage, LineList, Material, Part,
     Refusal, Reply, Text, Totals, decide_break, decide_done, decide_give_back, decide_material,
     decide_order, decide_receive, decide_release, decide_reserve, decide_scrap,
 };
-use shop_book::{Book, BookFault};
 use std::alloc::{AllocError, Global};
 
 // Adds a material.

@@ -19,11 +19,11 @@ use crate::decided::{decide, keeping_message};
 use crate::found::{demands_for, material_for};
 use crate::racks::RackTaker;
 use cut_measure::PartName;
+use shop_book::{Book, BookFault};
 use shop_rules::{
     Code, FoundList, Kept, KeptMessage, Material, Message, Pair, Part, Query, RackList, Refusal,
     Reply, Text, answer_bound, answer_plan, kept_reply, message_text, reply_text,
 };
-use shop_book::{Book, BookFault};
 use std::alloc::{AllocError, Global};
 
 // Whether two texts are one.

@@ -14,11 +14,11 @@ ghost use Rattle.shop_book.specs.Failures.{CountsFailure};
 ghost use Rattle.shop_book.specs.Kept.{KeepsBook, Says};
 
 use cut_tree::{Cause, Leaf, Plan};
+use shop_book::{Book, BookFault};
 use shop_rules::{
     Demand, FoundDemand, FoundLeaf, FoundLine, FoundList, Job, Material, OrderLine, Part, Totals,
     can_be_planned, no_totals,
 };
-use shop_book::{Book, BookFault};
 use std::alloc::{AllocError, Global};
 
 /// The material of a part that was found.

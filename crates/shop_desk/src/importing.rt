@@ -18,12 +18,12 @@ ghost use Rattle.shop_desk.specs.Decided.{IsJudged, CountsOrDisagrees};
 
 use crate::found::found_lines;
 use cut_measure::Code;
+use shop_book::Book;
 use shop_files::{OrdersFault, Problem, TextCause, read_cgcut, read_orders};
 use shop_rules::{
     Change, Form, ImportRow, LineList, Refusal, Reply, Text, decide_again, decide_lines,
     decide_problem, kept_reply, problem_lines, repeats, unread_refusal,
 };
-use shop_book::Book;
 use std::alloc::{AllocError, Global};
 
 // The lines of an order file, where the text is one.

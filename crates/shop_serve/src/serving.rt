@@ -1,8 +1,8 @@
 ghost use Rattle.std.specs.Prelude.{◌≡◌, IfErr, OnOk};
 ghost use Rattle.shop_serve.specs.Serving.{HasServed, IsUnserved};
 
-use shop_request::Routes;
 use shop_book::Book;
+use shop_request::Routes;
 use shop_text::{Counted, Sink, Source};
 use shop_wire::serve_with;
 use std::alloc::{AllocError, Global};

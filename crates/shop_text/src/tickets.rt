@@ -14,8 +14,8 @@ use crate::printing::{PrintFault, print, push_number, push_part_start, push_plac
 use crate::streams::Sink;
 use cut_measure::{Axis, Kind, write_mm};
 use cut_tree::{Plan, Step, Token};
-use shop_machine::{Demand, Job, JobState, Material, Part, Refusal};
 use shop_book::{Book, BookFault};
+use shop_machine::{Demand, Job, JobState, Material, Part, Refusal};
 use std::alloc::{AllocError, Global};
 
 /// A node of a plan, with the row of its demand where it is a piece.

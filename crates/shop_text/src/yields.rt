@@ -11,8 +11,8 @@ ghost use Rattle.shop_text.specs.Yields.{TakesLine, kind_text, line_end, part_li
 use crate::printing::{PrintFault, print, push_number, push_part_start, push_size};
 use crate::streams::Sink;
 use cut_measure::{Code, Kind};
-use shop_machine::{Part, PartVisitor, Refusal, State, Totals};
 use shop_book::Book;
+use shop_machine::{Part, PartVisitor, Refusal, State, Totals};
 use std::alloc::{AllocError, Global};
 
 fn kind_word(kind: Kind) -> &'static str

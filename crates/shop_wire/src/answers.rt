@@ -9,9 +9,9 @@ ghost use Rattle.shop_wire.specs.Tellings.{IsRead};
 
 use crate::limits::LONGEST_LINE;
 use serde_json::Value;
+use shop_book::Book;
 use shop_desk::{ask, handle};
 use shop_rules::{Refusal, Reply, Text, read_message, read_query, reply_text};
-use shop_book::Book;
 use std::alloc::{AllocError, Global};
 
 // The reply to a value that is no message.

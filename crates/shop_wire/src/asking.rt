@@ -15,10 +15,10 @@ ghost use Rattle.shop_wire.specs.Tellings.{IsRead, IsToldOf, PrintsCounted, tell
 use crate::answers::value_in;
 use crate::telling::Told;
 use cut_measure::{MOST_NUMBERS, read_number};
+use shop_book::Book;
 use shop_desk::{ask, handle};
 use shop_request::Route;
 use shop_rules::{Code, Message, PartName, Query, Refusal, Reply, read_message, read_query};
-use shop_book::Book;
 use shop_text::{report_text, ticket_text};
 use std::alloc::Global;
 use std::str;

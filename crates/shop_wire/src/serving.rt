@@ -10,8 +10,8 @@ ghost use Rattle.shop_wire.specs.declared.faults.WireFault.TheVariants.{Read, Wr
 use crate::asking::tell;
 use crate::faults::WireFault;
 use crate::telling::{fault_text, told_text};
-use shop_request::{Fault, Inbound, Route, Routes, StreamFault, read_request};
 use shop_book::Book;
+use shop_request::{Fault, Inbound, Route, Routes, StreamFault, read_request};
 use shop_text::{Sink, Source, write_all};
 use std::alloc::{AllocError, Global};
 
