@@ -12,7 +12,7 @@ fn shown(alloc: Global) -> Result<Connection<MemStore>, Fail> {
     Ok(sent(alloc, SqlBook::in_memory(alloc)?, 7)?.into_connection())
 }
 
-// Each row that the messages put or moved is counted once.
+// Rows that the messages put or moved.
 const SEEN: &[(&str, i64)] = &[
     (
         "SELECT count(*) FROM sqlite_schema WHERE type = 'table'",

@@ -1,7 +1,7 @@
 //! The worked examples of the shop, as lines: the file `stdin` has the messages and queries, `stdout` each with its reply.
 //! A line that begins with `#` is the title of an example, which begins with fresh books. Each line is answered over a book
 //! in memory and over one in tables, which have to give the same bytes. A line that is a text of JSON is a request of HTTP:
-//! it is served whole and in pieces of each of these sizes, and gets the same answer each time.
+//! it is served whole and in pieces of eight sizes, and gets the same answer each time.
 #![tactic(auto)]
 
 #[cfg(test)]
