@@ -14,9 +14,13 @@ use Rattle.shop_words.specs.declared.words.Request.TheVariants.{Replay, Plan, Se
 use Rattle.shop_words.specs.declared.words.Word.{Word}
 use Rattle.shop_words.specs.declared.words.Word.TheVariants as word
 
+-- a word or an option with one value
+abbrev pub value_rule : Text → Rule
+value_rule name = record (new_rule name) { action = Some Set }
+
 -- an option with one value
 abbrev pub option_rule : Text → Rule
-option_rule name = record (new_rule name) { long = Some name; action = Some Set; value_names = 1 }
+option_rule name = record (value_rule name) { long = Some name; value_names = 1 }
 
 -- one that is required, with a number
 abbrev pub number_rule : Text → ValueParser → Rule
@@ -28,7 +32,7 @@ path_rule name = record (option_rule name) { required = true }
 
 -- a word that is required
 abbrev pub word_rule : Text → Rule
-word_rule name = record (new_rule name) { action = Some Set; required = true }
+word_rule name = record (value_rule name) { required = true }
 
 abbrev pub store_rule : Rule
 store_rule = path_rule (codes "store")
@@ -43,12 +47,15 @@ limit_rule = record (option_rule (codes "limit")) { parser = Some (Signed (pos 1
 abbrev pub job_rule : Rule
 job_rule = record (word_rule (codes "JOB")) { parser = Some (Signed (pos 1) (pos 2147483647)) }
 
+abbrev pub kerf_rule : Rule
+kerf_rule = number_rule (codes "kerf") (Signed (pos 0) (pos 200))
+
+abbrev pub step_rule : Rule
+step_rule = number_rule (codes "step") (Signed (pos 0) (pos 200000))
+
 -- `plan FILE --kerf N --step N`
 abbrev pub plan_app : App
-plan_app =
-    with_rule (with_rule (with_rule (new_app (codes "plan")) (word_rule (codes "FILE")))
-    (number_rule (codes "kerf") (Signed (pos 0) (pos 200))))
-    (number_rule (codes "step") (Signed (pos 0) (pos 200000)))
+plan_app = with_rule (with_rule (with_rule (new_app (codes "plan")) (word_rule (codes "FILE"))) kerf_rule) step_rule
 
 abbrev pub replay_app : App
 replay_app = new_app (codes "replay")

@@ -66,16 +66,20 @@ enum Word {
     Yield,
 }
 
+// A word or an option with one value.
+fn value_arg<'a>(alloc: Global, name: &'a str, about: &'a str) -> Arg<'a>
+    ensures rule { rule_of result ≡ line.value_rule name.entry.now }
+    ensures local { result.global ≡ false }
+{
+    Arg::new(alloc, name).action(ArgAction::Set).help(about)
+}
+
 // An option with a value.
 fn option_arg<'a>(alloc: Global, name: &'a str, value: &'a str, about: &'a str) -> Arg<'a>
     ensures rule { rule_of result ≡ line.option_rule name.entry.now }
     ensures local { result.global ≡ false }
 {
-    Arg::new(alloc, name)
-        .long(name)
-        .action(ArgAction::Set)
-        .value_name(value)
-        .help(about)
+    value_arg(alloc, name, about).long(name).value_name(value)
 }
 
 // An option that has to be there, with a number.
@@ -101,10 +105,7 @@ fn word_arg<'a>(alloc: Global, name: &'a str, about: &'a str) -> Arg<'a>
     ensures rule { rule_of result ≡ line.word_rule name.entry.now }
     ensures local { result.global ≡ false }
 {
-    Arg::new(alloc, name)
-        .required(true)
-        .action(ArgAction::Set)
-        .help(about)
+    value_arg(alloc, name, about).required(true)
 }
 
 fn store_arg<'a>(alloc: Global) -> Arg<'a>
@@ -118,28 +119,40 @@ fn store_arg<'a>(alloc: Global) -> Arg<'a>
     )
 }
 
-fn plan_command<'a>(alloc: Global) -> Result<Command<'a>, AllocError>
-    ensures app { IfOk result (λ command. app_of command ≡ line.plan_app) }
-    ensures local { IfOk result (λ command. (fields_of command).has_globals ≡ false) }
+fn kerf_arg<'a>(alloc: Global) -> Arg<'a>
+    ensures rule { rule_of result ≡ line.kerf_rule }
+    ensures local { result.global ≡ false }
 {
-    let kerf = number_arg(
+    number_arg(
         alloc,
         "kerf",
         value_parser!(u32).range(0..=200),
         "What the saw takes, in tenths of a millimetre: 0 to 200",
-    );
-    let step = number_arg(
+    )
+}
+
+fn step_arg<'a>(alloc: Global) -> Arg<'a>
+    ensures rule { rule_of result ≡ line.step_rule }
+    ensures local { result.global ≡ false }
+{
+    number_arg(
         alloc,
         "step",
         value_parser!(u32).range(0..=200000),
         "The step to which sides are rounded, in tenths of a millimetre: 0 to 200000",
-    );
+    )
+}
+
+fn plan_command<'a>(alloc: Global) -> Result<Command<'a>, AllocError>
+    ensures app { IfOk result (λ command. app_of command ≡ line.plan_app) }
+    ensures local { IfOk result (λ command. (fields_of command).has_globals ≡ false) }
+{
     Command::new(alloc, "plan")
         .about("Plans the rectangle of a problem file")
         .after_help("Example:\n  cutshop plan sheet.txt --kerf 30 --step 10")
         .arg(word_arg(alloc, "FILE", "The problem file"))?
-        .arg(kerf)?
-        .arg(step)
+        .arg(kerf_arg(alloc))?
+        .arg(step_arg(alloc))
 }
 
 fn replay_command<'a>(alloc: Global) -> Command<'a>
