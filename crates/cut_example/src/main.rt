@@ -3,6 +3,8 @@
 
 #[cfg(test)]
 mod measure_tests;
+#[cfg(test)]
+mod plan_tests;
 mod plans;
 #[cfg(test)]
 mod tree_tests;

@@ -7,8 +7,6 @@ mod faults;
 mod laws;
 mod lengths;
 mod sheets;
-#[cfg(test)]
-mod tests;
 
 pub use bars::{Proposal, have_demands, plan_bar};
 pub use bounds::{Bound, least_units};
