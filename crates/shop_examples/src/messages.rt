@@ -1,10 +1,9 @@
-//! The lines of the tests: a sheet is cut, and then a remnant of it.
+//! The messages of one shop, in which a sheet is cut, and then a remnant of it.
 
+use crate::lines::replayed;
+use anyhow::{Error, Result};
 use shop_store::{Book, MemBook};
-use shop_text::Counted;
-use shop_wire::replay;
 use std::alloc::Global;
-use std::test::Fail;
 
 /// The messages, in order.
 pub const MESSAGES: [&str; 7] = [
@@ -60,18 +59,6 @@ pub const ANSWERS: &str =
 /// What is answered where the store failed.
 pub const STORE_FAULT: &str = r#"{"name":"StoreFault","refused":99}"#;
 
-/// What is written for these lines.
-pub fn replied<B: Book>(alloc: Global, book: &mut B, lines: &str) -> Result<Vec<u8>, Fail> {
-    let mut out = Vec::new(alloc);
-    let mut source = Counted::new(lines.as_bytes());
-    let mut sink = Counted::new(&mut out);
-    let Ok(_) = replay(alloc, &mut source, &mut sink, book) else {
-        return Err(Fail::from("no reply"));
-    };
-    drop(sink);
-    Ok(out)
-}
-
 /// Whether a line of reply is this one.
 pub fn is_reply(line: &[u8], reply: &str) -> bool {
     match str::from_utf8(line) {
@@ -80,33 +67,55 @@ pub fn is_reply(line: &[u8], reply: &str) -> bool {
     }
 }
 
+/// Sends the first messages, and tells the replies, whatever they are.
+pub fn send<B: Book>(alloc: Global, book: &mut B, count: usize) -> Result<Vec<u8>> {
+    let mut told = Vec::new(alloc);
+    for message in MESSAGES.iter().take(count) {
+        told.extend_from_slice(&replayed(alloc, book, message.as_bytes())?)?;
+    }
+    Ok(told)
+}
+
 /// Sends the messages in order until the store fails, and tells how many were answered before. Another reply than the
-/// message's own or 99 is a failure of the test.
-pub fn answered<B: Book>(alloc: Global, book: &mut B) -> Result<usize, Fail> {
+/// message's own or 99 is an error.
+pub fn answered<B: Book>(alloc: Global, book: &mut B) -> Result<usize> {
     let mut count = 0usize;
     for (message, reply) in MESSAGES.iter().zip(REPLIES.iter()) {
-        let told = replied(alloc, book, message)?;
+        let told = replayed(alloc, book, message.as_bytes())?;
         if is_reply(&told, STORE_FAULT) {
             return Ok(count);
         }
         if !is_reply(&told, reply) {
-            return Err(Fail::from("another reply"));
+            return Err(Error::msg("another reply"));
         }
         count = count.saturating_add(1);
     }
     Ok(count)
 }
 
-/// The answers where so many messages were handled, and no others.
-pub fn answers_after(alloc: Global, count: usize) -> Result<Vec<u8>, Fail> {
-    let mut book = sent(alloc, MemBook::new(alloc), count)?;
-    replied(alloc, &mut book, QUESTIONS)
+/// All messages, sent again, get their replies, and then the answers are those at the end; no failure is counted.
+pub fn come_to_the_end<B: Book>(alloc: Global, book: &mut B) -> Result<()> {
+    if answered(alloc, book)? < MESSAGES.len() {
+        return Err(Error::msg("a message is not answered"));
+    }
+    let told = replayed(alloc, book, QUESTIONS.as_bytes())?;
+    if told.as_slice() != ANSWERS.as_bytes() || book.failures() > 0 {
+        return Err(Error::msg("another end"));
+    }
+    Ok(())
 }
 
-/// Sends the first messages, whatever is replied.
-pub fn sent<B: Book + Drop>(alloc: Global, mut book: B, count: usize) -> Result<B, Fail> {
-    for message in MESSAGES.iter().take(count) {
-        let _told = replied(alloc, &mut book, message)?;
+/// The answers before the messages and after each of them. Each message changes them.
+pub fn all_answers(alloc: Global) -> Result<Vec<Vec<u8>>> {
+    let mut book = MemBook::new(alloc);
+    let mut all = vec![in alloc; replayed(alloc, &mut book, QUESTIONS.as_bytes())?]?;
+    for message in &MESSAGES {
+        let _reply = replayed(alloc, &mut book, message.as_bytes())?;
+        let answers = replayed(alloc, &mut book, QUESTIONS.as_bytes())?;
+        if all.last() == Some(&answers) {
+            return Err(Error::msg("a message changes no answer"));
+        }
+        all.push(answers)?;
     }
-    Ok(book)
+    Ok(all)
 }

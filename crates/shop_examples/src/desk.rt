@@ -1,0 +1,147 @@
+//! Messages that are handled at once, and decisions at totals and numbers that no lines come to.
+
+ghost use Rattle.std.specs.Prelude.{◌≤◌};
+
+use crate::lines::{Books, same};
+use anyhow::{Error, Result};
+use serde_json::Value;
+use shop_desk::run;
+use shop_machine::{decide_problem, decide_receive, no_totals};
+use shop_rules::{
+    Change, Code, FoundLine, Kind, Limits, Material, Message, OrderLine, Refusal, Reply, Size,
+    Text, Totals, read_message, reply_text,
+};
+use shop_store::Book;
+use std::alloc::Global;
+
+// The messages of a list.
+fn messages_of(alloc: Global, given: &str) -> Result<Vec<Message>> {
+    let value = Value::from_str(alloc, given)?;
+    let mut messages = Vec::new(alloc);
+    if let Value::Array(parts) = &value {
+        for part in parts {
+            match read_message(alloc, part) {
+                Ok(message) => messages.push(message)?,
+                Err(_) => return Err(Error::msg("no message")),
+            }
+        }
+    }
+    Ok(messages)
+}
+
+// What a book replies to messages, a line each.
+fn run_over<B: Book>(alloc: Global, book: &mut B, messages: &[Message]) -> Result<String> {
+    let mut text = String::new(alloc);
+    for reply in run(alloc, book, messages)?.iter() {
+        text.push_str(reply_text(alloc, reply)?.as_str())?;
+        text.push_str("\n")?;
+    }
+    if book.failures() > 0 {
+        return Err(Error::msg("a book failed"));
+    }
+    Ok(text)
+}
+
+/// What both books reply to the messages of a list, a line each.
+pub fn run_over_both(alloc: Global, books: &mut Books, given: &str) -> Result<String> {
+    let messages = messages_of(alloc, given)?;
+    let first = run_over(alloc, &mut books.memory, &messages)?;
+    same(first, run_over(alloc, &mut books.tables, &messages)?)
+}
+
+// A material whose bars are cut, by its code.
+fn row_of(steel: Code) -> Result<Material> {
+    match Limits::new(Kind::Bar, 3, 20, 1) {
+        Some(limits) => Ok(Material {
+            code: steel,
+            kind: Kind::Bar,
+            limits,
+        }),
+        None => Err(Error::msg("no limits")),
+    }
+}
+
+// Totals of a material of which so much was received and nothing is left.
+fn spent(received: u64) -> Totals {
+    Totals {
+        received,
+        scrap: received,
+        ..no_totals()
+    }
+}
+
+// The refusal's number, and 0 for a change.
+fn number_of(decided: Result<Change, Refusal>) -> Result<u32> {
+    match decided {
+        Ok(_) => Ok(0),
+        Err(Refusal::NoMemory) => Err(Error::msg("no memory")),
+        Err(refusal) => Ok(refusal.number()),
+    }
+}
+
+// What is decided of a receipt of bars one tenth long, where so much was received.
+fn received_told(alloc: Global, steel: Code, received: u64, act: u32, count: u32) -> Result<u32>
+    requires { 1 ≤ act }
+{
+    let row = Some(row_of(steel)?);
+    let totals = spent(received);
+    let decided = decide_receive(alloc, row, totals, act, steel, steel, 1, 1, count);
+    number_of(decided)
+}
+
+// What is decided of a problem of one bar one tenth long and a piece as long, where so much was received.
+fn imported_told(alloc: Global, steel: Code, received: u64, act: u32, first: u32) -> Result<u32>
+    requires act { 1 ≤ act }
+    requires first { 1 ≤ first }
+{
+    let Some(size) = Size::new(Kind::Bar, 1, 1) else {
+        return Err(Error::msg("no size"));
+    };
+    let line = OrderLine {
+        line: 1,
+        material: steel,
+        w: 1,
+        h: 1,
+        turn: false,
+        count: 1,
+        worth: 1,
+    };
+    let lines = [FoundLine {
+        line,
+        material: Some(row_of(steel)?),
+    }];
+    let known = Some(row_of(steel)?);
+    let totals = spent(received);
+    let text = Text::new(alloc);
+    let decided = decide_problem(
+        alloc, false, known, totals, steel, steel, text, size, &lines, act, first,
+    );
+    number_of(decided)
+}
+
+/// The refusals, or 0, of receipts and of problems at the last cell of a material, one behind it, and at the last numbers of an
+/// act and of a demand, and one behind them.
+pub fn last_cells(alloc: Global) -> Result<String> {
+    let Some(steel) = Code::read("STEEL") else {
+        return Err(Error::msg("no code"));
+    };
+    let receipts = [
+        received_told(alloc, steel, 999_999_999_999_999, 1, 1)?,
+        received_told(alloc, steel, 999_999_999_999_999, 1, 2)?,
+        received_told(alloc, steel, 0, 2_147_483_647, 1)?,
+        received_told(alloc, steel, 0, 2_147_483_648, 1)?,
+    ];
+    let problems = [
+        imported_told(
+            alloc,
+            steel,
+            999_999_999_999_999,
+            2_147_483_647,
+            2_147_483_647,
+        )?,
+        imported_told(alloc, steel, 1_000_000_000_000_000, 2_147_483_648, 1)?,
+        imported_told(alloc, steel, 0, 2_147_483_648, 1)?,
+        imported_told(alloc, steel, 0, 1, 2_147_483_648)?,
+    ];
+    Ok(format!(in alloc; "receipts {receipts:?}, problems {problems:?}")?)
+}

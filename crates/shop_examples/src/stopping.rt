@@ -1,0 +1,217 @@
+//! A file stops at one of its calls, and each call behind it fails; what a crash leaves is opened, and goes on.
+
+use crate::databases::{book_over, number};
+use crate::lines::replayed;
+use crate::messages::{MESSAGES, QUESTIONS, STORE_FAULT, all_answers, answered, come_to_the_end};
+use crate::stores::{Start, earlier_start, opened};
+use anyhow::{Error, Result};
+use shop_store::Book;
+use sqlite::{Alter, Connection, Files};
+use sqlite_disk::{Crash, Disk};
+use std::alloc::Global;
+
+// No run makes more calls of a file.
+const MOST_CALLS: u64 = 500;
+
+// What is done to files, and what is known of them.
+#[derive(Drop)]
+struct Trial {
+    start: Start,
+    /// Whether the messages are sent to the book, once it is adopted.
+    sends: bool,
+    /// So many runs in which nothing was wanting are followed by others, since a file may still be written behind the last
+    /// reply.
+    behind: u64,
+    /// The answers before the messages and after each of them.
+    answers: Vec<Vec<u8>>,
+}
+
+// What a run left of a store, or of its files.
+#[derive(Drop)]
+struct Left<T> {
+    rest: T,
+    /// Whether the database was adopted.
+    adopted: bool,
+    /// How many messages were accepted.
+    accepted: usize,
+}
+
+// Each line is the other's, or a fault of the store.
+fn are_right(told: &[u8], right: &[u8]) -> bool {
+    let told = str::from_utf8(told).unwrap_or("");
+    let right = str::from_utf8(right).unwrap_or("");
+    told.lines().count() == right.lines().count()
+        && told
+            .lines()
+            .zip(right.lines())
+            .all(|(line, other)| line == other || line == STORE_FAULT)
+}
+
+// Sends the messages until the store fails; then each question gets its right answer or a fault of the store, and each
+// message its own reply, until the store fails again. How many were accepted.
+fn run_out<B: Book>(alloc: Global, book: &mut B, answers: &[Vec<u8>]) -> Result<usize> {
+    let accepted = answered(alloc, book)?;
+    let told = replayed(alloc, book, QUESTIONS.as_bytes())?;
+    match answers.get(accepted) {
+        Some(right) if are_right(&told, right) => {}
+        _ => return Err(Error::msg("a wrong answer")),
+    }
+    Ok(accepted.max(answered(alloc, book)?))
+}
+
+// Adopts the database and, in a trial that does, sends the messages.
+fn run_store<S: Alter + Drop>(
+    alloc: Global,
+    conn: Connection<S>,
+    trial: &Trial,
+) -> Result<Left<S>> {
+    let accepted = trial.start.accepted;
+    match book_over(alloc, conn) {
+        Ok(mut book) => {
+            let accepted = if trial.sends {
+                run_out(alloc, &mut book, &trial.answers)?
+            } else {
+                accepted
+            };
+            Ok(Left {
+                rest: book.into_connection().into_store(),
+                adopted: true,
+                accepted,
+            })
+        }
+        Err((_, conn)) => Ok(Left {
+            rest: conn.into_store(),
+            adopted: false,
+            accepted,
+        }),
+    }
+}
+
+// A run over the files.
+fn run<D: Disk + Drop>(alloc: Global, files: Files<D>, trial: &Trial) -> Result<Left<Files<D>>> {
+    match opened(alloc, files) {
+        Ok(conn) => {
+            let left = run_store(alloc, conn, trial)?;
+            Ok(Left {
+                rest: left.rest.close(),
+                adopted: left.adopted,
+                accepted: left.accepted,
+            })
+        }
+        Err(files) => Ok(Left {
+            rest: files,
+            adopted: false,
+            accepted: trial.start.accepted,
+        }),
+    }
+}
+
+// The content is that before the message that was cut or that behind it, and all messages lead to the end.
+fn go_on<B: Book>(alloc: Global, book: &mut B, accepted: usize, answers: &[Vec<u8>]) -> Result<()> {
+    let told = replayed(alloc, book, QUESTIONS.as_bytes())?;
+    if !answers
+        .iter()
+        .skip(accepted)
+        .take(2)
+        .any(|right| *right == told)
+    {
+        return Err(Error::msg("another content"));
+    }
+    come_to_the_end(alloc, book)
+}
+
+// There are all tables, or those of the start where the adopt failed.
+fn has_tables<S: Alter>(conn: &mut Connection<S>, adopted: bool, start: i64) -> Result<bool> {
+    let tables = number(
+        conn,
+        "SELECT count(*) FROM sqlite_schema WHERE type = 'table'",
+    )?;
+    Ok(tables == 10 || (!adopted && tables == start))
+}
+
+// The tables are those of version 2.
+fn is_renewed<S: Alter>(conn: &mut Connection<S>) -> Result<bool> {
+    Ok(
+        number(conn, "SELECT value FROM meta WHERE name = 'version'")? == 2
+            && number(conn, "SELECT count(*) FROM totals")? == 0
+            && number(conn, "SELECT count(*) FROM totals2")? == 1,
+    )
+}
+
+// What a run and a crash left of a database is whole, and goes on.
+fn go_on_over<S: Alter + Drop>(
+    alloc: Global,
+    mut conn: Connection<S>,
+    (adopted, accepted): (bool, usize),
+    trial: &Trial,
+) -> Result<()> {
+    if !has_tables(&mut conn, adopted, trial.start.tables)? {
+        return Err(Error::msg("some of the tables"));
+    }
+    let Ok(mut book) = book_over(alloc, conn) else {
+        return Err(Error::msg("a database that is not adopted"));
+    };
+    go_on(alloc, &mut book, accepted, &trial.answers)?;
+    if !is_renewed(&mut book.into_connection())? {
+        return Err(Error::msg("tables that are not renewed"));
+    }
+    Ok(())
+}
+
+// What a run and a crash leave goes on. Whether nothing was wanting in the run.
+fn is_whole<D: Crash + Drop>(alloc: Global, files: Files<D>, trial: &Trial) -> Result<bool> {
+    let mut left = run(alloc, files, trial)?;
+    left.rest.log.crash();
+    left.rest.db.crash();
+    let (adopted, accepted) = (left.adopted, left.accepted);
+    match opened(alloc, left.rest) {
+        Ok(conn) => go_on_over(alloc, conn, (adopted, accepted), trial)?,
+        Err(_) => return Err(Error::msg("files that are not opened")),
+    }
+    Ok(adopted && (!trial.sends || accepted == MESSAGES.len()))
+}
+
+// One of the files stops after each number of calls, up to the last of the runs in which nothing was wanting.
+fn sweep(alloc: Global, trial: &Trial, in_log: bool) -> Result<()> {
+    let mut whole = 0u64;
+    for calls in 0..MOST_CALLS {
+        if is_whole(alloc, trial.start.files(alloc, in_log, calls)?, trial)? {
+            whole = whole.saturating_add(1);
+        }
+        if whole > trial.behind {
+            return if calls > trial.behind {
+                Ok(())
+            } else {
+                Err(Error::msg("no call was wanting"))
+            };
+        }
+    }
+    Err(Error::msg("too many calls"))
+}
+
+// The log stops, and then the database.
+fn sweep_both(alloc: Global, start: Start, sends: bool, behind: u64) -> Result<()> {
+    let trial = Trial {
+        start,
+        sends,
+        behind,
+        answers: all_answers(alloc)?,
+    };
+    sweep(alloc, &trial, true)?;
+    sweep(alloc, &trial, false)
+}
+
+/// A file stops while the messages are answered.
+pub fn stop_messages(alloc: Global) -> Result<()> {
+    sweep_both(alloc, Start::empty(alloc), true, 20)
+}
+
+/// A file stops while the tables are made.
+pub fn stop_adopts(alloc: Global) -> Result<()> {
+    sweep_both(alloc, Start::empty(alloc), false, 0)
+}
+
+/// A file stops while tables of version 1 are brought to version 2.
+pub fn stop_renewals(alloc: Global) -> Result<()> {
+    sweep_both(alloc, earlier_start(alloc)?, false, 0)
+}

@@ -1,0 +1,138 @@
+//! Files in memory, of which one may stop, and the books over them.
+
+use crate::databases::book_over;
+use crate::lines::replayed;
+use crate::messages::{ANSWERS, MESSAGES, QUESTIONS, REPLIES, come_to_the_end, is_reply};
+use anyhow::{Error, Result};
+use shop_store::{Book, SqlBook, reopen_book};
+use sqlite::{Connection, FileStore, Files, Options};
+use sqlite_disk::{Disk, Fuse, Memory};
+use std::alloc::Global;
+
+// The log is copied into the database every few pages, so that both files are written.
+fn options() -> Options {
+    Options {
+        checkpoint_frames: 8,
+        ..Options::new(7)
+    }
+}
+
+/// What the files of a shop hold before something is done to them.
+#[derive(Drop)]
+pub struct Start {
+    log: Vec<u8>,
+    db: Vec<u8>,
+    /// How many tables there are.
+    pub tables: i64,
+    /// How many of the messages were handled.
+    pub accepted: usize,
+}
+
+// A file in memory with these bytes.
+fn file_of(alloc: Global, bytes: &[u8]) -> Result<Memory> {
+    let mut file = Memory::new(alloc);
+    file.write_at(0, bytes)?;
+    file.sync()?;
+    Ok(file)
+}
+
+impl Start {
+    /// Nothing.
+    pub fn empty(alloc: Global) -> Start {
+        Start {
+            log: Vec::new(alloc),
+            db: Vec::new(alloc),
+            tables: 0,
+            accepted: 0,
+        }
+    }
+
+    /// The files, of which one stops after so many calls.
+    pub fn files(&self, alloc: Global, in_log: bool, calls: u64) -> Result<Files<Fuse<Memory>>> {
+        let (log_calls, db_calls) = if in_log {
+            (calls, u64::MAX)
+        } else {
+            (u64::MAX, calls)
+        };
+        Ok(Files {
+            log: Fuse::new(file_of(alloc, &self.log)?, log_calls),
+            db: Fuse::new(file_of(alloc, &self.db)?, db_calls),
+        })
+    }
+}
+
+/// The files' connection, or else the files.
+pub fn opened<D: Disk + Drop>(
+    alloc: Global,
+    files: Files<D>,
+) -> Result<Connection<FileStore<D>>, Files<D>> {
+    if !files.may_be_used() {
+        return Err(files);
+    }
+    match Connection::open_files(alloc, files, options()) {
+        Ok(conn) => Ok(conn),
+        Err((_, left)) => Err(left.into_files()),
+    }
+}
+
+// The book of these files, in which all messages were handled.
+fn filled_book<D: Disk + Drop>(alloc: Global, files: Files<D>) -> Result<SqlBook<FileStore<D>>> {
+    let Ok(conn) = opened(alloc, files) else {
+        return Err(Error::msg("files that are not opened"));
+    };
+    let Ok(mut book) = book_over(alloc, conn) else {
+        return Err(Error::msg("files that are not adopted"));
+    };
+    come_to_the_end(alloc, &mut book)?;
+    Ok(book)
+}
+
+// What makes tables of version 1 of those of version 2, where nothing was returned.
+const TO_VERSION_ONE: &str =
+    "INSERT INTO totals (material, received, stock, rack, pieces, kerf, scrap) SELECT material, received, stock, rack, pieces, kerf, scrap FROM totals2;DROP TABLE totals2;UPDATE meta SET value = 1 WHERE name = 'version'";
+
+// These files with a shop of version 1, in which all messages were handled.
+fn earlier_files<D: Disk + Drop>(alloc: Global, files: Files<D>) -> Result<Files<D>> {
+    let mut conn = filled_book(alloc, files)?.into_connection();
+    conn.execute_batch(TO_VERSION_ONE)?;
+    Ok(conn.into_store().close())
+}
+
+/// A shop of version 1, in which all messages were handled.
+pub fn earlier_start(alloc: Global) -> Result<Start> {
+    let files = Start::empty(alloc).files(alloc, true, u64::MAX)?;
+    let files = earlier_files(alloc, files)?;
+    Ok(Start {
+        log: Vec::from_slice(alloc, files.log.inner().bytes())?,
+        db: Vec::from_slice(alloc, files.db.inner().bytes())?,
+        tables: 9,
+        accepted: MESSAGES.len(),
+    })
+}
+
+// The answers are those at the end, and the last message under its old number gets its kept reply; no failure is counted.
+fn go_on<B: Book>(alloc: Global, book: &mut B) -> Result<()> {
+    let told = replayed(alloc, book, QUESTIONS.as_bytes())?;
+    let again = replayed(alloc, book, MESSAGES[6].as_bytes())?;
+    if told.as_slice() != ANSWERS.as_bytes()
+        || !is_reply(&again, REPLIES[6])
+        || book.failures() > 0
+    {
+        return Err(Error::msg("another book"));
+    }
+    Ok(())
+}
+
+// The files' book is closed and opened again.
+fn open_files_again<D: Disk + Drop>(alloc: Global, files: Files<D>) -> Result<()> {
+    let book = filled_book(alloc, files)?;
+    match reopen_book(alloc, book, options()) {
+        Some(mut again) => go_on(alloc, &mut again),
+        None => Err(Error::msg("files that are not opened again")),
+    }
+}
+
+/// A book is closed, opened again, and goes on.
+pub fn open_again(alloc: Global) -> Result<()> {
+    open_files_again(alloc, Start::empty(alloc).files(alloc, true, u64::MAX)?)
+}
