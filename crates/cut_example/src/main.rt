@@ -1,19 +1,131 @@
-//! How the libraries of cutting trees and plans are called: a tree is read and laid, a bar and a sheet are planned.
+//! How the libraries of cutting trees and plans are called: a tree is read and laid, a bar and a sheet are planned. Behind
+//! that each line of the input asks one call, by its name, numbers and, behind a colon, a text: `stdin` has the lines,
+//! `stdout` each with what came of it.
 #![tactic(auto)]
 
-#[cfg(test)]
-mod measure_tests;
-#[cfg(test)]
-mod plan_tests;
+mod cuts;
+mod measures;
 mod plans;
-#[cfg(test)]
-mod tree_tests;
 mod trees;
+mod wants;
 
-use anyhow::Result;
+use crate::cuts::Unit;
+use anyhow::{Error, Result};
+use cut_measure::Kind;
+use cut_tree::Plan;
+use std::alloc::Global;
+use std::io::{self, BufRead, BufReader, BufWriter, Write};
+
+// The numbers of some words, and zeros behind them.
+fn numbers_of(words: &str) -> Result<[u32; 8]> {
+    let mut numbers = [0; 8];
+    for (number, word) in numbers.iter_mut().zip(words.split_whitespace()) {
+        *number = word.parse()?;
+    }
+    Ok(numbers)
+}
+
+// What comes of a line about wants, or else of one about numbers alone.
+fn wanted_told(alloc: Global, name: &str, numbers: [u32; 8], text: &str) -> Result<String> {
+    let [w, h, kerf, a, b, ..] = numbers;
+    let unit = Unit { w, h, kerf };
+    let wants = wants::wants_of(alloc, text)?;
+    match name {
+        "worth" => wants::worth_told(alloc, unit, &wants),
+        "tree" => wants::tree_told(alloc, unit, &wants),
+        "reached" => wants::reached_told(alloc, unit, a, &wants),
+        "sheet" => wants::sheet_told(alloc, unit, a, &wants),
+        "sheet-cuts" => wants::cuts_told(alloc, unit, a, &wants),
+        "bar-bound" => wants::bound_told(alloc, Kind::Bar, unit, a, &wants),
+        "sheet-bound" => wants::bound_told(alloc, Kind::Sheet, unit, a, &wants),
+        "alike" => wants::alike_told(alloc, unit),
+        "table" => wants::table_told(alloc),
+        "bar-size" => measures::size_told(alloc, Kind::Bar, w, h),
+        "sheet-size" => measures::size_told(alloc, Kind::Sheet, w, h),
+        "bar-limits" => measures::limits_told(alloc, Kind::Bar, w, h, kerf),
+        "sheet-limits" => measures::limits_told(alloc, Kind::Sheet, w, h, kerf),
+        "kept" => measures::kept_told(alloc, w, h, kerf, a),
+        "endless" => cuts::endless_told(alloc, w),
+        "two-pieces" => cuts::two_pieces_told(alloc, unit, a, b),
+        "many-pieces" => cuts::many_pieces_told(alloc, unit, a),
+        "faults" => wants::faults_told(alloc),
+        _ => Err(Error::msg("no line begins so")),
+    }
+}
+
+// What comes of a line about a plan, where work may have halted at a cut, behind the one before it or behind some that are
+// listed.
+fn planned_told(
+    alloc: Global,
+    name: &str,
+    plan: &Plan,
+    (cut, lost): (u32, bool),
+    words: &str,
+) -> Result<String> {
+    match name {
+        "steps" => cuts::steps_told(alloc, plan),
+        "leaves" => cuts::leaves_told(alloc, plan),
+        "first" => cuts::first_told(alloc, plan, cut, lost),
+        "listed" => cuts::listed_told(alloc, plan, words),
+        _ => cuts::laid_told(alloc, plan),
+    }
+}
+
+// What comes of a line about a plan that a text spells on a unit, or else of one about wants.
+fn spelled_told(alloc: Global, name: &str, numbers: [u32; 8], text: &str) -> Result<String> {
+    let [w, h, kerf, a, b, c, ..] = numbers;
+    let unit = Unit { w, h, kerf };
+    match name {
+        "plan" => cuts::plan_told(alloc, unit, text),
+        "same" => {
+            let other = Unit {
+                w: a,
+                h: b,
+                kerf: c,
+            };
+            cuts::same_told(alloc, unit, other, text)
+        }
+        "steps" | "leaves" | "first" | "listed" | "laid" => {
+            let (text, words) = text.split_once(": ").unwrap_or((text, ""));
+            let plan = cuts::plan_of(alloc, unit, text)?;
+            planned_told(alloc, name, &plan, (a, b == 1), words)
+        }
+        _ => wanted_told(alloc, name, numbers, text),
+    }
+}
+
+// What comes of a line.
+fn told(alloc: Global, line: &str) -> Result<String> {
+    let (name, words) = line.split_once(' ').unwrap_or((line, ""));
+    match name {
+        "code" => measures::code_told(alloc, words),
+        "codes" => measures::codes_told(alloc, words),
+        "part" => measures::part_told(alloc, words),
+        "parts" => measures::parts_told(alloc, words),
+        "number" => measures::number_told(alloc, words),
+        "length" => measures::length_told(alloc, words),
+        _ => {
+            let (words, text) = words.split_once(": ").unwrap_or((words, ""));
+            spelled_told(alloc, name, numbers_of(words)?, text)
+        }
+    }
+}
 
 fn main(rt: HostRuntime) -> Result<()> {
+    let alloc = rt.alloc();
     trees::print_rows(&rt)?;
     plans::print_bar(&rt)?;
-    plans::print_sheet(&rt)
+    plans::print_sheet(&rt)?;
+    let mut output = BufWriter::new(alloc, io::writer(&rt))?;
+    for line in BufReader::new(alloc, rt.reader())?.lines(alloc) {
+        let line = line?;
+        let told = told(alloc, line.as_str())?;
+        writeln!(output, "> {}", line.as_str())?;
+        output.write_all(told.as_bytes())?;
+        if !told.as_str().ends_with('\n') {
+            output.write_all(b"\n")?;
+        }
+    }
+    output.flush()?;
+    Ok(())
 }

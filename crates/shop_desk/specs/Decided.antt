@@ -1,5 +1,5 @@
 -- What is decided on a command, over the content that a book holds.
-use Rattle.std.specs.Prelude.{◌≡◌, ◌⊎◌, ℕ, List, Option, Some, None, Result, Ok, Err, IfErr}
+use Rattle.std.specs.Prelude.{◌≡◌, ◌⊎◌, ◌+◌, ℕ, List, Option, Some, None, Result, Ok, Err, IfErr}
 use Rattle.shop_machine.specs.declared.records.Material.{Material}
 use Rattle.shop_machine.specs.declared.records.Part.{Part}
 use Rattle.shop_machine.specs.declared.records.Job.{Job}
@@ -11,7 +11,7 @@ use Rattle.shop_machine.specs.declared.refusals.Refusal.{Refusal}
 use Rattle.shop_machine.specs.declared.refusals.Refusal.TheVariants.{StoreFault}
 use Rattle.shop_machine.specs.Messages.{Texts}
 use Rattle.shop_machine.specs.Readings.{Reading}
-use Rattle.shop_machine.specs.Content.{Content, job_at, demand_at, part_of_job, material_of, totals_for}
+use Rattle.shop_machine.specs.Content.{Content, material_at, job_at, demand_at, part_of_job, material_of, totals_of, totals_for}
 use Rattle.shop_machine.specs.Recounts.{AreDemandsFound}
 use Rattle.shop_machine.specs.Machine.{Reads, refusal_of, Makes, Refuses}
 use Rattle.shop_desk.specs.Faults.{StoreFailed, CountsDecision}
@@ -49,3 +49,9 @@ pub record AreJobRows (m : Content) (number : ℕ) (job : Option Job) (part : Op
   pub of_material : material ≡ material_of m part
   pub of_totals : totals ≡ totals_for m part
   pub demands : AreDemandsFound (demand_at m) leaves
+
+-- a material, its totals and the number of the next act in a content
+pub record AreReceiptRows (m : Content) (material : List ℕ) (known : Option Material) (totals : Totals) (act : ℕ) : Type 0 where
+  pub of_material : known ≡ material_at m material
+  pub of_totals : totals ≡ totals_of m material
+  pub of_act : act ≡ m.last_act + 1

@@ -1,4 +1,4 @@
-ghost use Rattle.std.specs.Prelude.{◌≡◌, ℕ, List, Option, Some, IfOk, IfSome, IsTrue, MatchOption, false};
+ghost use Rattle.std.specs.Prelude.{◌≡◌, ◌≤◌, ℕ, List, Option, Some, IfOk, IfSome, IsTrue, MatchOption, false};
 ghost use Rattle.cut_measure.specs.Measures.{Extent};
 ghost use Rattle.shop_files.specs.declared.orders.OrderLine.{OrderLine as OrderLineOf};
 ghost use Rattle.shop_files.specs.declared.problems.Piece.{Piece as PieceOf};
@@ -13,16 +13,17 @@ ghost use Rattle.shop_machine.specs.Content.{Content, import_at};
 ghost use Rattle.shop_machine.specs.Importing.{IsRepeat, Tells};
 ghost use Rattle.shop_machine.specs.Soundness.{IsSound};
 ghost use Rattle.shop_rules.specs.Forms.{json_texts};
+ghost use Rattle.shop_book.specs.Failures.{CountsFailure};
 ghost use Rattle.shop_book.specs.Kept.{KeepsBook, Says};
-ghost use Rattle.shop_desk.specs.Decided.{IsJudged, CountsOrDisagrees};
+ghost use Rattle.shop_desk.specs.Decided.{IsJudged, CountsOrDisagrees, AreReceiptRows};
 
 use crate::found::found_lines;
 use cut_measure::Code;
-use shop_book::Book;
+use shop_book::{Book, BookFault};
 use shop_files::{OrdersFault, Problem, TextCause, read_cgcut, read_orders};
 use shop_rules::{
-    Change, Form, ImportRow, LineList, Refusal, Reply, Text, decide_again, decide_lines,
-    decide_problem, kept_reply, problem_lines, repeats, unread_refusal,
+    Change, Form, ImportRow, LineList, Material, Refusal, Reply, Text, Totals, decide_again,
+    decide_lines, decide_problem, kept_reply, problem_lines, repeats, unread_refusal,
 };
 use std::alloc::{AllocError, Global};
 
@@ -64,13 +65,33 @@ fn import_lines<B: Book>(
     ensures told { IfOk result (λ change. IsTrue (is_accepted change.reply)) }
 {
     let used = book.order(order)?;
+    let first = book.next_demand()?;
     let Some(lines) = file_lines(alloc, text)? else {
         return Err(unread_refusal(used));
     };
     let found = found_lines(alloc, book, lines.as_slice())?;
-    let first = book.next_demand()?;
     let body = text.copy(alloc)?;
     decide_lines(alloc, used, order, body, &found, first)
+}
+
+// What a receipt is decided by: the material, its totals, and the number of the next act.
+#[derive(Clone, Copy)]
+struct ReceiptRows {
+    known: Option<Material>,
+    totals: Totals,
+    act: u32,
+}
+
+// The rows that a receipt of a material is decided by.
+fn receipt_rows<B: Book>(book: &mut B, material: Code) -> Result<ReceiptRows, BookFault>
+    ensures rows { Says B.Book book.old book.new (λ m. IfOk result (λ rows. AreReceiptRows m material rows.known rows.totals rows.act)) }
+    ensures least { IfOk result (λ rows. 1 ≤ rows.act) }
+    ensures keeps { KeepsBook B.Book (CountsFailure result) book.old book.new }
+{
+    let known = book.material(material)?;
+    let totals = book.totals(material)?;
+    let act = book.next_act()?;
+    Ok(ReceiptRows { known, totals, act })
 }
 
 // Imports a problem file whose import isn't kept.
@@ -87,15 +108,13 @@ fn import_problem<B: Book>(
     ensures told { IfOk result (λ change. IsTrue (is_accepted change.reply)) }
 {
     let used = book.order(order)?;
+    let ReceiptRows { known, totals, act } = receipt_rows(book, material)?;
+    let first = book.next_demand()?;
     let Some(problem) = file_problem(alloc, text)? else {
         return Err(unread_refusal(used));
     };
     let lines = problem_lines(alloc, material, problem.pieces.as_slice())?;
-    let known = book.material(material)?;
-    let totals = book.totals(material)?;
     let found = found_lines(alloc, book, lines.as_slice())?;
-    let act = book.next_act()?;
-    let first = book.next_demand()?;
     let body = text.copy(alloc)?;
     decide_problem(
         alloc,

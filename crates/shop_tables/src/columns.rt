@@ -11,7 +11,7 @@ use crate::TableFault;
 use cut_measure::{Code, Kind, Limits, MOST_NUMBERS, PartName, Size};
 use shop_machine::{Form, JobState, State, Text};
 use sqlite::Row;
-use sqlite::types::{Value, ValueRef};
+use sqlite::types::ValueRef;
 
 pub(crate) fn number_in(row: &Row, at: usize) -> Result<u32, TableFault>
     ensures { IfOk result (λ number. column row.now at ≡ Int (pos number)) }
@@ -229,11 +229,11 @@ pub(crate) fn material_of_form(form: &Form) -> &str
 }
 
 // A count as a column has it, below 9223372036854775808.
-pub(crate) fn counted(count: u64) -> Result<Value, TableFault>
-    ensures { IfOk result (λ value. value ≡ Int (pos count)) }
+pub(crate) fn counted(count: u64) -> Result<i64, TableFault>
+    ensures { IfOk result (λ number. number ≡ pos count) }
 {
     match i64::try_from(count) {
-        Ok(count) => Ok(Value::Int(count)),
+        Ok(number) => Ok(number),
         Err(_) => Err(TableFault::Store),
     }
 }

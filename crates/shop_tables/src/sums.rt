@@ -85,14 +85,21 @@ fn counts_of(totals: &Totals) -> Result<Counts, TableFault>
       returned = Int (pos totals.now.returned);
     }) }
 {
+    let received = counted(totals.received)?;
+    let stock = counted(totals.stock)?;
+    let rack = counted(totals.rack)?;
+    let pieces = counted(totals.pieces)?;
+    let kerf = counted(totals.kerf)?;
+    let scrap = counted(totals.scrap)?;
+    let returned = counted(totals.returned)?;
     Ok(Counts {
-        received: counted(totals.received)?,
-        stock: counted(totals.stock)?,
-        rack: counted(totals.rack)?,
-        pieces: counted(totals.pieces)?,
-        kerf: counted(totals.kerf)?,
-        scrap: counted(totals.scrap)?,
-        returned: counted(totals.returned)?,
+        received: Value::Int(received),
+        stock: Value::Int(stock),
+        rack: Value::Int(rack),
+        pieces: Value::Int(pieces),
+        kerf: Value::Int(kerf),
+        scrap: Value::Int(scrap),
+        returned: Value::Int(returned),
     })
 }
 
