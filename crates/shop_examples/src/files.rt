@@ -51,13 +51,13 @@ pub fn keep(rt: &(impl AllocGlobal + Files), line: &str) -> Result<Vec<u8>> {
     Ok(Vec::new(alloc))
 }
 
-/// Does statements of SQL in a store file: `NAME STATEMENTS`.
-pub fn execute(rt: &HostRuntime, line: &str) -> Result<()> {
+/// Does statements of SQL in a store file, of which nothing is told: `NAME STATEMENTS`.
+pub fn execute(rt: &HostRuntime, line: &str) -> Result<Vec<u8>> {
     let Some((name, statements)) = line.split_once(' ') else {
         return Err(Error::msg("no statements"));
     };
     let mut conn = Connection::open(rt, name)?;
     conn.execute_batch(statements)?;
     conn.close()?;
-    Ok(())
+    Ok(Vec::new(rt.alloc()))
 }

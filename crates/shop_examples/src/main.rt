@@ -38,47 +38,16 @@ use crate::plans::check_plans;
 use anyhow::{Error, Result};
 use shop_opening::Opens;
 use shop_store::SqlBook;
-use sqlite::{Alter, Connection};
+use sqlite::{Alter, Connection, MemStore};
 use std::alloc::Global;
 use std::fs::Files;
 use std::io::{self, BufRead, BufReader, BufWriter, Write};
+use std::mem::replace;
 use std::net::{Net, TcpListener, TcpStream};
 
-// What comes of a check that the books of the example take part in, where the name is one of those.
-fn checked_over_books(
-    alloc: Global,
-    books: &mut Books,
-    name: &str,
-    given: &str,
-) -> Result<Option<Vec<u8>>> {
-    match name {
-        "input" => Ok(Some(books.answer_lines(alloc, &bytes_of(alloc, given)?)?)),
-        "request" => Ok(Some(books.serve(alloc, &bytes_of(alloc, given)?)?)),
-        "plan" => Ok(Some(lines::reserved(alloc, books, given)?.into_bytes())),
-        "messages" => Ok(Some(desk::run_over_both(alloc, books, given)?.into_bytes())),
-        "first-part" => Ok(Some(streams::first_part(alloc, books, given)?.into_bytes())),
-        "short-ticket" => Ok(Some(streams::short_ticket(alloc, books)?.into_bytes())),
-        _ => Ok(None),
-    }
-}
-
-// What comes of a check of values, texts or streams, where the name is one of those.
-fn checked(alloc: Global, name: &str, given: &str) -> Result<Option<String>> {
-    match name {
-        "message" => Ok(Some(rules::message_told(alloc, given)?)),
-        "reply" => Ok(Some(rules::reply_told(alloc, given)?)),
-        "refusals" => Ok(Some(rules::refusals_told(alloc)?)),
-        "greatest-bound" => Ok(Some(rules::greatest_bound(alloc)?)),
-        "last-cells" => Ok(Some(desk::last_cells(alloc)?)),
-        "problem" => Ok(Some(texts::problem_told(alloc, &bytes_of(alloc, given)?)?)),
-        "orders" => Ok(Some(texts::orders_told(alloc, &bytes_of(alloc, given)?)?)),
-        "shop" => Ok(Some(texts::shop_told(alloc, &bytes_of(alloc, given)?)?)),
-        "interrupted" => Ok(Some(streams::interrupted(alloc)?)),
-        "failing-lines" => Ok(Some(streams::failing_lines(alloc, &bytes_of(alloc, given)?)?)),
-        "failing-request" => Ok(Some(streams::failing_request(alloc, &bytes_of(alloc, given)?)?)),
-        "writes" => Ok(Some(streams::writes_told(alloc, given)?)),
-        _ => Ok(None),
-    }
+// The bytes of a text that was told.
+fn bytes(told: Result<String>) -> Result<Vec<u8>> {
+    Ok(told?.into_bytes())
 }
 
 // Does the check of books, stores or connections that has this name.
@@ -98,54 +67,136 @@ fn check<
         "stopped-adopts" => stopping::stop_adopts(alloc),
         "stopped-renewals" => stopping::stop_renewals(alloc),
         "plans" => check_plans(rt, stores, alloc),
-        "repeats over connections" => check_repeats(rt, listener),
-        "a fault of a connection" => check_faults(rt, listener),
+        "repeats-over-connections" => check_repeats(rt, listener),
+        "fault-of-a-connection" => check_faults(rt, listener),
         _ => Err(Error::msg("no check has this name")),
     }
 }
 
-// What comes of a line that needs no book in tables under it but those of the example.
-fn told(alloc: Global, books: &mut Books, line: &str) -> Result<Option<Vec<u8>>> {
-    if line.starts_with('"') {
-        return Ok(Some(books.serve(alloc, &bytes_of(alloc, line)?)?));
-    }
-    let Some(check) = line.strip_prefix('*') else {
-        let input = format!(in alloc; "{line}\n")?;
-        return Ok(Some(books.answer_lines(alloc, input.as_bytes())?));
-    };
-    let (name, given) = check.split_once(' ').unwrap_or((check, ""));
-    if let Some(bytes) = checked_over_books(alloc, books, name, given)? {
-        return Ok(Some(bytes));
-    }
-    match checked(alloc, name, given)? {
-        Some(text) => Ok(Some(text.into_bytes())),
-        None => Ok(None),
-    }
-}
-
-// What comes of a line that is about files, commands, stores or connections.
-fn told_outside<
+// What comes of a check of values, texts or streams, or else of one of books, stores or connections, which holds.
+fn checked<
     R: AllocGlobal + Files + Net<Listener = TcpListener, Stream = TcpStream>,
     D: Alter + Drop,
     O: Opens<SqlBook<D>>,
->(rt: &R, stores: &O, listener: &TcpListener, input: &str, line: &str) -> Result<Vec<u8>> {
+>(rt: &R, stores: &O, listener: &TcpListener, name: &str, given: &str) -> Result<String> {
     let alloc = rt.alloc();
-    if let Some(file) = line.strip_prefix('@') {
-        keep(rt, file)
-    } else if let Some(words) = line.strip_prefix('$') {
-        let host = Host {
-            rt,
-            taken: listener.local_addr()?,
-        };
-        ending_text(words, run_line(&host, stores, alloc, words, input)?)
-    } else {
-        check(rt, stores, listener, line.strip_prefix('*').unwrap_or(line))?;
-        Ok(vec![in alloc; b'o', b'k', b'\n']?)
+    match name {
+        "message" => rules::message_told(alloc, given),
+        "reply" => rules::reply_told(alloc, given),
+        "refusals" => rules::refusals_told(alloc),
+        "greatest-bound" => rules::greatest_bound(alloc),
+        "last-cells" => desk::last_cells(alloc),
+        "problem" => texts::problem_told(alloc, &bytes_of(alloc, given)?),
+        "orders" => texts::orders_told(alloc, &bytes_of(alloc, given)?),
+        "shop" => texts::shop_told(alloc, &bytes_of(alloc, given)?),
+        "interrupted" => streams::interrupted(alloc),
+        "failing-lines" => streams::failing_lines(alloc, &bytes_of(alloc, given)?),
+        "failing-request" => streams::failing_request(alloc, &bytes_of(alloc, given)?),
+        "writes" => streams::writes_told(alloc, given),
+        _ => {
+            check(rt, stores, listener, name)?;
+            Ok(String::from_str(alloc, "ok")?)
+        }
     }
 }
 
-// Writes what came of a line, and ends it by a line feed.
-fn write_told<W: Write>(output: &mut W, told: &[u8]) -> Result<()> {
+// What comes of a command line, over this input.
+fn command_told<
+    R: AllocGlobal + Files + Net<Listener = TcpListener, Stream = TcpStream>,
+    D: Alter + Drop,
+    O: Opens<SqlBook<D>>,
+>(rt: &R, stores: &O, listener: &TcpListener, words: &str, input: &str) -> Result<Vec<u8>> {
+    let taken = listener.local_addr()?;
+    let host = Host { rt, taken };
+    ending_text(words, run_line(&host, stores, rt.alloc(), words, input)?)
+}
+
+// What was done in an example.
+#[derive(Drop)]
+struct Example {
+    books: Books,
+    database: Option<Connection<MemStore>>,
+    /// The input of the next command.
+    input: String,
+}
+
+impl Example {
+    fn new(alloc: Global) -> Result<Example> {
+        let books = Books::new(alloc)?;
+        let database = Connection::open_in_memory(alloc)?;
+        Ok(Example {
+            books,
+            database: Some(database),
+            input: String::new(alloc),
+        })
+    }
+
+    // Does what a line says of the database, and tells what came of it.
+    fn database_told(&mut self, alloc: Global, line: &str) -> Result<String> {
+        let Some(database) = self.database.take() else {
+            return Err(Error::msg("no database is left"));
+        };
+        let (left, told) = databases::told(alloc, database, line)?;
+        self.database = Some(left);
+        Ok(told)
+    }
+
+    // What comes of a check, by its name: of one that the books take part in, or else of another.
+    fn checked<
+        R: AllocGlobal + Files + Net<Listener = TcpListener, Stream = TcpStream>,
+        D: Alter + Drop,
+        O: Opens<SqlBook<D>>,
+    >(&mut self, rt: &R, stores: &O, listener: &TcpListener, check: &str) -> Result<Vec<u8>> {
+        let alloc = rt.alloc();
+        let books = &mut self.books;
+        let (name, given) = check.split_once(' ').unwrap_or((check, ""));
+        match name {
+            "input" => books.answer_lines(alloc, &bytes_of(alloc, given)?),
+            "request" => books.serve(alloc, &bytes_of(alloc, given)?),
+            "plan" => bytes(lines::reserved(alloc, books, given)),
+            "messages" => bytes(desk::run_over_both(alloc, books, given)),
+            "first-part" => bytes(streams::first_part(alloc, books, given)),
+            "short-ticket" => bytes(streams::short_ticket(alloc, books)),
+            _ => bytes(checked(rt, stores, listener, name, given)),
+        }
+    }
+
+    // What comes of a line of a terminal.
+    fn answered(&mut self, alloc: Global, line: &str) -> Result<Vec<u8>> {
+        let input = format!(in alloc; "{line}\n")?;
+        self.books.answer_lines(alloc, input.as_bytes())
+    }
+
+    // What comes of a line whose first character says what it is, and of the rest of it.
+    fn told<
+        R: AllocGlobal + Files + Net<Listener = TcpListener, Stream = TcpStream>,
+        D: Alter + Drop,
+        O: Opens<SqlBook<D>>,
+    >(&mut self, rt: &R, stores: &O, listener: &TcpListener, line: &str) -> Result<Vec<u8>> {
+        let alloc = rt.alloc();
+        if let Some(text) = line.strip_prefix('<') {
+            self.input = text_of(alloc, text)?;
+            Ok(Vec::new(alloc))
+        } else if let Some(asked) = line.strip_prefix(';') {
+            bytes(self.database_told(alloc, asked))
+        } else if let Some(file) = line.strip_prefix('@') {
+            keep(rt, file)
+        } else if let Some(words) = line.strip_prefix('$') {
+            let input = replace(&mut self.input, String::new(alloc));
+            command_told(rt, stores, listener, words, input.as_str())
+        } else if let Some(check) = line.strip_prefix('*') {
+            self.checked(rt, stores, listener, check)
+        } else if line.starts_with('"') {
+            self.books.serve(alloc, &bytes_of(alloc, line)?)
+        } else {
+            self.answered(alloc, line)
+        }
+    }
+}
+
+// Writes a line and what came of it, which ends by a line feed.
+fn write_told<W: Write>(output: &mut W, line: &str, told: &[u8]) -> Result<()> {
+    writeln!(output, "> {line}")?;
     output.write_all(told)?;
     if !told.is_empty() && !told.ends_with(b"\n") {
         output.write_all(b"\n")?;
@@ -157,36 +208,19 @@ fn main(rt: HostRuntime) -> Result<()> {
     let alloc = rt.alloc();
     let listener = TcpListener::bind(&rt, "127.0.0.1:0")?;
     let mut output = BufWriter::new(alloc, io::writer(&rt))?;
-    let mut books = Books::new(alloc)?;
-    let mut database = Connection::open_in_memory(alloc)?;
-    let mut input = String::new(alloc);
+    let mut example = Example::new(alloc)?;
     for line in BufReader::new(alloc, rt.reader())?.lines(alloc) {
         let line = line?;
         let line = line.as_str();
         if line.starts_with('#') {
+            example = Example::new(alloc)?;
             writeln!(output, "{line}")?;
-            books = Books::new(alloc)?;
-            database = Connection::open_in_memory(alloc)?;
-            continue;
-        }
-        writeln!(output, "> {line}")?;
-        if let Some(text) = line.strip_prefix('<') {
-            input = text_of(alloc, text)?;
-        } else if let Some(asked) = line.strip_prefix(';') {
-            let (left, told) = databases::told(alloc, database, asked)?;
-            database = left;
-            write_told(&mut output, told.as_bytes())?;
-        } else if let Some(statements) = line.strip_prefix('%') {
-            execute(&rt, statements)?;
-        } else if line.starts_with('@') || line.starts_with('$') {
-            let told = told_outside(&rt, &rt, &listener, input.as_str(), line)?;
-            write_told(&mut output, &told)?;
-            input.clear();
-        } else if let Some(told) = told(alloc, &mut books, line)? {
-            write_told(&mut output, &told)?;
         } else {
-            let told = told_outside(&rt, &rt, &listener, "", line)?;
-            write_told(&mut output, &told)?;
+            let told = match line.strip_prefix('%') {
+                Some(statements) => execute(&rt, statements)?,
+                None => example.told(&rt, &rt, &listener, line)?,
+            };
+            write_told(&mut output, line, &told)?;
         }
     }
     output.flush()?;

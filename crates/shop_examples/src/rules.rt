@@ -3,36 +3,42 @@
 use anyhow::{Error, Result};
 use serde_json::Value;
 use shop_rules::{
-    Refusal, Reply, kept_reply, message_text, message_value, read_message, read_query, read_reply,
-    reply_text, reply_value,
+    Message, Refusal, Reply, Text, kept_reply, message_text, message_value, read_message,
+    read_query, read_reply, reply_text, reply_value,
 };
 use std::alloc::Global;
 
-/// The canonical text of a message, which is that of its value too; it is no query.
-pub fn message_told(alloc: Global, given: &str) -> Result<String> {
-    let value = Value::from_str(alloc, given)?;
-    let Ok(message) = read_message(alloc, &value) else {
-        return Err(Error::msg("no message"));
-    };
-    if read_query(alloc, &value).is_ok() {
-        return Err(Error::msg("a message that is a query"));
-    }
-    let text = message_text(alloc, &message)?;
-    let printed = message_value(alloc, &message)?.to_string(alloc)?;
+// A text that is that of a value, too.
+fn same_text(alloc: Global, text: &Text, value: &Value) -> Result<String> {
+    let printed = value.to_string(alloc)?;
     if printed.as_str() != text.as_str() {
         return Err(Error::msg("the value has another text"));
     }
     Ok(printed)
 }
 
+// The text of a message, which is that of its value too.
+fn written(alloc: Global, message: &Message) -> Result<String> {
+    let text = message_text(alloc, message)?;
+    same_text(alloc, &text, &message_value(alloc, message)?)
+}
+
+/// The canonical text of a message; it is no query.
+pub fn message_told(alloc: Global, given: &str) -> Result<String> {
+    let value = Value::from_str(alloc, given)?;
+    if read_query(alloc, &value).is_ok() {
+        return Err(Error::msg("a message that is a query"));
+    }
+    match read_message(alloc, &value) {
+        Ok(message) => written(alloc, &message),
+        Err(_) => Err(Error::msg("no message")),
+    }
+}
+
 // The text of a reply, which is that of its value too.
 fn told(alloc: Global, reply: &Reply) -> Result<String> {
     let text = reply_text(alloc, reply)?;
-    let printed = reply_value(alloc, reply)?.to_string(alloc)?;
-    if printed.as_str() != text.as_str() {
-        return Err(Error::msg("the value has another text"));
-    }
-    Ok(printed)
+    same_text(alloc, &text, &reply_value(alloc, reply)?)
 }
 
 /// The text of a reply that an accepted message gets, or that the text is none of those.

@@ -5,7 +5,7 @@ use crate::lines::replayed;
 use crate::messages::{ANSWERS, MESSAGES, QUESTIONS, REPLIES, come_to_the_end, is_reply};
 use anyhow::{Error, Result};
 use shop_store::{Book, SqlBook, reopen_book};
-use sqlite::{Connection, FileStore, Files, Options};
+use sqlite::{Alter, Connection, FileStore, Files, Options};
 use sqlite_disk::{Disk, Fuse, Memory};
 use std::alloc::Global;
 
@@ -75,13 +75,10 @@ pub fn opened<D: Disk + Drop>(
     }
 }
 
-// The book of these files, in which all messages were handled.
-fn filled_book<D: Disk + Drop>(alloc: Global, files: Files<D>) -> Result<SqlBook<FileStore<D>>> {
-    let Ok(conn) = opened(alloc, files) else {
-        return Err(Error::msg("files that are not opened"));
-    };
+// The book of a database, in which all messages were handled.
+fn filled_book<S: Alter + Drop>(alloc: Global, conn: Connection<S>) -> Result<SqlBook<S>> {
     let Ok(mut book) = book_over(alloc, conn) else {
-        return Err(Error::msg("files that are not adopted"));
+        return Err(Error::msg("a database that is not adopted"));
     };
     come_to_the_end(alloc, &mut book)?;
     Ok(book)
@@ -91,11 +88,19 @@ fn filled_book<D: Disk + Drop>(alloc: Global, files: Files<D>) -> Result<SqlBook
 const TO_VERSION_ONE: &str =
     "INSERT INTO totals (material, received, stock, rack, pieces, kerf, scrap) SELECT material, received, stock, rack, pieces, kerf, scrap FROM totals2;DROP TABLE totals2;UPDATE meta SET value = 1 WHERE name = 'version'";
 
-// These files with a shop of version 1, in which all messages were handled.
-fn earlier_files<D: Disk + Drop>(alloc: Global, files: Files<D>) -> Result<Files<D>> {
-    let mut conn = filled_book(alloc, files)?.into_connection();
+// A database with a shop of version 1, in which all messages were handled.
+fn earlier_shop<S: Alter + Drop>(alloc: Global, conn: Connection<S>) -> Result<Connection<S>> {
+    let mut conn = filled_book(alloc, conn)?.into_connection();
     conn.execute_batch(TO_VERSION_ONE)?;
-    Ok(conn.into_store().close())
+    Ok(conn)
+}
+
+// These files with that shop.
+fn earlier_files<D: Disk + Drop>(alloc: Global, files: Files<D>) -> Result<Files<D>> {
+    match opened(alloc, files) {
+        Ok(conn) => Ok(earlier_shop(alloc, conn)?.into_store().close()),
+        Err(_) => Err(Error::msg("files that are not opened")),
+    }
 }
 
 /// A shop of version 1, in which all messages were handled.
@@ -123,16 +128,31 @@ fn go_on<B: Book>(alloc: Global, book: &mut B) -> Result<()> {
     Ok(())
 }
 
-// The files' book is closed and opened again.
-fn open_files_again<D: Disk + Drop>(alloc: Global, files: Files<D>) -> Result<()> {
-    let book = filled_book(alloc, files)?;
+// The book of a database in which all messages were handled, whose connection was taken back and adopted again.
+fn adopted_again<S: Alter + Drop>(alloc: Global, conn: Connection<S>) -> Result<SqlBook<S>> {
+    match book_over(alloc, filled_book(alloc, conn)?.into_connection()) {
+        Ok(book) => Ok(book),
+        Err(_) => Err(Error::msg("a connection that is not adopted again")),
+    }
+}
+
+// Such a book is closed, its files are opened again, and it goes on.
+fn reopened<D: Disk + Drop>(alloc: Global, book: SqlBook<FileStore<D>>) -> Result<()> {
     match reopen_book(alloc, book, options()) {
         Some(mut again) => go_on(alloc, &mut again),
         None => Err(Error::msg("files that are not opened again")),
     }
 }
 
-/// A book is closed, opened again, and goes on.
+// The same of these files.
+fn open_files_again<D: Disk + Drop>(alloc: Global, files: Files<D>) -> Result<()> {
+    match opened(alloc, files) {
+        Ok(conn) => reopened(alloc, adopted_again(alloc, conn)?),
+        Err(_) => Err(Error::msg("files that are not opened")),
+    }
+}
+
+/// A connection is taken back and adopted again; the book over it is closed, opened again, and goes on.
 pub fn open_again(alloc: Global) -> Result<()> {
     open_files_again(alloc, Start::empty(alloc).files(alloc, true, u64::MAX)?)
 }
