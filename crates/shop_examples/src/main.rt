@@ -204,12 +204,16 @@ fn write_told<W: Write>(output: &mut W, line: &str, told: &[u8]) -> Result<()> {
     Ok(())
 }
 
-fn main(rt: HostRuntime) -> Result<()> {
+// Answers the lines of a source.
+fn answer_all<B: BufRead + Drop, W: Write>(
+    rt: &HostRuntime,
+    listener: &TcpListener,
+    source: B,
+    output: &mut W,
+) -> Result<()> {
     let alloc = rt.alloc();
-    let listener = TcpListener::bind(&rt, "127.0.0.1:0")?;
-    let mut output = BufWriter::new(alloc, io::writer(&rt))?;
     let mut example = Example::new(alloc)?;
-    for line in BufReader::new(alloc, rt.reader())?.lines(alloc) {
+    for line in source.lines(alloc) {
         let line = line?;
         let line = line.as_str();
         if line.starts_with('#') {
@@ -217,12 +221,20 @@ fn main(rt: HostRuntime) -> Result<()> {
             writeln!(output, "{line}")?;
         } else {
             let told = match line.strip_prefix('%') {
-                Some(statements) => execute(&rt, statements)?,
-                None => example.told(&rt, &rt, &listener, line)?,
+                Some(statements) => execute(rt, statements)?,
+                None => example.told(rt, rt, listener, line)?,
             };
-            write_told(&mut output, line, &told)?;
+            write_told(output, line, &told)?;
         }
     }
     output.flush()?;
     Ok(())
+}
+
+fn main(rt: HostRuntime) -> Result<()> {
+    let alloc = rt.alloc();
+    let listener = TcpListener::bind(&rt, "127.0.0.1:0")?;
+    let mut output = BufWriter::new(alloc, io::writer(&rt))?;
+    let source = BufReader::new(alloc, rt.reader())?;
+    answer_all(&rt, &listener, source, &mut output)
 }

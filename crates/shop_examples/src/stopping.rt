@@ -3,11 +3,11 @@
 use crate::databases::{book_over, number};
 use crate::lines::replayed;
 use crate::messages::{MESSAGES, QUESTIONS, STORE_FAULT, all_answers, answered, come_to_the_end};
-use crate::stores::{Start, earlier_start, opened};
+use crate::stores::{Start, Work, earlier_start, over_files};
 use anyhow::{Error, Result};
 use shop_store::Book;
 use sqlite::{Alter, Connection, Files};
-use sqlite_disk::{Crash, Disk};
+use sqlite_disk::Crash;
 use std::alloc::Global;
 
 // No run makes more calls of a file.
@@ -24,16 +24,6 @@ struct Trial {
     behind: u64,
     /// The answers before the messages and after each of them.
     answers: Vec<Vec<u8>>,
-}
-
-// What a run left of a store, or of its files.
-#[derive(Drop)]
-struct Left<T> {
-    rest: T,
-    /// Whether the database was adopted.
-    adopted: bool,
-    /// How many messages were accepted.
-    accepted: usize,
 }
 
 // Each line is the other's, or a fault of the store.
@@ -59,50 +49,33 @@ fn run_out<B: Book>(alloc: Global, book: &mut B, answers: &[Vec<u8>]) -> Result<
     Ok(accepted.max(answered(alloc, book)?))
 }
 
-// Adopts the database and, in a trial that does, sends the messages.
-fn run_store<S: Alter + Drop>(
-    alloc: Global,
-    conn: Connection<S>,
-    trial: &Trial,
-) -> Result<Left<S>> {
-    let accepted = trial.start.accepted;
-    match book_over(alloc, conn) {
-        Ok(mut book) => {
-            let accepted = if trial.sends {
-                run_out(alloc, &mut book, &trial.answers)?
-            } else {
-                accepted
-            };
-            Ok(Left {
-                rest: book.into_connection().into_store(),
-                adopted: true,
-                accepted,
-            })
-        }
-        Err((_, conn)) => Ok(Left {
-            rest: conn.into_store(),
-            adopted: false,
-            accepted,
-        }),
-    }
+// A run, and what came of it.
+#[derive(Drop)]
+struct Run<'a> {
+    trial: &'a Trial,
+    /// Whether the database was adopted.
+    adopted: bool,
+    /// How many messages were accepted.
+    accepted: usize,
 }
 
-// A run over the files.
-fn run<D: Disk + Drop>(alloc: Global, files: Files<D>, trial: &Trial) -> Result<Left<Files<D>>> {
-    match opened(alloc, files) {
-        Ok(conn) => {
-            let left = run_store(alloc, conn, trial)?;
-            Ok(Left {
-                rest: left.rest.close(),
-                adopted: left.adopted,
-                accepted: left.accepted,
-            })
+impl Work for Run<'_> {
+    // Adopts the database and, in a trial that does, sends the messages.
+    fn over<S: Alter + Drop>(
+        &mut self,
+        alloc: Global,
+        conn: Connection<S>,
+    ) -> Result<Connection<S>> {
+        match book_over(alloc, conn) {
+            Ok(mut book) => {
+                self.adopted = true;
+                if self.trial.sends {
+                    self.accepted = run_out(alloc, &mut book, &self.trial.answers)?;
+                }
+                Ok(book.into_connection())
+            }
+            Err((_, conn)) => Ok(conn),
         }
-        Err(files) => Ok(Left {
-            rest: files,
-            adopted: false,
-            accepted: trial.start.accepted,
-        }),
     }
 }
 
@@ -138,37 +111,50 @@ fn is_renewed<S: Alter>(conn: &mut Connection<S>) -> Result<bool> {
     )
 }
 
-// What a run and a crash left of a database is whole, and goes on.
-fn go_on_over<S: Alter + Drop>(
-    alloc: Global,
-    mut conn: Connection<S>,
-    (adopted, accepted): (bool, usize),
-    trial: &Trial,
-) -> Result<()> {
-    if !has_tables(&mut conn, adopted, trial.start.tables)? {
-        return Err(Error::msg("some of the tables"));
+// What is looked at after a run and a crash.
+#[derive(Drop)]
+struct Aftermath<'a> {
+    run: &'a Run<'a>,
+}
+
+impl Work for Aftermath<'_> {
+    // What was left of the database is whole, and goes on.
+    fn over<S: Alter + Drop>(
+        &mut self,
+        alloc: Global,
+        mut conn: Connection<S>,
+    ) -> Result<Connection<S>> {
+        let run = self.run;
+        if !has_tables(&mut conn, run.adopted, run.trial.start.tables)? {
+            return Err(Error::msg("some of the tables"));
+        }
+        let Ok(mut book) = book_over(alloc, conn) else {
+            return Err(Error::msg("a database that is not adopted"));
+        };
+        go_on(alloc, &mut book, run.accepted, &run.trial.answers)?;
+        let mut conn = book.into_connection();
+        if !is_renewed(&mut conn)? {
+            return Err(Error::msg("tables that are not renewed"));
+        }
+        Ok(conn)
     }
-    let Ok(mut book) = book_over(alloc, conn) else {
-        return Err(Error::msg("a database that is not adopted"));
-    };
-    go_on(alloc, &mut book, accepted, &trial.answers)?;
-    if !is_renewed(&mut book.into_connection())? {
-        return Err(Error::msg("tables that are not renewed"));
-    }
-    Ok(())
 }
 
 // What a run and a crash leave goes on. Whether nothing was wanting in the run.
 fn is_whole<D: Crash + Drop>(alloc: Global, files: Files<D>, trial: &Trial) -> Result<bool> {
-    let mut left = run(alloc, files, trial)?;
-    left.rest.log.crash();
-    left.rest.db.crash();
-    let (adopted, accepted) = (left.adopted, left.accepted);
-    match opened(alloc, left.rest) {
-        Ok(conn) => go_on_over(alloc, conn, (adopted, accepted), trial)?,
-        Err(_) => return Err(Error::msg("files that are not opened")),
+    let mut run = Run {
+        trial,
+        adopted: false,
+        accepted: trial.start.accepted,
+    };
+    let (mut left, _) = over_files(alloc, files, &mut run)?;
+    left.log.crash();
+    left.db.crash();
+    let (_, is_opened) = over_files(alloc, left, &mut Aftermath { run: &run })?;
+    if !is_opened {
+        return Err(Error::msg("files that are not opened"));
     }
-    Ok(adopted && (!trial.sends || accepted == MESSAGES.len()))
+    Ok(run.adopted && (!trial.sends || run.accepted == MESSAGES.len()))
 }
 
 // One of the files stops after each number of calls, up to the last of the runs in which nothing was wanting.

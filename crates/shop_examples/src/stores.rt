@@ -61,8 +61,8 @@ impl Start {
     }
 }
 
-/// The files' connection, or else the files.
-pub fn opened<D: Disk + Drop>(
+// The files' connection, or else the files.
+fn opened<D: Disk + Drop>(
     alloc: Global,
     files: Files<D>,
 ) -> Result<Connection<FileStore<D>>, Files<D>> {
@@ -72,6 +72,28 @@ pub fn opened<D: Disk + Drop>(
     match Connection::open_files(alloc, files, options()) {
         Ok(conn) => Ok(conn),
         Err((_, left)) => Err(left.into_files()),
+    }
+}
+
+/// What is done to the database of two files.
+pub trait Work {
+    /// Does it, and gives the connection back.
+    fn over<S: Alter + Drop>(
+        &mut self,
+        alloc: Global,
+        conn: Connection<S>,
+    ) -> Result<Connection<S>>;
+}
+
+/// Does this to the database of these files, if they are opened. The files, and whether they were.
+pub fn over_files<D: Disk + Drop, W: Work>(
+    alloc: Global,
+    files: Files<D>,
+    work: &mut W,
+) -> Result<(Files<D>, bool)> {
+    match opened(alloc, files) {
+        Ok(conn) => Ok((work.over(alloc, conn)?.into_store().close(), true)),
+        Err(files) => Ok((files, false)),
     }
 }
 
@@ -88,25 +110,29 @@ fn filled_book<S: Alter + Drop>(alloc: Global, conn: Connection<S>) -> Result<Sq
 const TO_VERSION_ONE: &str =
     "INSERT INTO totals (material, received, stock, rack, pieces, kerf, scrap) SELECT material, received, stock, rack, pieces, kerf, scrap FROM totals2;DROP TABLE totals2;UPDATE meta SET value = 1 WHERE name = 'version'";
 
-// A database with a shop of version 1, in which all messages were handled.
-fn earlier_shop<S: Alter + Drop>(alloc: Global, conn: Connection<S>) -> Result<Connection<S>> {
-    let mut conn = filled_book(alloc, conn)?.into_connection();
-    conn.execute_batch(TO_VERSION_ONE)?;
-    Ok(conn)
-}
+// All messages are handled, and then the shop is brought to version 1.
+#[derive(Drop)]
+struct EarlierShop;
 
-// These files with that shop.
-fn earlier_files<D: Disk + Drop>(alloc: Global, files: Files<D>) -> Result<Files<D>> {
-    match opened(alloc, files) {
-        Ok(conn) => Ok(earlier_shop(alloc, conn)?.into_store().close()),
-        Err(_) => Err(Error::msg("files that are not opened")),
+impl Work for EarlierShop {
+    fn over<S: Alter + Drop>(
+        &mut self,
+        alloc: Global,
+        conn: Connection<S>,
+    ) -> Result<Connection<S>> {
+        let mut conn = filled_book(alloc, conn)?.into_connection();
+        conn.execute_batch(TO_VERSION_ONE)?;
+        Ok(conn)
     }
 }
 
 /// A shop of version 1, in which all messages were handled.
 pub fn earlier_start(alloc: Global) -> Result<Start> {
     let files = Start::empty(alloc).files(alloc, true, u64::MAX)?;
-    let files = earlier_files(alloc, files)?;
+    let (files, is_made) = over_files(alloc, files, &mut EarlierShop)?;
+    if !is_made {
+        return Err(Error::msg("files that are not opened"));
+    }
     Ok(Start {
         log: Vec::from_slice(alloc, files.log.inner().bytes())?,
         db: Vec::from_slice(alloc, files.db.inner().bytes())?,
@@ -136,19 +162,14 @@ fn adopted_again<S: Alter + Drop>(alloc: Global, conn: Connection<S>) -> Result<
     }
 }
 
-// Such a book is closed, its files are opened again, and it goes on.
-fn reopened<D: Disk + Drop>(alloc: Global, book: SqlBook<FileStore<D>>) -> Result<()> {
-    match reopen_book(alloc, book, options()) {
+// Such a book of these files is closed, opened again, and goes on.
+fn open_files_again<D: Disk + Drop>(alloc: Global, files: Files<D>) -> Result<()> {
+    let Ok(conn) = opened(alloc, files) else {
+        return Err(Error::msg("files that are not opened"));
+    };
+    match reopen_book(alloc, adopted_again(alloc, conn)?, options()) {
         Some(mut again) => go_on(alloc, &mut again),
         None => Err(Error::msg("files that are not opened again")),
-    }
-}
-
-// The same of these files.
-fn open_files_again<D: Disk + Drop>(alloc: Global, files: Files<D>) -> Result<()> {
-    match opened(alloc, files) {
-        Ok(conn) => reopened(alloc, adopted_again(alloc, conn)?),
-        Err(_) => Err(Error::msg("files that are not opened")),
     }
 }
 
