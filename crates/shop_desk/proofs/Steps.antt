@@ -3,7 +3,7 @@ use Rattle.std.proofs.Common.{◌≡◌, ◌≢◌, ℕ, List, [], ◌∷◌, �
 use Rattle.std.specs.Prelude.{◌⊎◌, ◌+◌, Bool, true, false, nat_lt, if◌then◌else◌, MatchOption, is_some, not}
 use Rattle.std.specs.Option.{option_map}
 use Rattle.shop_book.specs.declared.books.TheConstants.{MOST_FAILURES}
-use Rattle.shop_book.specs.Failures.{refusal_for}
+use Rattle.shop_book.specs.Failures.{CountsFailure, refusal_for}
 use Rattle.shop_book.specs.declared.books.BookFault.{BookFault}
 use Rattle.shop_book.specs.declared.books.BookFault.TheVariants as fault
 use Rattle.shop_machine.specs.declared.kept_texts.Kept.{Kept}
@@ -44,6 +44,17 @@ store_failed before after answer counts e =
 pub counted_made : (before after : ℕ) (change : Change) → CountsOrDisagrees (Ok change) before after → after ≡ before
 counted_made before after change (inl same) = same
 counted_made before after change (inr rows) = rows.1
+
+-- a commit that failed blames the store only where it failed
+pub commit_blamed : (T : Type 0) (before mid after : ℕ) (fault : BookFault) (refusal : Refusal) → mid ≡ before → CountsFailure {T = T} (Err fault) mid after
+    → refusal ≡ refusal_for fault → Refused refusal ≡ Refused StoreFault → StoreFailed before after
+commit_blamed T before mid after fault.NoMemory refusal same counts is told = absurd (other refusal is told)
+  where
+    other : (refusal : Refusal) → refusal ≡ NoMemory → Refused refusal ≡ Refused StoreFault → ⊥
+    other refusal is told = cc
+commit_blamed T before mid after fault.Store refusal same counts is told =
+    rose before after (nat_lt before MOST_FAILURES) (subst (λ n. after ≡ (if nat_lt n MOST_FAILURES then n + 1 else MOST_FAILURES)) same counts)
+commit_blamed T before mid after fault.WrongVersion refusal same counts is told = absurd counts
 
 -- on a sound content a decision blames the store only where it failed
 pub blamed : (texts : Texts) (m : Content) (message : Message) (before after : ℕ) (refusal : Refusal) → IsSound texts m

@@ -1,4 +1,4 @@
-ghost use Rattle.std.specs.Prelude.{◌≡◌, ◌≢◌, IfOk, OnErr, None, true, false};
+ghost use Rattle.std.specs.Prelude.{◌≡◌, ◌≢◌, IfOk, IfSome, OnErr, None, true, false};
 ghost use Rattle.shop_machine.specs.Content.{Content, demand_at, kept_at, material_at, material_of, part_at, parts_of, rack_rows};
 ghost use Rattle.shop_machine.specs.Planning.{AreAsked};
 ghost use Rattle.shop_machine.specs.Messages.{IsMessage, pair_of};
@@ -50,22 +50,29 @@ fn answer_again(alloc: Global, text: &Text, kept: &Kept) -> Reply
 }
 
 // Handles a message whose pair isn't kept. The text is the message's.
-fn handle_new<B: Book>(alloc: Global, book: &mut B, message: &Message, text: Text) -> Reply
+fn handle_new<B: Book>(
+    alloc: Global,
+    book: &mut B,
+    message: &Message,
+    text: Text,
+) -> (Reply, Option<Text>)
     ensures step { text ≡ json_texts.of_message message.now → IsMessage message.now → B.is_honest book.new → (m : Content) → B.holds book.old m
         → IsSound json_texts m → kept_at m (pair_of message.now) ≡ None
-        → IsHandled json_texts B.stands (B.may_leave book.old) (B.may_leave book.new) (B.holds book.new) m message.now result }
+        → IsHandled json_texts B.stands (B.may_leave book.old) (B.may_leave book.new) (B.holds book.new) m message.now result.0 }
+    ensures told { IfSome result.1 (λ text. text ≡ json_texts.of_reply result.0) }
     ensures honest { B.is_honest book.new → B.is_honest book.old }
-    ensures failures { CountsOrContradicts result (B.failed book.old) (B.failed book.new) }
+    ensures failures { CountsOrContradicts result.0 (B.failed book.old) (B.failed book.new) }
     ensures store_fault { IsMessage message.now → B.is_honest book.new → (m : Content) → B.holds book.old m → IsSound json_texts m
-        → result ≡ Refused StoreFault → StoreFailed (B.failed book.old) (B.failed book.new) }
+        → result.0 ≡ Refused StoreFault → StoreFailed (B.failed book.old) (B.failed book.new) }
 {
     let change = match decide(alloc, book, &message.command) {
         Ok(change) => change,
-        Err(refusal) => return Reply::Refused(refusal),
+        Err(refusal) => return (Reply::Refused(refusal), None),
     };
     let Ok(told) = reply_text(alloc, &change.reply) else {
-        return Reply::Refused(Refusal::NoMemory);
+        return (Reply::Refused(Refusal::NoMemory), None);
     };
+    let copy = told.copy(alloc).ok();
     let pair = Pair {
         terminal: message.terminal,
         number: message.number,
@@ -75,16 +82,38 @@ fn handle_new<B: Book>(alloc: Global, book: &mut B, message: &Message, text: Tex
         reply: told,
     };
     let Ok((change, reply)) = keeping_message(alloc, change, KeptMessage { pair, kept }) else {
-        return Reply::Refused(Refusal::NoMemory);
+        return (Reply::Refused(Refusal::NoMemory), None);
     };
     match book.commit(change) {
-        Ok(()) => reply,
-        Err(fault) => Reply::Refused(Refusal::from(fault)),
+        Ok(()) => (reply, copy),
+        Err(fault) => (Reply::Refused(Refusal::from(fault)), None),
     }
 }
 
 /// Handles a message: one step of the machine. A message whose pair is kept gets the kept reply, or 11 where it is
-/// another command; one that is accepted is kept with its reply.
+/// another command; one that is accepted is kept with its reply. Beside the reply its text, where it was written to be kept
+/// and there was memory for a copy.
+pub fn handle_told<B: Book>(alloc: Global, book: &mut B, message: &Message) -> (Reply, Option<Text>)
+    ensures step { B.is_honest book.new → (m : Content) → B.holds book.old m → IsSound json_texts m
+        → IsHandled json_texts B.stands (B.may_leave book.old) (B.may_leave book.new) (B.holds book.new) m message.now result.0 }
+    ensures told { IfSome result.1 (λ text. text ≡ json_texts.of_reply result.0) }
+    ensures message { IsMessage message.now }
+    ensures honest { B.is_honest book.new → B.is_honest book.old }
+    ensures failures { CountsOrContradicts result.0 (B.failed book.old) (B.failed book.new) }
+    ensures store_fault { B.is_honest book.new → (m : Content) → B.holds book.old m → IsSound json_texts m
+        → result.0 ≡ Refused StoreFault → StoreFailed (B.failed book.old) (B.failed book.new) }
+{
+    let Ok(text) = message_text(alloc, message) else {
+        return (Reply::Refused(Refusal::NoMemory), None);
+    };
+    match book.kept(alloc, message.terminal, message.number) {
+        Ok(None) => handle_new(alloc, book, message, text),
+        Ok(Some(kept)) => (answer_again(alloc, &text, &kept), None),
+        Err(fault) => (Reply::Refused(Refusal::from(fault)), None),
+    }
+}
+
+/// Handles a message as `handle_told` does, and gives the reply alone.
 pub fn handle<B: Book>(alloc: Global, book: &mut B, message: &Message) -> Reply
     ensures step { B.is_honest book.new → (m : Content) → B.holds book.old m → IsSound json_texts m
         → IsHandled json_texts B.stands (B.may_leave book.old) (B.may_leave book.new) (B.holds book.new) m message.now result }
@@ -94,14 +123,7 @@ pub fn handle<B: Book>(alloc: Global, book: &mut B, message: &Message) -> Reply
     ensures store_fault { B.is_honest book.new → (m : Content) → B.holds book.old m → IsSound json_texts m
         → result ≡ Refused StoreFault → StoreFailed (B.failed book.old) (B.failed book.new) }
 {
-    let Ok(text) = message_text(alloc, message) else {
-        return Reply::Refused(Refusal::NoMemory);
-    };
-    match book.kept(alloc, message.terminal, message.number) {
-        Ok(None) => handle_new(alloc, book, message, text),
-        Ok(Some(kept)) => answer_again(alloc, &text, &kept),
-        Err(fault) => Reply::Refused(Refusal::from(fault)),
-    }
+    handle_told(alloc, book, message).0
 }
 
 // The cells of a material.

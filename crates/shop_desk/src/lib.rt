@@ -7,4 +7,4 @@ mod found;
 mod importing;
 mod racks;
 
-pub use desk_calls::{ask, handle, run};
+pub use desk_calls::{ask, handle, handle_told, run};

@@ -9,7 +9,7 @@ ghost use Rattle.shop_rules.specs.Tokens.{AddsValue};
 
 use crate::fields::{code_at, has_keys, kind_at, number_at};
 use crate::words::kind_word;
-use crate::writing::{write_number, write_text};
+use crate::writing::{Member, write_object};
 use cut_measure::Kind;
 use json::Writer;
 use serde_json::Value;
@@ -49,17 +49,19 @@ pub(crate) fn write_material(
 ) -> Result<(), AllocError>
     ensures { OnOk result (AddsValue writer.old writer.new (message_data (record { terminal = pair.0; number = pair.1; command = AddMaterial material.now kind kerf min_long min_short }))) }
 {
-    writer.begin_object()?;
-    write_text(writer, "do", "material")?;
-    write_number(writer, "kerf", kerf)?;
-    write_text(writer, "kind", kind_word(kind))?;
-    write_text(writer, "material", material)?;
-    write_number(writer, "min_long", min_long)?;
-    write_number(writer, "min_short", min_short)?;
-    write_number(writer, "number", pair.1)?;
-    write_number(writer, "terminal", pair.0)?;
-    writer.end_object()?;
-    Ok(())
+    write_object(
+        writer,
+        &[
+            Member::Text("do", "material"),
+            Member::Number("kerf", kerf),
+            Member::Text("kind", kind_word(kind)),
+            Member::Text("material", material),
+            Member::Number("min_long", min_long),
+            Member::Number("min_short", min_short),
+            Member::Number("number", pair.1),
+            Member::Number("terminal", pair.0),
+        ],
+    )
 }
 
 // The reply to it.
@@ -77,9 +79,11 @@ pub(crate) fn material_made(value: &Value) -> Option<Reply>
 pub(crate) fn tell_material(writer: &mut Writer, material: &str) -> Result<(), AllocError>
     ensures { OnOk result (AddsValue writer.old writer.new (reply_data (reply.AddMaterial material.now))) }
 {
-    writer.begin_object()?;
-    write_text(writer, "material", material)?;
-    write_text(writer, "ok", "material")?;
-    writer.end_object()?;
-    Ok(())
+    write_object(
+        writer,
+        &[
+            Member::Text("material", material),
+            Member::Text("ok", "material"),
+        ],
+    )
 }

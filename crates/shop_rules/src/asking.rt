@@ -9,7 +9,7 @@ ghost use Rattle.shop_rules.specs.Tokens.{AddsValue};
 
 use crate::fields::{code_at, has_keys, name_at, number_at, numbers_at, word_at};
 use crate::words::{state_word, wide};
-use crate::writing::{write_name, write_number, write_text};
+use crate::writing::{Member, write_object, write_text};
 use cut_measure::PartName;
 use json::Writer;
 use serde_json::Value;
@@ -39,18 +39,20 @@ pub(crate) fn tell_totals(
     ensures value { OnOk result (AddsValue writer.old writer.new (reply_data (reply.Totals material.now received stock rack pieces kerf scrap returned))) }
     ensures wide { OnOk result (HasWideNumbers (reply.Totals material.now received stock rack pieces kerf scrap returned)) }
 {
-    writer.begin_object()?;
-    write_number(writer, "kerf", kerf)?;
-    write_text(writer, "material", material)?;
-    write_text(writer, "ok", "totals")?;
-    write_number(writer, "pieces", pieces)?;
-    write_number(writer, "rack", rack)?;
-    write_number(writer, "received", received)?;
-    write_number(writer, "returned", returned)?;
-    write_number(writer, "scrap", scrap)?;
-    write_number(writer, "stock", stock)?;
-    writer.end_object()?;
-    Ok(())
+    write_object(
+        writer,
+        &[
+            Member::Number("kerf", kerf),
+            Member::Text("material", material),
+            Member::Text("ok", "totals"),
+            Member::Number("pieces", pieces),
+            Member::Number("rack", rack),
+            Member::Number("received", received),
+            Member::Number("returned", returned),
+            Member::Number("scrap", scrap),
+            Member::Number("stock", stock),
+        ],
+    )
 }
 
 // The query for a material's parts on the rack.
@@ -66,13 +68,15 @@ fn write_rack_row(alloc: Global, writer: &mut Writer, row: &RackRow) -> Result<(
     ensures value { OnOk result (AddsValue writer.old writer.new (form.rack_row_data row.now)) }
     ensures wide { OnOk result (HasWideSides row.now) }
 {
-    writer.begin_object()?;
-    write_number(writer, "h", wide(row.h))?;
-    write_name(alloc, writer, "part", &row.part)?;
-    write_text(writer, "state", state_word(row.state))?;
-    write_number(writer, "w", wide(row.w))?;
-    writer.end_object()?;
-    Ok(())
+    write_object(
+        writer,
+        &[
+            Member::Number("h", wide(row.h)),
+            Member::Name("part", &row.part, alloc),
+            Member::Text("state", state_word(row.state)),
+            Member::Number("w", wide(row.w)),
+        ],
+    )
 }
 
 // Writes the parts on the rack.
@@ -125,32 +129,34 @@ pub(crate) struct Place {
 }
 
 // Writes the reply to the query.
-pub(crate) fn tell_trace(
+pub(crate) fn tell_trace<'a>(
     alloc: Global,
     writer: &mut Writer,
-    batch: &str,
+    batch: &'a str,
     of: u64,
-    part: &PartName,
-    root: &PartName,
+    part: &'a PartName,
+    root: &'a PartName,
     state: StateWord,
     place: Place,
 ) -> Result<(), AllocError>
     ensures value { OnOk result (AddsValue writer.old writer.new (reply_data (reply.Trace batch.now place.h of part.now root.now state place.w place.x place.y))) }
     ensures wide { OnOk result (HasWideNumbers (reply.Trace batch.now place.h of part.now root.now state place.w place.x place.y)) }
 {
-    writer.begin_object()?;
-    write_text(writer, "batch", batch)?;
-    write_number(writer, "h", place.h)?;
-    write_number(writer, "of", of)?;
-    write_text(writer, "ok", "trace")?;
-    write_name(alloc, writer, "part", part)?;
-    write_name(alloc, writer, "root", root)?;
-    write_text(writer, "state", state_word(state))?;
-    write_number(writer, "w", place.w)?;
-    write_number(writer, "x", place.x)?;
-    write_number(writer, "y", place.y)?;
-    writer.end_object()?;
-    Ok(())
+    write_object(
+        writer,
+        &[
+            Member::Text("batch", batch),
+            Member::Number("h", place.h),
+            Member::Number("of", of),
+            Member::Text("ok", "trace"),
+            Member::Name("part", part, alloc),
+            Member::Name("root", root, alloc),
+            Member::Text("state", state_word(state)),
+            Member::Number("w", place.w),
+            Member::Number("x", place.x),
+            Member::Number("y", place.y),
+        ],
+    )
 }
 
 // The query for a demand.
@@ -170,28 +176,30 @@ pub(crate) struct Counts {
 }
 
 // Writes the reply to it.
-pub(crate) fn tell_demand(
+pub(crate) fn tell_demand<'a>(
     writer: &mut Writer,
     demand: u64,
     line: u64,
-    material: &str,
-    order: &str,
+    material: &'a str,
+    order: &'a str,
     counts: Counts,
 ) -> Result<(), AllocError>
     ensures value { OnOk result (AddsValue writer.old writer.new (reply_data (reply.Demand demand line counts.made material.now order.now counts.reserved counts.wanted))) }
     ensures wide { OnOk result (HasWideNumbers (reply.Demand demand line counts.made material.now order.now counts.reserved counts.wanted)) }
 {
-    writer.begin_object()?;
-    write_number(writer, "demand", demand)?;
-    write_number(writer, "line", line)?;
-    write_number(writer, "made", counts.made)?;
-    write_text(writer, "material", material)?;
-    write_text(writer, "ok", "demand")?;
-    write_text(writer, "order", order)?;
-    write_number(writer, "reserved", counts.reserved)?;
-    write_number(writer, "wanted", counts.wanted)?;
-    writer.end_object()?;
-    Ok(())
+    write_object(
+        writer,
+        &[
+            Member::Number("demand", demand),
+            Member::Number("line", line),
+            Member::Number("made", counts.made),
+            Member::Text("material", material),
+            Member::Text("ok", "demand"),
+            Member::Text("order", order),
+            Member::Number("reserved", counts.reserved),
+            Member::Number("wanted", counts.wanted),
+        ],
+    )
 }
 
 // The query for a plan.
@@ -226,14 +234,16 @@ pub(crate) fn tell_plan(
     ensures value { OnOk result (AddsValue writer.old writer.new (reply_data (reply.Plan ceiling dropped tree.now worth))) }
     ensures wide { OnOk result (HasWideNumbers (reply.Plan ceiling dropped tree.now worth)) }
 {
-    writer.begin_object()?;
-    write_number(writer, "ceiling", ceiling)?;
-    write_number(writer, "dropped", dropped)?;
-    write_text(writer, "ok", "plan")?;
-    write_text(writer, "tree", tree)?;
-    write_number(writer, "worth", worth)?;
-    writer.end_object()?;
-    Ok(())
+    write_object(
+        writer,
+        &[
+            Member::Number("ceiling", ceiling),
+            Member::Number("dropped", dropped),
+            Member::Text("ok", "plan"),
+            Member::Text("tree", tree),
+            Member::Number("worth", worth),
+        ],
+    )
 }
 
 // The query for a bound.
@@ -270,12 +280,14 @@ pub(crate) fn tell_bound(writer: &mut Writer, best: u64, units: u64) -> Result<(
     ensures value { OnOk result (AddsValue writer.old writer.new (reply_data (reply.Bound best units))) }
     ensures wide { OnOk result (HasWideNumbers (reply.Bound best units)) }
 {
-    writer.begin_object()?;
-    write_number(writer, "best", best)?;
-    write_text(writer, "ok", "bound")?;
-    write_number(writer, "units", units)?;
-    writer.end_object()?;
-    Ok(())
+    write_object(
+        writer,
+        &[
+            Member::Number("best", best),
+            Member::Text("ok", "bound"),
+            Member::Number("units", units),
+        ],
+    )
 }
 
 // The query with one key beside `ask` that a value stands for.

@@ -1,16 +1,17 @@
-ghost use Rattle.std.specs.Prelude.{◌≡◌, IfOk, OnOk, All};
+ghost use Rattle.std.specs.Prelude.{◌≡◌, IfOk, OnOk, All, codes};
 ghost use Rattle.serde_json.specs.View.{view};
 ghost use Rattle.shop_machine.specs.declared.messages.Command.TheVariants.{Break};
 ghost use Rattle.shop_machine.specs.Messages.{IsNumber, IsHalt};
 ghost use Rattle.shop_rules.specs.Fields.{row};
 ghost use Rattle.shop_rules.specs.Forms as form;
 ghost use Rattle.shop_rules.specs.Forms.{message_data};
+ghost use Rattle.shop_rules.specs.Members.{IsAt};
 ghost use Rattle.shop_rules.specs.Tokens.{AddsValue};
 
 use crate::ending::ended_cells;
 use crate::fields::{flag_at, has_keys, number_at, numbers_at};
 use crate::words::wide;
-use crate::writing::{write_number, write_text};
+use crate::writing::{Member, write_object};
 use cut_tree::{Halt, MOST_CUTS};
 use json::Writer;
 use serde_json::Value;
@@ -84,37 +85,25 @@ pub(crate) fn has_few_cuts(command: &Command) -> bool
     }
 }
 
-// Writes listed cuts.
-fn write_list(writer: &mut Writer, cuts: &[u32]) -> Result<(), AllocError>
-    ensures { OnOk result (AddsValue writer.old writer.new (form.list_data cuts.now)) }
-{
-    writer.begin_array()?;
-    for cut in cuts {
-        writer.u64(wide(*cut))?;
-    }
-    writer.end_array()?;
-    Ok(())
-}
-
-// Writes the cuts that were made: their number, or a list.
-fn write_cuts(writer: &mut Writer, halt: &Halt) -> Result<(), AllocError>
-    ensures { OnOk result (AddsValue writer.old writer.new (form.cuts_data halt.now)) }
+// The cuts that were made: their number, or a list.
+fn cuts_member(halt: &Halt) -> Member<'_>
+    ensures { IsAt result (codes "cuts") (form.cuts_data halt.now) }
 {
     match halt {
-        Halt::First { cuts, .. } => writer.u64(wide(*cuts)),
-        Halt::Listed { cuts, .. } => write_list(writer, cuts.as_slice()),
+        Halt::First { cuts, .. } => Member::Number("cuts", wide(*cuts)),
+        Halt::Listed { cuts, .. } => Member::Numbers("cuts", cuts.as_slice()),
     }
 }
 
-// Writes whether a cut went wrong, or which.
-fn write_lost(writer: &mut Writer, halt: &Halt) -> Result<(), AllocError>
-    ensures { OnOk result (AddsValue writer.old writer.new (form.lost_data halt.now)) }
+// Whether a cut went wrong, or which.
+fn lost_member(halt: &Halt) -> Member<'static>
+    ensures { IsAt result (codes "lost") (form.lost_data halt.now) }
 {
     match halt {
-        Halt::First { lost, .. } => writer.boolean(*lost),
+        Halt::First { lost, .. } => Member::Flag("lost", *lost),
         Halt::Listed { lost, .. } => match lost {
-            Some(cut) => writer.u64(wide(*cut)),
-            None => writer.boolean(false),
+            Some(cut) => Member::Number("lost", wide(*cut)),
+            None => Member::Flag("lost", false),
         },
     }
 }
@@ -128,17 +117,17 @@ pub(crate) fn write_break(
 ) -> Result<(), AllocError>
     ensures { OnOk result (AddsValue writer.old writer.new (message_data (record { terminal = pair.0; number = pair.1; command = Break job halt.now }))) }
 {
-    writer.begin_object()?;
-    writer.key("cuts")?;
-    write_cuts(writer, halt)?;
-    write_text(writer, "do", "break")?;
-    write_number(writer, "job", job)?;
-    writer.key("lost")?;
-    write_lost(writer, halt)?;
-    write_number(writer, "number", pair.1)?;
-    write_number(writer, "terminal", pair.0)?;
-    writer.end_object()?;
-    Ok(())
+    write_object(
+        writer,
+        &[
+            cuts_member(halt),
+            Member::Text("do", "break"),
+            Member::Number("job", job),
+            lost_member(halt),
+            Member::Number("number", pair.1),
+            Member::Number("terminal", pair.0),
+        ],
+    )
 }
 
 // Reads each cut, so that all are known to be in range.

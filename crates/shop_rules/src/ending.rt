@@ -10,7 +10,7 @@ ghost use Rattle.shop_rules.specs.Told.{HasWideNumbers};
 ghost use Rattle.shop_rules.specs.Tokens.{AddsValue};
 
 use crate::fields::{has_keys, number_at, wide_at};
-use crate::writing::{write_number, write_text};
+use crate::writing::{Member, write_object};
 use json::Writer;
 use serde_json::Value;
 use shop_machine::{Command, Reply};
@@ -31,13 +31,15 @@ pub(crate) fn done_command(value: &Value) -> Option<Command>
 pub(crate) fn write_done(writer: &mut Writer, pair: (u64, u64), job: u64) -> Result<(), AllocError>
     ensures { OnOk result (AddsValue writer.old writer.new (message_data (record { terminal = pair.0; number = pair.1; command = Done job }))) }
 {
-    writer.begin_object()?;
-    write_text(writer, "do", "done")?;
-    write_number(writer, "job", job)?;
-    write_number(writer, "number", pair.1)?;
-    write_number(writer, "terminal", pair.0)?;
-    writer.end_object()?;
-    Ok(())
+    write_object(
+        writer,
+        &[
+            Member::Text("do", "done"),
+            Member::Number("job", job),
+            Member::Number("number", pair.1),
+            Member::Number("terminal", pair.0),
+        ],
+    )
 }
 
 // What is told of a job that ended: its number, and the cells of kerf, pieces, rack and scrap.
@@ -82,15 +84,17 @@ pub(crate) fn tell_ended(
     ensures value { OnOk result (AddsValue writer.old writer.new (form.ended_told word.now job kerf pieces rack scrap)) }
     ensures wide { OnOk result (IsWide job × IsWide kerf × IsWide pieces × IsWide rack × IsWide scrap) }
 {
-    writer.begin_object()?;
-    write_number(writer, "job", job)?;
-    write_number(writer, "kerf", kerf)?;
-    write_text(writer, "ok", word)?;
-    write_number(writer, "pieces", pieces)?;
-    write_number(writer, "rack", rack)?;
-    write_number(writer, "scrap", scrap)?;
-    writer.end_object()?;
-    Ok(())
+    write_object(
+        writer,
+        &[
+            Member::Number("job", job),
+            Member::Number("kerf", kerf),
+            Member::Text("ok", word),
+            Member::Number("pieces", pieces),
+            Member::Number("rack", rack),
+            Member::Number("scrap", scrap),
+        ],
+    )
 }
 
 // The command to release a job's part.
@@ -112,13 +116,15 @@ pub(crate) fn write_release(
 ) -> Result<(), AllocError>
     ensures { OnOk result (AddsValue writer.old writer.new (message_data (record { terminal = pair.0; number = pair.1; command = Release job }))) }
 {
-    writer.begin_object()?;
-    write_text(writer, "do", "release")?;
-    write_number(writer, "job", job)?;
-    write_number(writer, "number", pair.1)?;
-    write_number(writer, "terminal", pair.0)?;
-    writer.end_object()?;
-    Ok(())
+    write_object(
+        writer,
+        &[
+            Member::Text("do", "release"),
+            Member::Number("job", job),
+            Member::Number("number", pair.1),
+            Member::Number("terminal", pair.0),
+        ],
+    )
 }
 
 // The reply to it.
@@ -137,9 +143,8 @@ pub(crate) fn tell_release(writer: &mut Writer, job: u64) -> Result<(), AllocErr
     ensures value { OnOk result (AddsValue writer.old writer.new (reply_data (reply.Release job))) }
     ensures wide { OnOk result (HasWideNumbers (reply.Release job)) }
 {
-    writer.begin_object()?;
-    write_number(writer, "job", job)?;
-    write_text(writer, "ok", "release")?;
-    writer.end_object()?;
-    Ok(())
+    write_object(
+        writer,
+        &[Member::Number("job", job), Member::Text("ok", "release")],
+    )
 }

@@ -10,7 +10,7 @@ ghost use Rattle.shop_rules.specs.Told.{HasWideNumbers};
 ghost use Rattle.shop_rules.specs.Tokens.{AddsValue};
 
 use crate::fields::{code_at, has_keys, number_at, text_at};
-use crate::writing::{write_number, write_text};
+use crate::writing::{Member, write_object};
 use json::Writer;
 use serde_json::Value;
 use shop_machine::{Command, Form, Reply, Text};
@@ -73,45 +73,49 @@ pub(crate) fn import_command(alloc: Global, value: &Value) -> Result<Option<Comm
 }
 
 // Writes a message that imports an order file.
-pub(crate) fn write_csv(
+pub(crate) fn write_csv<'a>(
     writer: &mut Writer,
     pair: (u64, u64),
-    order: &str,
-    text: &str,
+    order: &'a str,
+    text: &'a str,
 ) -> Result<(), AllocError>
     ensures { OnOk result (AddsValue writer.old writer.new (message_data (record { terminal = pair.0; number = pair.1; command = Import order.now Csv text.now }))) }
 {
-    writer.begin_object()?;
-    write_text(writer, "do", "import")?;
-    write_text(writer, "form", "csv")?;
-    write_number(writer, "number", pair.1)?;
-    write_text(writer, "order", order)?;
-    write_number(writer, "terminal", pair.0)?;
-    write_text(writer, "text", text)?;
-    writer.end_object()?;
-    Ok(())
+    write_object(
+        writer,
+        &[
+            Member::Text("do", "import"),
+            Member::Text("form", "csv"),
+            Member::Number("number", pair.1),
+            Member::Text("order", order),
+            Member::Number("terminal", pair.0),
+            Member::Text("text", text),
+        ],
+    )
 }
 
 // Writes a message that imports a problem file, for a material.
-pub(crate) fn write_problem(
+pub(crate) fn write_problem<'a>(
     writer: &mut Writer,
     pair: (u64, u64),
-    material: &str,
-    order: &str,
-    text: &str,
+    material: &'a str,
+    order: &'a str,
+    text: &'a str,
 ) -> Result<(), AllocError>
     ensures { OnOk result (AddsValue writer.old writer.new (message_data (record { terminal = pair.0; number = pair.1; command = Import order.now (Cgcut material.now) text.now }))) }
 {
-    writer.begin_object()?;
-    write_text(writer, "do", "import")?;
-    write_text(writer, "form", "cgcut")?;
-    write_text(writer, "material", material)?;
-    write_number(writer, "number", pair.1)?;
-    write_text(writer, "order", order)?;
-    write_number(writer, "terminal", pair.0)?;
-    write_text(writer, "text", text)?;
-    writer.end_object()?;
-    Ok(())
+    write_object(
+        writer,
+        &[
+            Member::Text("do", "import"),
+            Member::Text("form", "cgcut"),
+            Member::Text("material", material),
+            Member::Number("number", pair.1),
+            Member::Text("order", order),
+            Member::Number("terminal", pair.0),
+            Member::Text("text", text),
+        ],
+    )
 }
 
 // The reply to it.
@@ -144,12 +148,14 @@ pub(crate) fn tell_import(
     ensures value { OnOk result (AddsValue writer.old writer.new (reply_data (reply.Import act count first order.now))) }
     ensures wide { OnOk result (HasWideNumbers (reply.Import act count first order.now)) }
 {
-    writer.begin_object()?;
-    write_number(writer, "act", act)?;
-    write_number(writer, "count", count)?;
-    write_number(writer, "first", first)?;
-    write_text(writer, "ok", "import")?;
-    write_text(writer, "order", order)?;
-    writer.end_object()?;
-    Ok(())
+    write_object(
+        writer,
+        &[
+            Member::Number("act", act),
+            Member::Number("count", count),
+            Member::Number("first", first),
+            Member::Text("ok", "import"),
+            Member::Text("order", order),
+        ],
+    )
 }

@@ -4,6 +4,7 @@
 mod adding;
 mod asking;
 mod breaking;
+mod deeds;
 mod ending;
 mod fields;
 mod importing;

@@ -9,6 +9,7 @@ ghost use Rattle.shop_rules.specs.Tokens.{AddsValue};
 use crate::adding::{material_command, write_material};
 use crate::asking::asked;
 use crate::breaking::{break_command, has_few_cuts, see_halt, write_break};
+use crate::deeds::{Deed, deed_of};
 use crate::ending::{done_command, release_command, write_done, write_release};
 use crate::fields::{number_at, word_at};
 use crate::importing::{import_command, write_csv, write_problem};
@@ -27,28 +28,20 @@ use std::alloc::{AllocError, Global};
 fn command(alloc: Global, value: &Value, word: &str) -> Result<Option<Command>, AllocError>
     ensures { IfOk result (λ command. command ≡ form.command_of word.now (view value.now)) }
 {
-    if word == "material" {
-        Ok(material_command(value))
-    } else if word == "receive" {
-        Ok(receive_command(value))
-    } else if word == "order" {
-        order_command(alloc, value)
-    } else if word == "reserve" {
-        reserve_command(alloc, value)
-    } else if word == "done" {
-        Ok(done_command(value))
-    } else if word == "break" {
-        break_command(alloc, value)
-    } else if word == "release" {
-        Ok(release_command(value))
-    } else if word == "scrap" {
-        Ok(scrap_command(value))
-    } else if word == "return" {
-        Ok(return_command(value))
-    } else if word == "import" {
-        import_command(alloc, value)
-    } else {
-        Ok(None)
+    let Some(deed) = deed_of(word) else {
+        return Ok(None);
+    };
+    match deed {
+        Deed::Material => Ok(material_command(value)),
+        Deed::Receive => Ok(receive_command(value)),
+        Deed::Order => order_command(alloc, value),
+        Deed::Reserve => reserve_command(alloc, value),
+        Deed::Done => Ok(done_command(value)),
+        Deed::Break => break_command(alloc, value),
+        Deed::Release => Ok(release_command(value)),
+        Deed::Scrap => Ok(scrap_command(value)),
+        Deed::GiveBack => Ok(return_command(value)),
+        Deed::Import => import_command(alloc, value),
     }
 }
 

@@ -11,7 +11,7 @@ ghost use Rattle.shop_rules.specs.Tokens.{AddsValue};
 
 use crate::fields::{code_at, elements_at, flag_at, has_keys, number_at};
 use crate::words::wide;
-use crate::writing::{write_number, write_text};
+use crate::writing::{Member, write_number, write_object, write_text};
 use json::Writer;
 use serde_json::Value;
 use shop_machine::{Command, LineList, OrderLine, Reply};
@@ -92,17 +92,18 @@ pub(crate) fn order_command(alloc: Global, value: &Value) -> Result<Option<Comma
 fn write_line(writer: &mut Writer, line: &OrderLine) -> Result<(), AllocError>
     ensures { OnOk result (AddsValue writer.old writer.new (form.line_data line.now)) }
 {
-    writer.begin_object()?;
-    write_number(writer, "count", wide(line.count))?;
-    write_number(writer, "h", wide(line.h))?;
-    write_number(writer, "line", wide(line.line))?;
-    write_text(writer, "material", line.material.as_str())?;
-    writer.key("turn")?;
-    writer.boolean(line.turn)?;
-    write_number(writer, "w", wide(line.w))?;
-    write_number(writer, "worth", wide(line.worth))?;
-    writer.end_object()?;
-    Ok(())
+    write_object(
+        writer,
+        &[
+            Member::Number("count", wide(line.count)),
+            Member::Number("h", wide(line.h)),
+            Member::Number("line", wide(line.line)),
+            Member::Text("material", line.material.as_str()),
+            Member::Flag("turn", line.turn),
+            Member::Number("w", wide(line.w)),
+            Member::Number("worth", wide(line.worth)),
+        ],
+    )
 }
 
 // Writes an order's lines.
@@ -187,11 +188,13 @@ pub(crate) fn tell_order(
     ensures value { OnOk result (AddsValue writer.old writer.new (reply_data (reply.AddOrder count first order.now))) }
     ensures wide { OnOk result (HasWideNumbers (reply.AddOrder count first order.now)) }
 {
-    writer.begin_object()?;
-    write_number(writer, "count", count)?;
-    write_number(writer, "first", first)?;
-    write_text(writer, "ok", "order")?;
-    write_text(writer, "order", order)?;
-    writer.end_object()?;
-    Ok(())
+    write_object(
+        writer,
+        &[
+            Member::Number("count", count),
+            Member::Number("first", first),
+            Member::Text("ok", "order"),
+            Member::Text("order", order),
+        ],
+    )
 }

@@ -9,7 +9,7 @@ ghost use Rattle.shop_rules.specs.Told.{HasWideNumbers};
 ghost use Rattle.shop_rules.specs.Tokens.{AddsValue};
 
 use crate::fields::{code_at, has_keys, number_at};
-use crate::writing::{write_number, write_text};
+use crate::writing::{Member, write_object};
 use json::Writer;
 use serde_json::Value;
 use shop_machine::{Command, Reply};
@@ -37,28 +37,30 @@ pub(crate) fn receive_command(value: &Value) -> Option<Command>
 }
 
 // Writes a message that receives units.
-pub(crate) fn write_receive(
+pub(crate) fn write_receive<'a>(
     writer: &mut Writer,
     pair: (u64, u64),
-    material: &str,
-    batch: &str,
+    material: &'a str,
+    batch: &'a str,
     w: u64,
     h: u64,
     count: u64,
 ) -> Result<(), AllocError>
     ensures { OnOk result (AddsValue writer.old writer.new (message_data (record { terminal = pair.0; number = pair.1; command = Receive material.now batch.now w h count }))) }
 {
-    writer.begin_object()?;
-    write_text(writer, "batch", batch)?;
-    write_number(writer, "count", count)?;
-    write_text(writer, "do", "receive")?;
-    write_number(writer, "h", h)?;
-    write_text(writer, "material", material)?;
-    write_number(writer, "number", pair.1)?;
-    write_number(writer, "terminal", pair.0)?;
-    write_number(writer, "w", w)?;
-    writer.end_object()?;
-    Ok(())
+    write_object(
+        writer,
+        &[
+            Member::Text("batch", batch),
+            Member::Number("count", count),
+            Member::Text("do", "receive"),
+            Member::Number("h", h),
+            Member::Text("material", material),
+            Member::Number("number", pair.1),
+            Member::Number("terminal", pair.0),
+            Member::Number("w", w),
+        ],
+    )
 }
 
 // The reply to it.
@@ -78,10 +80,12 @@ pub(crate) fn tell_receive(writer: &mut Writer, act: u64, count: u64) -> Result<
     ensures value { OnOk result (AddsValue writer.old writer.new (reply_data (reply.Receive act count))) }
     ensures wide { OnOk result (HasWideNumbers (reply.Receive act count)) }
 {
-    writer.begin_object()?;
-    write_number(writer, "act", act)?;
-    write_number(writer, "count", count)?;
-    write_text(writer, "ok", "receive")?;
-    writer.end_object()?;
-    Ok(())
+    write_object(
+        writer,
+        &[
+            Member::Number("act", act),
+            Member::Number("count", count),
+            Member::Text("ok", "receive"),
+        ],
+    )
 }

@@ -15,6 +15,7 @@ use crate::asking::{
     Counts, Place, tell_bound, tell_demand, tell_plan, tell_rack, tell_totals, tell_trace,
 };
 use crate::breaking::break_made;
+use crate::deeds::{Deed, deed_of};
 use crate::ending::{done_made, release_made, tell_ended, tell_release};
 use crate::fields::text_at;
 use crate::importing::{import_made, tell_import};
@@ -23,7 +24,7 @@ use crate::receiving::{receive_made, tell_receive};
 use crate::reserving::{reserve_made, tell_reserve};
 use crate::turning::{return_made, scrap_made, tell_turned};
 use crate::words::wide;
-use crate::writing::{new_writer, value_of, write_number, write_text, written_text};
+use crate::writing::{Member, new_writer, value_of, write_object, written_text};
 use json::Writer;
 use serde_json::Value;
 use shop_machine::{Refusal, Reply, Text};
@@ -33,29 +34,17 @@ use std::alloc::{AllocError, Global};
 fn made(value: &Value) -> Option<Reply>
     ensures { result ≡ form.reply_of (view value.now) }
 {
-    let word = text_at(value, "ok")?;
-    if word == "material" {
-        material_made(value)
-    } else if word == "receive" {
-        receive_made(value)
-    } else if word == "order" {
-        order_made(value)
-    } else if word == "reserve" {
-        reserve_made(value)
-    } else if word == "done" {
-        done_made(value)
-    } else if word == "break" {
-        break_made(value)
-    } else if word == "release" {
-        release_made(value)
-    } else if word == "scrap" {
-        scrap_made(value)
-    } else if word == "return" {
-        return_made(value)
-    } else if word == "import" {
-        import_made(value)
-    } else {
-        None
+    match deed_of(text_at(value, "ok")?)? {
+        Deed::Material => material_made(value),
+        Deed::Receive => receive_made(value),
+        Deed::Order => order_made(value),
+        Deed::Reserve => reserve_made(value),
+        Deed::Done => done_made(value),
+        Deed::Break => break_made(value),
+        Deed::Release => release_made(value),
+        Deed::Scrap => scrap_made(value),
+        Deed::GiveBack => return_made(value),
+        Deed::Import => import_made(value),
     }
 }
 
@@ -87,12 +76,13 @@ fn tell_refusal(writer: &mut Writer, refusal: Refusal) -> Result<(), AllocError>
     ensures value { OnOk result (AddsValue writer.old writer.new (reply_data (answer.Refused refusal))) }
     ensures wide { OnOk result (HasWideNumbers (answer.Refused refusal)) }
 {
-    let number = wide(refusal.number());
-    writer.begin_object()?;
-    write_text(writer, "name", refusal.name())?;
-    write_number(writer, "refused", number)?;
-    writer.end_object()?;
-    Ok(())
+    write_object(
+        writer,
+        &[
+            Member::Text("name", refusal.name()),
+            Member::Number("refused", wide(refusal.number())),
+        ],
+    )
 }
 
 // Writes a reply.

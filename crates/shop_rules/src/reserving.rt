@@ -9,7 +9,7 @@ ghost use Rattle.shop_rules.specs.Told.{HasWideNumbers};
 ghost use Rattle.shop_rules.specs.Tokens.{AddsValue};
 
 use crate::fields::{has_keys, name_at, number_at, text_at};
-use crate::writing::{write_name, write_number, write_text};
+use crate::writing::{Member, write_object};
 use cut_measure::PartName;
 use json::Writer;
 use serde_json::Value;
@@ -36,23 +36,25 @@ pub(crate) fn reserve_command(alloc: Global, value: &Value) -> Result<Option<Com
 }
 
 // Writes a message that reserves a part.
-pub(crate) fn write_reserve(
+pub(crate) fn write_reserve<'a>(
     alloc: Global,
     writer: &mut Writer,
     pair: (u64, u64),
-    part: &PartName,
-    tree: &str,
+    part: &'a PartName,
+    tree: &'a str,
 ) -> Result<(), AllocError>
     ensures { OnOk result (AddsValue writer.old writer.new (message_data (record { terminal = pair.0; number = pair.1; command = Reserve part.now tree.now }))) }
 {
-    writer.begin_object()?;
-    write_text(writer, "do", "reserve")?;
-    write_number(writer, "number", pair.1)?;
-    write_name(alloc, writer, "part", part)?;
-    write_number(writer, "terminal", pair.0)?;
-    write_text(writer, "tree", tree)?;
-    writer.end_object()?;
-    Ok(())
+    write_object(
+        writer,
+        &[
+            Member::Text("do", "reserve"),
+            Member::Number("number", pair.1),
+            Member::Name("part", part, alloc),
+            Member::Number("terminal", pair.0),
+            Member::Text("tree", tree),
+        ],
+    )
 }
 
 // The reply to it.
@@ -72,10 +74,12 @@ pub(crate) fn tell_reserve(writer: &mut Writer, cuts: u64, job: u64) -> Result<(
     ensures value { OnOk result (AddsValue writer.old writer.new (reply_data (reply.Reserve cuts job))) }
     ensures wide { OnOk result (HasWideNumbers (reply.Reserve cuts job)) }
 {
-    writer.begin_object()?;
-    write_number(writer, "cuts", cuts)?;
-    write_number(writer, "job", job)?;
-    write_text(writer, "ok", "reserve")?;
-    writer.end_object()?;
-    Ok(())
+    write_object(
+        writer,
+        &[
+            Member::Number("cuts", cuts),
+            Member::Number("job", job),
+            Member::Text("ok", "reserve"),
+        ],
+    )
 }

@@ -9,7 +9,7 @@ ghost use Rattle.shop_rules.specs.Forms.{message_data};
 ghost use Rattle.shop_rules.specs.Tokens.{AddsValue};
 
 use crate::fields::{has_keys, name_at};
-use crate::writing::{write_name, write_number, write_text};
+use crate::writing::{Member, write_object};
 use cut_measure::PartName;
 use json::Writer;
 use serde_json::Value;
@@ -36,13 +36,15 @@ pub(crate) fn write_scrap(
 ) -> Result<(), AllocError>
     ensures { OnOk result (AddsValue writer.old writer.new (message_data (record { terminal = pair.0; number = pair.1; command = Scrap part.now }))) }
 {
-    writer.begin_object()?;
-    write_text(writer, "do", "scrap")?;
-    write_number(writer, "number", pair.1)?;
-    write_name(alloc, writer, "part", part)?;
-    write_number(writer, "terminal", pair.0)?;
-    writer.end_object()?;
-    Ok(())
+    write_object(
+        writer,
+        &[
+            Member::Text("do", "scrap"),
+            Member::Number("number", pair.1),
+            Member::Name("part", part, alloc),
+            Member::Number("terminal", pair.0),
+        ],
+    )
 }
 
 // The reply to it.
@@ -57,19 +59,18 @@ pub(crate) fn scrap_made(value: &Value) -> Option<Reply>
 }
 
 // Writes the reply about a part that was turned, by its word.
-pub(crate) fn tell_turned(
+pub(crate) fn tell_turned<'a>(
     alloc: Global,
     writer: &mut Writer,
-    word: &str,
-    part: &PartName,
+    word: &'a str,
+    part: &'a PartName,
 ) -> Result<(), AllocError>
     ensures { OnOk result (AddsValue writer.old writer.new (object (text_member (codes "ok") word.now (name_member (codes "part") part.now no_members)))) }
 {
-    writer.begin_object()?;
-    write_text(writer, "ok", word)?;
-    write_name(alloc, writer, "part", part)?;
-    writer.end_object()?;
-    Ok(())
+    write_object(
+        writer,
+        &[Member::Text("ok", word), Member::Name("part", part, alloc)],
+    )
 }
 
 // The command that returns a unit.
@@ -92,13 +93,15 @@ pub(crate) fn write_return(
 ) -> Result<(), AllocError>
     ensures { OnOk result (AddsValue writer.old writer.new (message_data (record { terminal = pair.0; number = pair.1; command = GiveBack part.now }))) }
 {
-    writer.begin_object()?;
-    write_text(writer, "do", "return")?;
-    write_number(writer, "number", pair.1)?;
-    write_name(alloc, writer, "part", part)?;
-    write_number(writer, "terminal", pair.0)?;
-    writer.end_object()?;
-    Ok(())
+    write_object(
+        writer,
+        &[
+            Member::Text("do", "return"),
+            Member::Number("number", pair.1),
+            Member::Name("part", part, alloc),
+            Member::Number("terminal", pair.0),
+        ],
+    )
 }
 
 // The reply to it.

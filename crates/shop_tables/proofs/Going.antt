@@ -1,6 +1,7 @@
 -- What is known while rows are lent.
-use Rattle.std.proofs.Common.{◌≡◌, inl, inr, ℕ, Bool, true, false, List, [], ◌∷◌, ◌++◌, Some, None, Ok, Err, Result, IsTrue, IfOk, refl, arith}
+use Rattle.std.proofs.Common.{◌≡◌, inl, inr, ℕ, Bool, true, false, true≢false, List, [], ◌∷◌, ◌++◌, Some, None, Ok, Err, Result, IsTrue, IfOk, refl, sym, arith}
 use Rattle.std.proofs.lemmas.Fn.{FoldsTo-push}
+use Rattle.std.specs.Result.{IsErr}
 use Rattle.sqlite_value.specs.Order.{Row}
 use Rattle.sqlite_trees.specs.declared.store.Store.{Ghosts}
 use Rattle.sqlite_resolve.specs.declared.compiled.Compiled.{Compiled}
@@ -40,6 +41,10 @@ read_push [] [] row part h one = (one, tt)
 read_push [] (p ∷ parts) row part h one = absurd h
 read_push (r ∷ rows) [] row part h one = absurd h
 read_push (r ∷ rows) (p ∷ parts) row part h one = (h.0, read_push rows parts row part h.1 one)
+
+pub no_answer : (r : Result Lent TableFault) → IsErr r → IfOk r (λ how. ⊥)
+no_answer (Ok how) is = absurd (true≢false (sym is))
+no_answer (Err e) is = tt
 
 failed : (P : Lent → Type 0) (r : Result Lent TableFault) → IfOk r (λ how. ⊥) → IfOk r P
 failed P (Ok how) none = absurd none

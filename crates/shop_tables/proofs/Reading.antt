@@ -23,6 +23,7 @@ use Rattle.shop_tables.specs.Selecting.{is_select}
 use Rattle.std.proofs.lemmas.Result.{IfOk-weaker}
 use Rattle.sqlite.specs.declared.error.Error.{Error}
 use Rattle.sqlite.specs.declared.rows.Row.{Row as Answered}
+use Rattle.shop_tables.proofs.Steps.{within_itself}
 use Rattle.shop_tables.proofs.Terms.{from_table, Reads}
 use Rattle.shop_tables.proofs.Texts.{shop, shop_is}
 use Rattle.shop_tables.proofs.Selects.{selects, selected}
@@ -89,6 +90,9 @@ module _ (sql : List ℕ) (params : Row) (old new : State) (is : is_select sql �
       IfOk-weaker r _ _ (λ row h. record { shown = held_row sql params old new b row _ before was h finds; known = known (held_shows sql params old new b row before was h) }) given
 
 -- one reading after another
+pub leaves_itself : (a : State) → Leaves a a
+leaves_itself a = record { stays = λ b was. was; as_was = λ clean up. record { was_open = up; now = λ is. refl; committed = λ is. is }; survives = (within_itself a).survives }
+
 pub leaves_then : (a b c : State) → Leaves a b → Leaves b c → Leaves a c
 leaves_then a b c first second = record {
   stays = λ books was. second.stays books (first.stays books was);

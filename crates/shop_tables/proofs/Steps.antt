@@ -9,6 +9,10 @@ pub on_ok_then : {X E A B : Type 0} (r : Result X E) → (A → B) → OnOk r A 
 on_ok_then (Ok x) f h = f h
 on_ok_then (Err e) f h = tt
 
+pub on_ok_both : {X E A B C : Type 0} (r : Result X E) → OnOk r A → OnOk r B → (A → B → C) → OnOk r C
+on_ok_both (Ok x) a b f = f a b
+on_ok_both (Err e) a b f = tt
+
 pub on_err : {X E A : Type 0} (r : Result X E) → A → OnErr r A
 on_err (Ok x) h = tt
 on_err (Err e) h = h

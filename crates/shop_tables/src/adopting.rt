@@ -164,6 +164,59 @@ fn adopt_earlier<S: Alter>(conn: &mut Connection<S>) -> Result<Adopted, AdoptFau
     }
 }
 
+// Over a database in which no name of ours is taken.
+fn adopt_new<S: Alter>(conn: &mut Connection<S>) -> Result<Adopted, AdoptFault>
+    requires outside { conn.old.in_transaction ≡ false }
+    requires settled { IsTrue (state S.Store conn.old).is_open → (state S.Store conn.old).now ≡ (state S.Store conn.old).committed }
+    ensures mode { conn.new.in_transaction ≡ false }
+    ensures earlier { HasCleanDisk (state S.Store conn.new) → HasCleanDisk (state S.Store conn.old) }
+    ensures fresh { conn.old.schema ≡ no_schema → OnOk result (Holds (state S.Store conn.new) fresh_books) }
+    ensures vacant { conn.old.schema ≡ no_schema → OnErr result (IsVacant (state S.Store conn.new)) }
+    ensures crash { conn.old.schema ≡ no_schema → Survives (state S.Store conn.old) (state S.Store conn.new) (λ db. StandsIn db fresh_books) }
+    ensures after { conn.old.schema ≡ no_schema → OnOk result (LeavesBooks (state S.Store conn.new) fresh_books) }
+    ensures only { IfOk result (λ how. how ≡ Made) }
+    ensures never { result ≢ Err WrongVersion }
+{
+    match lay(conn) {
+        Ok(()) => Ok(Adopted::Made),
+        Err(error) => Err(fault_of_store(error)),
+    }
+}
+
+// Over tables with the names of version 2.
+fn adopt_found<S: Alter>(conn: &mut Connection<S>) -> Result<Adopted, AdoptFault>
+    ensures mode { conn.old.in_transaction ≡ false → conn.new.in_transaction ≡ false }
+    ensures only { IfOk result (λ how. how ≡ Found) }
+    ensures leaves { Leaves (state S.Store conn.old) (state S.Store conn.new) }
+    ensures neither { result ≡ Err WrongVersion → HasCleanDisk (state S.Store conn.new) → (b : Books) → Holds (state S.Store conn.old) b → ⊥ }
+{
+    match has_version(conn, 2) {
+        Ok(true) => Ok(Adopted::Found),
+        Ok(false) => Err(AdoptFault::WrongVersion),
+        Err(fault) => Err(fault_of_tables(fault)),
+    }
+}
+
+// Over a database in which a name of ours is taken.
+fn adopt_taken<S: Alter>(conn: &mut Connection<S>) -> Result<Adopted, AdoptFault>
+    requires outside { conn.old.in_transaction ≡ false }
+    ensures mode { conn.new.in_transaction ≡ false }
+    ensures leaves { Leaves (state S.Store conn.old) (state S.Store conn.new) }
+    ensures made { result ≢ Ok Made }
+    ensures neither { result ≡ Err WrongVersion → HasCleanDisk (state S.Store conn.new) → (b : Books) → IsSettled (state S.Store conn.old) b → ⊥ }
+    ensures one { result ≡ Ok Earlier → ¬ IsShop conn.old.schema }
+    ensures one_only { conn.old.schema ≡ earlier_schema → IfOk result (λ how. how ≡ Earlier) }
+    ensures one_neither { result ≡ Err WrongVersion → HasCleanDisk (state S.Store conn.new) → (b : Books) → IsSettledEarlier (state S.Store conn.old) b → ⊥ }
+{
+    if are_earlier(conn.schema()) {
+        return adopt_earlier(conn);
+    }
+    if !are_tables(conn.schema()) {
+        return Err(AdoptFault::WrongVersion);
+    }
+    adopt_found(conn)
+}
+
 /// Makes the tables where none of their names is taken, in one transaction, goes on with tables of version 2, and tells where
 /// there are tables of version 1. It answers `WrongVersion` where a name is taken and they aren't there, or are of another
 /// version, and writes nothing then.
@@ -189,20 +242,8 @@ pub fn adopt_tables<S: Alter>(conn: &mut Connection<S>) -> Result<Adopted, Adopt
 {
     let _outside = conn.is_autocommit();
     if are_free(conn.schema()) {
-        return match lay(conn) {
-            Ok(()) => Ok(Adopted::Made),
-            Err(error) => Err(fault_of_store(error)),
-        };
-    }
-    if are_earlier(conn.schema()) {
-        return adopt_earlier(conn);
-    }
-    if !are_tables(conn.schema()) {
-        return Err(AdoptFault::WrongVersion);
-    }
-    match has_version(conn, 2) {
-        Ok(true) => Ok(Adopted::Found),
-        Ok(false) => Err(AdoptFault::WrongVersion),
-        Err(fault) => Err(fault_of_tables(fault)),
+        adopt_new(conn)
+    } else {
+        adopt_taken(conn)
     }
 }

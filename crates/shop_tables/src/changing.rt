@@ -241,8 +241,7 @@ fn write_stock<S: Alter>(tx: &mut Transaction<'_, S>, change: &Change) -> Result
     write_material(tx, &change.material)?;
     write_moved(tx, &change.moved)?;
     put_parts(tx, change.parts.as_slice())?;
-    write_totals(tx, &change.totals, change.material.is_some())?;
-    Ok(())
+    write_totals(tx, &change.totals, change.material.is_some())
 }
 
 // The order, the import that it came by, and its demands or others.
@@ -254,8 +253,7 @@ fn write_work<S: Alter>(tx: &mut Transaction<'_, S>, change: &Change) -> Result<
 {
     write_order(tx, change.order)?;
     write_import(tx, &change.import)?;
-    write_demands(tx, change.order, change.demands.as_slice())?;
-    Ok(())
+    write_demands(tx, change.order, change.demands.as_slice())
 }
 
 // The numbers that were given.
@@ -266,8 +264,7 @@ fn write_numbers<S: Alter>(tx: &mut Transaction<'_, S>, change: &Change) -> Resu
     ensures within { Within (state S.Store tx.old.conn.now) (state S.Store tx.new.conn.now) }
 {
     write_last_act(tx, change.act)?;
-    write_last_demand(tx, change.demand)?;
-    Ok(())
+    write_last_demand(tx, change.demand)
 }
 
 /// Writes the rows of a change, its kept message first, and runs a statement in any case. A change that fits the content
@@ -286,6 +283,5 @@ pub(crate) fn write_change<S: Alter>(
     write_job(alloc, tx, &change.job, change.act)?;
     write_stock(tx, change)?;
     write_work(tx, change)?;
-    write_numbers(tx, change)?;
-    Ok(())
+    write_numbers(tx, change)
 }

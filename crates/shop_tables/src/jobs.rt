@@ -92,6 +92,22 @@ fn read_job(
     })
 }
 
+// The job of the row under its number, on a part that is there.
+fn job_of_row<S: Alter>(
+    alloc: Global,
+    conn: &mut Connection<S>,
+    number: u32,
+    row: &Row,
+) -> Result<Job, TableFault>
+    ensures read { Says (state S.Store conn.old) (state S.Store conn.new) (λ books. (job : JobRecord) → IsOwnJob books.content number job → row.now ≡ job_columns job → IfOk result (λ read. read ≡ job)) }
+    ensures leaves { Leaves (state S.Store conn.old) (state S.Store conn.new) }
+    ensures mode { conn.old.in_transaction ≡ false → conn.new.in_transaction ≡ false }
+{
+    let part = name_in(row, 0)?;
+    let cut = cut_of(conn, part)?;
+    read_job(alloc, number, row, part, cut)
+}
+
 /// The job under the number of the reservation's act. Its kerf is that of its part's material.
 pub fn find_job<S: Alter>(
     alloc: Global,
@@ -105,9 +121,7 @@ pub fn find_job<S: Alter>(
     let Some(row) = job_row(conn, number)? else {
         return Ok(None);
     };
-    let part = name_in(&row, 0)?;
-    let cut = cut_of(conn, part)?;
-    let job = read_job(alloc, number, &row, part, cut)?;
+    let job = job_of_row(alloc, conn, number, &row)?;
     Ok(Some(job))
 }
 

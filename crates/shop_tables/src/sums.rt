@@ -1,14 +1,13 @@
 ghost use Rattle.std.specs.Prelude.{◌≡◌, ◌++◌, false, IfOk};
 ghost use Rattle.std.specs.FinMap.{get};
 ghost use Rattle.sqlite.specs.Held.{state};
-ghost use Rattle.sqlite_value.specs.declared.value.Value.TheVariants.{Int};
 ghost use Rattle.sqlite_value.specs.Order.{Row as Values};
 ghost use Rattle.shop_machine.specs.declared.records.Totals.{Totals as TotalsRecord};
-ghost use Rattle.shop_tables.specs.Rows.{totals_columns};
+ghost use Rattle.shop_tables.specs.Rows.{totals_columns, totals_row};
 ghost use Rattle.shop_tables.specs.Shown.{Leaves, Says, IsRowOf};
 ghost use Rattle.std.specs.Prelude.{pos, Some, None, OnOk};
 ghost use Rattle.shop_tables.specs.Changes.{with_totals};
-ghost use Rattle.shop_tables.specs.Shown.{Books, Makes, Ran, Within};
+ghost use Rattle.shop_tables.specs.Shown.{Books, HasRun, Makes, Ran, Within};
 
 use crate::TableFault;
 use crate::columns::{count_in, counted};
@@ -16,7 +15,6 @@ use crate::rows::row_by_text;
 use crate::running::run;
 use cut_measure::Code;
 use shop_machine::Totals;
-use sqlite::types::Value;
 use sqlite::{Alter, Connection, Error, Row, Transaction, params};
 
 // The columns behind them don't matter.
@@ -63,44 +61,66 @@ pub fn find_totals<S: Alter>(
 }
 
 // Totals as columns have them.
-#[derive(Drop)]
+#[derive(Clone, Copy)]
 struct Counts {
-    received: Value,
-    stock: Value,
-    rack: Value,
-    pieces: Value,
-    kerf: Value,
-    scrap: Value,
-    returned: Value,
+    received: i64,
+    stock: i64,
+    rack: i64,
+    pieces: i64,
+    kerf: i64,
+    scrap: i64,
+    returned: i64,
 }
 
 fn counts_of(totals: &Totals) -> Result<Counts, TableFault>
     ensures { IfOk result (λ counts. counts ≡ record {
-      received = Int (pos totals.now.received);
-      stock = Int (pos totals.now.stock);
-      rack = Int (pos totals.now.rack);
-      pieces = Int (pos totals.now.pieces);
-      kerf = Int (pos totals.now.kerf);
-      scrap = Int (pos totals.now.scrap);
-      returned = Int (pos totals.now.returned);
+      received = pos totals.now.received;
+      stock = pos totals.now.stock;
+      rack = pos totals.now.rack;
+      pieces = pos totals.now.pieces;
+      kerf = pos totals.now.kerf;
+      scrap = pos totals.now.scrap;
+      returned = pos totals.now.returned;
     }) }
 {
-    let received = counted(totals.received)?;
-    let stock = counted(totals.stock)?;
-    let rack = counted(totals.rack)?;
-    let pieces = counted(totals.pieces)?;
-    let kerf = counted(totals.kerf)?;
-    let scrap = counted(totals.scrap)?;
-    let returned = counted(totals.returned)?;
     Ok(Counts {
-        received: Value::Int(received),
-        stock: Value::Int(stock),
-        rack: Value::Int(rack),
-        pieces: Value::Int(pieces),
-        kerf: Value::Int(kerf),
-        scrap: Value::Int(scrap),
-        returned: Value::Int(returned),
+        received: counted(totals.received)?,
+        stock: counted(totals.stock)?,
+        rack: counted(totals.rack)?,
+        pieces: counted(totals.pieces)?,
+        kerf: counted(totals.kerf)?,
+        scrap: counted(totals.scrap)?,
+        returned: counted(totals.returned)?,
     })
+}
+
+// Runs a statement on a material and its totals, each below 9223372036854775808.
+fn run_totals<S: Alter>(
+    tx: &mut Transaction<'_, S>,
+    sql: &str,
+    material: Code,
+    totals: &Totals,
+) -> Result<(), TableFault>
+    ensures same_reference { tx.new.conn.ghost_name ≡ tx.old.conn.ghost_name }
+    ensures ran { OnOk result (Ran (state S.Store tx.old.conn.now) (state S.Store tx.new.conn.now)) }
+    ensures has_run { OnOk result (HasRun sql.now (totals_row (material, totals.now)) (state S.Store tx.old.conn.now) (state S.Store tx.new.conn.now)) }
+    ensures within { Within (state S.Store tx.old.conn.now) (state S.Store tx.new.conn.now) }
+{
+    let counts = counts_of(totals)?;
+    run(
+        tx,
+        sql,
+        params![
+            material.as_str(),
+            &counts.received,
+            &counts.stock,
+            &counts.rack,
+            &counts.pieces,
+            &counts.kerf,
+            &counts.scrap,
+            &counts.returned
+        ],
+    )
 }
 
 /// Puts the totals of a new material, each below 9223372036854775808.
@@ -114,20 +134,11 @@ pub(crate) fn put_totals<S: Alter>(
     ensures put { (b : Books) → get b.totals material ≡ None → OnOk result (Makes (state S.Store tx.old.conn.now) (state S.Store tx.new.conn.now) b (with_totals material totals.now b)) }
     ensures within { Within (state S.Store tx.old.conn.now) (state S.Store tx.new.conn.now) }
 {
-    let counts = counts_of(totals)?;
-    run(
+    run_totals(
         tx,
         "INSERT INTO totals2 (material, received, stock, rack, pieces, kerf, scrap, returned) VALUES (?1, ?2, ?3, ?4, ?5, ?6, ?7, ?8)",
-        params![
-            material.as_str(),
-            &counts.received,
-            &counts.stock,
-            &counts.rack,
-            &counts.pieces,
-            &counts.kerf,
-            &counts.scrap,
-            &counts.returned
-        ],
+        material,
+        totals,
     )
 }
 
@@ -142,19 +153,10 @@ pub(crate) fn set_totals<S: Alter>(
     ensures put { (b : Books) → (was : TotalsRecord) → get b.totals material ≡ Some was → OnOk result (Makes (state S.Store tx.old.conn.now) (state S.Store tx.new.conn.now) b (with_totals material totals.now b)) }
     ensures within { Within (state S.Store tx.old.conn.now) (state S.Store tx.new.conn.now) }
 {
-    let counts = counts_of(totals)?;
-    run(
+    run_totals(
         tx,
         "UPDATE totals2 SET received = ?2, stock = ?3, rack = ?4, pieces = ?5, kerf = ?6, scrap = ?7, returned = ?8 WHERE material = ?1",
-        params![
-            material.as_str(),
-            &counts.received,
-            &counts.stock,
-            &counts.rack,
-            &counts.pieces,
-            &counts.kerf,
-            &counts.scrap,
-            &counts.returned
-        ],
+        material,
+        totals,
     )
 }

@@ -1,16 +1,16 @@
-ghost use Rattle.std.specs.Prelude.{◌≡◌, ◌∷◌, [], IfOk, OnErr, None};
+ghost use Rattle.std.specs.Prelude.{◌≡◌, ◌++◌, ◌∷◌, [], ℕ, List, IfOk, IfSome, OnOk, OnErr, None};
 ghost use Rattle.serde_json.specs.View.{view};
 ghost use Rattle.shop_machine.specs.Soundness.{IsSound};
 ghost use Rattle.shop_rules.specs.Forms.{message_of, json_texts};
 ghost use Rattle.shop_book.specs.Kept.{Says};
 ghost use Rattle.shop_desk.specs.Faults.{CountsUp};
-ghost use Rattle.shop_wire.specs.Replays.{HasAnswered, LineStep, ValueStep, data_of, line_message, reply_line};
+ghost use Rattle.shop_wire.specs.Replays.{HasAnswered, LineStep, ValueStep, data_of, line_message};
 ghost use Rattle.shop_wire.specs.Tellings.{IsRead};
 
 use crate::limits::LONGEST_LINE;
 use serde_json::Value;
 use shop_book::Book;
-use shop_desk::{ask, handle};
+use shop_desk::{ask, handle_told};
 use shop_rules::{Refusal, Reply, Text, read_message, read_query, reply_text};
 use std::alloc::{AllocError, Global};
 
@@ -26,17 +26,18 @@ fn query_reply<B: Book>(alloc: Global, book: &mut B, value: &Value) -> Reply
     }
 }
 
-// The reply to a value.
-fn reply_to<B: Book>(alloc: Global, book: &mut B, value: &Value) -> Reply
-    ensures step { Says B.Book book.old book.new (λ m. IsSound json_texts m → HasAnswered ValueStep message_of B.Book book.old book.new m (view value.now ∷ []) (result ∷ [])) }
+// The reply to a value, and its text, where it was written to be kept.
+fn reply_to<B: Book>(alloc: Global, book: &mut B, value: &Value) -> (Reply, Option<Text>)
+    ensures step { Says B.Book book.old book.new (λ m. IsSound json_texts m → HasAnswered ValueStep message_of B.Book book.old book.new m (view value.now ∷ []) (result.0 ∷ [])) }
+    ensures told { IfSome result.1 (λ text. text ≡ json_texts.of_reply result.0) }
     ensures honest { B.is_honest book.new → B.is_honest book.old }
     ensures failures { CountsUp (B.failed book.old) (B.failed book.new) }
 {
     match read_message(alloc, value) {
-        Ok(message) => handle(alloc, book, &message),
+        Ok(message) => handle_told(alloc, book, &message),
         Err(refusal) => match refusal {
-            Refusal::NoMemory => Reply::Refused(Refusal::NoMemory),
-            _ => query_reply(alloc, book, value),
+            Refusal::NoMemory => (Reply::Refused(Refusal::NoMemory), None),
+            _ => (query_reply(alloc, book, value), None),
         },
     }
 }
@@ -59,9 +60,14 @@ pub(crate) fn value_in(alloc: Global, line: &[u8]) -> Result<Value, Refusal>
     }
 }
 
-/// The reply to a line.
-pub(crate) fn answer<B: Book>(alloc: Global, book: &mut B, line: &[u8]) -> Result<Reply, AllocError>
-    ensures ok { IfOk result (λ reply. Says B.Book book.old book.new (λ m. IsSound json_texts m → HasAnswered LineStep line_message B.Book book.old book.new m (line.now ∷ []) (reply ∷ []))) }
+/// The reply to a line, and its text, where it was written to be kept.
+pub(crate) fn answer<B: Book>(
+    alloc: Global,
+    book: &mut B,
+    line: &[u8],
+) -> Result<(Reply, Option<Text>), AllocError>
+    ensures ok { IfOk result (λ told. Says B.Book book.old book.new (λ m. IsSound json_texts m → HasAnswered LineStep line_message B.Book book.old book.new m (line.now ∷ []) (told.0 ∷ []))) }
+    ensures told { IfOk result (λ told. IfSome told.1 (λ text. text ≡ json_texts.of_reply told.0)) }
     ensures err { OnErr result (book.new ≡ book.old) }
     ensures honest { B.is_honest book.new → B.is_honest book.old }
     ensures failures { CountsUp (B.failed book.old) (B.failed book.new) }
@@ -70,16 +76,29 @@ pub(crate) fn answer<B: Book>(alloc: Global, book: &mut B, line: &[u8]) -> Resul
         Ok(value) => Ok(reply_to(alloc, book, &value)),
         Err(refusal) => match refusal {
             Refusal::NoMemory => Err(AllocError),
-            _ => Ok(Reply::Refused(Refusal::BadMessage)),
+            _ => Ok((Reply::Refused(Refusal::BadMessage), None)),
         },
     }
 }
 
-/// A reply as a line.
-pub(crate) fn line_text(alloc: Global, reply: &Reply) -> Result<Text, AllocError>
-    ensures { IfOk result (λ text. text ≡ reply_line reply.now) }
+/// The text of a reply: the one that was told, where there is one.
+pub(crate) fn text_of(alloc: Global, reply: &Reply, told: Option<Text>) -> Result<Text, AllocError>
+    requires { IfSome told (λ text. text ≡ json_texts.of_reply reply.now) }
+    ensures { IfOk result (λ text. text ≡ json_texts.of_reply reply.now) }
 {
-    let mut text = reply_text(alloc, reply)?;
-    text.push("\n")?;
-    Ok(text)
+    match told {
+        Some(text) => Ok(text),
+        None => reply_text(alloc, reply),
+    }
+}
+
+/// Puts a text behind what is held, and a line feed, as far as there is memory.
+pub(crate) fn hold_line(held: &mut Vec<u8>, text: &Text) -> Result<(), AllocError>
+    ensures ok { OnOk result (held.new.items ≡ held.old.items ++ (text.now ++ 10 ∷ [])) }
+    ensures err { OnErr result ((bytes rest : List ℕ) × (bytes ++ rest ≡ text.now ++ 10 ∷ []) × (held.new.items ≡ held.old.items ++ bytes)) }
+{
+    match held.extend_from_slice(text.as_str().as_bytes()) {
+        Ok(()) => held.extend_from_slice(b"\n"),
+        Err(error) => Err(error),
+    }
 }

@@ -8,7 +8,7 @@ ghost use Rattle.shop_wire.specs.Streams.{AreReads, IsLong, most_reads};
 ghost use Rattle.shop_wire.specs.declared.limits.TheConstants.{MOST_HELD};
 ghost use Rattle.shop_wire.specs.declared.faults.ReplayFault.TheVariants.{Read, Write, NoMemory};
 
-use crate::answers::{answer, line_text};
+use crate::answers::{answer, hold_line, text_of};
 use crate::faults::ReplayFault;
 use crate::limits::MOST_HELD;
 use crate::reader::LineReader;
@@ -30,13 +30,13 @@ fn hold_reply<B: Book>(
     ensures failures { CountsUp (B.failed book.old) (B.failed book.new) }
     ensures fault { IfErr result (λ fault. fault ≡ NoMemory) }
 {
-    let Ok(reply) = answer(alloc, book, line) else {
+    let Ok((reply, told)) = answer(alloc, book, line) else {
         return Err(ReplayFault::NoMemory);
     };
-    let Ok(text) = line_text(alloc, &reply) else {
+    let Ok(text) = text_of(alloc, &reply, told) else {
         return Err(ReplayFault::NoMemory);
     };
-    match held.extend_from_slice(text.as_str().as_bytes()) {
+    match hold_line(held, &text) {
         Ok(()) => Ok(()),
         Err(_) => Err(ReplayFault::NoMemory),
     }

@@ -12,7 +12,7 @@ use Rattle.shop_words.specs.CommandLine.{IsPlanAsked, IsServeAsked, IsTicketAske
 nothing : {X : Type 0} (found : Option X) (x : X) → found ≡ None → found ≡ Some x → ⊥
 nothing found x none some = subst (λ (o : Option _). IfSome o (λ _. ⊥)) (sym (sym some ∙ none)) tt
 
-some_is : {X : Type 0} (x y : X) → Some x ≡ Some y → x ≡ y
+pub some_is : {X : Type 0} (x y : X) → Some x ≡ Some y → x ≡ y
 some_is x y e = subst (λ (o : Option _). IfSome o (λ z. x ≡ z)) e refl
 
 -- the text that was found is no code

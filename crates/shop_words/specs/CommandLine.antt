@@ -1,7 +1,10 @@
 -- The program's command line, in the words of `clap`: its commands, and what they ask for.
-use Rattle.std.specs.Prelude.{◌≡◌, ◌≤◌, ℕ, List, ◌∷◌, [], Option, Some, None, codes, true, pos, ⊤}
+use Rattle.std.specs.Prelude.{◌≡◌, ◌≤◌, ℕ, List, ◌∷◌, [], Option, Some, None, codes, false, true, pos, ⊤}
 use Rattle.std.specs.Str.Parse.{IsNumeral, digits_value, without_leading_plus}
-use Rattle.clap.specs.Words.{App, Row, Rule, Text, new_app, new_rule, with_rule, with_subcommand, first_of, one_of}
+use Rattle.clap.specs.Words.{App, Row, Rule, Text, app_of, new_app, new_rule, rule_of, with_rule, with_subcommand, first_of, one_of}
+use Rattle.clap.specs.declared.builder.arg.Arg.{Arg}
+use Rattle.clap.specs.declared.builder.command.Command.{Command}
+use Rattle.clap.specs.declared.builder.command.Command.TheViews.{out-Command as fields_of}
 use Rattle.clap.specs.Simple.{on_top}
 use Rattle.clap.specs.declared.builder.action.ArgAction.TheVariants.{Set}
 use Rattle.clap.specs.declared.builder.value_parser.ValueParser.{ValueParser}
@@ -13,6 +16,8 @@ use Rattle.shop_words.specs.declared.words.Request.{Request}
 use Rattle.shop_words.specs.declared.words.Request.TheVariants.{Replay, Plan, Serve, Ticket, Yield}
 use Rattle.shop_words.specs.declared.words.Word.{Word}
 use Rattle.shop_words.specs.declared.words.Word.TheVariants as word
+use Rattle.shop_words.specs.declared.words.Argument.{Argument}
+use Rattle.shop_words.specs.declared.words.Argument.TheVariants as argument
 
 -- a word or an option with one value
 abbrev pub value_rule : Text → Rule
@@ -80,6 +85,55 @@ plain_app =
 -- one of the five commands
 abbrev pub shop_app : App
 shop_app = with_subcommand (with_subcommand (with_subcommand plain_app serve_app.top) ticket_app.top) yield_app.top
+
+-- a form to which each of these was added in turn
+abbrev pub added_in_turn : {X : Type 0} → (App → X → App) → App → List X → App
+added_in_turn add app [] = app
+added_in_turn add app (x ∷ rest) = added_in_turn add (add app x) rest
+
+-- the rule of an argument
+abbrev pub argument_rule : Argument → Rule
+argument_rule argument.File = word_rule (codes "FILE")
+argument_rule argument.Kerf = kerf_rule
+argument_rule argument.Step = step_rule
+argument_rule argument.Port = port_rule
+argument_rule argument.Store = store_rule
+argument_rule argument.Shop = path_rule (codes "shop")
+argument_rule argument.Limit = limit_rule
+argument_rule argument.Job = job_rule
+argument_rule argument.Material = word_rule (codes "MATERIAL")
+
+-- a command with an argument more
+abbrev pub with_argument : App → Argument → App
+with_argument app a = with_rule app (argument_rule a)
+
+-- a command of this name with these arguments
+abbrev pub command_app : Text → List Argument → App
+command_app name arguments = added_in_turn with_argument (new_app name) arguments
+
+-- the command of a word
+abbrev pub word_app : Word → App
+word_app word.Replay = replay_app
+word_app word.Plan = plan_app
+word_app word.Serve = serve_app
+word_app word.Ticket = ticket_app
+word_app word.Yield = yield_app
+
+-- a program with the command of a word more
+abbrev pub with_word : App → Word → App
+with_word app w = with_subcommand app (word_app w).top
+
+-- the program without its commands
+abbrev pub program_app : App
+program_app = on_top (λ s. record s { subcommand_required = true }) (new_app (codes "cutshop"))
+
+-- an argument of this rule that isn't global
+abbrev pub IsArg : Rule → Arg → Type 0
+IsArg rule arg = (rule_of arg ≡ rule) × (arg.global ≡ false)
+
+-- a command of this form, without global arguments
+abbrev pub IsCommand : App → Command → Type 0
+IsCommand app command = (app_of command ≡ app) × ((fields_of command).has_globals ≡ false)
 
 -- the number that an option's value stands for
 abbrev pub IsNumber : Option Text → ℕ → Type 0

@@ -1,6 +1,5 @@
-ghost use Rattle.std.specs.Prelude.{◌≡◌, ◌≤◌, ℕ, [], IfOk, IfErr, MatchOption, map, string_bytes, false};
-ghost use Rattle.clap.specs.Words.{app_of, rule_of, rows_of, found_of, one_of, subcommand_of};
-ghost use Rattle.clap.specs.declared.builder.command.Command.TheViews.{out-Command as fields_of};
+ghost use Rattle.std.specs.Prelude.{◌≡◌, ◌≤◌, ℕ, [], IfOk, IfErr, MatchOption, map, string_bytes};
+ghost use Rattle.clap.specs.Words.{app_of, rows_of, found_of, subcommand_of, subcommand_rows_of};
 ghost use Rattle.clap.specs.Kinds.{HasKind};
 ghost use Rattle.clap.specs.Faults.{fault_of};
 ghost use Rattle.shop_words.specs.CommandLine as line;
@@ -66,26 +65,46 @@ enum Word {
     Yield,
 }
 
+// An argument of a command.
+#[derive(Clone, Copy)]
+enum Argument {
+    File,
+    Kerf,
+    Step,
+    Port,
+    Store,
+    Shop,
+    Limit,
+    Job,
+    Material,
+}
+
+// The words, in the order in which help lists their commands.
+const WORDS: [Word; 5] = [
+    Word::Replay,
+    Word::Plan,
+    Word::Serve,
+    Word::Ticket,
+    Word::Yield,
+];
+
 // A word or an option with one value.
 fn value_arg<'a>(alloc: Global, name: &'a str, about: &'a str) -> Arg<'a>
-    ensures rule { rule_of result ≡ line.value_rule name.entry.now }
-    ensures local { result.global ≡ false }
+    ensures { line.IsArg (line.value_rule name.entry.now) result }
 {
     Arg::new(alloc, name).action(ArgAction::Set).help(about)
 }
 
 // An option with a value.
 fn option_arg<'a>(alloc: Global, name: &'a str, value: &'a str, about: &'a str) -> Arg<'a>
-    ensures rule { rule_of result ≡ line.option_rule name.entry.now }
-    ensures local { result.global ≡ false }
+    ensures { line.IsArg (line.option_rule name.entry.now) result }
 {
     value_arg(alloc, name, about).long(name).value_name(value)
 }
 
 // An option that has to be there, with a number.
 fn number_arg<'a>(alloc: Global, name: &'a str, range: ValueParser<'a>, about: &'a str) -> Arg<'a>
-    ensures rule { rule_of result ≡ line.number_rule name.entry.now range.entry }
-    ensures local { result.global ≡ false }
+    ensures { line.IsArg (line.number_rule name.entry.now range.entry) result }
 {
     option_arg(alloc, name, "N", about)
         .required(true)
@@ -94,23 +113,20 @@ fn number_arg<'a>(alloc: Global, name: &'a str, range: ValueParser<'a>, about: &
 
 // An option that has to be there, with the path of a file.
 fn path_arg<'a>(alloc: Global, name: &'a str, about: &'a str) -> Arg<'a>
-    ensures rule { rule_of result ≡ line.path_rule name.entry.now }
-    ensures local { result.global ≡ false }
+    ensures { line.IsArg (line.path_rule name.entry.now) result }
 {
     option_arg(alloc, name, "FILE", about).required(true)
 }
 
 // A word that has to be there.
 fn word_arg<'a>(alloc: Global, name: &'a str, about: &'a str) -> Arg<'a>
-    ensures rule { rule_of result ≡ line.word_rule name.entry.now }
-    ensures local { result.global ≡ false }
+    ensures { line.IsArg (line.word_rule name.entry.now) result }
 {
     value_arg(alloc, name, about).required(true)
 }
 
 fn store_arg<'a>(alloc: Global) -> Arg<'a>
-    ensures rule { rule_of result ≡ line.store_rule }
-    ensures local { result.global ≡ false }
+    ensures { line.IsArg line.store_rule result }
 {
     path_arg(
         alloc,
@@ -120,8 +136,7 @@ fn store_arg<'a>(alloc: Global) -> Arg<'a>
 }
 
 fn kerf_arg<'a>(alloc: Global) -> Arg<'a>
-    ensures rule { rule_of result ≡ line.kerf_rule }
-    ensures local { result.global ≡ false }
+    ensures { line.IsArg line.kerf_rule result }
 {
     number_arg(
         alloc,
@@ -132,8 +147,7 @@ fn kerf_arg<'a>(alloc: Global) -> Arg<'a>
 }
 
 fn step_arg<'a>(alloc: Global) -> Arg<'a>
-    ensures rule { rule_of result ≡ line.step_rule }
-    ensures local { result.global ≡ false }
+    ensures { line.IsArg line.step_rule result }
 {
     number_arg(
         alloc,
@@ -143,30 +157,8 @@ fn step_arg<'a>(alloc: Global) -> Arg<'a>
     )
 }
 
-fn plan_command<'a>(alloc: Global) -> Result<Command<'a>, AllocError>
-    ensures app { IfOk result (λ command. app_of command ≡ line.plan_app) }
-    ensures local { IfOk result (λ command. (fields_of command).has_globals ≡ false) }
-{
-    Command::new(alloc, "plan")
-        .about("Plans the rectangle of a problem file")
-        .after_help("Example:\n  cutshop plan sheet.txt --kerf 30 --step 10")
-        .arg(word_arg(alloc, "FILE", "The problem file"))?
-        .arg(kerf_arg(alloc))?
-        .arg(step_arg(alloc))
-}
-
-fn replay_command<'a>(alloc: Global) -> Command<'a>
-    ensures app { app_of result ≡ line.replay_app }
-    ensures local { (fields_of result).has_globals ≡ false }
-{
-    Command::new(alloc, "replay")
-        .about("Answers the lines of standard input on standard output")
-        .after_help("Example:\n  cutshop replay < lines.txt")
-}
-
 fn port_arg<'a>(alloc: Global) -> Arg<'a>
-    ensures rule { rule_of result ≡ line.port_rule }
-    ensures local { result.global ≡ false }
+    ensures { line.IsArg line.port_rule result }
 {
     number_arg(
         alloc,
@@ -177,8 +169,7 @@ fn port_arg<'a>(alloc: Global) -> Arg<'a>
 }
 
 fn limit_arg<'a>(alloc: Global) -> Arg<'a>
-    ensures rule { rule_of result ≡ line.limit_rule }
-    ensures local { result.global ≡ false }
+    ensures { line.IsArg line.limit_rule result }
 {
     option_arg(
         alloc,
@@ -190,78 +181,159 @@ fn limit_arg<'a>(alloc: Global) -> Arg<'a>
     .default_value("1000000")
 }
 
-fn serve_command<'a>(alloc: Global) -> Result<Command<'a>, AllocError>
-    ensures app { IfOk result (λ command. app_of command ≡ line.serve_app) }
-    ensures local { IfOk result (λ command. (fields_of command).has_globals ≡ false) }
-{
-    Command::new(alloc, "serve")
-        .about(
-            "Adds the materials of a shop file and serves terminals over HTTP, on this machine alone",
-        )
-        .after_help("Example:\n  cutshop serve --port 8017 --store shop.db --shop shop.toml")
-        .arg(port_arg(alloc))?
-        .arg(store_arg(alloc))?
-        .arg(path_arg(alloc, "shop", "The shop file: its materials"))?
-        .arg(limit_arg(alloc))
-}
-
 fn job_arg<'a>(alloc: Global) -> Arg<'a>
-    ensures rule { rule_of result ≡ line.job_rule }
-    ensures local { result.global ≡ false }
+    ensures { line.IsArg line.job_rule result }
 {
     word_arg(alloc, "JOB", "The job's number: 1 to 2147483647").value_parser(value_parser!(
         u32
     ).range(1..=2147483647))
 }
 
-fn ticket_command<'a>(alloc: Global) -> Result<Command<'a>, AllocError>
-    ensures app { IfOk result (λ command. app_of command ≡ line.ticket_app) }
-    ensures local { IfOk result (λ command. (fields_of command).has_globals ≡ false) }
+// An argument, as the command line knows it.
+fn arg_of<'a>(alloc: Global, argument: Argument) -> Arg<'a>
+    ensures { line.IsArg (line.argument_rule argument) result }
 {
-    Command::new(alloc, "ticket")
-        .about("Prints the ticket of a job: what is cut in which order, where, and for whom")
-        .after_help("Example:\n  cutshop ticket --store shop.db 2")
-        .arg(store_arg(alloc))?
-        .arg(job_arg(alloc))
+    match argument {
+        Argument::File => word_arg(alloc, "FILE", "The problem file"),
+        Argument::Kerf => kerf_arg(alloc),
+        Argument::Step => step_arg(alloc),
+        Argument::Port => port_arg(alloc),
+        Argument::Store => store_arg(alloc),
+        Argument::Shop => path_arg(alloc, "shop", "The shop file: its materials"),
+        Argument::Limit => limit_arg(alloc),
+        Argument::Job => job_arg(alloc),
+        Argument::Material => word_arg(alloc, "MATERIAL", "The material's code"),
+    }
+}
+
+// A command with these arguments in turn, and an example of its use.
+fn new_command<'a>(
+    alloc: Global,
+    name: &'a str,
+    about: &'a str,
+    example: &'a str,
+    arguments: &[Argument],
+) -> Result<Command<'a>, AllocError>
+    ensures { IfOk result (line.IsCommand (line.command_app name.entry.now arguments.now)) }
+{
+    let mut command = Command::new(alloc, name).about(about).after_help(example);
+    for argument in arguments {
+        command = command.arg(arg_of(alloc, *argument))?;
+    }
+    Ok(command)
+}
+
+fn replay_command<'a>(alloc: Global) -> Result<Command<'a>, AllocError>
+    ensures { IfOk result (line.IsCommand line.replay_app) }
+{
+    new_command(
+        alloc,
+        "replay",
+        "Answers the lines of standard input on standard output",
+        "Example:\n  cutshop replay < lines.txt",
+        &[],
+    )
+}
+
+fn plan_command<'a>(alloc: Global) -> Result<Command<'a>, AllocError>
+    ensures { IfOk result (line.IsCommand line.plan_app) }
+{
+    new_command(
+        alloc,
+        "plan",
+        "Plans the rectangle of a problem file",
+        "Example:\n  cutshop plan sheet.txt --kerf 30 --step 10",
+        &[Argument::File, Argument::Kerf, Argument::Step],
+    )
+}
+
+fn serve_command<'a>(alloc: Global) -> Result<Command<'a>, AllocError>
+    ensures { IfOk result (line.IsCommand line.serve_app) }
+{
+    new_command(
+        alloc,
+        "serve",
+        "Adds the materials of a shop file and serves terminals over HTTP, on this machine alone",
+        "Example:\n  cutshop serve --port 8017 --store shop.db --shop shop.toml",
+        &[
+            Argument::Port,
+            Argument::Store,
+            Argument::Shop,
+            Argument::Limit,
+        ],
+    )
+}
+
+fn ticket_command<'a>(alloc: Global) -> Result<Command<'a>, AllocError>
+    ensures { IfOk result (line.IsCommand line.ticket_app) }
+{
+    new_command(
+        alloc,
+        "ticket",
+        "Prints the ticket of a job: what is cut in which order, where, and for whom",
+        "Example:\n  cutshop ticket --store shop.db 2",
+        &[Argument::Store, Argument::Job],
+    )
 }
 
 fn yield_command<'a>(alloc: Global) -> Result<Command<'a>, AllocError>
-    ensures app { IfOk result (λ command. app_of command ≡ line.yield_app) }
-    ensures local { IfOk result (λ command. (fields_of command).has_globals ≡ false) }
+    ensures { IfOk result (line.IsCommand line.yield_app) }
 {
-    Command::new(alloc, "yield")
-        .about("Prints what became of a material, and which parts of it stand")
-        .after_help("Example:\n  cutshop yield --store shop.db STEEL")
-        .arg(store_arg(alloc))?
-        .arg(word_arg(alloc, "MATERIAL", "The material's code"))
+    new_command(
+        alloc,
+        "yield",
+        "Prints what became of a material, and which parts of it stand",
+        "Example:\n  cutshop yield --store shop.db STEEL",
+        &[Argument::Store, Argument::Material],
+    )
 }
 
-// The program's commands, to which those on a store are to be added.
-fn plain_commands<'a>(alloc: Global) -> Result<Command<'a>, AllocError>
-    ensures { IfOk result (λ command. app_of command ≡ line.plain_app) }
+// The command of a word.
+fn command_for<'a>(alloc: Global, word: Word) -> Result<Command<'a>, AllocError>
+    ensures { IfOk result (line.IsCommand (line.word_app word)) }
 {
-    let plan = plan_command(alloc)?;
+    match word {
+        Word::Replay => replay_command(alloc),
+        Word::Plan => plan_command(alloc),
+        Word::Serve => serve_command(alloc),
+        Word::Ticket => ticket_command(alloc),
+        Word::Yield => yield_command(alloc),
+    }
+}
+
+// The program, with the commands of these words added in turn.
+fn with_words<'a>(
+    alloc: Global,
+    program: Command<'a>,
+    words: &[Word],
+) -> Result<Command<'a>, AllocError>
+    ensures { IfOk result (λ command. app_of command ≡ line.added_in_turn line.with_word (app_of program.entry) words.now) }
+{
+    let mut command = program;
+    for word in words {
+        let added = command_for(alloc, *word)?;
+        command = command.subcommand(added)?;
+    }
+    Ok(command)
+}
+
+// The program without its commands.
+fn program<'a>(alloc: Global) -> Command<'a>
+    ensures { app_of result ≡ line.program_app }
+{
     Command::new(alloc, "cutshop")
         .about("The books and the plans of a cutting shop")
         .after_help(
             "Examples:\n  cutshop replay < lines.txt\n  cutshop plan sheet.txt --kerf 30 --step 10\n  cutshop serve --port 8017 --store shop.db --shop shop.toml\n  cutshop ticket --store shop.db 2\n  cutshop yield --store shop.db STEEL",
         )
         .subcommand_required(true)
-        .subcommand(replay_command(alloc))?
-        .subcommand(plan)
 }
 
 // The program's command line.
 fn command_of<'a>(alloc: Global) -> Result<Command<'a>, AllocError>
     ensures { IfOk result (λ command. app_of command ≡ line.shop_app) }
 {
-    let serve = serve_command(alloc)?;
-    let ticket = ticket_command(alloc)?;
-    let report = yield_command(alloc)?;
-    plain_commands(alloc)?
-        .subcommand(serve)?
-        .subcommand(ticket)?
-        .subcommand(report)
+    with_words(alloc, program(alloc), &WORDS)
 }
 
 // The number that an option was given, if it is in a range.
@@ -351,6 +423,14 @@ fn request_in<'a>(word: Word, values: &ArgMatches<'a>) -> Option<Request<'a>>
     }
 }
 
+// What the command that was read asks for.
+fn request_read<'a>(matches: &ArgMatches<'a>) -> Option<Request<'a>>
+    ensures { MatchOption result (line.AsksNothing (subcommand_rows_of matches.now)) (line.Asks (subcommand_rows_of matches.now)) }
+{
+    let (name, values) = matches.subcommand()?;
+    request_in(word_of(name)?, values)
+}
+
 /// What the words ask for, the program's own name before them. An Err is `clap`'s, for help and for a fault of the words.
 pub fn request_of<'a>(alloc: Global, words: &'a [String]) -> Result<Option<Request<'a>>, Error>
     ensures ok { IfOk result (λ found. (fault_of line.shop_app (map string_bytes words.entry.now) ≡ [])
@@ -360,11 +440,5 @@ pub fn request_of<'a>(alloc: Global, words: &'a [String]) -> Result<Option<Reque
 {
     let command = command_of(alloc)?;
     let matches = command.try_get_matches_from(words)?;
-    let Some((name, values)) = matches.subcommand() else {
-        return Ok(None);
-    };
-    let Some(word) = word_of(name) else {
-        return Ok(None);
-    };
-    Ok(request_in(word, values))
+    Ok(request_read(&matches))
 }

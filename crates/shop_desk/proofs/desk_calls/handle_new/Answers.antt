@@ -9,7 +9,7 @@ use Rattle.shop_machine.specs.declared.refusals.Refusal.TheVariants.{BadMessage}
 use Rattle.shop_machine.specs.declared.messages.Reply.TheVariants.{Refused}
 use Rattle.shop_desk.specs.Faults.{CountsReply}
 use Rattle.shop_desk.specs.Handled.{IsHandled}
-use Rattle.shop_desk.proofs.Steps.{decided, faulted, committed, failed, counts_made, counted_made, is_fault, fits_committed, row_committed, blamed}
+use Rattle.shop_desk.proofs.Steps.{decided, faulted, committed, failed, counts_made, counted_made, is_fault, fits_committed, row_committed, blamed, commit_blamed}
 use Rattle.shop_desk.proofs.desk_calls.handle_new.Goals as goal
 
 pub returns-in-Err-clause-step : goal.returns-in-Err-clause-step
@@ -72,3 +72,11 @@ returns-in-Err-commit-clause-step g c =
 pub returns-in-Err-clause-store_fault : goal.returns-in-Err-clause-store_fault
 returns-in-Err-clause-store_fault g c =
     λ is_message honest m held sound is. blamed json_texts m c.args.message.now (g.B.Book.failed c.args.book.now) (g.B.Book.failed c.decide.new.book) c.in-Err.refusal sound (c.in-Err.ensures.decision honest m held sound).blame is
+
+pub returns-in-Err-commit-clause-store_fault : goal.returns-in-Err-commit-clause-store_fault
+returns-in-Err-commit-clause-store_fault g c =
+    λ is_message honest m held sound is.
+    let first = g.B.Book.failed c.args.book.now in
+    let decided = g.B.Book.failed c.decide.new.book in
+    commit_blamed (Unit {0}) first decided (g.B.Book.failed c.commit.new.self) c.in-Err-commit.fault c.from.result (counted_made first decided c.in-Ok.change c.in-Ok.ensures.keeps.failures)
+    c.in-Err-commit.ensures.failures c.from.ensures is

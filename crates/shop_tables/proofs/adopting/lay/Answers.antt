@@ -1,4 +1,4 @@
-use Rattle.std.proofs.Common.{◌≡◌, ◌∙◌, true, rules, arith, sym, subst, ap, OnOk}
+use Rattle.std.proofs.Common.{◌≡◌, ◌∙◌, true, arith, sym, subst, ap, OnOk}
 use Rattle.sqlite.specs.Effect.{Database}
 use Rattle.sqlite.specs.Held.{state}
 use Rattle.shop_tables.specs.Adopting.{LeavesBooks}
@@ -10,7 +10,7 @@ use Rattle.shop_tables.proofs.adopting.lay.Goals as goal
 
 pub returns-clause-fresh : goal.returns-clause-fresh
 returns-clause-fresh g c has =
-    let ends : c.commit.new.self.0 ≡ c.conn-2-1.given.0 = search rules in
+    let ends : c.commit.new.self.0 ≡ c.conn-2-1.given.0 = sym (c.conn-2-1.given.1 (sym (c.lay_tables.ensures.same_reference ∙ c.transaction-tx.ensures.same_reference))) in
     let laid : Lays (state g.S.Store (record c.args.conn.now { in_transaction = true })) (state g.S.Store c.lay_tables.new.tx.conn.now) =
     subst (λ h. h.schema ≡ no_schema → Lays (state g.S.Store h) (state g.S.Store c.lay_tables.new.tx.conn.now)) c.transaction-tx.ensures.begun c.in_ok-lay_tables.ensures.laid has in
     subst (λ h. OnOk c.commit.result (Holds (state g.S.Store h) fresh_books)) ends
@@ -19,7 +19,7 @@ returns-clause-fresh g c has =
 
 pub returns-clause-after : goal.returns-clause-after
 returns-clause-after g c has =
-    let ends : c.commit.new.self.0 ≡ c.conn-2-1.given.0 = search rules in
+    let ends : c.commit.new.self.0 ≡ c.conn-2-1.given.0 = sym (c.conn-2-1.given.1 (sym (c.lay_tables.ensures.same_reference ∙ c.transaction-tx.ensures.same_reference))) in
     let laid : Lays (state g.S.Store (record c.args.conn.now { in_transaction = true })) (state g.S.Store c.lay_tables.new.tx.conn.now) =
     subst (λ h. h.schema ≡ no_schema → Lays (state g.S.Store h) (state g.S.Store c.lay_tables.new.tx.conn.now)) c.transaction-tx.ensures.begun c.in_ok-lay_tables.ensures.laid has in
     subst (λ h. OnOk c.commit.result (LeavesBooks (state g.S.Store h) fresh_books)) ends

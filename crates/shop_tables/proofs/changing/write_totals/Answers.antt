@@ -1,4 +1,5 @@
 use Rattle.std.proofs.Common.{◌≡◌, true, false, not, Some, None, Option, is_some, refl, ap, ◌∙◌}
+use Rattle.shop_tables.proofs.Steps.{within_itself}
 use Rattle.shop_tables.proofs.changing.write_totals.Goals as goal
 
 none_at : {X : Type 0} (found : Option X) → is_some found ≡ false → found ≡ None
@@ -14,3 +15,6 @@ returns-then-is_new-clause-put g c b = rw c.in-Some.is (λ new. c.put_totals.ens
 
 pub returns-else-is_new-clause-put : goal.returns-else-is_new-clause-put
 returns-else-is_new-clause-put g c b = rw c.in-Some.is (λ there. let was = some_at _ (there ∙ ap not c.if-is_new.false) in c.set_totals.ensures.put b was.0 was.1)
+
+pub returns-in_default-clause-within : goal.returns-in_default-clause-within
+returns-in_default-clause-within g c = within_itself _

@@ -1,4 +1,4 @@
-use Rattle.std.proofs.Common.{◌≡◌, ◌∙◌, sym, subst, ap, rules, arith}
+use Rattle.std.proofs.Common.{◌≡◌, ◌∙◌, sym, subst, ap, arith}
 use Rattle.sqlite.specs.State.{HasCleanDisk, Survives}
 use Rattle.sqlite.specs.Held.{state}
 use Rattle.sqlite.specs.Effect.{Database}
@@ -12,7 +12,7 @@ use Rattle.shop_tables.proofs.committing.commit_change.Goals as goal
 
 pub returns-in_err-write_change-clause-err : goal.returns-in_err-write_change-clause-err
 returns-in_err-write_change-clause-err g c m was =
-    let ends : c.drop-tx.new.self.0 ≡ c.conn-1.given.0 = search rules in
+    let ends : c.drop-tx.new.self.0 ≡ c.conn-1.given.0 = sym (c.conn-1.given.1 (sym (c.write_change.ensures.same_reference ∙ c.transaction-tx.ensures.same_reference))) in
     let done = state g.S.Store c.write_change.new.tx.conn.now in
     let last = state g.S.Store c.drop-tx.new.self.0 in
     let within = subst (λ h. Within (state g.S.Store h) done) c.transaction-tx.ensures.begun c.write_change.ensures.within in
@@ -21,7 +21,7 @@ returns-in_err-write_change-clause-err g c m was =
 
 pub returns-in_err-commit-clause-err : goal.returns-in_err-commit-clause-err
 returns-in_err-commit-clause-err g c m was =
-    let ends : c.commit.new.self.0 ≡ c.conn-2-1.given.0 = search rules in
+    let ends : c.commit.new.self.0 ≡ c.conn-2-1.given.0 = sym (c.conn-2-1.given.1 (sym (c.write_change.ensures.same_reference ∙ c.transaction-tx.ensures.same_reference))) in
     let done = state g.S.Store c.write_change.new.tx.conn.now in
     let last = state g.S.Store c.commit.new.self.0 in
     let ran = subst (λ h. Ran (state g.S.Store h) done) c.transaction-tx.ensures.begun c.in_ok-write_change.ensures.ran in
@@ -32,7 +32,7 @@ returns-in_err-commit-clause-err g c m was =
 
 pub returns-in_err-commit-clause-crash : goal.returns-in_err-commit-clause-crash
 returns-in_err-commit-clause-crash g c m was fits =
-    let ends : c.commit.new.self.0 ≡ c.conn-2-1.given.0 = search rules in
+    let ends : c.commit.new.self.0 ≡ c.conn-2-1.given.0 = sym (c.conn-2-1.given.1 (sym (c.write_change.ensures.same_reference ∙ c.transaction-tx.ensures.same_reference))) in
     let done = state g.S.Store c.write_change.new.tx.conn.now in
     let last = state g.S.Store c.commit.new.self.0 in
     let b = books m was.totals in
@@ -45,7 +45,7 @@ returns-in_err-commit-clause-crash g c m was fits =
 
 pub returns-clause-ok : goal.returns-clause-ok
 returns-clause-ok g c m was fits =
-    let ends : c.commit.new.self.0 ≡ c.conn-2-1.given.0 = search rules in
+    let ends : c.commit.new.self.0 ≡ c.conn-2-1.given.0 = sym (c.conn-2-1.given.1 (sym (c.write_change.ensures.same_reference ∙ c.transaction-tx.ensures.same_reference))) in
     let done = state g.S.Store c.write_change.new.tx.conn.now in
     let last = state g.S.Store c.commit.new.self.0 in
     let b = books m was.totals in
@@ -57,7 +57,7 @@ returns-clause-ok g c m was fits =
 
 pub returns-clause-crash : goal.returns-clause-crash
 returns-clause-crash g c m was fits =
-    let ends : c.commit.new.self.0 ≡ c.conn-2-1.given.0 = search rules in
+    let ends : c.commit.new.self.0 ≡ c.conn-2-1.given.0 = sym (c.conn-2-1.given.1 (sym (c.write_change.ensures.same_reference ∙ c.transaction-tx.ensures.same_reference))) in
     let done = state g.S.Store c.write_change.new.tx.conn.now in
     let last = state g.S.Store c.commit.new.self.0 in
     let b = books m was.totals in
@@ -70,7 +70,7 @@ returns-clause-crash g c m was fits =
 
 pub returns-clause-lasts : goal.returns-clause-lasts
 returns-clause-lasts g c m was fits =
-    let ends : c.commit.new.self.0 ≡ c.conn-2-1.given.0 = search rules in
+    let ends : c.commit.new.self.0 ≡ c.conn-2-1.given.0 = sym (c.conn-2-1.given.1 (sym (c.write_change.ensures.same_reference ∙ c.transaction-tx.ensures.same_reference))) in
     let done = state g.S.Store c.write_change.new.tx.conn.now in
     let last = state g.S.Store c.commit.new.self.0 in
     let b = books m was.totals in

@@ -1,4 +1,4 @@
-use Rattle.std.proofs.Common.{◌≡◌, ◌∙◌, IsTrue, sym, subst, ap, rules, arith}
+use Rattle.std.proofs.Common.{◌≡◌, ◌∙◌, IsTrue, sym, subst, ap, arith}
 use Rattle.sqlite.specs.State.{HasCleanDisk, Survives}
 use Rattle.sqlite.specs.Held.{state}
 use Rattle.sqlite.specs.Effect.{Database}
@@ -12,7 +12,7 @@ use Rattle.shop_tables.proofs.renewing.renew_shop.Goals as goal
 
 pub returns-in_err-renew_tables-clause-as_before : goal.returns-in_err-renew_tables-clause-as_before
 returns-in_err-renew_tables-clause-as_before g c b was =
-    let ends : c.drop-tx.new.self.0 ≡ c.conn-1.given.0 = search rules in
+    let ends : c.drop-tx.new.self.0 ≡ c.conn-1.given.0 = sym (c.conn-1.given.1 (sym (c.renew_tables.ensures.same_reference ∙ c.transaction-tx.ensures.same_reference))) in
     let done = state g.S.Store c.renew_tables.new.tx.conn.now in
     let last = state g.S.Store c.drop-tx.new.self.0 in
     let within = subst (λ h. Within (state g.S.Store h) done) c.transaction-tx.ensures.begun c.renew_tables.ensures.within in
@@ -21,7 +21,7 @@ returns-in_err-renew_tables-clause-as_before g c b was =
 
 pub returns-in_err-commit-clause-as_before : goal.returns-in_err-commit-clause-as_before
 returns-in_err-commit-clause-as_before g c b was =
-    let ends : c.commit.new.self.0 ≡ c.conn-2-1.given.0 = search rules in
+    let ends : c.commit.new.self.0 ≡ c.conn-2-1.given.0 = sym (c.conn-2-1.given.1 (sym (c.renew_tables.ensures.same_reference ∙ c.transaction-tx.ensures.same_reference))) in
     let done = state g.S.Store c.renew_tables.new.tx.conn.now in
     let last = state g.S.Store c.commit.new.self.0 in
     let within = subst (λ h. Within (state g.S.Store h) done) c.transaction-tx.ensures.begun c.renew_tables.ensures.within in
@@ -32,7 +32,7 @@ returns-in_err-commit-clause-as_before g c b was =
 
 pub returns-in_err-commit-clause-crash : goal.returns-in_err-commit-clause-crash
 returns-in_err-commit-clause-crash g c b was =
-    let ends : c.commit.new.self.0 ≡ c.conn-2-1.given.0 = search rules in
+    let ends : c.commit.new.self.0 ≡ c.conn-2-1.given.0 = sym (c.conn-2-1.given.1 (sym (c.renew_tables.ensures.same_reference ∙ c.transaction-tx.ensures.same_reference))) in
     let done = state g.S.Store c.renew_tables.new.tx.conn.now in
     let last = state g.S.Store c.commit.new.self.0 in
     let within = subst (λ h. Within (state g.S.Store h) done) c.transaction-tx.ensures.begun c.renew_tables.ensures.within in
@@ -43,7 +43,7 @@ returns-in_err-commit-clause-crash g c b was =
 
 pub returns-clause-crash : goal.returns-clause-crash
 returns-clause-crash g c b was =
-    let ends : c.commit.new.self.0 ≡ c.conn-2-1.given.0 = search rules in
+    let ends : c.commit.new.self.0 ≡ c.conn-2-1.given.0 = sym (c.conn-2-1.given.1 (sym (c.renew_tables.ensures.same_reference ∙ c.transaction-tx.ensures.same_reference))) in
     let done = state g.S.Store c.renew_tables.new.tx.conn.now in
     let last = state g.S.Store c.commit.new.self.0 in
     let within = subst (λ h. Within (state g.S.Store h) done) c.transaction-tx.ensures.begun c.renew_tables.ensures.within in
@@ -54,7 +54,7 @@ returns-clause-crash g c b was =
 
 pub returns-clause-renewed : goal.returns-clause-renewed
 returns-clause-renewed g c b was =
-    let ends : c.commit.new.self.0 ≡ c.conn-2-1.given.0 = search rules in
+    let ends : c.commit.new.self.0 ≡ c.conn-2-1.given.0 = sym (c.conn-2-1.given.1 (sym (c.renew_tables.ensures.same_reference ∙ c.transaction-tx.ensures.same_reference))) in
     let done = state g.S.Store c.renew_tables.new.tx.conn.now in
     let last = state g.S.Store c.commit.new.self.0 in
     let within = subst (λ h. Within (state g.S.Store h) done) c.transaction-tx.ensures.begun c.renew_tables.ensures.within in
@@ -64,7 +64,7 @@ returns-clause-renewed g c b was =
 
 pub returns-clause-after : goal.returns-clause-after
 returns-clause-after g c b was =
-    let ends : c.commit.new.self.0 ≡ c.conn-2-1.given.0 = search rules in
+    let ends : c.commit.new.self.0 ≡ c.conn-2-1.given.0 = sym (c.conn-2-1.given.1 (sym (c.renew_tables.ensures.same_reference ∙ c.transaction-tx.ensures.same_reference))) in
     let done = state g.S.Store c.renew_tables.new.tx.conn.now in
     let last = state g.S.Store c.commit.new.self.0 in
     let renewed = subst (λ h. (HasCleanDisk (state g.S.Store h) → IsTrue (state g.S.Store h).is_open → ShowsEarlier (state g.S.Store h) b) → Renews (state g.S.Store h) done b) c.transaction-tx.ensures.begun (c.in_ok-renew_tables.ensures.renewed b) (begins g.S.Store c.args.conn.now b was) in

@@ -9,6 +9,6 @@ use Rattle.shop_tables.proofs.sums.put_totals.Goals as goal
 pub returns-clause-put : goal.returns-clause-put
 returns-clause-put g c b fresh =
     let old = state g.S.Store c.args.tx.now.conn.now in
-    let new = state g.S.Store c.run.new.tx.conn.now in
-    makes put_totals_text (totals_row (c.args.material, c.args.totals.now)) old new b (with_totals c.args.material c.args.totals.now b) c.run.result (rw (c.params-to_sql.ensures, c.params-to_sql-2.ensures, c.params-to_sql-3.ensures, c.params-to_sql-4.ensures, c.params-to_sql-5.ensures, c.params-to_sql-6.ensures, c.params-to_sql-7.ensures, c.params-to_sql-8.ensures, c.as_str.ensures.value, c.in_ok-counts.ensures) at c.run.ensures.has_run)
+    let new = state g.S.Store c.run_totals.new.tx.conn.now in
+    makes put_totals_text (totals_row (c.args.material, c.args.totals.now)) old new b (with_totals c.args.material c.args.totals.now b) c.run_totals.result c.run_totals.ensures.has_run
     (λ count has ran. puts_totals old new count b has c.args.material c.args.totals.now fresh ran)

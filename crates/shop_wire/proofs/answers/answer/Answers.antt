@@ -7,7 +7,7 @@ use Rattle.shop_wire.proofs.answers.answer.Goals as goal
 
 pub returns-in-Ok-clause-ok : goal.returns-in-Ok-clause-ok
 returns-in-Ok-clause-ok g c = λ honest m held sound.
-    value_answered g.B.Book c.args.book.now c.reply_to.new.book m c.args.line.now (view c.in-Ok.value) c.reply_to.result c.in-Ok.ensures (c.reply_to.ensures.step honest m held sound)
+    value_answered g.B.Book c.args.book.now c.reply_to.new.book m c.args.line.now (view c.in-Ok.value) c.reply_to.result.0 c.in-Ok.ensures (c.reply_to.ensures.step honest m held sound)
 
 pub returns-in_default-clause-ok : goal.returns-in_default-clause-ok
 returns-in_default-clause-ok g c = λ honest m held sound.

@@ -7,12 +7,12 @@ use Rattle.shop_wire.proofs.answers.reply_to.Goals as goal
 
 pub returns-in-Ok-clause-step : goal.returns-in-Ok-clause-step
 returns-in-Ok-clause-step g c = λ honest m held sound.
-    let l = c.handle.ensures.step honest m held sound in
-    message_answered g.B.Book c.args.book.now c.handle.new.book m (view c.args.value.now) c.in-Ok.message c.handle.result l.next c.in-Ok.ensures.ok c.handle.ensures.message l.step l.held l.sound
-    (c.handle.ensures.store_fault honest m held sound)
+    let l = c.handle_told.ensures.step honest m held sound in
+    message_answered g.B.Book c.args.book.now c.handle_told.new.book m (view c.args.value.now) c.in-Ok.message c.handle_told.result.0 l.next c.in-Ok.ensures.ok c.handle_told.ensures.message l.step l.held l.sound
+    (c.handle_told.ensures.store_fault honest m held sound)
 
 pub returns-in-Ok-clause-failures : goal.returns-in-Ok-clause-failures
-returns-in-Ok-clause-failures g c = up_answer (g.B.Book.failed c.args.book.now) (g.B.Book.failed c.handle.new.book) c.handle.result c.handle.ensures.failures
+returns-in-Ok-clause-failures g c = up_answer (g.B.Book.failed c.args.book.now) (g.B.Book.failed c.handle_told.new.book) c.handle_told.result.0 c.handle_told.ensures.failures
 
 pub returns-in-NoMemory-clause-step : goal.returns-in-NoMemory-clause-step
 returns-in-NoMemory-clause-step g c = λ honest m held sound.
@@ -21,6 +21,7 @@ returns-in-NoMemory-clause-step g c = λ honest m held sound.
 pub returns-in_default : goal.returns-in_default
 returns-in_default g c = record {
   step = c.query_reply.ensures.step (c.in-Err.ensures.err c.in_default.not-NoMemory).1;
+  told = tt;
   honest = c.query_reply.ensures.honest;
   failures = c.query_reply.ensures.failures;
 }

@@ -14,8 +14,8 @@ returns-in_default-clause-err g c = (
       (none_replayed g.B.Book c.answer.new.book (Some c.args.held.now.items)),
 )
 
-pub returns-in_default-line_text-clause-err : goal.returns-in_default-line_text-clause-err
-returns-in_default-line_text-clause-err g c = (
+pub returns-in_default-text_of-clause-err : goal.returns-in_default-text_of-clause-err
+returns-in_default-text_of-clause-err g c = (
   c.args.line.now ∷ [],
   [],
   refl,
@@ -24,18 +24,19 @@ returns-in_default-line_text-clause-err g c = (
       c.args.line.now c.in-Ok.reply [] (reply_line c.in-Ok.reply) refl (Appends-nil (Some c.args.held.now.items)) c.in-Ok.ensures.ok,
 )
 
-pub returns-in-Ok-extend_from_slice-clause-ok : goal.returns-in-Ok-extend_from_slice-clause-ok
-returns-in-Ok-extend_from_slice-clause-ok g c =
-    one_replayed g.B.Book c.args.book.now c.answer.new.book (Some c.args.held.now.items) (Some c.extend_from_slice.new.self.items)
+pub returns-in-Ok-hold_line-clause-ok : goal.returns-in-Ok-hold_line-clause-ok
+returns-in-Ok-hold_line-clause-ok g c =
+    one_replayed g.B.Book c.args.book.now c.answer.new.book (Some c.args.held.now.items) (Some c.hold_line.new.held.items)
     c.args.line.now c.in-Ok.reply (reply_line c.in-Ok.reply) [] (append-nil (reply_line c.in-Ok.reply))
-    (c.in-Ok-extend_from_slice.ensures.items ∙ ap (λ l. c.args.held.now.items ++ l) (c.as_bytes.ensures.value ∙ c.as_str.ensures.value ∙ c.in-Ok-line_text.ensures)) c.in-Ok.ensures.ok
+    (c.in-Ok-hold_line.ensures.ok ∙ ap (λ l. c.args.held.now.items ++ (l ++ 10 ∷ [])) c.in-Ok-text_of.ensures) c.in-Ok.ensures.ok
 
 pub returns-clause-err : goal.returns-clause-err
-returns-clause-err g c = (
-  c.args.line.now ∷ [],
-  [],
-  refl,
-  reply_line c.in-Ok.reply,
-  one_replayed g.B.Book c.args.book.now c.answer.new.book (Some c.args.held.now.items) (Some c.extend_from_slice.new.self.items)
-      c.args.line.now c.in-Ok.reply [] (reply_line c.in-Ok.reply) refl (c.in-Err.ensures.items ∙ sym (append-nil c.args.held.now.items)) c.in-Ok.ensures.ok,
-)
+returns-clause-err g c =
+    let part = c.in-Err.ensures.err in (
+      c.args.line.now ∷ [],
+      [],
+      refl,
+      part.1,
+      one_replayed g.B.Book c.args.book.now c.answer.new.book (Some c.args.held.now.items) (Some c.hold_line.new.held.items)
+          c.args.line.now c.in-Ok.reply part.0 part.1 (part.2 ∙ ap (λ l. l ++ 10 ∷ []) c.in-Ok-text_of.ensures) part.3 c.in-Ok.ensures.ok,
+    )

@@ -3,7 +3,7 @@ use Rattle.clap.specs.declared.builder.value_parser.ValueParser.TheVariants.{Sig
 use Rattle.shop_words.specs.CommandLine.{number_rule}
 use Rattle.shop_words.proofs.words.kerf_arg.Goals as goal
 
-pub returns-clause-rule : goal.returns-clause-rule
-returns-clause-rule c =
+pub returns : goal.returns
+returns c =
     let range : c.range.result ≡ Signed (pos 0) (pos 200) = rw (c.value_parser.ensures, c.new.ensures.start, c.new.ensures.end) at c.range.ensures in
-    c.number_arg.ensures.rule ∙ ap (number_rule (codes "kerf")) range
+    (c.number_arg.ensures.0 ∙ ap (number_rule (codes "kerf")) range, c.number_arg.ensures.1)

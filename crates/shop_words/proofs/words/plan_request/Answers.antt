@@ -1,9 +1,6 @@
-use Rattle.std.proofs.Common.{◌≡◌, ◌∙◌, codes, sym}
+use Rattle.std.proofs.Common.{◌∙◌, codes, sym}
 use Rattle.clap.specs.Words.{found_of, rows_of}
 use Rattle.clap.proofs.WalkLemmas.{first_value-rows}
-use Rattle.shop_words.specs.declared.words.Request.{Request}
-use Rattle.shop_words.specs.declared.words.Request.TheVariants.{Plan}
-use Rattle.shop_words.specs.CommandLine.{IsPlanAsked}
 use Rattle.shop_words.proofs.Asked.{no_plan_file}
 use Rattle.shop_words.proofs.words.plan_request.Goals as goal
 

@@ -1,4 +1,4 @@
-use Rattle.std.proofs.Common.{◌≡◌, ◌∙◌, codes, sym}
+use Rattle.std.proofs.Common.{◌∙◌, codes, sym}
 use Rattle.clap.specs.Words.{first_of, found_of, rows_of}
 use Rattle.clap.proofs.WalkLemmas.{first_value-rows}
 use Rattle.shop_words.proofs.Asked.{no_yield_store, no_yield_code, no_code, no_code_of, the_code}
