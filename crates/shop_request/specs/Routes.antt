@@ -1,5 +1,5 @@
 -- The routes, and which of them a target takes.
-use Rattle.std.specs.Prelude.{ℕ, Bool, true, false, List, [], ◌==◌, Option, Result, Ok, Err, codes, option_map, length, drop}
+use Rattle.std.specs.Prelude.{ℕ, Bool, true, false, List, [], ◌∷◌, ◌==◌, Option, Result, Ok, Err, codes, option_map, length, drop}
 use Rattle.std.specs.List.{before_first}
 use Rattle.matchit.specs.Rows.{RowsOf}
 use Rattle.matchit.specs.Order.{placed}
@@ -56,6 +56,11 @@ with_scan (Err e) route rows = rows
 
 unfoldable pub with_route : Route → RouteRows → RouteRows
 with_route route rows = with_scan (parse_route (route_text route)) route rows
+
+-- the rows with these routes in turn
+abbrev pub with_routes : List Route → RouteRows → RouteRows
+with_routes [] rows = rows
+with_routes (route ∷ more) rows = with_routes more (with_route route rows)
 
 -- all routes, as `matchit` keeps them
 unfoldable pub all_routes : RouteRows

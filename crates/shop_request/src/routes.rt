@@ -1,5 +1,5 @@
 ghost use Rattle.std.specs.Prelude.{◌≡◌, length, IfOk, OnOk};
-ghost use Rattle.shop_request.specs.Routes.{all_routes, route_of, route_start, route_text, takes_body, with_route};
+ghost use Rattle.shop_request.specs.Routes.{all_routes, route_of, route_start, route_text, takes_body, with_route, with_routes};
 
 use matchit::{InsertError, Router};
 use std::alloc::{AllocError, Global};
@@ -84,21 +84,36 @@ fn add(router: &mut Router<Route>, route: Route) -> Result<(), InsertError>
     router.insert(route.text(), route)
 }
 
+// Adds routes in turn.
+fn add_all(router: &mut Router<Route>, routes: &[Route]) -> Result<(), InsertError>
+    ensures { OnOk result (router.new ≡ with_routes routes.now router.old) }
+{
+    let [route, more @ ..] = routes else {
+        return Ok(());
+    };
+    add(router, *route)?;
+    add_all(router, more)
+}
+
+const ROUTES: [Route; 9] = [
+    Route::Message,
+    Route::Plan,
+    Route::Bound,
+    Route::Totals,
+    Route::Rack,
+    Route::Trace,
+    Route::Demand,
+    Route::Ticket,
+    Route::Yield,
+];
+
 #[tactic(auto, unfolding(crate::specs::Routes::all_routes))]
 // All routes.
 fn all(alloc: Global) -> Result<Router<Route>, InsertError>
     ensures { IfOk result (λ router. router ≡ all_routes) }
 {
     let mut router = Router::new(alloc);
-    add(&mut router, Route::Message)?;
-    add(&mut router, Route::Plan)?;
-    add(&mut router, Route::Bound)?;
-    add(&mut router, Route::Totals)?;
-    add(&mut router, Route::Rack)?;
-    add(&mut router, Route::Trace)?;
-    add(&mut router, Route::Demand)?;
-    add(&mut router, Route::Ticket)?;
-    add(&mut router, Route::Yield)?;
+    add_all(&mut router, &ROUTES)?;
     Ok(router)
 }
 

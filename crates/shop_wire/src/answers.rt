@@ -4,7 +4,7 @@ ghost use Rattle.shop_machine.specs.Soundness.{IsSound};
 ghost use Rattle.shop_rules.specs.Forms.{message_of, json_texts};
 ghost use Rattle.shop_book.specs.Kept.{Says};
 ghost use Rattle.shop_desk.specs.Faults.{CountsUp};
-ghost use Rattle.shop_wire.specs.Replays.{HasAnswered, LineStep, ValueStep, data_of, line_message};
+ghost use Rattle.shop_wire.specs.Replays.{HasAnswered, LineStep, ValueStep, data_of, line_message, reply_line};
 ghost use Rattle.shop_wire.specs.Tellings.{IsRead};
 
 use crate::limits::LONGEST_LINE;
@@ -81,8 +81,8 @@ pub(crate) fn answer<B: Book>(
     }
 }
 
-/// The text of a reply: the one that was told, where there is one.
-pub(crate) fn text_of(alloc: Global, reply: &Reply, told: Option<Text>) -> Result<Text, AllocError>
+// The text of a reply: the one that was told, where there is one.
+fn text_of(alloc: Global, reply: &Reply, told: Option<Text>) -> Result<Text, AllocError>
     requires { IfSome told (λ text. text ≡ json_texts.of_reply reply.now) }
     ensures { IfOk result (λ text. text ≡ json_texts.of_reply reply.now) }
 {
@@ -92,8 +92,8 @@ pub(crate) fn text_of(alloc: Global, reply: &Reply, told: Option<Text>) -> Resul
     }
 }
 
-/// Puts a text behind what is held, and a line feed, as far as there is memory.
-pub(crate) fn hold_line(held: &mut Vec<u8>, text: &Text) -> Result<(), AllocError>
+// Puts a text behind what is held, and a line feed, as far as there is memory.
+fn hold_line(held: &mut Vec<u8>, text: &Text) -> Result<(), AllocError>
     ensures ok { OnOk result (held.new.items ≡ held.old.items ++ (text.now ++ 10 ∷ [])) }
     ensures err { OnErr result ((bytes rest : List ℕ) × (bytes ++ rest ≡ text.now ++ 10 ∷ []) × (held.new.items ≡ held.old.items ++ bytes)) }
 {
@@ -101,4 +101,21 @@ pub(crate) fn hold_line(held: &mut Vec<u8>, text: &Text) -> Result<(), AllocErro
         Ok(()) => held.extend_from_slice(b"\n"),
         Err(error) => Err(error),
     }
+}
+
+/// Puts a reply behind what is held as a line, as far as there is memory. What was told of it is its text.
+pub(crate) fn hold_told(
+    alloc: Global,
+    reply: &Reply,
+    told: Option<Text>,
+    held: &mut Vec<u8>,
+) -> Result<(), AllocError>
+    requires { IfSome told (λ text. text ≡ json_texts.of_reply reply.now) }
+    ensures ok { OnOk result (held.new.items ≡ held.old.items ++ reply_line reply.now) }
+    ensures err { OnErr result ((bytes rest : List ℕ) × (bytes ++ rest ≡ reply_line reply.now) × (held.new.items ≡ held.old.items ++ bytes)) }
+{
+    let Ok(text) = text_of(alloc, reply, told) else {
+        return Err(AllocError);
+    };
+    hold_line(held, &text)
 }

@@ -8,7 +8,7 @@ ghost use Rattle.shop_wire.specs.Streams.{AreReads, IsLong, most_reads};
 ghost use Rattle.shop_wire.specs.declared.limits.TheConstants.{MOST_HELD};
 ghost use Rattle.shop_wire.specs.declared.faults.ReplayFault.TheVariants.{Read, Write, NoMemory};
 
-use crate::answers::{answer, hold_line, text_of};
+use crate::answers::{answer, hold_told};
 use crate::faults::ReplayFault;
 use crate::limits::MOST_HELD;
 use crate::reader::LineReader;
@@ -33,10 +33,7 @@ fn hold_reply<B: Book>(
     let Ok((reply, told)) = answer(alloc, book, line) else {
         return Err(ReplayFault::NoMemory);
     };
-    let Ok(text) = text_of(alloc, &reply, told) else {
-        return Err(ReplayFault::NoMemory);
-    };
-    match hold_line(held, &text) {
+    match hold_told(alloc, &reply, told, held) {
         Ok(()) => Ok(()),
         Err(_) => Err(ReplayFault::NoMemory),
     }

@@ -14,21 +14,10 @@ returns-in_default-clause-err g c = (
       (none_replayed g.B.Book c.answer.new.book (Some c.args.held.now.items)),
 )
 
-pub returns-in_default-text_of-clause-err : goal.returns-in_default-text_of-clause-err
-returns-in_default-text_of-clause-err g c = (
-  c.args.line.now ∷ [],
-  [],
-  refl,
-  reply_line c.in-Ok.reply,
-  one_replayed g.B.Book c.args.book.now c.answer.new.book (Some c.args.held.now.items) (Some c.args.held.now.items)
-      c.args.line.now c.in-Ok.reply [] (reply_line c.in-Ok.reply) refl (Appends-nil (Some c.args.held.now.items)) c.in-Ok.ensures.ok,
-)
-
-pub returns-in-Ok-hold_line-clause-ok : goal.returns-in-Ok-hold_line-clause-ok
-returns-in-Ok-hold_line-clause-ok g c =
-    one_replayed g.B.Book c.args.book.now c.answer.new.book (Some c.args.held.now.items) (Some c.hold_line.new.held.items)
-    c.args.line.now c.in-Ok.reply (reply_line c.in-Ok.reply) [] (append-nil (reply_line c.in-Ok.reply))
-    (c.in-Ok-hold_line.ensures.ok ∙ ap (λ l. c.args.held.now.items ++ (l ++ 10 ∷ [])) c.in-Ok-text_of.ensures) c.in-Ok.ensures.ok
+pub returns-in-Ok-hold_told-clause-ok : goal.returns-in-Ok-hold_told-clause-ok
+returns-in-Ok-hold_told-clause-ok g c =
+    one_replayed g.B.Book c.args.book.now c.answer.new.book (Some c.args.held.now.items) (Some c.hold_told.new.held.items)
+    c.args.line.now c.in-Ok.reply (reply_line c.in-Ok.reply) [] (append-nil (reply_line c.in-Ok.reply)) c.in-Ok-hold_told.ensures.ok c.in-Ok.ensures.ok
 
 pub returns-clause-err : goal.returns-clause-err
 returns-clause-err g c =
@@ -37,6 +26,6 @@ returns-clause-err g c =
       [],
       refl,
       part.1,
-      one_replayed g.B.Book c.args.book.now c.answer.new.book (Some c.args.held.now.items) (Some c.hold_line.new.held.items)
-          c.args.line.now c.in-Ok.reply part.0 part.1 (part.2 ∙ ap (λ l. l ++ 10 ∷ []) c.in-Ok-text_of.ensures) part.3 c.in-Ok.ensures.ok,
+      one_replayed g.B.Book c.args.book.now c.answer.new.book (Some c.args.held.now.items) (Some c.hold_told.new.held.items)
+          c.args.line.now c.in-Ok.reply part.0 part.1 part.2 part.3 c.in-Ok.ensures.ok,
     )
