@@ -3,9 +3,13 @@
 //! book of a store file.
 #![tactic(auto)]
 
+ghost use Rattle.std.specs.Prelude.{◌+◌, ◌≤◌, map, string_bytes};
+ghost use Rattle.shop_wire.specs.Streams.{most_reads};
+ghost use Rattle.shop_commands.specs.Performs.{IsPerformed};
+
 use shop_commands::perform;
 use shop_opening::Opens;
-use shop_store::SqlBook;
+use shop_store::{Book, SqlBook};
 use shop_text::{Counted, Sink, Source, write_all};
 use sqlite::Alter;
 use std::alloc::Global;
@@ -31,7 +35,7 @@ fn unread(rt: &HostRuntime, error: &io::Error) -> u8 {
     2
 }
 
-// Does what the words ask for, over books in SQL tables, of any kind of store.
+// Does what the words ask for, over books in SQL tables, of any kind of store, and gives the status.
 fn perform_over<
     R: Files + Net<Listener = TcpListener, Stream = TcpStream>,
     D: Alter + Drop,
@@ -47,8 +51,23 @@ fn perform_over<
     source: &mut S,
     sink: &mut W,
     errors: &mut E,
-) -> u8 {
+) -> u8
+    ensures done { IsPerformed ⟦<SqlBook<D> as Book>⟧ (O.gives stores.now) (map string_bytes words.now) (S.left source.old) (W.held sink.old) (W.held sink.new)
+        (W.failed sink.old) (W.failed sink.new) (E.held errors.old) (E.held errors.new) result }
+    ensures reads { S.reads source.new ≤ S.reads source.old + most_reads }
+{
     perform(rt, stores, alloc, words, source, sink, errors)
+}
+
+// Does it over the stores that the program was given.
+fn perform_here<S: Source, W: Sink, E: Sink>(
+    rt: &HostRuntime,
+    words: &[String],
+    source: &mut S,
+    sink: &mut W,
+    errors: &mut E,
+) -> u8 {
+    perform_over(rt, rt, rt.alloc(), words, source, sink, errors)
 }
 
 // Does it over the streams that the program was given.
@@ -56,15 +75,7 @@ fn run_words(rt: &HostRuntime, words: &[String]) -> u8 {
     let mut source = Counted::new(rt.stdin());
     let mut sink = Counted::new(rt.stdout());
     let mut errors = Counted::new(rt.stderr());
-    perform_over(
-        rt,
-        rt,
-        rt.alloc(),
-        words,
-        &mut source,
-        &mut sink,
-        &mut errors,
-    )
+    perform_here(rt, words, &mut source, &mut sink, &mut errors)
 }
 
 fn main(rt: HostRuntime) -> ExitCode {

@@ -12,12 +12,10 @@
 //!
 //! Behind what a book answers it is told how many failures of the store it counted, where there were any.
 
-use crate::lines::replayed;
+use crate::lines::{replayed, served};
 use crate::messages::send;
 use anyhow::{Error, Result};
 use shop_store::{Book, BookFault, SqlBook};
-use shop_text::Counted;
-use shop_wire::serve_one;
 use sqlite::{Alter, Connection, MemStore};
 use std::alloc::Global;
 
@@ -44,14 +42,7 @@ fn posted<B: Book>(alloc: Global, book: &mut B, message: &str) -> Result<Vec<u8>
         "POST /message HTTP/1.1\r\nHost: shop\r\nContent-Length: {}\r\n\r\n{message}",
         message.len()
     )?;
-    let mut written = Vec::new(alloc);
-    let mut source = Counted::new(request.as_bytes());
-    let mut sink = Counted::new(&mut written);
-    if serve_one(alloc, &mut source, &mut sink, book).is_err() {
-        return Err(Error::msg("a request was not served"));
-    }
-    drop(sink);
-    Ok(written)
+    served(alloc, book, request.as_bytes(), request.len())
 }
 
 // What a book answers, and the failures that it counted.

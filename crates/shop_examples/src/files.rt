@@ -1,8 +1,9 @@
 //! Files that the commands read.
 
+use crate::stores::{Work, worked};
 use anyhow::{Error, Result};
 use serde_json::Value;
-use sqlite::Connection;
+use sqlite::{Alter, Connection};
 use std::alloc::Global;
 use std::fs::{self, Files, OpenFile};
 
@@ -51,13 +52,25 @@ pub fn keep(rt: &(impl AllocGlobal + Files), line: &str) -> Result<Vec<u8>> {
     Ok(Vec::new(alloc))
 }
 
+// Statements of SQL, which are done.
+#[derive(Drop)]
+struct Statements<'a> {
+    text: &'a str,
+}
+
+impl Work for Statements<'_> {
+    fn over<S: Alter + Drop>(&mut self, _alloc: Global, mut conn: Connection<S>) -> Result<S> {
+        conn.execute_batch(self.text)?;
+        Ok(conn.into_store())
+    }
+}
+
 /// Does statements of SQL in a store file, of which nothing is told: `NAME STATEMENTS`.
 pub fn execute(rt: &HostRuntime, line: &str) -> Result<Vec<u8>> {
-    let Some((name, statements)) = line.split_once(' ') else {
+    let Some((name, text)) = line.split_once(' ') else {
         return Err(Error::msg("no statements"));
     };
-    let mut conn = Connection::open(rt, name)?;
-    conn.execute_batch(statements)?;
-    conn.close()?;
+    let conn = Connection::open(rt, name)?;
+    worked(rt.alloc(), conn, &mut Statements { text })?.close();
     Ok(Vec::new(rt.alloc()))
 }

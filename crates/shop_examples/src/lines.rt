@@ -76,8 +76,13 @@ impl Read for Pieces<'_> {
 // The sizes of the pieces.
 const SIZES: [usize; 8] = [1, 2, 3, 17, 64, 8191, 8192, 300_000];
 
-// What is answered to a request that comes in pieces of this size.
-fn served<B: Book>(alloc: Global, book: &mut B, request: &[u8], size: usize) -> Result<Vec<u8>> {
+/// What is answered to a request that comes in pieces of this size.
+pub fn served<B: Book>(
+    alloc: Global,
+    book: &mut B,
+    request: &[u8],
+    size: usize,
+) -> Result<Vec<u8>> {
     let mut written = Vec::new(alloc);
     let mut pieces = Pieces {
         rest: request,

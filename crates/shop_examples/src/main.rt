@@ -204,6 +204,16 @@ fn write_told<W: Write>(output: &mut W, line: &str, told: &[u8]) -> Result<()> {
     Ok(())
 }
 
+// What comes of a line over the stores of the machine.
+fn told_here(
+    rt: &HostRuntime,
+    listener: &TcpListener,
+    example: &mut Example,
+    line: &str,
+) -> Result<Vec<u8>> {
+    example.told(rt, rt, listener, line)
+}
+
 // Answers the lines of a source.
 fn answer_all<B: BufRead + Drop, W: Write>(
     rt: &HostRuntime,
@@ -222,7 +232,7 @@ fn answer_all<B: BufRead + Drop, W: Write>(
         } else {
             let told = match line.strip_prefix('%') {
                 Some(statements) => execute(rt, statements)?,
-                None => example.told(rt, rt, listener, line)?,
+                None => told_here(rt, listener, &mut example, line)?,
             };
             write_told(output, line, &told)?;
         }

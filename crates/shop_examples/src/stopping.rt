@@ -61,20 +61,16 @@ struct Run<'a> {
 
 impl Work for Run<'_> {
     // Adopts the database and, in a trial that does, sends the messages.
-    fn over<S: Alter + Drop>(
-        &mut self,
-        alloc: Global,
-        conn: Connection<S>,
-    ) -> Result<Connection<S>> {
+    fn over<S: Alter + Drop>(&mut self, alloc: Global, conn: Connection<S>) -> Result<S> {
         match book_over(alloc, conn) {
             Ok(mut book) => {
                 self.adopted = true;
                 if self.trial.sends {
                     self.accepted = run_out(alloc, &mut book, &self.trial.answers)?;
                 }
-                Ok(book.into_connection())
+                Ok(book.into_connection().into_store())
             }
-            Err((_, conn)) => Ok(conn),
+            Err((_, conn)) => Ok(conn.into_store()),
         }
     }
 }
@@ -119,11 +115,7 @@ struct Aftermath<'a> {
 
 impl Work for Aftermath<'_> {
     // What was left of the database is whole, and goes on.
-    fn over<S: Alter + Drop>(
-        &mut self,
-        alloc: Global,
-        mut conn: Connection<S>,
-    ) -> Result<Connection<S>> {
+    fn over<S: Alter + Drop>(&mut self, alloc: Global, mut conn: Connection<S>) -> Result<S> {
         let run = self.run;
         if !has_tables(&mut conn, run.adopted, run.trial.start.tables)? {
             return Err(Error::msg("some of the tables"));
@@ -136,7 +128,7 @@ impl Work for Aftermath<'_> {
         if !is_renewed(&mut conn)? {
             return Err(Error::msg("tables that are not renewed"));
         }
-        Ok(conn)
+        Ok(conn.into_store())
     }
 }
 

@@ -75,14 +75,19 @@ fn opened<D: Disk + Drop>(
     }
 }
 
-/// What is done to the database of two files.
+/// What is done to the database of a store.
 pub trait Work {
-    /// Does it, and gives the connection back.
-    fn over<S: Alter + Drop>(
-        &mut self,
-        alloc: Global,
-        conn: Connection<S>,
-    ) -> Result<Connection<S>>;
+    /// Does it, and gives the store back.
+    fn over<S: Alter + Drop>(&mut self, alloc: Global, conn: Connection<S>) -> Result<S>;
+}
+
+/// Does this to the database of a store over files, and gives that back.
+pub fn worked<D: Disk + Drop, W: Work>(
+    alloc: Global,
+    conn: Connection<FileStore<D>>,
+    work: &mut W,
+) -> Result<FileStore<D>> {
+    work.over(alloc, conn)
 }
 
 /// Does this to the database of these files, if they are opened. The files, and whether they were.
@@ -92,7 +97,7 @@ pub fn over_files<D: Disk + Drop, W: Work>(
     work: &mut W,
 ) -> Result<(Files<D>, bool)> {
     match opened(alloc, files) {
-        Ok(conn) => Ok((work.over(alloc, conn)?.into_store().close(), true)),
+        Ok(conn) => Ok((worked(alloc, conn, work)?.close(), true)),
         Err(files) => Ok((files, false)),
     }
 }
@@ -115,14 +120,10 @@ const TO_VERSION_ONE: &str =
 struct EarlierShop;
 
 impl Work for EarlierShop {
-    fn over<S: Alter + Drop>(
-        &mut self,
-        alloc: Global,
-        conn: Connection<S>,
-    ) -> Result<Connection<S>> {
+    fn over<S: Alter + Drop>(&mut self, alloc: Global, conn: Connection<S>) -> Result<S> {
         let mut conn = filled_book(alloc, conn)?.into_connection();
         conn.execute_batch(TO_VERSION_ONE)?;
-        Ok(conn)
+        Ok(conn.into_store())
     }
 }
 
@@ -142,7 +143,7 @@ pub fn earlier_start(alloc: Global) -> Result<Start> {
 }
 
 // The answers are those at the end, and the last message under its old number gets its kept reply; no failure is counted.
-fn go_on<B: Book>(alloc: Global, book: &mut B) -> Result<()> {
+fn goes_on<B: Book>(alloc: Global, book: &mut B) -> Result<()> {
     let told = replayed(alloc, book, QUESTIONS.as_bytes())?;
     let again = replayed(alloc, book, MESSAGES[6].as_bytes())?;
     if told.as_slice() != ANSWERS.as_bytes()
@@ -162,13 +163,31 @@ fn adopted_again<S: Alter + Drop>(alloc: Global, conn: Connection<S>) -> Result<
     }
 }
 
+// Such a book of a store over files.
+fn book_of_files<D: Disk + Drop>(
+    alloc: Global,
+    conn: Connection<FileStore<D>>,
+) -> Result<SqlBook<FileStore<D>>> {
+    adopted_again(alloc, conn)
+}
+
+// A book in tables goes on.
+fn go_on_in_tables<S: Alter + Drop>(alloc: Global, mut book: SqlBook<S>) -> Result<()> {
+    goes_on(alloc, &mut book)
+}
+
+// A book of a store over files goes on.
+fn go_on_in_files<D: Disk + Drop>(alloc: Global, book: SqlBook<FileStore<D>>) -> Result<()> {
+    go_on_in_tables(alloc, book)
+}
+
 // Such a book of these files is closed, opened again, and goes on.
 fn open_files_again<D: Disk + Drop>(alloc: Global, files: Files<D>) -> Result<()> {
     let Ok(conn) = opened(alloc, files) else {
         return Err(Error::msg("files that are not opened"));
     };
-    match reopen_book(alloc, adopted_again(alloc, conn)?, options()) {
-        Some(mut again) => go_on(alloc, &mut again),
+    match reopen_book(alloc, book_of_files(alloc, conn)?, options()) {
+        Some(again) => go_on_in_files(alloc, again),
         None => Err(Error::msg("files that are not opened again")),
     }
 }
