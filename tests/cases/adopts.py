@@ -1,0 +1,150 @@
+"""Files that a shop takes over: version 1, tables of others, other versions, and rows that are no values."""
+
+import sqlite3
+
+from cases.stores import DAY, QUESTIONS, filled, sent
+from kit import tables
+from kit.case import case
+
+def opens(trial, store):
+    """Whether a store is taken over; if not, it has to be told as of another version."""
+    ran = trial.run("ticket", "--store", store, "2147483647")
+    if ran.err == b"refused 70 NoJob\n":
+        return True
+    trial.ended(ran, 1, err="fault version\n", sent=store)
+    return False
+
+
+def dump(path):
+    """The whole content of a file, as SQL."""
+    book = sqlite3.connect(path)
+    try:
+        return list(book.iterdump())
+    finally:
+        book.close()
+
+
+def refused_as_it_was(trial, path, why):
+    """A file that is told as of another version stays as it was."""
+    before = dump(path)
+    trial.equal((opens(trial, path), why), (False, why))
+    trial.equal(dump(path), before, why)
+
+
+@case("a file of version 1", "A file of version 1, with its totals in `totals`, becomes one of version 2 with the same content: same answers, and each message gets its kept reply.")
+def version_1(trial):
+    path = filled(trial)
+    shop = trial.shop()
+    before = [shop.reply(it) for it in QUESTIONS]
+    shop.kill()
+    rows = tables.rows(path)
+    names = tables.COLUMNS["totals"].replace(" ", ", ")
+    tables.change(path, f"INSERT INTO totals SELECT {names} FROM totals2; DROP TABLE totals2; UPDATE meta SET value = 1 WHERE name = 'version'")
+    again = trial.shop()
+    sent(trial, again)
+    trial.equal([again.reply(it) for it in QUESTIONS], before)
+    again.kill()
+    trial.equal(tables.rows(path), rows)
+
+
+@case("a file of version 1 of other totals", "A file of version 1 whose totals aren't the sums of its parts is `fault version` and stays as it was.")
+def version_1_of_other_totals(trial):
+    path = filled(trial)
+    names = tables.COLUMNS["totals"].replace(" ", ", ")
+    tables.change(path, f"INSERT INTO totals SELECT {names} FROM totals2; DROP TABLE totals2; UPDATE meta SET value = 1 WHERE name = 'version'")
+    tables.change(path, "UPDATE totals SET kerf = kerf + 1")
+    refused_as_it_was(trial, path, "another total")
+
+
+@case("a file of another version", "Versions 0, 1, 3, 7, -2 and 4294967298 in the tables of version 2, and none at all, are `fault version`, and the file stays as it was.")
+def versions(trial):
+    path = filled(trial, exchanges=DAY[:3])
+    for version in (0, 1, 3, 7, -2, 4294967298):
+        tables.change(path, f"UPDATE meta SET value = {version} WHERE name = 'version'")
+        refused_as_it_was(trial, path, f"version {version}")
+    tables.change(path, "DELETE FROM meta WHERE name = 'version'")
+    refused_as_it_was(trial, path, "no version")
+    tables.change(path, "INSERT INTO meta VALUES ('version', 2)")
+    trial.holds(opens(trial, path), "version 2 is taken again")
+
+
+@case("tables of others beside ours", "A shop is made beside a table, an index and a view of others, which stay as they were, and they may be made beside a shop.")
+def beside(trial):
+    others = "CREATE TABLE other (x INTEGER NOT NULL) STRICT; CREATE INDEX at ON other (x); CREATE VIEW shown AS SELECT x FROM other"
+    for store, exchanges in (("first.db", None), ("later.db", DAY)):
+        path = filled(trial, store, exchanges) if exchanges else trial.path(store)
+        tables.change(path, others + "; INSERT INTO other VALUES (7)")
+        shop = trial.shop(store)
+        sent(trial, shop)
+        shop.kill()
+        trial.equal(tables.select(path, "SELECT x FROM shown"), [(7,)])
+
+
+@case("names that others have", "Where a table, an index or a view of others has one of our names, the file is `fault version` and stays as it was.")
+def names_taken(trial):
+    makes = ["CREATE TABLE parts (x INTEGER NOT NULL) STRICT", "CREATE TABLE a (x INTEGER NOT NULL); CREATE INDEX meta ON a (x)"]
+    makes += ["CREATE TABLE a (x INTEGER NOT NULL); CREATE VIEW totals2 AS SELECT x FROM a"]
+    makes += ["CREATE TABLE meta (word TEXT NOT NULL, text TEXT NOT NULL) STRICT; INSERT INTO meta VALUES ('version', '2')"]
+    for number, make in enumerate(makes):
+        path = trial.path(f"taken-{number}.db")
+        tables.change(path, make)
+        refused_as_it_was(trial, path, make)
+
+
+@case("a table that isn't there", "A shop without one of its tables is `fault version`, and stays as it was.")
+def lacking(trial):
+    for name in ("imports", "totals", "totals2", "kept"):
+        path = filled(trial, f"{name}.db", DAY[:1])
+        tables.change(path, f"DROP TABLE {name}")
+        refused_as_it_was(trial, path, name)
+
+
+# What makes a part or a total no value of its type, and what makes it one again.
+STRANGE = [
+    ("parts", "state", ("7", "-1"), "0"),
+    ("parts", "detail", ("4", "-1"), "0"),
+    ("parts", "x", ("-1", "4294967296"), "0"),
+    ("parts", "y", ("-1", "5000000000"), "0"),
+    ("parts", "node", ("-1", "4294967296"), "0"),
+    ("parts", "act", ("0", "-1", "2147483648"), "1"),
+    ("parts", "root_act", ("0", "2147483648"), "1"),
+    ("parts", "root_node", ("-1", "4294967296"), "0"),
+    ("parts", "w", ("0", "200001", "9", "-10"), "10"),
+    ("parts", "h", ("0", "60001", "7"), "8"),
+    ("parts", "batch", ("''", "'b-1'", "'ABCDEFGHIJKLMNOPQ'"), "'B-1'"),
+    ("totals2", "stock", ("79", "-80", "81"), "80"),
+    ("totals2", "returned", ("1",), "0"),
+    ("totals2", "received", ("0",), "80"),
+]
+
+
+@case("parts and totals that are no values", "A part whose act, node, root, place, side, batch, state or detail is out of its range, and totals that aren't the sums of the parts, are `fault version`, and the file stays as it was.")
+def strange(trial):
+    path = filled(trial, exchanges=DAY[:2])
+    for table, column, values, good in STRANGE:
+        for value in values:
+            tables.change(path, f"UPDATE {table} SET {column} = {value}")
+            refused_as_it_was(trial, path, f"{table} {column} {value}")
+        tables.change(path, f"UPDATE {table} SET {column} = {good}")
+    tables.change(path, "DELETE FROM totals2")
+    refused_as_it_was(trial, path, "no totals")
+    tables.change(path, "INSERT INTO totals2 VALUES ('GLASS', 80, 80, 0, 0, 0, 0, 0)")
+    trial.holds(opens(trial, path), "the good values are taken again")
+
+
+@case("parts of the greatest values", "Acts of 2147483647, nodes and places of 4294967295 and a batch of 16 characters are taken.")
+def greatest(trial):
+    path = filled(trial, exchanges=DAY[:2])
+    tables.change(path, "UPDATE parts SET node = 4294967295, root_node = 4294967295, x = 4294967295, y = 4294967295")
+    trial.holds(opens(trial, path), "the greatest node and place")
+    tables.change(path, "UPDATE parts SET act = 2147483647, root_act = 2147483647, batch = 'ABCDEFGHIJ-01234'")
+    trial.holds(opens(trial, path), "the greatest act and the longest batch")
+
+
+@case("a shop goes on behind its last act", "Where the last act is 7 the next receipt is act 8.")
+def goes_on(trial):
+    path = filled(trial, exchanges=DAY[:1])
+    tables.change(path, "UPDATE meta SET value = 7 WHERE name = 'act'")
+    shop = trial.shop()
+    line, reply = DAY[1][0], '{"act":8,"count":1,"ok":"receive"}'
+    trial.equal(shop.reply(line).decode(), reply, line)

@@ -1,0 +1,153 @@
+"""Connections to a shop that is served: pieces, prefixes, silence, repeats, and where it listens."""
+
+import os
+import socket
+
+from kit.case import case
+from kit.shop import answer, read_all, request_of
+
+GLASS = '{"do":"material","kerf":1,"kind":"sheet","material":"GLASS","min_long":5,"min_short":4,"number":1,"terminal":1}'
+SHEET = '{"batch":"B-1","count":1,"do":"receive","h":8,"material":"GLASS","number":2,"terminal":1,"w":10}'
+ORDER = (
+    '{"do":"order","lines":[{"count":1,"h":3,"line":1,"material":"GLASS","turn":false,"w":4,"worth":12},'
+    '{"count":1,"h":4,"line":2,"material":"GLASS","turn":false,"w":4,"worth":16},'
+    '{"count":1,"h":3,"line":3,"material":"GLASS","turn":false,"w":5,"worth":15}],"number":3,"order":"A-1","terminal":1}'
+)
+RESERVE = '{"do":"reserve","number":4,"part":"1/0","terminal":1,"tree":"x4 y3 p1 p2 r"}'
+DONE = '{"do":"done","job":2,"number":5,"terminal":1}'
+DONE_REPLY = '{"job":2,"kerf":12,"ok":"done","pieces":28,"rack":40,"scrap":0}'
+TOTALS = '{"ask":"totals","material":"GLASS"}'
+
+
+def totals(stock, rack, pieces, kerf):
+    return (
+        f'{{"kerf":{kerf},"material":"GLASS","ok":"totals","pieces":{pieces},"rack":{rack},'
+        f'"received":80,"returned":0,"scrap":0,"stock":{stock}}}'
+    ).encode()
+
+
+def reserved(trial, **named):
+    """A shop with a waiting job of two pieces of a sheet."""
+    shop = trial.shop(**named)
+    for line in (GLASS, SHEET, ORDER, RESERVE):
+        trial.holds(b'"ok"' in shop.reply(line), line)
+    return shop
+
+
+@case(
+    "every prefix of a post",
+    "A POST of Done that ends early is answered 400, or nothing where no byte came, and changes nothing; the whole "
+    "one gets its reply.",
+)
+def prefixes(trial):
+    shop = reserved(trial)
+    request = request_of(DONE)
+    for end in trial.places(len(request), 3):
+        wanted = answer(400) if end else b""
+        trial.equal(shop.exchange(request[:end]), wanted, request[:end])
+        trial.equal(shop.reply(TOTALS), totals(80, 0, 0, 0), request[:end])
+    trial.equal(shop.exchange(request), answer(200, DONE_REPLY), request)
+    trial.equal(shop.reply(TOTALS), totals(0, 40, 28, 12), request)
+
+
+@case("a post byte by byte", "A message that comes byte by byte is answered as one that comes whole, and so is its repeat.")
+def bytes_alone(trial):
+    shop = reserved(trial)
+    for size in (1, None, 2, 3, 64):
+        trial.equal(shop.exchange(request_of(DONE), size), answer(200, DONE_REPLY), f"in pieces of {size}")
+    trial.equal(shop.reply(TOTALS), totals(0, 40, 28, 12))
+
+
+@case("a connection that says nothing", "Where no byte comes nothing is written, and the next terminal is served.")
+def silence(trial):
+    shop = trial.shop(limit=3)
+    trial.equal(shop.exchange(b""), b"")
+    shop.connect().close()
+    trial.equal(shop.reply(TOTALS), b'{"name":"NoMaterial","refused":20}')
+    trial.equal(shop.end()[0], 0)
+
+
+@case("listens on this machine alone", "The port is reached at 127.0.0.1 and at no other address of the machine.")
+def listening(trial):
+    shop = trial.shop()
+    others = {"127.0.0.2", *[it[4][0] for it in socket.getaddrinfo(socket.gethostname(), None, socket.AF_INET)]} - {"127.0.0.1"}
+    for address in others:
+        try:
+            socket.create_connection((address, shop.port), timeout=5).close()
+            reached = True
+        except OSError:
+            reached = False
+        trial.equal((address, reached), (address, False))
+    rows = []
+    for name in ("/proc/net/tcp", "/proc/net/tcp6"):
+        if os.path.exists(name):
+            with open(name, encoding="ascii") as file:
+                rows += [it.split() for it in file.readlines()[1:]]
+    listens = [it[1] for it in rows if it[3] == "0A" and it[1].endswith(f":{shop.port:04X}")]
+    trial.equal(listens, [f"0100007F:{shop.port:04X}"])
+
+
+@case(
+    "a limit of connections",
+    "The shop ends with status 0 after as many connections as its limit says, and what was accepted is in its file.",
+)
+def limited(trial):
+    shop = trial.shop(limit=2)
+    trial.equal((shop.reply(GLASS), shop.reply(SHEET)), (b'{"material":"GLASS","ok":"material"}', b'{"act":1,"count":1,"ok":"receive"}'))
+    trial.equal(shop.end(), (0, f"listening on 127.0.0.1:{shop.port}\n".encode(), b""))
+    again = trial.shop(limit=1)
+    trial.equal(again.reply(TOTALS), totals(80, 0, 0, 0))
+
+
+@case("terminals at both ends", "Terminals 1 and 4294967295 are served, and 0 is refused 10, for it is the shop file's.")
+def terminals(trial):
+    shop = trial.shop()
+    for terminal, status in ((0, 400), (1, 200), (4294967295, 200), (4294967296, 400)):
+        line = GLASS.replace('"terminal":1', f'"terminal":{terminal}')
+        reply = '{"material":"GLASS","ok":"material"}' if status == 200 else '{"name":"BadMessage","refused":10}'
+        trial.equal(shop.send(line), answer(status, reply), line)
+
+
+@case(
+    "a client that goes away",
+    "A terminal that closes before its answer is read has its message done, and its repeat gets the kept reply.",
+)
+def gone(trial):
+    shop = reserved(trial)
+    with shop.connect() as it:
+        it.sendall(request_of(DONE))
+    trial.equal(shop.exchange(request_of(DONE)), answer(200, DONE_REPLY))
+    trial.equal(shop.reply(TOTALS), totals(0, 40, 28, 12))
+
+
+@case(
+    "heads and bodies at their limits",
+    "A head of 8192 bytes and a body of 131072 are read; a head of 8193 is 431, a body of 131073 is 413.",
+)
+def limits(trial):
+    shop = trial.shop()
+    for length, status in ((8192, 404), (8193, 431)):
+        begin, end = b"GET /rack/A HTTP/1.1\r\nHost: x\r\nA:", b"b\r\n\r\n"
+        request = begin + b" " * (length - len(begin) - len(end)) + end
+        wanted = answer(404, '{"name":"NoMaterial","refused":20}') if status == 404 else answer(431)
+        trial.equal(shop.exchange(request), wanted, request)
+    for length, wanted in ((131072, answer(200, '{"material":"GLASS","ok":"material"}')), (131073, answer(413))):
+        body = GLASS.encode().ljust(131072)
+        request = f"POST /message HTTP/1.1\r\nHost: x\r\nContent-Length: {length}\r\n\r\n".encode() + (body if length == 131072 else b"")
+        trial.equal(shop.exchange(request), wanted, f"a body of {length}")
+
+
+@case("a request in slow pieces", "A request whose pieces come with pauses is answered when it is whole.")
+def slow(trial):
+    shop = reserved(trial)
+    request = request_of(DONE)
+    with shop.connect() as it:
+        for piece in (request[:7], request[7:60], request[60:-1], request[-1:]):
+            it.sendall(piece)
+            it.settimeout(0.05)
+            try:
+                it.recv(1, socket.MSG_PEEK)
+            except TimeoutError:
+                pass
+            it.settimeout(30)
+        trial.equal(read_all(it), answer(200, DONE_REPLY))

@@ -1,0 +1,235 @@
+"""A shop's store file: its tables row by row, a shop that is opened again, and the greatest numbers and reports."""
+
+import json
+
+from cases.connections import DONE, GLASS, ORDER, RESERVE, SHEET
+from kit import tables
+from kit.case import case
+
+REMNANT = '{"do":"reserve","number":6,"part":"2/4","terminal":1,"tree":"y3 p3 r"}'
+DONE_AGAIN = '{"do":"done","job":3,"number":7,"terminal":1}'
+# “Remnant cut again”, each line with its reply.
+DAY = [
+    (GLASS, '{"material":"GLASS","ok":"material"}'),
+    (SHEET, '{"act":1,"count":1,"ok":"receive"}'),
+    (ORDER, '{"count":3,"first":1,"ok":"order","order":"A-1"}'),
+    (RESERVE, '{"cuts":2,"job":2,"ok":"reserve"}'),
+    (DONE, '{"job":2,"kerf":12,"ok":"done","pieces":28,"rack":40,"scrap":0}'),
+    (REMNANT, '{"cuts":1,"job":3,"ok":"reserve"}'),
+    (DONE_AGAIN, '{"job":3,"kerf":5,"ok":"done","pieces":15,"rack":20,"scrap":0}'),
+]
+TOTALS = '{"ask":"totals","material":"GLASS"}'
+QUESTIONS = [TOTALS, '{"ask":"rack","material":"GLASS"}']
+QUESTIONS += [f'{{"ask":"trace","part":"{it}"}}' for it in ("1/0", "2/0", "2/1", "2/2", "2/3", "2/4", "3/0", "3/1", "3/2", "3/3")]
+QUESTIONS += [f'{{"ask":"demand","demand":{it}}}' for it in (1, 2, 3, 4)]
+
+PLACE = ("GLASS", "B-1", 1, 0)
+# The rows of each table after these messages.
+ROWS = {
+    "meta": [("act", 3), ("demand", 3), ("version", 2)],
+    "materials": [("GLASS", 1, 1, 5, 4)],
+    "parts": [
+        (1, 0, *PLACE, 0, 0, 10, 8, 2, 2),
+        (2, 0, *PLACE, 4, 0, 1, 8, 4, 0),
+        (2, 1, *PLACE, 0, 3, 4, 1, 4, 0),
+        (2, 2, *PLACE, 0, 0, 4, 3, 3, 1),
+        (2, 3, *PLACE, 0, 4, 4, 4, 3, 2),
+        (2, 4, *PLACE, 5, 0, 5, 8, 2, 3),
+        (3, 0, *PLACE, 5, 3, 5, 1, 4, 0),
+        (3, 1, *PLACE, 5, 0, 5, 3, 3, 3),
+        (3, 2, *PLACE, 5, 4, 5, 4, 0, 0),
+    ],
+    "jobs": [(2, 1, 0, "x4 y3 p1 p2 r", 1), (3, 2, 4, "y3 p3 r", 1)],
+    "orders": [("A-1",)],
+    "demands": [
+        (1, "A-1", 1, "GLASS", 4, 3, 0, 12, 1, 0, 1),
+        (2, "A-1", 2, "GLASS", 4, 4, 0, 16, 1, 0, 1),
+        (3, "A-1", 3, "GLASS", 5, 3, 0, 15, 1, 0, 1),
+    ],
+    "kept": [(1, number, line, reply) for number, (line, reply) in enumerate(DAY, 1)],
+    "imports": [],
+    "totals": [],
+    "totals2": [("GLASS", 80, 0, 20, 43, 17, 0, 0)],
+}
+
+
+def sent(trial, shop, exchanges=DAY):
+    for line, reply in exchanges:
+        trial.equal(shop.reply(line).decode(), reply, line)
+
+
+def filled(trial, store="shop.db", exchanges=DAY):
+    """The path of a store in which these messages were handled."""
+    shop = trial.shop(store, limit=len(exchanges))
+    sent(trial, shop, exchanges)
+    trial.equal(shop.end()[0], 0)
+    return shop.store
+
+
+def received(material, w, h, act, count=1, number=2, batch="B-1"):
+    line = {"batch": batch, "count": count, "do": "receive", "h": h, "material": material, "number": number, "terminal": 1, "w": w}
+    return json.dumps(line), json.dumps({"act": act, "count": count, "ok": "receive"}, separators=(",", ":"))
+
+
+@case("tables row by row", "After “remnant cut again” each table has the columns of the formats, STRICT and not NULL, with their keys, and exactly the rows of the books.")
+def row_by_row(trial):
+    path = filled(trial)
+    for name in tables.COLUMNS:
+        trial.equal(tables.columns_of(path, name), tables.wanted_columns(name), name)
+        trial.holds(tables.select(path, f"SELECT sql FROM sqlite_schema WHERE name = '{name}'")[0][0].rstrip().endswith("STRICT"), name)
+    found = tables.rows(path)
+    for name, wanted in ROWS.items():
+        trial.equal(found[name], wanted, name)
+    trial.equal(tables.select(path, "PRAGMA integrity_check"), [("ok",)])
+    trial.equal(tables.select(path, "PRAGMA foreign_key_check"), [])
+
+
+@case("keys of the tables", "The parts' material, the jobs' part, the orders and the totals are referenced as the formats have it; an order's line stands once; no more is reserved and made than wanted.")
+def keys(trial):
+    path = filled(trial)
+    wanted = {
+        "parts": [("materials", "material", "code")],
+        "jobs": [("parts", "part_act", "act"), ("parts", "part_node", "node")],
+        "demands": [("materials", "material", "code"), ("orders", "ord", "ord")],
+        "imports": [("orders", "ord", "ord")],
+        "totals": [("materials", "material", "code")],
+        "totals2": [("materials", "material", "code")],
+    }
+    for name in tables.COLUMNS:
+        found = sorted(it[2:5] for it in tables.select(path, f"PRAGMA foreign_key_list({name})"))
+        trial.equal([(table, begin, to) for table, begin, to in found], sorted((t, b, e) for t, b, e in wanted.get(name, [])), name)
+    indexes = tables.select(path, "SELECT name FROM pragma_index_list('demands') WHERE origin = 'u'")
+    trial.equal([it[0] for it in tables.select(path, f"SELECT name FROM pragma_index_info('{indexes[0][0]}')")], ["ord", "line"])
+    for statement in ("UPDATE demands SET reserved = 1 WHERE number = 3", "INSERT INTO orders VALUES ('A-1')", "UPDATE parts SET x = 'a'"):
+        try:
+            tables.change(path, statement)
+            trial.holds(False, f"{statement} is taken")
+        except tables.sqlite3.Error:
+            pass
+
+
+@case("a book opened again", "“Remnant cut again” over a file, killed and opened again: the same answers, each message gets its kept reply, and nothing is done twice.")
+def opened_again(trial):
+    shop = trial.shop()
+    sent(trial, shop)
+    before = [shop.reply(it) for it in QUESTIONS] + [shop.get(it) for it in ("/ticket/2", "/ticket/3", "/yield/GLASS")]
+    shop.kill()
+    again = trial.shop()
+    sent(trial, again)
+    after = [again.reply(it) for it in QUESTIONS] + [again.get(it) for it in ("/ticket/2", "/ticket/3", "/yield/GLASS")]
+    trial.equal(after, before)
+    trial.equal(after[0], b'{"kerf":17,"material":"GLASS","ok":"totals","pieces":43,"rack":20,"received":80,"returned":0,"scrap":0,"stock":0}')
+    again.kill()
+    trial.equal(len(tables.select(shop.store, "SELECT * FROM kept")), len(DAY))
+
+
+@case("a book of a file and one in memory", "The same lines get the same replies from `replay` and, question for question, from a file that was opened again behind each message.")
+def both_books(trial):
+    lines = [it for line, _ in DAY for it in (line, *QUESTIONS)]
+    wanted = trial.replay(lines).out.decode().split("\n")[:-1]
+    got = []
+    for line, _ in DAY:
+        shop = trial.shop()
+        got += [shop.reply(it).decode() for it in (line, *QUESTIONS)]
+        shop.kill()
+    trial.equal(got, wanted)
+
+
+def numbers(path, name, value):
+    tables.change(path, f"UPDATE meta SET value = {value} WHERE name = '{name}'")
+
+
+@case("the last numbers", "Where the last act or demand is 2147483646 one more is given, and where it is 2147483647 a receipt, an order and a reservation are refused 33.")
+def last_numbers(trial):
+    spent = b'{"name":"NumbersSpent","refused":33}'
+    path = filled(trial, exchanges=DAY[:3])
+    numbers(path, "act", 2147483646)
+    numbers(path, "demand", 2147483646)
+    shop = trial.shop()
+    line, reply = received("GLASS", 10, 8, 2147483647, number=9)
+    trial.equal(shop.reply(line).decode(), reply, line)
+    trial.equal(shop.reply(received("GLASS", 10, 8, 1, number=10)[0]), spent)
+    trial.equal(shop.reply('{"do":"reserve","number":11,"part":"1/0","terminal":1,"tree":"x4 y3 p1 p2 r"}'), spent)
+    order = ORDER.replace("A-1", "A-2").replace('"number":3', '"number":12')
+    trial.equal(shop.reply(order), spent)
+    one = '{"do":"order","lines":[{"count":1,"h":3,"line":1,"material":"GLASS","turn":false,"w":4,"worth":12}],"number":13,"order":"A-3","terminal":1}'
+    trial.equal(shop.reply(one), b'{"count":1,"first":2147483647,"ok":"order","order":"A-3"}')
+    trial.equal(shop.reply(one.replace("A-3", "A-4").replace("13", "14")), spent)
+
+
+def many_parts(path, material, count, w, h, first_act=10, state=0):
+    """Puts standing parts of a job's name into a file, and their cells into the rack's total."""
+    rows = ",".join(f"({first_act}, {it}, '{material}', 'B-9', 1, 0, 0, 0, {w}, {h}, {state}, 0)" for it in range(count))
+    cells = count * w * h
+    tables.change(path, f"INSERT INTO parts VALUES {rows}; UPDATE totals2 SET rack = rack + {cells} WHERE material = '{material}'")
+
+
+@case("totals over 2^32 cells", "Totals of more cells than 32 bits hold are told, of received units and after a shop was opened again.")
+def large_totals(trial):
+    shop = trial.shop()
+    sent(trial, shop, [DAY[0], received("GLASS", 200000, 60000, 1, 100)])
+    for _ in range(2):
+        told = json.loads(shop.reply(TOTALS))
+        trial.equal((told["received"], told["stock"]), (1200000000000, 1200000000000))
+        trial.holds(b"received    1200000000000" in shop.get("/yield/GLASS"), "the report's first row")
+        shop.kill()
+        shop = trial.shop()
+
+
+@case("the last cell", "With 999999999999999 cells received one cell more is accepted, and two are refused 32.")
+def last_cell(trial):
+    path = filled(trial, exchanges=DAY[:1])
+    # (units of 12000000000 cells, and one of what is left)
+    units, rest = divmod(999999999999999, 200000 * 60000)
+    rows = [(1, it, 200000, 60000) for it in range(units)]
+    left = [(200000, rest // 200000), (rest % 200000, 1)]
+    rows += [(2, it, w, h) for it, (w, h) in enumerate(left) if w * h]
+    values = ",".join(f"({act}, {node}, 'GLASS', 'B', {act}, {node}, 0, 0, {w}, {h}, 0, 0)" for act, node, w, h in rows)
+    sums = "UPDATE totals2 SET received = 999999999999999, stock = 999999999999999"
+    tables.change(path, f"INSERT INTO parts VALUES {values}; {sums}; UPDATE meta SET value = 2 WHERE name = 'act'")
+    shop = trial.shop()
+    trial.equal(shop.reply(received("GLASS", 2, 1, 3, number=5)[0]), b'{"name":"TooMuch","refused":32}')
+    trial.equal(shop.reply(received("GLASS", 1, 1, 3, number=5)[0]), b'{"act":3,"count":1,"ok":"receive"}')
+    trial.equal(shop.reply(received("GLASS", 1, 1, 3, number=6)[0]), b'{"name":"TooMuch","refused":32}')
+    trial.equal(json.loads(shop.reply(TOTALS))["received"], 1000000000000000)
+
+
+@case("racks and reports of many parts", "A rack and a yield report of 70000 parts are told whole, in order, over HTTP and by `yield`.")
+def many(trial):
+    path, count = filled(trial, exchanges=DAY[:2]), 70000
+    many_parts(path, "GLASS", count, 5, 4)
+    shop = trial.shop()
+    rack = json.loads(shop.reply('{"ask":"rack","material":"GLASS"}'))
+    trial.equal(rack["parts"], [{"h": 4, "part": f"10/{it}", "state": "standing", "w": 5} for it in range(count)])
+    report = shop.get("/yield/GLASS").partition(b"\r\n\r\n")[2]
+    shop.kill()
+    lines = report.decode().split("\n")
+    trial.equal((lines[9], lines[10], lines[count + 10]), ("part 1/0 1.0 x 0.8 standing", "part 10/0 0.5 x 0.4 standing", "end"))
+    trial.ended(trial.run("yield", "--store", path, "GLASS"), 0, report)
+
+
+@case("a rack of 1000 parts", "A rack of 1000 parts is told, and so is one of 1001.")
+def thousand(trial):
+    for count in (1000, 1001):
+        path = filled(trial, f"rack-{count}.db", exchanges=DAY[:2])
+        many_parts(path, "GLASS", count, 5, 4)
+        shop = trial.shop(f"rack-{count}.db")
+        trial.equal(len(json.loads(shop.reply('{"ask":"rack","material":"GLASS"}'))["parts"]), count)
+
+
+@case("rows of no book", "A job of state 9, a plan that is none, a turn of 5, a kind of 3 and a kept reply that is none are told as 99 with status 503 where they are asked for; all else is answered.")
+def spoiled(trial):
+    spoils = [
+        ("UPDATE jobs SET state = 9", DONE, None),
+        ("UPDATE jobs SET tree = 'x4 y3 p1'", DONE, None),
+        ("UPDATE demands SET turn = 5 WHERE number = 1", '{"ask":"demand","demand":1}', None),
+        ("UPDATE materials SET kind = 3", TOTALS, None),
+        ("UPDATE kept SET reply = '{' WHERE number = 4", RESERVE, None),
+    ]
+    for number, (statement, line, _) in enumerate(spoils):
+        path = filled(trial, f"spoiled-{number}.db", exchanges=DAY[:4])
+        tables.change(path, statement)
+        shop = trial.shop(f"spoiled-{number}.db")
+        trial.equal(shop.send(line).partition(b"\r\n")[0], b"HTTP/1.1 503 Service Unavailable", statement)
+        trial.equal(shop.reply(line), b'{"name":"StoreFault","refused":99}', statement)
+        trial.equal(shop.reply('{"ask":"trace","part":"1/0"}')[:14], b'{"batch":"B-1"', statement)

@@ -1,0 +1,124 @@
+"""Cases that are data: files of lines with their replies, and of requests with their answers.
+
+    = two bars                          the case's name
+    A bar's cells are counted.          the sentence that it shows, up to the first mark below
+    after three pieces                  it begins with all that this case sends and wants
+    > {"ask":"totals","material":"A"}   a line of a terminal; an empty line is `>` alone
+    < {"name":"NoMaterial","refused":20}    its reply
+    ~ "GET / HTTP/1.1\\r\\n\\r\\n"          a request, as a text of JSON or a list of texts, each after a number that many times
+    < 404                               its answer: a status, and `Allow: GET` or a body of JSON behind it; or `nothing`
+    | job 2 done                        behind the status alone: a line of a body that is text
+    # a remark
+
+A case's lines go to `cutshop replay` and, as requests over HTTP, to `cutshop serve` over a store file, which have to answer
+with the same bytes. Requests go to `serve` alone, whole and in pieces.
+"""
+
+import json
+import os
+from dataclasses import dataclass, field
+
+from kit import case as cases
+from kit.shop import answer, request_of, status_of
+
+# A request is sent whole, and in pieces of so many bytes.
+PIECES = (None, 1, 17, 8191)
+
+
+@dataclass
+class Step:
+    """What is sent, and what is wanted."""
+
+    at: str
+    sent: bytes
+    is_request: bool
+    wanted: bytes = None
+    lines: list = field(default_factory=list)
+
+    def answer(self):
+        """The whole answer over HTTP that is wanted."""
+        if not self.is_request:
+            return answer(status_of(self.sent, self.wanted), self.wanted)
+        if self.wanted == b"nothing":
+            return b""
+        status, _, rest = self.wanted.decode().partition(" ")
+        if rest.startswith("Allow: "):
+            return answer(int(status), allow=rest.removeprefix("Allow: "))
+        if self.lines:
+            return answer(int(status), "".join(f"{it}\n" for it in self.lines), "text/plain")
+        return answer(int(status), rest)
+
+
+@dataclass
+class Exchange:
+    """A named list of steps."""
+
+    name: str
+    says: list
+    at: str
+    steps: list = field(default_factory=list)
+
+    def run(self, trial):
+        if not any(it.is_request for it in self.steps):
+            replay(trial, self.steps)
+        serve(trial, self.steps)
+
+
+def replay(trial, steps):
+    """Sends all lines to `cutshop replay`, and compares its replies one by one."""
+    ran = trial.replay(b"".join(it.sent + b"\n" for it in steps))
+    replies = ran.out.split(b"\n")
+    for step, reply in zip(steps, replies):
+        trial.equal(reply, step.wanted, step.sent, step.at)
+    trial.equal((len(replies) - 1, replies[-1], ran.status, ran.err), (len(steps), b"", 0, b""), "replay")
+
+
+def serve(trial, steps):
+    """Sends each line and request to `cutshop serve` over a file, which ends by itself behind the last of them."""
+    sends = [(it, size) for it in steps for size in (PIECES if it.is_request else (None,))]
+    shop = trial.shop(limit=len(sends))
+    trial.holds(shop.is_open, "the shop doesn't open")
+    for step, size in sends:
+        request = step.sent if step.is_request else request_of(step.sent, step.wanted)
+        got = shop.exchange(request, size)
+        trial.equal(got, step.answer(), request if size is None else f"in pieces of {size}: {cases.short(request)}", step.at)
+    trial.equal(shop.end(), (0, f"listening on 127.0.0.1:{shop.port}\n".encode(), b""), "serve")
+
+
+def bytes_of(text):
+    """The bytes that a text of JSON, or a list of texts with how often each comes, stands for (a byte a character)."""
+    value, times, came = json.loads(text), 1, []
+    for it in value if isinstance(value, list) else [value]:
+        if isinstance(it, int):
+            times = it
+        else:
+            came.append(it.encode("latin-1") * times)
+            times = 1
+    return b"".join(came)
+
+
+def read(path):
+    """Adds the cases of a file."""
+    known = {}
+    with open(path, encoding="utf-8") as file:
+        for number, line in enumerate(file, 1):
+            line, at = line.rstrip("\n"), f"{os.path.relpath(path)}:{number}"
+            mark, rest = line[:1], line[2:]
+            if mark == "=":
+                now = known[rest] = Exchange(rest, [], at)
+            elif line.startswith("after ") and not now.steps:
+                now.steps += [it for it in known[line.removeprefix("after ")].steps]
+            elif mark in (">", "~") and mark:
+                sent = bytes_of(rest) if mark == "~" else rest.encode()
+                now.steps.append(Step(at, sent, mark == "~"))
+            elif mark == "<":
+                now.steps[-1].wanted = rest.encode()
+            elif mark == "|":
+                now.steps[-1].lines.append(rest)
+            elif line and mark != "#":
+                now.says.append(line)
+    for it in known.values():
+        lacking = [step.at for step in it.steps if step.wanted is None]
+        if lacking:
+            raise SystemExit(f"{lacking[0]}: nothing is said of what comes of it")
+        cases.add(it.name, " ".join(it.says), it.at, it.run)

@@ -1,0 +1,179 @@
+"""A shop that `cutshop serve` serves, and what terminals send to it over real sockets."""
+
+import json
+import os
+import select
+import signal
+import socket
+import subprocess
+
+# A client waits this long for an answer.
+SECONDS = 30
+
+PHRASES = {
+    200: "OK",
+    400: "Bad Request",
+    403: "Forbidden",
+    404: "Not Found",
+    405: "Method Not Allowed",
+    409: "Conflict",
+    411: "Length Required",
+    413: "Content Too Large",
+    431: "Request Header Fields Too Large",
+    503: "Service Unavailable",
+}
+
+
+def answer(status, body=b"", kind="application/json", allow=None):
+    """The bytes of an answer over HTTP, as the formats have them."""
+    body = body.encode() if isinstance(body, str) else body
+    fields = [f"HTTP/1.1 {status} {PHRASES[status]}"]
+    fields += [f"Content-Type: {kind}"] if body else []
+    fields += [f"Allow: {allow}"] if allow else []
+    fields += [f"Content-Length: {len(body)}", "Connection: close", "", ""]
+    return "\r\n".join(fields).encode() + body
+
+
+def status_of(line, reply):
+    """The status with which a line's reply is answered: by its refusal, and whether it was a GET."""
+    value = json.loads(reply)
+    if "ok" in value:
+        return 200
+    number = value["refused"]
+    if number == 10:
+        return 400
+    if number in (98, 99):
+        return 503
+    return 404 if number in (20, 42, 50, 70) and path_of(line) else 409
+
+
+def value_of(line):
+    try:
+        value = json.loads(line)
+    except (ValueError, RecursionError):
+        return None
+    return value if isinstance(value, dict) else None
+
+
+def path_of(line):
+    """The path of the GET that asks what a line asks, or None where it is posted."""
+    value = value_of(line) or {}
+    word = value.get("ask")
+    keys = {"totals": "material", "rack": "material", "trace": "part", "demand": "demand"}
+    if word not in keys or sorted(value) != sorted(["ask", keys[word]]):
+        return None
+    return f"/{word}/{value[keys[word]]}"
+
+
+def request_of(line, reply=None):
+    """The request by which a line is sent: a GET, or a POST of its bytes to its route. A line that is refused 10 is posted
+    as a message, whatever it asks."""
+    line = line.encode() if isinstance(line, str) else line
+    is_bad = reply is not None and json.loads(reply).get("refused") == 10
+    path = None if is_bad else path_of(line)
+    if path:
+        return f"GET {path} HTTP/1.1\r\nHost: shop\r\n\r\n".encode()
+    word = (value_of(line) or {}).get("ask")
+    route = word if word in ("plan", "bound") and not is_bad else "message"
+    return f"POST /{route} HTTP/1.1\r\nHost: shop\r\nContent-Length: {len(line)}\r\n\r\n".encode() + line
+
+
+def free_port():
+    with socket.socket() as it:
+        it.bind(("127.0.0.1", 0))
+        return it.getsockname()[1]
+
+
+class Shop:
+    """A running `cutshop serve`. `limit` is the number of connections after which it ends by itself."""
+
+    def __init__(self, trial, store, shop_file=None, limit=None, environment=None, prepare=None, words=()):
+        self.store = trial.path(store)
+        self.shop_file = shop_file or trial.write("empty.toml", "")
+        for _ in range(20):
+            self.port = free_port()
+            command = [trial.program, "serve", "--port", str(self.port), "--store", self.store, "--shop", self.shop_file, *words]
+            command += ["--limit", str(limit)] if limit else []
+            self.process = subprocess.Popen(
+                command,
+                stdin=subprocess.DEVNULL,
+                stdout=subprocess.PIPE,
+                stderr=subprocess.PIPE,
+                cwd=trial.folder,
+                env={**os.environ, **(environment or {})},
+                preexec_fn=prepare,
+            )
+            self.told = self.process.stdout.readline()
+            if self.told == f"listening on 127.0.0.1:{self.port}\n".encode():
+                return
+            self.status = self.process.wait()
+            self.errors = self.process.stderr.read()
+            if self.errors != b"fault port\n":
+                break
+        self.port = None
+
+    @property
+    def is_open(self):
+        """Whether it said that it listens. If not, `status`, `told` and `errors` say how it ended."""
+        return self.port is not None
+
+    def connect(self):
+        it = socket.create_connection(("127.0.0.1", self.port), timeout=SECONDS)
+        it.setsockopt(socket.IPPROTO_TCP, socket.TCP_NODELAY, 1)
+        return it
+
+    def exchange(self, request, pieces=None, ends=True):
+        """Sends a request, whole or in pieces of so many bytes, and gives all bytes of its answer."""
+        with self.connect() as it:
+            try:
+                for at in range(0, len(request), pieces or len(request) or 1):
+                    it.sendall(request[at : at + (pieces or len(request))])
+                if ends:
+                    it.shutdown(socket.SHUT_WR)
+            except (BrokenPipeError, ConnectionResetError, OSError):
+                # (answered before all was sent)
+                pass
+            return read_all(it)
+
+    def send(self, line, reply=None):
+        """Sends a line, and gives the whole answer."""
+        return self.exchange(request_of(line, reply))
+
+    def reply(self, line):
+        """The body of the answer to a line."""
+        return self.send(line).partition(b"\r\n\r\n")[2]
+
+    def get(self, path):
+        return self.exchange(f"GET {path} HTTP/1.1\r\nHost: shop\r\n\r\n".encode())
+
+    def end(self):
+        """Waits until it ends by itself, and gives its status and what it wrote on standard error."""
+        out, errors = self.process.communicate(timeout=SECONDS)
+        return self.process.returncode, self.told + out, errors
+
+    def kill(self, number=signal.SIGKILL):
+        """Stops it, if it still runs, and gives its status."""
+        if self.process.poll() is None:
+            self.process.send_signal(number)
+        status = self.process.wait(timeout=SECONDS)
+        for it in (self.process.stdout, self.process.stderr):
+            it.close()
+        return status
+
+
+def read_all(connection):
+    """All bytes up to the other side's end; those before a reset, where one comes."""
+    came = b""
+    while True:
+        try:
+            piece = connection.recv(65536)
+        except ConnectionResetError:
+            return came
+        if not piece:
+            return came
+        came += piece
+
+
+def is_silent(connection, seconds):
+    """Whether nothing comes from a connection for so long."""
+    return not select.select([connection], [], [], seconds)[0]

@@ -1,0 +1,113 @@
+"""The tables of a store file, read and changed by Python's own SQLite."""
+
+import sqlite3
+from contextlib import closing
+
+# The columns of each table, in order, as the formats have them.
+COLUMNS = {
+    "meta": "name value",
+    "materials": "code kind kerf min_long min_short",
+    "parts": "act node material batch root_act root_node x y w h state detail",
+    "jobs": "job part_act part_node tree state",
+    "orders": "ord",
+    "demands": "number ord line material w h turn worth wanted reserved made",
+    "kept": "terminal number command reply",
+    "imports": "ord form material body reply",
+    "totals": "material received stock rack pieces kerf scrap",
+    "totals2": "material received stock rack pieces kerf scrap returned",
+}
+KEYS = {
+    "meta": "name",
+    "materials": "code",
+    "parts": "act node",
+    "jobs": "job",
+    "orders": "ord",
+    "demands": "number",
+    "kept": "terminal number",
+    "imports": "ord",
+    "totals": "material",
+    "totals2": "material",
+}
+TEXTS = {"name", "code", "material", "batch", "tree", "ord", "command", "reply", "body"}
+
+
+def rows(path):
+    """All rows of all tables, by table, each in the order of its key."""
+    with closing(sqlite3.connect(path)) as book:
+        return {name: book.execute(f"SELECT * FROM {name} ORDER BY {KEYS[name].replace(' ', ', ')}").fetchall() for name in COLUMNS}
+
+
+def select(path, statement):
+    with closing(sqlite3.connect(path)) as book:
+        return book.execute(statement).fetchall()
+
+
+def change(path, statements):
+    """Runs statements in the file, which nobody else has open."""
+    with closing(sqlite3.connect(path)) as book:
+        book.executescript(statements)
+        book.commit()
+
+
+def columns_of(path, name):
+    """Of each column its name, its type, whether it is NOT NULL, and its place in the primary key."""
+    return [(it[1], it[2], it[3], it[5]) for it in select(path, f"PRAGMA table_info({name})")]
+
+
+def wanted_columns(name):
+    keys = KEYS[name].split()
+    return [(it, "TEXT" if it in TEXTS else "INTEGER", 1, keys.index(it) + 1 if it in keys else 0) for it in COLUMNS[name].split()]
+
+
+# The tables of version 1, as plain SQL, and the one that version 2 adds.
+VERSION_1 = """
+CREATE TABLE meta (name TEXT NOT NULL, value INTEGER NOT NULL, PRIMARY KEY (name)) STRICT;
+CREATE TABLE materials (
+    code TEXT NOT NULL, kind INTEGER NOT NULL, kerf INTEGER NOT NULL, min_long INTEGER NOT NULL,
+    min_short INTEGER NOT NULL, PRIMARY KEY (code)) STRICT;
+CREATE TABLE parts (
+    act INTEGER NOT NULL, node INTEGER NOT NULL, material TEXT NOT NULL REFERENCES materials (code), batch TEXT NOT NULL,
+    root_act INTEGER NOT NULL, root_node INTEGER NOT NULL, x INTEGER NOT NULL, y INTEGER NOT NULL, w INTEGER NOT NULL,
+    h INTEGER NOT NULL, state INTEGER NOT NULL, detail INTEGER NOT NULL, PRIMARY KEY (act, node)) STRICT;
+CREATE TABLE jobs (
+    job INTEGER NOT NULL PRIMARY KEY, part_act INTEGER NOT NULL, part_node INTEGER NOT NULL, tree TEXT NOT NULL,
+    state INTEGER NOT NULL, FOREIGN KEY (part_act, part_node) REFERENCES parts (act, node)) STRICT;
+CREATE TABLE orders (ord TEXT NOT NULL, PRIMARY KEY (ord)) STRICT;
+CREATE TABLE demands (
+    number INTEGER NOT NULL PRIMARY KEY, ord TEXT NOT NULL REFERENCES orders (ord), line INTEGER NOT NULL,
+    material TEXT NOT NULL REFERENCES materials (code), w INTEGER NOT NULL, h INTEGER NOT NULL, turn INTEGER NOT NULL,
+    worth INTEGER NOT NULL, wanted INTEGER NOT NULL, reserved INTEGER NOT NULL, made INTEGER NOT NULL,
+    UNIQUE (ord, line), CHECK (reserved + made <= wanted)) STRICT;
+CREATE TABLE kept (
+    terminal INTEGER NOT NULL, number INTEGER NOT NULL, command TEXT NOT NULL, reply TEXT NOT NULL,
+    PRIMARY KEY (terminal, number)) STRICT;
+CREATE TABLE imports (
+    ord TEXT NOT NULL PRIMARY KEY REFERENCES orders (ord), form INTEGER NOT NULL, material TEXT NOT NULL,
+    body TEXT NOT NULL, reply TEXT NOT NULL) STRICT;
+CREATE TABLE totals (
+    material TEXT NOT NULL PRIMARY KEY REFERENCES materials (code), received INTEGER NOT NULL, stock INTEGER NOT NULL,
+    rack INTEGER NOT NULL, pieces INTEGER NOT NULL, kerf INTEGER NOT NULL, scrap INTEGER NOT NULL) STRICT;
+"""
+VERSION_2 = """
+CREATE TABLE totals2 (
+    material TEXT NOT NULL PRIMARY KEY REFERENCES materials (code), received INTEGER NOT NULL, stock INTEGER NOT NULL,
+    rack INTEGER NOT NULL, pieces INTEGER NOT NULL, kerf INTEGER NOT NULL, scrap INTEGER NOT NULL,
+    returned INTEGER NOT NULL) STRICT;
+"""
+
+
+def make(path, found, version=2):
+    """Makes a file with the tables of a version by plain SQL, and these rows in them."""
+    with closing(sqlite3.connect(path)) as book:
+        book.executescript(VERSION_1 + (VERSION_2 if version == 2 else ""))
+        for name in COLUMNS:
+            for row in found.get(name, []):
+                book.execute(f"INSERT INTO {name} VALUES ({', '.join('?' * len(row))})", row)
+        book.commit()
+    return path
+
+
+def dump(path):
+    """All tables, views and indexes of a file and all their rows, as the statements that make them."""
+    with closing(sqlite3.connect(path)) as book:
+        return list(book.iterdump())
