@@ -2,7 +2,7 @@
 
 ghost use Rattle.std.specs.Prelude.{⊤};
 
-use crate::lines::replayed;
+use crate::lines::answered;
 use crate::messages::{MESSAGES, send};
 use anyhow::{Error, Result};
 use cut_measure::{Code, Kind, Limits, PartName, Size};
@@ -21,7 +21,7 @@ pub fn compare_copies(alloc: Global) -> Result<()> {
     if book != copy {
         return Err(Error::msg("a copy is another book"));
     }
-    replayed(alloc, &mut book, MESSAGES[4].as_bytes())?;
+    answered(alloc, &mut book, MESSAGES[4])?;
     if book == copy {
         return Err(Error::msg("a message changes no book"));
     }
@@ -53,7 +53,7 @@ const BARS: &str =
 
 // The first of the parts are handed out, in order, up to the one at which the visitor stops.
 fn hand_out<B: Book>(alloc: Global, book: &mut B) -> Result<()> {
-    replayed(alloc, book, BARS.as_bytes())?;
+    answered(alloc, book, BARS)?;
     let code = Code::read("IRON").ok_or(Error::msg("no code"))?;
     let bars = [PartName::new(1, 0), PartName::new(1, 1)];
     for (most, seen, all) in [(1, 1, false), (2, 2, false), (3, 2, true)] {
@@ -157,7 +157,7 @@ fn refuse<B: Book>(book: &mut B, change: Change, failures: u64) -> Result<()> {
 
 // Changes that don't fit are refused, and nothing of them is left.
 fn refuse_both<B: Book>(alloc: Global, book: &mut B) -> Result<()> {
-    replayed(alloc, book, BARS.as_bytes())?;
+    answered(alloc, book, BARS)?;
     let order = Code::read("A-1").ok_or(Error::msg("no code"))?;
     refuse(book, twice_numbered(alloc, order)?, 1)?;
     let steel = Code::read("STEEL").ok_or(Error::msg("no code"))?;

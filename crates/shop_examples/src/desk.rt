@@ -2,16 +2,16 @@
 
 ghost use Rattle.std.specs.Prelude.{◌≤◌};
 
-use crate::lines::{Books, same};
+use crate::lines::push_reply;
 use anyhow::{Error, Result};
 use serde_json::Value;
 use shop_desk::run;
 use shop_machine::{decide_problem, decide_receive, no_totals};
 use shop_rules::{
     Change, Code, FoundLine, Kind, Limits, Material, Message, OrderLine, Refusal, Reply, Size,
-    Text, Totals, read_message, reply_text,
+    Text, Totals, read_message,
 };
-use shop_store::Book;
+use shop_store::{Book, MemBook, SqlBook};
 use std::alloc::Global;
 
 // The messages of a list.
@@ -31,22 +31,25 @@ fn messages_of(alloc: Global, given: &str) -> Result<Vec<Message>> {
 
 // What a book replies to messages, a line each.
 fn run_over<B: Book>(alloc: Global, book: &mut B, messages: &[Message]) -> Result<String> {
-    let mut text = String::new(alloc);
+    let mut told = String::new(alloc);
     for reply in run(alloc, book, messages)?.iter() {
-        text.push_str(reply_text(alloc, reply)?.as_str())?;
-        text.push_str("\n")?;
+        push_reply(alloc, &mut told, reply)?;
     }
     if book.failures() > 0 {
         return Err(Error::msg("a book failed"));
     }
-    Ok(text)
+    Ok(told)
 }
 
 /// What both books reply to the messages of a list, a line each.
-pub fn run_over_both(alloc: Global, books: &mut Books, given: &str) -> Result<String> {
+pub fn run_over_both(alloc: Global, given: &str) -> Result<String> {
     let messages = messages_of(alloc, given)?;
-    let first = run_over(alloc, &mut books.memory, &messages)?;
-    same(first, run_over(alloc, &mut books.tables, &messages)?)
+    let first = run_over(alloc, &mut MemBook::new(alloc), &messages)?;
+    let second = run_over(alloc, &mut SqlBook::in_memory(alloc)?, &messages)?;
+    if first != second {
+        return Err(Error::msg("the books differ"));
+    }
+    Ok(first)
 }
 
 // A material whose bars are cut, by its code.
@@ -143,5 +146,5 @@ pub fn last_cells(alloc: Global) -> Result<String> {
         imported_told(alloc, steel, 0, 2_147_483_648, 1)?,
         imported_told(alloc, steel, 0, 1, 2_147_483_648)?,
     ];
-    Ok(format!(in alloc; "receipts {receipts:?}, problems {problems:?}")?)
+    Ok(format!(in alloc; "receipts {receipts:?}, problems {problems:?}\n")?)
 }

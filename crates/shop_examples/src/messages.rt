@@ -1,6 +1,6 @@
 //! The messages of one shop, in which a sheet is cut, and then a remnant of it.
 
-use crate::lines::replayed;
+use crate::lines::answered;
 use anyhow::{Error, Result};
 use shop_store::{Book, MemBook};
 use std::alloc::Global;
@@ -59,33 +59,25 @@ pub const ANSWERS: &str =
 /// What is answered where the store failed.
 pub const STORE_FAULT: &str = r#"{"name":"StoreFault","refused":99}"#;
 
-/// Whether a line of reply is this one.
-pub fn is_reply(line: &[u8], reply: &str) -> bool {
-    match str::from_utf8(line) {
-        Ok(text) => text.trim_end() == reply,
-        Err(_) => false,
-    }
-}
-
-/// Sends the first messages, and tells the replies, whatever they are.
-pub fn send<B: Book>(alloc: Global, book: &mut B, count: usize) -> Result<Vec<u8>> {
-    let mut told = Vec::new(alloc);
+/// Sends the first messages, whatever their replies are.
+pub fn send<B: Book>(alloc: Global, book: &mut B, count: usize) -> Result<()> {
     for message in MESSAGES.iter().take(count) {
-        told.extend_from_slice(&replayed(alloc, book, message.as_bytes())?)?;
+        answered(alloc, book, message)?;
     }
-    Ok(told)
+    Ok(())
 }
 
-/// Sends the messages in order until the store fails, and tells how many were answered before. Another reply than the
+/// Sends the messages in order until the store fails, and tells how many were accepted before. Another reply than the
 /// message's own or 99 is an error.
-pub fn answered<B: Book>(alloc: Global, book: &mut B) -> Result<usize> {
+pub fn accepted<B: Book>(alloc: Global, book: &mut B) -> Result<usize> {
     let mut count = 0usize;
     for (message, reply) in MESSAGES.iter().zip(REPLIES.iter()) {
-        let told = replayed(alloc, book, message.as_bytes())?;
-        if is_reply(&told, STORE_FAULT) {
+        let told = answered(alloc, book, message)?;
+        let told = told.as_str().trim_end();
+        if told == STORE_FAULT {
             return Ok(count);
         }
-        if !is_reply(&told, reply) {
+        if told != *reply {
             return Err(Error::msg("another reply"));
         }
         count = count.saturating_add(1);
@@ -95,23 +87,23 @@ pub fn answered<B: Book>(alloc: Global, book: &mut B) -> Result<usize> {
 
 /// All messages, sent again, get their replies, and then the answers are those at the end; no failure is counted.
 pub fn come_to_the_end<B: Book>(alloc: Global, book: &mut B) -> Result<()> {
-    if answered(alloc, book)? < MESSAGES.len() {
-        return Err(Error::msg("a message is not answered"));
+    if accepted(alloc, book)? < MESSAGES.len() {
+        return Err(Error::msg("a message is not accepted"));
     }
-    let told = replayed(alloc, book, QUESTIONS.as_bytes())?;
-    if told.as_slice() != ANSWERS.as_bytes() || book.failures() > 0 {
+    let told = answered(alloc, book, QUESTIONS)?;
+    if told.as_str() != ANSWERS || book.failures() > 0 {
         return Err(Error::msg("another end"));
     }
     Ok(())
 }
 
 /// The answers before the messages and after each of them. Each message changes them.
-pub fn all_answers(alloc: Global) -> Result<Vec<Vec<u8>>> {
+pub fn all_answers(alloc: Global) -> Result<Vec<String>> {
     let mut book = MemBook::new(alloc);
-    let mut all = vec![in alloc; replayed(alloc, &mut book, QUESTIONS.as_bytes())?]?;
+    let mut all = vec![in alloc; answered(alloc, &mut book, QUESTIONS)?]?;
     for message in &MESSAGES {
-        let _reply = replayed(alloc, &mut book, message.as_bytes())?;
-        let answers = replayed(alloc, &mut book, QUESTIONS.as_bytes())?;
+        answered(alloc, &mut book, message)?;
+        let answers = answered(alloc, &mut book, QUESTIONS)?;
         if all.last() == Some(&answers) {
             return Err(Error::msg("a message changes no answer"));
         }

@@ -1,9 +1,8 @@
 //! A file stops at one of its calls, and each call behind it fails; what a crash leaves is opened, and goes on.
 
-use crate::databases::{book_over, number};
-use crate::lines::replayed;
-use crate::messages::{MESSAGES, QUESTIONS, STORE_FAULT, all_answers, answered, come_to_the_end};
-use crate::stores::{Start, Work, earlier_start, over_files};
+use crate::lines::answered;
+use crate::messages::{MESSAGES, QUESTIONS, STORE_FAULT, accepted, all_answers, come_to_the_end};
+use crate::stores::{Start, Work, book_over, earlier_start, number, over_files};
 use anyhow::{Error, Result};
 use shop_store::Book;
 use sqlite::{Alter, Connection, Files};
@@ -23,13 +22,11 @@ struct Trial {
     /// reply.
     behind: u64,
     /// The answers before the messages and after each of them.
-    answers: Vec<Vec<u8>>,
+    answers: Vec<String>,
 }
 
 // Each line is the other's, or a fault of the store.
-fn are_right(told: &[u8], right: &[u8]) -> bool {
-    let told = str::from_utf8(told).unwrap_or("");
-    let right = str::from_utf8(right).unwrap_or("");
+fn are_right(told: &str, right: &str) -> bool {
     told.lines().count() == right.lines().count()
         && told
             .lines()
@@ -39,14 +36,14 @@ fn are_right(told: &[u8], right: &[u8]) -> bool {
 
 // Sends the messages until the store fails; then each question gets its right answer or a fault of the store, and each
 // message its own reply, until the store fails again. How many were accepted.
-fn run_out<B: Book>(alloc: Global, book: &mut B, answers: &[Vec<u8>]) -> Result<usize> {
-    let accepted = answered(alloc, book)?;
-    let told = replayed(alloc, book, QUESTIONS.as_bytes())?;
-    match answers.get(accepted) {
-        Some(right) if are_right(&told, right) => {}
+fn run_out<B: Book>(alloc: Global, book: &mut B, answers: &[String]) -> Result<usize> {
+    let count = accepted(alloc, book)?;
+    let told = answered(alloc, book, QUESTIONS)?;
+    match answers.get(count) {
+        Some(right) if are_right(told.as_str(), right.as_str()) => {}
         _ => return Err(Error::msg("a wrong answer")),
     }
-    Ok(accepted.max(answered(alloc, book)?))
+    Ok(count.max(accepted(alloc, book)?))
 }
 
 // A run, and what came of it.
@@ -76,11 +73,11 @@ impl Work for Run<'_> {
 }
 
 // The content is that before the message that was cut or that behind it, and all messages lead to the end.
-fn go_on<B: Book>(alloc: Global, book: &mut B, accepted: usize, answers: &[Vec<u8>]) -> Result<()> {
-    let told = replayed(alloc, book, QUESTIONS.as_bytes())?;
+fn go_on<B: Book>(alloc: Global, book: &mut B, count: usize, answers: &[String]) -> Result<()> {
+    let told = answered(alloc, book, QUESTIONS)?;
     if !answers
         .iter()
-        .skip(accepted)
+        .skip(count)
         .take(2)
         .any(|right| *right == told)
     {

@@ -1,10 +1,8 @@
 //! Files in memory, of which one may stop, and the books over them.
 
-use crate::databases::book_over;
-use crate::lines::replayed;
-use crate::messages::{ANSWERS, MESSAGES, QUESTIONS, REPLIES, come_to_the_end, is_reply};
+use crate::messages::{MESSAGES, come_to_the_end};
 use anyhow::{Error, Result};
-use shop_store::{Book, SqlBook, reopen_book};
+use shop_store::{BookFault, SqlBook};
 use sqlite::{Alter, Connection, FileStore, Files, Options};
 use sqlite_disk::{Disk, Fuse, Memory};
 use std::alloc::Global;
@@ -81,8 +79,8 @@ pub trait Work {
     fn over<S: Alter + Drop>(&mut self, alloc: Global, conn: Connection<S>) -> Result<S>;
 }
 
-/// Does this to the database of a store over files, and gives that back.
-pub fn worked<D: Disk + Drop, W: Work>(
+// Does this to the database of a store over files, and gives that back.
+fn worked<D: Disk + Drop, W: Work>(
     alloc: Global,
     conn: Connection<FileStore<D>>,
     work: &mut W,
@@ -100,6 +98,23 @@ pub fn over_files<D: Disk + Drop, W: Work>(
         Ok(conn) => Ok((worked(alloc, conn, work)?.close(), true)),
         Err(files) => Ok((files, false)),
     }
+}
+
+/// The book over a database, or else the fault and the database.
+pub fn book_over<S: Alter>(
+    alloc: Global,
+    conn: Connection<S>,
+) -> Result<SqlBook<S>, (BookFault, Connection<S>)> {
+    if !conn.is_autocommit() {
+        return Err((BookFault::Store, conn));
+    }
+    SqlBook::adopt(alloc, conn)
+}
+
+/// The number that a query shows.
+pub fn number<S: Alter>(conn: &mut Connection<S>, query: &str) -> Result<i64> {
+    let row = conn.query_row(query, &[])?;
+    Ok(row.get(0)?)
 }
 
 // The book of a database, in which all messages were handled.
@@ -140,59 +155,4 @@ pub fn earlier_start(alloc: Global) -> Result<Start> {
         tables: 9,
         accepted: MESSAGES.len(),
     })
-}
-
-// The answers are those at the end, and the last message under its old number gets its kept reply; no failure is counted.
-fn goes_on<B: Book>(alloc: Global, book: &mut B) -> Result<()> {
-    let told = replayed(alloc, book, QUESTIONS.as_bytes())?;
-    let again = replayed(alloc, book, MESSAGES[6].as_bytes())?;
-    if told.as_slice() != ANSWERS.as_bytes()
-        || !is_reply(&again, REPLIES[6])
-        || book.failures() > 0
-    {
-        return Err(Error::msg("another book"));
-    }
-    Ok(())
-}
-
-// The book of a database in which all messages were handled, whose connection was taken back and adopted again.
-fn adopted_again<S: Alter + Drop>(alloc: Global, conn: Connection<S>) -> Result<SqlBook<S>> {
-    match book_over(alloc, filled_book(alloc, conn)?.into_connection()) {
-        Ok(book) => Ok(book),
-        Err(_) => Err(Error::msg("a connection that is not adopted again")),
-    }
-}
-
-// Such a book of a store over files.
-fn book_of_files<D: Disk + Drop>(
-    alloc: Global,
-    conn: Connection<FileStore<D>>,
-) -> Result<SqlBook<FileStore<D>>> {
-    adopted_again(alloc, conn)
-}
-
-// A book in tables goes on.
-fn go_on_in_tables<S: Alter + Drop>(alloc: Global, mut book: SqlBook<S>) -> Result<()> {
-    goes_on(alloc, &mut book)
-}
-
-// A book of a store over files goes on.
-fn go_on_in_files<D: Disk + Drop>(alloc: Global, book: SqlBook<FileStore<D>>) -> Result<()> {
-    go_on_in_tables(alloc, book)
-}
-
-// Such a book of these files is closed, opened again, and goes on.
-fn open_files_again<D: Disk + Drop>(alloc: Global, files: Files<D>) -> Result<()> {
-    let Ok(conn) = opened(alloc, files) else {
-        return Err(Error::msg("files that are not opened"));
-    };
-    match reopen_book(alloc, book_of_files(alloc, conn)?, options()) {
-        Some(again) => go_on_in_files(alloc, again),
-        None => Err(Error::msg("files that are not opened again")),
-    }
-}
-
-/// A connection is taken back and adopted again; the book over it is closed, opened again, and goes on.
-pub fn open_again(alloc: Global) -> Result<()> {
-    open_files_again(alloc, Start::empty(alloc).files(alloc, true, u64::MAX)?)
 }
