@@ -2,7 +2,7 @@ ghost use Rattle.std.specs.Prelude.{◌≡◌, ◌≤◌, ◌<◌, length, Some,
 ghost use Rattle.shop_serve.specs.Serving.{Advances};
 
 use crate::answers::answer_of;
-use crate::transfers::{Given, Taken, hand_over, take_bytes};
+use crate::transfers::{Given, Taken, drop_rest, hand_over, take_bytes};
 use mio::net::TcpStream;
 use shop_book::Book;
 use shop_request::Routes;
@@ -11,13 +11,17 @@ use std::alloc::Global;
 use std::net::Shutdown;
 use std::time::{Duration, Instant};
 
-// How many seconds a connection has, from when it was accepted to the last byte of its answer.
+// How many seconds a connection has to send its request, from when it was accepted, and then to take its answer.
 const PATIENCE: u64 = 10;
+
+// How each answer to a request begins that was read to its last byte and done.
+const DONE: &[u8] = b"HTTP/1.1 200 ";
 
 /// The most connections that are open at once.
 pub(crate) const MOST_LINES: usize = 256;
 
-/// An open connection: the bytes that came, or the answer and how much of it was handed over.
+/// An open connection: when it was accepted or its answer was made, the bytes that came, and the answer with how much of it
+/// was handed over.
 #[derive(Drop)]
 pub(crate) struct Line {
     pub(crate) stream: TcpStream,
@@ -27,7 +31,9 @@ pub(crate) struct Line {
     pub(crate) sent: usize,
 }
 
-// Hands over what is left of the answer, as far as it is taken, and tells whether the connection is to stay open.
+// Hands over what is left of the answer, as far as it is taken, and tells whether the connection is to stay open. Once all
+// was taken, what still comes is dropped, and so it goes on to the peer's end where more of the request may come: to close
+// before would lose the answer.
 fn answer_on(line: &mut Line) -> bool {
     let Some(answer) = &line.answer else {
         return true;
@@ -40,7 +46,7 @@ fn answer_on(line: &mut Line) -> bool {
         Given::Lost => false,
         Given::Whole => {
             let _ = line.stream.shutdown(Shutdown::Write);
-            false
+            drop_rest(&mut line.stream) && !answer.starts_with(DONE)
         }
     }
 }
@@ -74,6 +80,7 @@ fn attend<B: Book>(
     alloc: Global,
     routes: &Routes,
     line: &mut Line,
+    now: Instant,
     accepted: u32,
     served: &mut u32,
     book: &mut B,
@@ -95,6 +102,7 @@ fn attend<B: Book>(
         return false;
     };
     line.answer = Some(answer);
+    line.since = now;
     answer_on(line)
 }
 
@@ -105,6 +113,7 @@ pub(crate) fn attend_at<B: Book>(
     routes: &Routes,
     lines: &mut Slab<Line>,
     key: usize,
+    now: Instant,
     accepted: u32,
     served: &mut u32,
     book: &mut B,
@@ -117,16 +126,24 @@ pub(crate) fn attend_at<B: Book>(
     let Some(line) = lines.get_mut(key) else {
         return;
     };
-    if !attend(alloc, routes, line, accepted, served, book) {
+    if !attend(alloc, routes, line, now, accepted, served, book) {
         let _ = lines.try_remove(key);
     }
 }
 
-// The key of the connection that has waited longest for its request.
+// Whether a connection may be closed for another: its answer isn't on its way.
+fn may_go(line: &Line) -> bool {
+    match &line.answer {
+        None => true,
+        Some(answer) => line.sent >= answer.len(),
+    }
+}
+
+// The key of the oldest connection whose answer isn't on its way.
 fn oldest(lines: &Slab<Line>) -> Option<usize> {
     let mut found: Option<(usize, Instant)> = None;
     for (key, line) in lines.iter() {
-        if line.answer.is_some() {
+        if !may_go(line) {
             continue;
         }
         let is_older = match found {
@@ -143,7 +160,12 @@ fn oldest(lines: &Slab<Line>) -> Option<usize> {
     }
 }
 
-/// Closes the connection that has waited longest for its request, where there are as many as may be.
+/// Whether one connection more may be open, be it in another's place.
+pub(crate) fn has_room(lines: &Slab<Line>) -> bool {
+    lines.len() < MOST_LINES || oldest(lines).is_some()
+}
+
+/// Closes the oldest connection whose answer isn't on its way, where there are as many as may be.
 pub(crate) fn make_room(lines: &mut Slab<Line>) {
     if lines.len() < MOST_LINES {
         return;

@@ -3,7 +3,7 @@ ghost use Rattle.shop_serve.specs.Serving.{Advances, HasServed, IsUnserved};
 ghost use Rattle.shop_serve.specs.declared.faults.ServeFault.TheVariants.{Port};
 
 use crate::faults::ServeFault;
-use crate::lines::{Line, attend_at, close_late, make_room};
+use crate::lines::{Line, attend_at, close_late, has_room, make_room};
 use mio::net::TcpStream as Stream;
 use mio::unix::SourceFd;
 use mio::{Events, Interest, Poll, Registry, Token};
@@ -11,7 +11,7 @@ use shop_book::Book;
 use shop_request::Routes;
 use slab::Slab;
 use std::alloc::Global;
-use std::io::ErrorKind;
+use std::io::{self, ErrorKind};
 use std::net::{Net, TcpListener, TcpStream};
 use std::os::fd::AsRawFd;
 use std::time::{Clock, Duration, Instant};
@@ -24,6 +24,9 @@ const MOST_ACCEPTED: u32 = 64;
 
 // How often it is tried to accept one, where those that waited went away.
 const MOST_TRIES: u32 = 1000;
+
+// How many seconds are waited at most before it is looked which connections have had their time.
+const TURN: u64 = 1;
 
 // The token of the listener. No connection has it.
 const LISTENER: Token = Token(usize::MAX);
@@ -100,26 +103,36 @@ fn receive<B: Book>(
     ensures honest { B.is_honest book.new → B.is_honest book.old }
 {
     if let Some(key) = opened(alloc, registry, stream, now, lines) {
-        attend_at(alloc, routes, lines, key, accepted, served, book);
+        attend_at(alloc, routes, lines, key, now, accepted, served, book);
     }
 }
 
-// The next connection, where one waits.
+// Whether an error says that no connection can be accepted for good: EBADF, EINVAL, ENOTSOCK and EOPNOTSUPP. Any other, as
+// the want of descriptors or of memory, passes.
+fn is_gone(error: &io::Error) -> bool {
+    match error.raw_os_error() {
+        Some(number) => number == 9 || number == 22 || number == 88 || number == 95,
+        None => false,
+    }
+}
+
+// The next connection, where one waits and can be accepted now.
 fn next_stream(listener: &TcpListener) -> Result<Option<TcpStream>, ServeFault> {
     for _ in 0..MOST_TRIES {
         match listener.accept() {
             Ok((stream, _)) => return Ok(Some(stream)),
             Err(error) => match error.kind() {
-                ErrorKind::WouldBlock => return Ok(None),
                 ErrorKind::Interrupted | ErrorKind::ConnectionAborted => (),
-                _ => return Err(ServeFault::Port),
+                _ if is_gone(&error) => return Err(ServeFault::Port),
+                _ => return Ok(None),
             },
         }
     }
     Ok(None)
 }
 
-// Accepts the connections that wait, up to a limit.
+// Accepts the connections that wait, up to a limit, and gives how long the next turn may wait. None can be accepted for good
+// where it is `None`.
 fn accept_waiting<B: Book>(
     alloc: Global,
     routes: &Routes,
@@ -131,7 +144,7 @@ fn accept_waiting<B: Book>(
     accepted: &mut u32,
     served: &mut u32,
     book: &mut B,
-) -> bool
+) -> Option<Duration>
     requires few { served.old ≤ accepted.old }
     requires bound { accepted.old ≤ limit }
     ensures run { Advances B.Book book.old book.new served.old served.new }
@@ -141,19 +154,22 @@ fn accept_waiting<B: Book>(
 {
     for _ in 0..MOST_ACCEPTED {
         if *accepted >= limit {
-            return true;
+            return Some(Duration::from_secs(TURN));
+        }
+        if !has_room(lines) {
+            return Some(Duration::from_secs(TURN));
         }
         let stream = match next_stream(listener) {
             Ok(Some(stream)) => stream,
-            Ok(None) => return true,
-            Err(_) => return false,
+            Ok(None) => return Some(Duration::from_secs(TURN)),
+            Err(_) => return None,
         };
         *accepted += 1;
         receive(
             alloc, routes, registry, stream, now, lines, *accepted, served, book,
         );
     }
-    true
+    Some(Duration::ZERO)
 }
 
 // Attends to each connection that is reported.
@@ -161,6 +177,7 @@ fn attend_reported<B: Book>(
     alloc: Global,
     routes: &Routes,
     events: &Events,
+    now: Instant,
     lines: &mut Slab<Line>,
     accepted: u32,
     served: &mut u32,
@@ -173,16 +190,63 @@ fn attend_reported<B: Book>(
 {
     for event in events.iter() {
         let key = event.token().0;
-        attend_at(alloc, routes, lines, key, accepted, served, book);
+        attend_at(alloc, routes, lines, key, now, accepted, served, book);
     }
+}
+
+// Waits until something is reported, or for so long, and gives the time.
+fn waited<R: Clock>(
+    rt: &R,
+    poll: &mut Poll,
+    events: &mut Events,
+    wait: Duration,
+) -> Result<Instant, ServeFault> {
+    if poll.poll(events, Some(wait)).is_err() {
+        return Err(ServeFault::Port);
+    }
+    match Instant::now(rt) {
+        Ok(now) => Ok(now),
+        Err(_) => Err(ServeFault::Port),
+    }
+}
+
+// One turn: attends to what is reported, closes what had its time, and accepts what waits. Gives how long the next one may
+// wait, or `None` where none can be accepted for good.
+fn turn<B: Book>(
+    alloc: Global,
+    routes: &Routes,
+    registry: &Registry,
+    listener: &TcpListener,
+    events: &Events,
+    now: Instant,
+    limit: u32,
+    lines: &mut Slab<Line>,
+    accepted: &mut u32,
+    served: &mut u32,
+    book: &mut B,
+) -> Option<Duration>
+    requires few { served.old ≤ accepted.old }
+    requires bound { accepted.old ≤ limit }
+    ensures run { Advances B.Book book.old book.new served.old served.new }
+    ensures few { served.new ≤ accepted.new }
+    ensures bound { accepted.new ≤ limit }
+    ensures honest { B.is_honest book.new → B.is_honest book.old }
+{
+    attend_reported(alloc, routes, events, now, lines, *accepted, served, book);
+    close_late(lines, now);
+    accept_waiting(
+        alloc, routes, registry, listener, now, limit, lines, accepted, served, book,
+    )
 }
 
 /// Serves connections, at most 256 at once, until as many as the limit says were accepted and are done with. Whichever has
 /// bytes is read; a request is answered once it is whole, one after another. A fault of one ends that one alone. Each has
-/// 10 seconds from when it was accepted to the end of its answer. Where 256 are open, the one that has waited longest for
-/// its request makes room for the next. The listener no longer blocks afterwards.
+/// 10 seconds from when it was accepted to the last byte of its request, and 10 more to take its answer. Where 256 are open,
+/// the oldest that has no answer on its way makes room for the next; where each has one, the next waits. The listener no
+/// longer blocks afterwards.
 ///
-/// `NoMemory` before the first connection; `Port` where none can be accepted or waited for, and then the rest isn't served.
+/// `NoMemory` before the first connection; `Port` where none can be accepted for good, or waited for, and then the rest isn't
+/// served.
 #[tactic(auto, using(crate::proofs::Turns::none_served))]
 pub fn serve_on<R: Net + Clock, B: Book>(
     rt: &R,
@@ -201,16 +265,21 @@ pub fn serve_on<R: Net + Clock, B: Book>(
     let mut lines = Slab::new(alloc);
     let mut accepted = 0;
     let mut served = 0;
+    let mut wait = Duration::from_secs(TURN);
     for _ in 0..u64::MAX {
-        let Ok(now) = Instant::now(rt) else {
-            return Err(ServeFault::Port);
+        if accepted >= limit && lines.is_empty() {
+            return Ok(());
+        }
+        let now = match waited(rt, &mut poll, &mut events, wait) {
+            Ok(now) => now,
+            Err(_) => return Err(ServeFault::Port),
         };
-        close_late(&mut lines, now);
-        if !accept_waiting(
+        match turn(
             alloc,
             &routes,
             poll.registry(),
             listener,
+            &events,
             now,
             limit,
             &mut lines,
@@ -218,26 +287,9 @@ pub fn serve_on<R: Net + Clock, B: Book>(
             &mut served,
             book,
         ) {
-            return Err(ServeFault::Port);
+            Some(next) => wait = next,
+            None => return Err(ServeFault::Port),
         }
-        if accepted >= limit && lines.is_empty() {
-            return Ok(());
-        }
-        if poll
-            .poll(&mut events, Some(Duration::from_secs(1)))
-            .is_err()
-        {
-            return Err(ServeFault::Port);
-        }
-        attend_reported(
-            alloc,
-            &routes,
-            &events,
-            &mut lines,
-            accepted,
-            &mut served,
-            book,
-        );
     }
     Err(ServeFault::Port)
 }

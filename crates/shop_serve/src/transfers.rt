@@ -14,6 +14,9 @@ const ROOM: usize = 8192;
 // More than any request takes: each but the last brings a byte of fewer than 139264.
 const MOST_READS: u32 = 150_000;
 
+// How often is read at once of what is dropped: more than a socket keeps.
+const MOST_DROPS: u32 = 1024;
+
 /// What a read brought.
 #[derive(Clone, Copy, PartialEq, Eq)]
 pub(crate) enum Piece {
@@ -133,4 +136,17 @@ pub(crate) fn hand_over<W: Write>(writer: &mut W, answer: &[u8], sent: &mut usiz
         }
     }
     Given::Waits
+}
+
+/// Reads what still comes and drops it. Tells whether more may come.
+pub(crate) fn drop_rest<R: Read>(reader: &mut R) -> bool {
+    let mut room = [0; ROOM];
+    for _ in 0..MOST_DROPS {
+        match reader.read(&mut room) {
+            Ok(0) => return false,
+            Ok(_) => (),
+            Err(error) => return error.kind() == ErrorKind::WouldBlock,
+        }
+    }
+    true
 }
