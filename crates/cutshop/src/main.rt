@@ -16,6 +16,7 @@ use std::alloc::Global;
 use std::fs::Files;
 use std::net::{Net, TcpListener, TcpStream};
 use std::process::ExitCode;
+use std::time::Clock;
 use std::{env, io};
 
 // The words of the command line, the program's name before them.
@@ -37,7 +38,7 @@ fn unread(rt: &HostRuntime, error: &io::Error) -> u8 {
 
 // Does what the words ask for, over books in SQL tables, of any kind of store, and gives the status.
 fn perform_over<
-    R: Files + Net<Listener = TcpListener, Stream = TcpStream>,
+    R: Files + Net<Listener = TcpListener, Stream = TcpStream> + Clock,
     D: Alter + Drop,
     O: Opens<SqlBook<D>>,
     S: Source,

@@ -9,8 +9,8 @@ use Rattle.shop_opening.specs.declared.shops.AddFault.TheVariants as add
 use Rattle.shop_files.specs.declared.shops.MaterialEntry.{MaterialEntry}
 use Rattle.shop_files.specs.Shops.{AreEntries}
 use Rattle.shop_serve.specs.Serving.{IsUnserved}
-use Rattle.shop_serve.specs.declared.serving.ServeFault.{ServeFault}
-use Rattle.shop_serve.specs.declared.serving.ServeFault.TheVariants as serve
+use Rattle.shop_serve.specs.declared.faults.ServeFault.{ServeFault}
+use Rattle.shop_serve.specs.declared.faults.ServeFault.TheVariants as serve
 use Rattle.shop_book.specs.declared.books.Book.{Ghosts}
 use Rattle.shop_book.specs.declared.books.BookFault.{BookFault}
 use Rattle.shop_book.specs.declared.books.BookFault.TheVariants as store

@@ -12,8 +12,8 @@ use Rattle.shop_machine.specs.declared.refusals.Refusal.TheVariants as refusal
 use Rattle.shop_machine.specs.Refusals.{refusal_number, refusal_name}
 use Rattle.shop_opening.specs.declared.shops.AddFault.{AddFault}
 use Rattle.shop_opening.specs.declared.shops.AddFault.TheVariants as add
-use Rattle.shop_serve.specs.declared.serving.ServeFault.{ServeFault}
-use Rattle.shop_serve.specs.declared.serving.ServeFault.TheVariants as serve
+use Rattle.shop_serve.specs.declared.faults.ServeFault.{ServeFault}
+use Rattle.shop_serve.specs.declared.faults.ServeFault.TheVariants as serve
 use Rattle.shop_book.specs.declared.books.BookFault.{BookFault}
 use Rattle.shop_book.specs.declared.books.BookFault.TheVariants as store
 use Rattle.shop_text.specs.declared.printing.PrintFault.{PrintFault}

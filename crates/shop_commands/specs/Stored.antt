@@ -64,7 +64,7 @@ module _ {B : Type 0} (book : Ghosts B) where
   abbrev pub IsShopped : B → B → List MaterialEntry → Type 0
   IsShopped before after entries = HasShop book before after entries (All IsAccepted)
 
-  -- the entries are there, the port was told, and so many connections were served
+  -- the entries are there, the port was told, and at most so many requests were served
   pub record IsBookServed (before after : B) (entries : List MaterialEntry) (port count : ℕ) (old new : Option (List ℕ)) : Type 0 where
     pub mid : B
     pub shop : IsShopped before mid entries
@@ -76,9 +76,9 @@ module _ {B : Type 0} (book : Ghosts B) where
   IsUnadded before after entries fault =
       ((fault ≡ NoMemory) × (after ≡ before)) ⊎ ((e : EntryRefused) × (fault ≡ Entry e) × HasShop book before after entries (λ replies. IsFirstRefused replies e))
 
-  -- memory was wanting before the first connection, or fewer were accepted
+  -- memory was wanting before the first connection, or no more could be accepted
   abbrev pub IsUnaccepted : B → B → ℕ → Fault → Type 0
-  IsUnaccepted before after limit fault = ((fault ≡ NoMemory) × (after ≡ before)) ⊎ ((fault ≡ Port) × ((count : ℕ) × (count < limit) × HasServed book before after count))
+  IsUnaccepted before after limit fault = ((fault ≡ NoMemory) × (after ≡ before)) ⊎ ((fault ≡ Port) × HasServed book before after limit)
 
   -- the entries are there, the port was told, and then serving stopped
   pub record IsBookLeft (before after : B) (entries : List MaterialEntry) (port limit : ℕ) (fault : Fault) (old new : Option (List ℕ)) : Type 0 where

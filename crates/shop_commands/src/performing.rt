@@ -21,6 +21,7 @@ use shop_words::{Request, request_of};
 use std::alloc::{AllocError, Global};
 use std::fs::Files;
 use std::net::{Net, TcpListener, TcpStream};
+use std::time::Clock;
 
 fn fault_line(alloc: Global, fault: Fault) -> Result<String, AllocError>
     ensures { IfOk result (λ text. string_bytes text ≡ spec.fault_line fault) }
@@ -76,7 +77,7 @@ fn answer_lines<S: Source, W: Sink>(
 
 // Does what is asked, or stops.
 fn work<
-    R: Files + Net<Listener = TcpListener, Stream = TcpStream>,
+    R: Files + Net<Listener = TcpListener, Stream = TcpStream> + Clock,
     B: Book + Drop,
     O: Opens<B>,
     S: Source,
@@ -155,7 +156,7 @@ fn explain<W: Sink, E: Sink>(alloc: Global, error: &Error, sink: &mut W, errors:
 /// Does what the words ask for, the program's own name before them, and gives the status: 0 where it was done and for
 /// help, 2 for a mistake in the words, and else 1, with the fault as one line of `errors`.
 pub fn perform<
-    R: Files + Net<Listener = TcpListener, Stream = TcpStream>,
+    R: Files + Net<Listener = TcpListener, Stream = TcpStream> + Clock,
     B: Book + Drop,
     O: Opens<B>,
     S: Source,

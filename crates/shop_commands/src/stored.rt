@@ -23,6 +23,7 @@ use shop_text::{Sink, ticket, yield_report};
 use std::alloc::{AllocError, Global};
 use std::fs::Files;
 use std::net::{Ipv4Addr, Net, TcpListener, TcpStream};
+use std::time::Clock;
 
 // Opens the book of a store.
 fn opened<B: Book + Drop, O: Opens<B>>(stores: &O, alloc: Global, store: &str) -> Result<B, Fault>
@@ -152,7 +153,8 @@ fn announced<R: Net<Listener = TcpListener, Stream = TcpStream>, W: Sink>(
 }
 
 // Serves connections.
-fn accepted<B: Book>(
+fn accepted<R: Net<Listener = TcpListener, Stream = TcpStream> + Clock, B: Book>(
+    rt: &R,
     alloc: Global,
     listener: &TcpListener,
     limit: u32,
@@ -161,14 +163,14 @@ fn accepted<B: Book>(
     ensures ok { OnOk result (HasServed B.Book book.old book.new limit) }
     ensures err { IfErr result (IsUnaccepted B.Book book.old book.new limit) }
 {
-    match serve_on(alloc, listener, limit, book) {
+    match serve_on(rt, alloc, listener, limit, book) {
         Ok(()) => Ok(()),
         Err(fault) => Err(Fault::from(fault)),
     }
 }
 
 // Adds the shop's entries to a book and serves it on a port.
-fn serve_book<R: Net<Listener = TcpListener, Stream = TcpStream>, B: Book, W: Sink>(
+fn serve_book<R: Net<Listener = TcpListener, Stream = TcpStream> + Clock, B: Book, W: Sink>(
     rt: &R,
     alloc: Global,
     port: u32,
@@ -183,7 +185,7 @@ fn serve_book<R: Net<Listener = TcpListener, Stream = TcpStream>, B: Book, W: Si
 {
     added(alloc, book, entries)?;
     let listener = announced(rt, alloc, port, sink)?;
-    match accepted(alloc, &listener, limit, book) {
+    match accepted(rt, alloc, &listener, limit, book) {
         Ok(()) => Ok(()),
         Err(fault) => Err(fault),
     }
@@ -191,7 +193,7 @@ fn serve_book<R: Net<Listener = TcpListener, Stream = TcpStream>, B: Book, W: Si
 
 /// Adds the materials of a shop file to the book of a store, tells the port, and serves connections on it.
 pub fn serve<
-    R: Files + Net<Listener = TcpListener, Stream = TcpStream>,
+    R: Files + Net<Listener = TcpListener, Stream = TcpStream> + Clock,
     B: Book + Drop,
     O: Opens<B>,
     W: Sink,

@@ -5,3 +5,4 @@ pub mod Routing
 pub mod Behind
 pub mod Uniqueness
 pub mod Counting
+pub mod Settled

@@ -1,5 +1,5 @@
 -- How far an input has one sense.
-use Rattle.std.specs.Prelude.{◌≡◌, ℕ, ◌⊎◌, List}
+use Rattle.std.specs.Prelude.{◌≡◌, ℕ, ◌⊎◌, List, ◌++◌}
 use Rattle.httparse.specs.Grammar.{EndsInTarget}
 use Rattle.httparse.specs.Spans.{RequestExceeds}
 use Rattle.shop_request.specs.declared.faults.Fault.TheVariants.{BadRequest, LargeHead}
@@ -18,3 +18,7 @@ MayBeEither input = RequestExceeds most_fields (front input) ⊎ EndsInTarget (f
 -- it may be a bad head or a large one
 abbrev pub OneSense : Type 0
 OneSense = (input : List ℕ) (s t : Sense) → HasSense input s → HasSense input t → (s ≡ t) ⊎ (IsHeadFault s × IsHeadFault t × MayBeEither input)
+
+-- whatever follows these bytes, the input has this one sense
+abbrev pub IsSettled : List ℕ → Type 0
+IsSettled came = (s : Sense) × ((more : List ℕ) → HasSense (came ++ more) s)

@@ -51,7 +51,7 @@ fn fault_of(error: Error) -> Fault
 }
 
 /// Reads the head of a request where it may stand.
-fn parse_front(front: &[u8], headers: &mut [HeaderSpan]) -> Parsed
+pub(crate) fn parse_front(front: &[u8], headers: &mut [HeaderSpan]) -> Parsed
     requires { length headers.old ≡ 64 }
     ensures { IsParsed front.now headers.new result }
 {

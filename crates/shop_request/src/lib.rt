@@ -9,8 +9,10 @@ mod laws;
 mod pieces;
 mod requests;
 mod routes;
+mod wholes;
 
 pub use faults::{Fault, StreamFault};
 pub use laws::one_sense;
 pub use requests::{Inbound, read_request};
 pub use routes::{Route, Routes};
+pub use wholes::is_whole;

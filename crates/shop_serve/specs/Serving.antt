@@ -1,45 +1,63 @@
--- Connections that were served one after another.
-use Rattle.std.specs.Prelude.{◌≡◌, ◌<◌, ℕ, List, [], ◌∷◌, length, map}
+-- Connections that were served, one request after another.
+use Rattle.std.specs.Prelude.{◌≡◌, ◌<◌, ◌≤◌, ◌+◌, ℕ, List, [], ◌∷◌, ◌++◌, length, map}
 use Rattle.std.specs.List.{flat_map}
 use Rattle.shop_desk.specs.Handled.{HasAccount}
 use Rattle.shop_machine.specs.Content.{Content}
 use Rattle.shop_machine.specs.Soundness.{IsSound}
 use Rattle.shop_machine.specs.declared.messages.Message.{Message}
 use Rattle.shop_machine.specs.declared.messages.Reply.{Reply}
-use Rattle.shop_request.specs.Requests.{Sense}
+use Rattle.shop_request.specs.Requests.{Sense, HasSense}
 use Rattle.shop_rules.specs.Forms.{json_texts}
-use Rattle.shop_serve.specs.declared.serving.ServeFault.{ServeFault}
-use Rattle.shop_serve.specs.declared.serving.ServeFault.TheVariants.{NoMemory, Port}
+use Rattle.shop_serve.specs.declared.faults.ServeFault.{ServeFault}
+use Rattle.shop_serve.specs.declared.faults.ServeFault.TheVariants.{NoMemory, Port}
 use Rattle.shop_book.specs.declared.books.Book.{Ghosts}
 use Rattle.shop_book.specs.Kept.{Says}
-use Rattle.shop_wire.specs.AnswerBytes.{Telling}
+use Rattle.shop_wire.specs.AnswerBytes.{Telling, bytes_of}
 use Rattle.shop_wire.specs.Serves.{SenseStep, exchanged}
 
--- one connection after another: what each stood for, and what was told
-abbrev pub InTurn : Content → List (Sense × Telling) → Content → Type 0
+-- What was served: the bytes that came of a connection, what they stand for, what was told, and the bytes that were made of it.
+pub record Turn : Type 0 where
+  pub input : List ℕ
+  pub sense : Sense
+  pub telling : Telling
+  pub answer : List ℕ
+
+-- Some bytes came, this is what they stand for, and the answer is made but for some last bytes.
+pub record IsTurn (t : Turn) : Type 0 where
+  pub some : 0 < length t.input
+  pub sense : HasSense t.input t.sense
+  pub unwritten : List ℕ
+  pub told : t.answer ++ unwritten ≡ bytes_of t.sense t.telling
+
+-- one after another
+abbrev pub InTurn : Content → List Turn → Content → Type 0
 InTurn old [] new = new ≡ old
-InTurn old (s ∷ ss) new = (mid : Content) × SenseStep old s.0 s.1 mid × InTurn mid ss new
+InTurn old (t ∷ ts) new = (mid : Content) × IsTurn t × SenseStep old t.sense t.telling mid × InTurn mid ts new
 
 -- the messages among them, each with its reply
-abbrev pub exchanges : List (Sense × Telling) → List (Message × Reply)
-exchanges = flat_map (λ s. exchanged s.0 s.1)
+abbrev pub exchanges : List Turn → List (Message × Reply)
+exchanges = flat_map (λ t. exchanged t.sense t.telling)
 
--- The book held old and holds next, so many connections later. Where a history gives old, one with each message that was
--- accepted, once, gives next, and this is its account.
+-- The book held old and holds next, and at most so many requests led from one to the other, each of which came as some bytes.
+-- Where a history gives old, one with each message that was accepted, once, gives next, and this is its account.
 pub record HasServedTurns {B : Type 0} (book : Ghosts B) (after : B) (old : Content) (count : ℕ) : Type 0 where
-  pub served : List (Sense × Telling)
-  pub each : length served ≡ count
+  pub served : List Turn
+  pub few : length served ≤ count
   pub next : Content
   pub run : InTurn old served next
   pub held : book.holds after next
   pub sound : IsSound json_texts next
   pub account : HasAccount json_texts old (map (λ e. e.0) (exchanges served)) (map (λ e. e.1) (exchanges served)) next
 
--- so many connections were served by a book: each sound content that an honest one held led to one that it holds now
+-- at most so many requests were served by a book: each sound content that an honest one held led to one that it holds now
 abbrev pub HasServed : {B : Type 0} → Ghosts B → B → B → ℕ → Type 0
 HasServed book before after count = Says book before after (λ m. IsSound json_texts m → HasServedTurns book after m count)
 
--- memory was wanting before the first connection, or fewer than the limit were served
+-- a count rose from one number to another, and at most that many requests were served
+abbrev pub Advances : {B : Type 0} → Ghosts B → B → B → ℕ → ℕ → Type 0
+Advances book before after from to = (n : ℕ) × (to ≡ from + n) × HasServed book before after n
+
+-- memory was wanting before the first connection, or at most as many as the limit says were served
 abbrev pub IsUnserved : {B : Type 0} → Ghosts B → B → B → ℕ → ServeFault → Type 0
 IsUnserved book before after limit NoMemory = after ≡ before
-IsUnserved book before after limit Port = (count : ℕ) × (count < limit) × HasServed book before after count
+IsUnserved book before after limit Port = HasServed book before after limit

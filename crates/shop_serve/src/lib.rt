@@ -1,6 +1,12 @@
-//! Connections of a listener, served one after another from a book.
+//! Connections of a listener, many at once: whichever has bytes is read, and each request is answered whole, one after
+//! another, from a book.
 #![tactic(auto)]
 
+mod answers;
+mod faults;
+mod lines;
 mod serving;
+mod transfers;
 
-pub use serving::{ServeFault, serve_on};
+pub use faults::ServeFault;
+pub use serving::serve_on;

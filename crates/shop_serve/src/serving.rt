@@ -1,69 +1,255 @@
-ghost use Rattle.std.specs.Prelude.{◌≡◌, IfErr, OnOk};
-ghost use Rattle.shop_serve.specs.Serving.{HasServed, IsUnserved};
+ghost use Rattle.std.specs.Prelude.{◌≡◌, ◌≤◌, IfErr, OnOk, OnErr};
+ghost use Rattle.shop_serve.specs.Serving.{Advances, HasServed, IsUnserved};
+ghost use Rattle.shop_serve.specs.declared.faults.ServeFault.TheVariants.{Port};
 
+use crate::faults::ServeFault;
+use crate::lines::{Line, attend_at, close_late, has_room, make_room};
+use mio::net::TcpStream as Stream;
+use mio::unix::SourceFd;
+use mio::{Events, Interest, Poll, Registry, Token};
 use shop_book::Book;
 use shop_request::Routes;
-use shop_text::{Counted, Sink, Source};
-use shop_wire::serve_with;
-use std::alloc::{AllocError, Global};
-use std::net::{Shutdown, TcpListener, TcpStream};
-use std::time::Duration;
+use slab::Slab;
+use std::alloc::Global;
+use std::io::{self, ErrorKind};
+use std::net::{Net, TcpListener, TcpStream};
+use std::os::fd::AsRawFd;
+use std::time::{Clock, Duration, Instant};
 
-// How many seconds a connection has for each read and each write.
-const PATIENCE: u64 = 10;
+// How many are reported at once.
+const MOST_EVENTS: usize = 256;
 
-/// Why no more connections are served.
-#[derive(Clone, Copy, Debug, PartialEq, Eq)]
-pub enum ServeFault {
-    /// Memory was wanting before the first connection.
-    NoMemory,
-    /// A connection couldn't be accepted.
-    Port,
+// How many connections are accepted before others are attended to.
+const MOST_ACCEPTED: u32 = 64;
+
+// How often it is tried to accept one, where those that waited went away.
+const MOST_TRIES: u32 = 1000;
+
+// How many seconds are waited at most before it is looked which connections have had their time.
+const TURN: u64 = 1;
+
+// The token of the listener. No connection has it.
+const LISTENER: Token = Token(usize::MAX);
+
+// Waits for what comes to a listener.
+fn watched<R: Net>(rt: &R, listener: &TcpListener) -> Result<Poll, ServeFault>
+    ensures { IfErr result (λ fault. fault ≡ Port) }
+{
+    let Ok(poll) = Poll::new(rt) else {
+        return Err(ServeFault::Port);
+    };
+    if listener.set_nonblocking(true).is_err() {
+        return Err(ServeFault::Port);
+    }
+    let descriptor = listener.as_raw_fd();
+    let mut source = SourceFd(&descriptor);
+    if poll
+        .registry()
+        .register(&mut source, LISTENER, Interest::READABLE)
+        .is_err()
+    {
+        return Err(ServeFault::Port);
+    }
+    Ok(poll)
 }
 
-impl From<AllocError> for ServeFault {
-    ghost use Rattle.std.specs.Prelude.{◌≡◌};
-    ghost use Rattle.shop_serve.specs.declared.serving.ServeFault.TheVariants.{NoMemory};
-
-    ghost from_gives = { λ _ fault. fault ≡ NoMemory };
-
-    fn from(_error: AllocError) -> ServeFault {
-        ServeFault::NoMemory
+// Opens a connection, and gives its key. One that can't be watched is closed.
+fn opened(
+    alloc: Global,
+    registry: &Registry,
+    stream: TcpStream,
+    now: Instant,
+    lines: &mut Slab<Line>,
+) -> Option<usize> {
+    if stream.set_nonblocking(true).is_err() {
+        return None;
+    }
+    make_room(lines);
+    let mut stream = Stream::from_std(stream);
+    let key = lines.vacant_key();
+    let both = Interest::READABLE.add(Interest::WRITABLE);
+    if registry.register(&mut stream, Token(key), both).is_err() {
+        return None;
+    }
+    let line = Line {
+        stream,
+        since: now,
+        came: Vec::new(alloc),
+        answer: None,
+        sent: 0,
+    };
+    match lines.insert(line) {
+        Ok(key) => Some(key),
+        Err(_) => None,
     }
 }
 
-// Serves one connection, whatever comes of it.
-fn serve<S: Source, W: Sink, B: Book>(
+// Opens a connection, and attends to it at once.
+#[tactic(auto, using(crate::proofs::Turns::stays))]
+fn receive<B: Book>(
     alloc: Global,
     routes: &Routes,
-    source: &mut S,
-    sink: &mut W,
+    registry: &Registry,
+    stream: TcpStream,
+    now: Instant,
+    lines: &mut Slab<Line>,
+    accepted: u32,
+    served: &mut u32,
     book: &mut B,
 )
-    ensures step { HasServed B.Book book.old book.new 1 }
+    requires few { served.old ≤ accepted }
+    ensures run { Advances B.Book book.old book.new served.old served.new }
+    ensures few { served.new ≤ accepted }
     ensures honest { B.is_honest book.new → B.is_honest book.old }
 {
-    let _ = serve_with(alloc, routes, source, sink, book);
+    if let Some(key) = opened(alloc, registry, stream, now, lines) {
+        attend_at(alloc, routes, lines, key, now, accepted, served, book);
+    }
 }
 
-// Serves the connection of a stream. A fault ends it alone, and so does a terminal that is silent for too long.
-fn serve_stream<B: Book>(alloc: Global, routes: &Routes, stream: &TcpStream, book: &mut B)
-    ensures step { HasServed B.Book book.old book.new 1 }
+// Whether an error says that no connection can be accepted for good: EBADF, EINVAL, ENOTSOCK and EOPNOTSUPP. Any other, as
+// the want of descriptors or of memory, passes.
+fn is_gone(error: &io::Error) -> bool {
+    match error.raw_os_error() {
+        Some(number) => number == 9 || number == 22 || number == 88 || number == 95,
+        None => false,
+    }
+}
+
+// The next connection, where one waits and can be accepted now.
+fn next_stream(listener: &TcpListener) -> Result<Option<TcpStream>, ServeFault> {
+    for _ in 0..MOST_TRIES {
+        match listener.accept() {
+            Ok((stream, _)) => return Ok(Some(stream)),
+            Err(error) => match error.kind() {
+                ErrorKind::Interrupted | ErrorKind::ConnectionAborted => (),
+                _ if is_gone(&error) => return Err(ServeFault::Port),
+                _ => return Ok(None),
+            },
+        }
+    }
+    Ok(None)
+}
+
+// Accepts the connections that wait, up to a limit, and gives how long the next turn may wait. None can be accepted for good
+// where it is `None`.
+fn accept_waiting<B: Book>(
+    alloc: Global,
+    routes: &Routes,
+    registry: &Registry,
+    listener: &TcpListener,
+    now: Instant,
+    limit: u32,
+    lines: &mut Slab<Line>,
+    accepted: &mut u32,
+    served: &mut u32,
+    book: &mut B,
+) -> Option<Duration>
+    requires few { served.old ≤ accepted.old }
+    requires bound { accepted.old ≤ limit }
+    ensures run { Advances B.Book book.old book.new served.old served.new }
+    ensures few { served.new ≤ accepted.new }
+    ensures bound { accepted.new ≤ limit }
     ensures honest { B.is_honest book.new → B.is_honest book.old }
 {
-    let _ = stream.set_read_timeout(Some(Duration::from_secs(PATIENCE)));
-    let _ = stream.set_write_timeout(Some(Duration::from_secs(PATIENCE)));
-    let mut source = Counted::new(stream);
-    let mut sink = Counted::new(stream);
-    serve(alloc, routes, &mut source, &mut sink, book);
-    let _ = stream.shutdown(Shutdown::Write);
+    for _ in 0..MOST_ACCEPTED {
+        if *accepted >= limit {
+            return Some(Duration::from_secs(TURN));
+        }
+        if !has_room(lines) {
+            return Some(Duration::from_secs(TURN));
+        }
+        let stream = match next_stream(listener) {
+            Ok(Some(stream)) => stream,
+            Ok(None) => return Some(Duration::from_secs(TURN)),
+            Err(_) => return None,
+        };
+        *accepted += 1;
+        receive(
+            alloc, routes, registry, stream, now, lines, *accepted, served, book,
+        );
+    }
+    Some(Duration::ZERO)
 }
 
-/// Serves connections one after another, as many as the limit says. A fault of one ends that one alone. A connection has 10
-/// seconds for each read and each write.
+// Attends to each connection that is reported.
+fn attend_reported<B: Book>(
+    alloc: Global,
+    routes: &Routes,
+    events: &Events,
+    now: Instant,
+    lines: &mut Slab<Line>,
+    accepted: u32,
+    served: &mut u32,
+    book: &mut B,
+)
+    requires few { served.old ≤ accepted }
+    ensures run { Advances B.Book book.old book.new served.old served.new }
+    ensures few { served.new ≤ accepted }
+    ensures honest { B.is_honest book.new → B.is_honest book.old }
+{
+    for event in events.iter() {
+        let key = event.token().0;
+        attend_at(alloc, routes, lines, key, now, accepted, served, book);
+    }
+}
+
+// Waits until something is reported, or for so long, and gives the time.
+fn waited<R: Clock>(
+    rt: &R,
+    poll: &mut Poll,
+    events: &mut Events,
+    wait: Duration,
+) -> Result<Instant, ServeFault> {
+    if poll.poll(events, Some(wait)).is_err() {
+        return Err(ServeFault::Port);
+    }
+    match Instant::now(rt) {
+        Ok(now) => Ok(now),
+        Err(_) => Err(ServeFault::Port),
+    }
+}
+
+// One turn: attends to what is reported, closes what had its time, and accepts what waits. Gives how long the next one may
+// wait, or `None` where none can be accepted for good.
+fn turn<B: Book>(
+    alloc: Global,
+    routes: &Routes,
+    registry: &Registry,
+    listener: &TcpListener,
+    events: &Events,
+    now: Instant,
+    limit: u32,
+    lines: &mut Slab<Line>,
+    accepted: &mut u32,
+    served: &mut u32,
+    book: &mut B,
+) -> Option<Duration>
+    requires few { served.old ≤ accepted.old }
+    requires bound { accepted.old ≤ limit }
+    ensures run { Advances B.Book book.old book.new served.old served.new }
+    ensures few { served.new ≤ accepted.new }
+    ensures bound { accepted.new ≤ limit }
+    ensures honest { B.is_honest book.new → B.is_honest book.old }
+{
+    attend_reported(alloc, routes, events, now, lines, *accepted, served, book);
+    close_late(lines, now);
+    accept_waiting(
+        alloc, routes, registry, listener, now, limit, lines, accepted, served, book,
+    )
+}
+
+/// Serves connections, at most 256 at once, until as many as the limit says were accepted and are done with. Whichever has
+/// bytes is read; a request is answered once it is whole, one after another. A fault of one ends that one alone. Each has
+/// 10 seconds from when it was accepted to the last byte of its request, and 10 more to take its answer. Where 256 are open,
+/// the oldest that has no answer on its way makes room for the next; where each has one, the next waits. The listener no
+/// longer blocks afterwards.
 ///
-/// `NoMemory` before the first connection; `Port` where none can be accepted, and then the rest isn't served.
-pub fn serve_on<B: Book>(
+/// `NoMemory` before the first connection; `Port` where none can be accepted for good, or waited for, and then the rest isn't
+/// served.
+#[tactic(auto, using(crate::proofs::Turns::none_served))]
+pub fn serve_on<R: Net + Clock, B: Book>(
+    rt: &R,
     alloc: Global,
     listener: &TcpListener,
     limit: u32,
@@ -74,11 +260,36 @@ pub fn serve_on<B: Book>(
     ensures honest { B.is_honest book.new → B.is_honest book.old }
 {
     let routes = Routes::new(alloc)?;
-    for _ in 0..limit {
-        let Ok((stream, _)) = listener.accept() else {
-            return Err(ServeFault::Port);
+    let mut events = Events::with_capacity(alloc, MOST_EVENTS)?;
+    let mut poll = watched(rt, listener)?;
+    let mut lines = Slab::new(alloc);
+    let mut accepted = 0;
+    let mut served = 0;
+    let mut wait = Duration::from_secs(TURN);
+    for _ in 0..u64::MAX {
+        if accepted >= limit && lines.is_empty() {
+            return Ok(());
+        }
+        let now = match waited(rt, &mut poll, &mut events, wait) {
+            Ok(now) => now,
+            Err(_) => return Err(ServeFault::Port),
         };
-        serve_stream(alloc, &routes, &stream, book);
+        match turn(
+            alloc,
+            &routes,
+            poll.registry(),
+            listener,
+            &events,
+            now,
+            limit,
+            &mut lines,
+            &mut accepted,
+            &mut served,
+            book,
+        ) {
+            Some(next) => wait = next,
+            None => return Err(ServeFault::Port),
+        }
     }
-    Ok(())
+    Err(ServeFault::Port)
 }

@@ -1,0 +1,11 @@
+use Rattle.std.proofs.Common.{◌≤◌, ℕ, List, length, take}
+use Rattle.std.specs.Prelude.{Option}
+use Rattle.std.specs.Io.KnownBytes.{Appends}
+use Rattle.shop_serve.proofs.transfers.hand_over.Given as goal
+
+abbrev pub invariant-loop : goal.invariant-loop
+invariant-loop g l =
+    record {
+      within : l.sent ≤ length l.answer;
+      bytes : (before : Option (List ℕ)) → Appends before (g.W.Write.contents l.fn.writer) (take l.fn.sent l.answer) → Appends before (g.W.Write.contents l.writer) (take l.sent l.answer);
+    }
