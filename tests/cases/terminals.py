@@ -8,12 +8,18 @@ import signal
 import threading
 import time
 
-from cases.stores import DAY, GLASS_REPORT, sent
+from cases.stores import DAY, sent
 from kit import tables
 from kit.case import case
 from kit.shop import request_of
 
 CAP_DAC_OVERRIDE, CAP_DAC_READ_SEARCH, PR_CAPBSET_DROP = 1, 2, 24
+
+GLASS_REPORT = (
+    b"yield GLASS sheet\nreceived               80\nstock                   0\nrack                   20\n"
+    b"pieces                 43\nkerf                   17\nscrap                   0\nreturned                0\n"
+    b"yield 53.7 %\npart 3/2 0.5 x 0.4 standing\nend\n"
+)
 
 
 class Terminal:
@@ -161,7 +167,7 @@ def in_use(trial):
 )
 def no_store(trial):
     os.mkdir(trial.path("folder"))
-    texts = {"short": b"x", "text": b"no database, but a text of some length\n" * 200, "zeros": bytes(8192)}
+    texts = {"short": b"hello\n", "text": b"no database, but a text of some length\n" * 200, "zeros": bytes(8192)}
     for name, content in texts.items():
         trial.write(name, content)
     for name in ("nowhere/shop.db", "folder", *texts):
