@@ -53,19 +53,25 @@ def served(trial, version):
 
 @case(
     "version 1 by plain SQL",
-    "A file of version 1 after “remnant cut again”, whose tables and rows plain SQL made, is served with the same answers and kept "
-    "replies and 0 returned; it is then of version 2, with `totals` empty and all other rows as they were.",
+    "A file of version 1 after “remnant cut again”, whose tables and rows plain SQL made, is served with the same answers "
+    "and kept replies and 0 returned; it is then of version 2, with `totals` empty and all other rows as they were.",
 )
 def version_1(trial):
     served(trial, 1)
 
 
-@case("version 2 by plain SQL", "A file of version 2 that plain SQL made is served as one that the program made, and its rows stay.")
+@case(
+    "version 2 by plain SQL",
+    "A file of version 2 that plain SQL made is served as one that the program made, and its rows stay.",
+)
 def version_2(trial):
     served(trial, 2)
 
 
-@case("a report of version 1", "`yield` and `ticket` print a file of version 1 as one of version 2, and it is of version 2 then.")
+@case(
+    "a report of version 1",
+    "`yield` and `ticket` print a file of version 1 as one of version 2, and it is of version 2 then.",
+)
 def reports(trial):
     for name, word, text in (("yield", "GLASS", REPORT), ("ticket", "3", TICKET)):
         path = made(trial, f"{name}.db", 1)
@@ -75,8 +81,8 @@ def reports(trial):
 
 @case(
     "version 1 that is none",
-    "Nine tables marked 2, version 1 without its `totals` or `kept`, with a total one more than its sum or a part of state 7: "
-    "`fault version`, and the file stays as it was.",
+    "Nine tables marked 2, version 1 without its `totals` or `kept`, with a total one more than its sum or a part of state "
+    "7: `fault version`, and the file stays as it was.",
 )
 def no_version_1(trial):
     changes = ["UPDATE meta SET value = 2 WHERE name = 'version'", "DROP TABLE totals", "DROP TABLE kept", "DELETE FROM totals"]
@@ -86,7 +92,8 @@ def no_version_1(trial):
 
 @case(
     "totals of each kind",
-    "A total one more than its sum, of each of the seven, is `fault version` in a file of version 2, and it stays as it was.",
+    "A total one more than its sum, of each of the seven, is `fault version` in a file of version 2, and it stays as it "
+    "was.",
 )
 def each_total(trial):
     refused(trial, 2, [f"UPDATE totals2 SET {it} = {it} + 1" for it in tables.COLUMNS["totals2"].split()[1:]])

@@ -4,7 +4,8 @@ import json
 
 from cases.connections import DONE, GLASS, ORDER, RESERVE, SHEET
 from kit import tables
-from kit.case import case
+from kit.case import SECONDS, case
+from kit.shop import read_all
 
 REMNANT = '{"do":"reserve","number":6,"part":"2/4","terminal":1,"tree":"y3 p3 r"}'
 DONE_AGAIN = '{"do":"done","job":3,"number":7,"terminal":1}'
@@ -20,7 +21,8 @@ DAY = [
 ]
 TOTALS = '{"ask":"totals","material":"GLASS"}'
 QUESTIONS = [TOTALS, '{"ask":"rack","material":"GLASS"}']
-QUESTIONS += [f'{{"ask":"trace","part":"{it}"}}' for it in ("1/0", "2/0", "2/1", "2/2", "2/3", "2/4", "3/0", "3/1", "3/2", "3/3")]
+PARTS = "1/0 2/0 2/1 2/2 2/3 2/4 3/0 3/1 3/2 3/3".split()
+QUESTIONS += [f'{{"ask":"trace","part":"{it}"}}' for it in PARTS]
 QUESTIONS += [f'{{"ask":"demand","demand":{it}}}' for it in (1, 2, 3, 4)]
 
 PLACE = ("GLASS", "B-1", 1, 0)
@@ -67,16 +69,22 @@ def filled(trial, store="shop.db", exchanges=DAY):
 
 
 def received(material, w, h, act, count=1, number=2, batch="B-1"):
-    line = {"batch": batch, "count": count, "do": "receive", "h": h, "material": material, "number": number, "terminal": 1, "w": w}
+    line = {"batch": batch, "count": count, "do": "receive", "h": h, "material": material, "w": w}
+    line |= {"number": number, "terminal": 1}
     return json.dumps(line), json.dumps({"act": act, "count": count, "ok": "receive"}, separators=(",", ":"))
 
 
-@case("tables row by row", "After “remnant cut again” each table has the columns of the formats, STRICT and not NULL, with their keys, and exactly the rows of the books.")
+@case(
+    "tables row by row",
+    "After “remnant cut again” each table has the columns of the formats, STRICT and not NULL, with their keys, and "
+    "exactly the rows of the books.",
+)
 def row_by_row(trial):
     path = filled(trial)
     for name in tables.COLUMNS:
         trial.equal(tables.columns_of(path, name), tables.wanted_columns(name), name)
-        trial.holds(tables.select(path, f"SELECT sql FROM sqlite_schema WHERE name = '{name}'")[0][0].rstrip().endswith("STRICT"), name)
+        ((statement,),) = tables.select(path, f"SELECT sql FROM sqlite_schema WHERE name = '{name}'")
+        trial.holds(statement.rstrip().endswith("STRICT"), statement)
     found = tables.rows(path)
     for name, wanted in ROWS.items():
         trial.equal(found[name], wanted, name)
@@ -84,7 +92,76 @@ def row_by_row(trial):
     trial.equal(tables.select(path, "PRAGMA foreign_key_check"), [])
 
 
-@case("keys of the tables", "The parts' material, the jobs' part, the orders and the totals are referenced as the formats have it; an order's line stands once; no more is reserved and made than wanted.")
+PROBLEM = "  2 10 8\r\n4 3 2 66\r\n5 8 1 40\r\n"
+ORDERS = "line,material,length,width,turn,count,worth\n1,STEEL,3.0,0.1,no,3,30\n"
+TURNED = {"count": 2, "h": 4, "line": 1, "material": "GLASS", "turn": True, "w": 3, "worth": 12}
+LIMITS = {"kerf": 3, "kind": "bar", "material": "STEEL", "min_long": 20, "min_short": 1}
+IMPORTED = {"act": 1, "count": 2, "first": 1, "ok": "import", "order": "CG-1"}
+# Messages after which there are a part of each state, a job of each but a done one, and imports of both forms.
+STATES = [
+    (json.loads(GLASS), {"material": "GLASS", "ok": "material"}),
+    ({"do": "import", "form": "cgcut", "material": "GLASS", "order": "CG-1", "text": PROBLEM}, IMPORTED),
+    ({"do": "import", "form": "cgcut", "material": "GLASS", "order": "CG-1", "text": PROBLEM}, IMPORTED),
+    ({"do": "material", **LIMITS}, {"material": "STEEL", "ok": "material"}),
+    (
+        {"do": "import", "form": "csv", "order": "A-1", "text": ORDERS},
+        {"act": 0, "count": 1, "first": 3, "ok": "import", "order": "A-1"},
+    ),
+    ({"do": "order", "lines": [TURNED], "order": "A-2"}, {"count": 1, "first": 4, "ok": "order", "order": "A-2"}),
+    (
+        {"batch": "B-1", "count": 3, "do": "receive", "h": 8, "material": "GLASS", "w": 10},
+        {"act": 2, "count": 3, "ok": "receive"},
+    ),
+    ({"do": "reserve", "part": "1/0", "tree": "x4 y3 p1 r r"}, {"cuts": 2, "job": 3, "ok": "reserve"}),
+    ({"do": "reserve", "part": "2/0", "tree": "y3 x4 p4t r r"}, {"cuts": 2, "job": 4, "ok": "reserve"}),
+    (
+        {"cuts": 1, "do": "break", "job": 4, "lost": False},
+        {"job": 4, "kerf": 10, "ok": "break", "pieces": 0, "rack": 40, "scrap": 30},
+    ),
+    ({"do": "reserve", "part": "2/1", "tree": "x4 y3 p1 r r"}, {"cuts": 2, "job": 5, "ok": "reserve"}),
+    ({"do": "release", "job": 5}, {"job": 5, "ok": "release"}),
+    ({"do": "return", "part": "2/2"}, {"ok": "return", "part": "2/2"}),
+    ({"do": "scrap", "part": "2/1"}, {"ok": "scrap", "part": "2/1"}),
+]
+
+
+def compact(value):
+    return json.dumps(value, sort_keys=True, separators=(",", ":"))
+
+
+@case(
+    "states and imports row by row",
+    "Parts standing, reserved, cut, kerf, scrap and returned, a waiting, a broken and a released job, a line that turns "
+    "and imports of both forms stand in the tables with their numbers, and an import that came twice stands once.",
+)
+def states(trial):
+    exchanges = [
+        (compact(keys | {"terminal": 1, "number": number}), compact(reply)) for number, (keys, reply) in enumerate(STATES, 1)
+    ]
+    found = tables.rows(filled(trial, exchanges=exchanges))
+    trial.equal(found["meta"], [("act", 5), ("demand", 4), ("version", 2)])
+    trial.equal(found["materials"], [("GLASS", 1, 1, 5, 4), ("STEEL", 0, 3, 20, 1)])
+    root = ("GLASS", "B-1", 2, 0)
+    states_of = [(2, 4), (5, 0), (6, 0)]
+    units = [(2, it, "GLASS", "B-1", 2, it, 0, 0, 10, 8, *state) for it, state in enumerate(states_of)]
+    broken = [(4, 0, *root, 0, 3, 10, 1, 4, 0), (4, 1, *root, 0, 0, 10, 3, 5, 0), (4, 4, *root, 0, 4, 10, 4, 0, 0)]
+    trial.equal(found["parts"], [(1, 0, "GLASS", "CG-1", 1, 0, 0, 0, 10, 8, 1, 3), *units, *broken])
+    trial.equal(found["jobs"], [(3, 1, 0, "x4 y3 p1 r r", 0), (4, 2, 0, "y3 x4 p4t r r", 2), (5, 2, 1, "x4 y3 p1 r r", 3)])
+    trial.equal(found["orders"], [("A-1",), ("A-2",), ("CG-1",)])
+    demands = [(1, "CG-1", 1, "GLASS", 4, 3, 0, 66, 2, 1, 0), (2, "CG-1", 2, "GLASS", 5, 8, 0, 40, 1, 0, 0)]
+    demands += [(3, "A-1", 1, "STEEL", 30, 1, 0, 30, 3, 0, 0), (4, "A-2", 1, "GLASS", 3, 4, 1, 12, 2, 0, 0)]
+    trial.equal(found["demands"], demands)
+    trial.equal(found["kept"], [(1, number, *it) for number, it in enumerate(exchanges, 1)])
+    imports = [("A-1", 0, "", ORDERS, exchanges[4][1]), ("CG-1", 1, "GLASS", PROBLEM, exchanges[1][1])]
+    trial.equal((found["imports"], found["totals"]), (imports, []))
+    trial.equal(found["totals2"], [("GLASS", 320, 80, 40, 0, 10, 110, 80), ("STEEL", 0, 0, 0, 0, 0, 0, 0)])
+
+
+@case(
+    "keys of the tables",
+    "The parts' material, the jobs' part, the orders and the totals are referenced as the formats have it; an order's line "
+    "stands once; no more is reserved and made than wanted.",
+)
 def keys(trial):
     path = filled(trial)
     wanted = {
@@ -97,10 +174,12 @@ def keys(trial):
     }
     for name in tables.COLUMNS:
         found = sorted(it[2:5] for it in tables.select(path, f"PRAGMA foreign_key_list({name})"))
-        trial.equal([(table, begin, to) for table, begin, to in found], sorted((t, b, e) for t, b, e in wanted.get(name, [])), name)
+        trial.equal(found, wanted.get(name, []), name)
     indexes = tables.select(path, "SELECT name FROM pragma_index_list('demands') WHERE origin = 'u'")
-    trial.equal([it[0] for it in tables.select(path, f"SELECT name FROM pragma_index_info('{indexes[0][0]}')")], ["ord", "line"])
-    for statement in ("UPDATE demands SET reserved = 1 WHERE number = 3", "INSERT INTO orders VALUES ('A-1')", "UPDATE parts SET x = 'a'"):
+    columns = tables.select(path, f"SELECT name FROM pragma_index_info('{indexes[0][0]}')")
+    trial.equal(columns, [("ord",), ("line",)])
+    statements = ["UPDATE demands SET reserved = 1 WHERE number = 3", "INSERT INTO orders VALUES ('A-1')"]
+    for statement in (*statements, "UPDATE parts SET x = 'a'"):
         try:
             tables.change(path, statement)
             trial.holds(False, f"{statement} is taken")
@@ -108,7 +187,11 @@ def keys(trial):
             pass
 
 
-@case("a book opened again", "“Remnant cut again” over a file, killed and opened again: the same answers, each message gets its kept reply, and nothing is done twice.")
+@case(
+    "a book opened again",
+    "“Remnant cut again” over a file, killed and opened again: the same answers, each message gets its kept reply, and "
+    "nothing is done twice.",
+)
 def opened_again(trial):
     shop = trial.shop()
     sent(trial, shop)
@@ -118,12 +201,17 @@ def opened_again(trial):
     sent(trial, again)
     after = [again.reply(it) for it in QUESTIONS] + [again.get(it) for it in ("/ticket/2", "/ticket/3", "/yield/GLASS")]
     trial.equal(after, before)
-    trial.equal(after[0], b'{"kerf":17,"material":"GLASS","ok":"totals","pieces":43,"rack":20,"received":80,"returned":0,"scrap":0,"stock":0}')
+    totals = {"kerf": 17, "pieces": 43, "rack": 20, "received": 80, "returned": 0, "scrap": 0, "stock": 0}
+    trial.equal(after[0].decode(), compact({"material": "GLASS", "ok": "totals", **totals}))
     again.kill()
     trial.equal(len(tables.select(shop.store, "SELECT * FROM kept")), len(DAY))
 
 
-@case("a book of a file and one in memory", "The same lines get the same replies from `replay` and, question for question, from a file that was opened again behind each message.")
+@case(
+    "a book of a file and one in memory",
+    "The same lines get the same replies from `replay` and, question for question, from a file that was opened again "
+    "behind each message.",
+)
 def both_books(trial):
     lines = [it for line, _ in DAY for it in (line, *QUESTIONS)]
     wanted = trial.replay(lines).out.decode().split("\n")[:-1]
@@ -139,7 +227,11 @@ def numbers(path, name, value):
     tables.change(path, f"UPDATE meta SET value = {value} WHERE name = '{name}'")
 
 
-@case("the last numbers", "Where the last act or demand is 2147483646 one more is given, and where it is 2147483647 a receipt, an order and a reservation are refused 33.")
+@case(
+    "the last numbers",
+    "Where the last act or demand is 2147483646 one more is given, and where it is 2147483647 a receipt, an order and a "
+    "reservation are refused 33.",
+)
 def last_numbers(trial):
     spent = b'{"name":"NumbersSpent","refused":33}'
     path = filled(trial, exchanges=DAY[:3])
@@ -152,7 +244,8 @@ def last_numbers(trial):
     trial.equal(shop.reply('{"do":"reserve","number":11,"part":"1/0","terminal":1,"tree":"x4 y3 p1 p2 r"}'), spent)
     order = ORDER.replace("A-1", "A-2").replace('"number":3', '"number":12')
     trial.equal(shop.reply(order), spent)
-    one = '{"do":"order","lines":[{"count":1,"h":3,"line":1,"material":"GLASS","turn":false,"w":4,"worth":12}],"number":13,"order":"A-3","terminal":1}'
+    line = {"count": 1, "h": 3, "line": 1, "material": "GLASS", "turn": False, "w": 4, "worth": 12}
+    one = compact({"do": "order", "lines": [line], "number": 13, "order": "A-3", "terminal": 1})
     trial.equal(shop.reply(one), b'{"count":1,"first":2147483647,"ok":"order","order":"A-3"}')
     trial.equal(shop.reply(one.replace("A-3", "A-4").replace("13", "14")), spent)
 
@@ -161,10 +254,14 @@ def many_parts(path, material, count, w, h, first_act=10, state=0):
     """Puts standing parts of a job's name into a file, and their cells into the rack's total."""
     rows = ",".join(f"({first_act}, {it}, '{material}', 'B-9', 1, 0, 0, 0, {w}, {h}, {state}, 0)" for it in range(count))
     cells = count * w * h
-    tables.change(path, f"INSERT INTO parts VALUES {rows}; UPDATE totals2 SET rack = rack + {cells} WHERE material = '{material}'")
+    sums = f"UPDATE totals2 SET rack = rack + {cells} WHERE material = '{material}'"
+    tables.change(path, f"INSERT INTO parts VALUES {rows}; {sums}")
 
 
-@case("totals over 2^32 cells", "Totals of more cells than 32 bits hold are told, of received units and after a shop was opened again.")
+@case(
+    "totals over 2^32 cells",
+    "Totals of more cells than 32 bits hold are told, of received units and after a shop was opened again.",
+)
 def large_totals(trial):
     shop = trial.shop()
     sent(trial, shop, [DAY[0], received("GLASS", 200000, 60000, 1, 100)])
@@ -194,17 +291,33 @@ def last_cell(trial):
     trial.equal(json.loads(shop.reply(TOTALS))["received"], 1000000000000000)
 
 
-@case("racks and reports of many parts", "A rack and a yield report of 70000 parts are told whole, in order, over HTTP and by `yield`.")
+# More parts than 16 bits count.
+MANY = 65600
+
+
+def long_answer(shop, path):
+    """The body of an answer for which the client waits as long as for a run of the program."""
+    with shop.connect() as connection:
+        connection.settimeout(SECONDS)
+        connection.sendall(f"GET {path} HTTP/1.1\r\nHost: shop\r\n\r\n".encode())
+        return read_all(connection).partition(b"\r\n\r\n")[2]
+
+
+@case(
+    "racks and reports of many parts",
+    "A rack and a yield report of 65600 parts are told whole, in order, over HTTP and by `yield`.",
+)
 def many(trial):
-    path, count = filled(trial, exchanges=DAY[:2]), 70000
+    path, count = filled(trial, exchanges=DAY[:2]), MANY
     many_parts(path, "GLASS", count, 5, 4)
     shop = trial.shop()
-    rack = json.loads(shop.reply('{"ask":"rack","material":"GLASS"}'))
+    rack = json.loads(long_answer(shop, "/rack/GLASS"))
     trial.equal(rack["parts"], [{"h": 4, "part": f"10/{it}", "state": "standing", "w": 5} for it in range(count)])
-    report = shop.get("/yield/GLASS").partition(b"\r\n\r\n")[2]
+    report = long_answer(shop, "/yield/GLASS")
     shop.kill()
     lines = report.decode().split("\n")
-    trial.equal((lines[9], lines[10], lines[count + 10]), ("part 1/0 1.0 x 0.8 standing", "part 10/0 0.5 x 0.4 standing", "end"))
+    trial.equal(lines[9:11], ["part 1/0 1.0 x 0.8 standing", "part 10/0 0.5 x 0.4 standing"])
+    trial.equal(lines[count + 9 :], [f"part 10/{count - 1} 0.5 x 0.4 standing", "end", ""])
     trial.ended(trial.run("yield", "--store", path, "GLASS"), 0, report)
 
 
@@ -217,7 +330,11 @@ def thousand(trial):
         trial.equal(len(json.loads(shop.reply('{"ask":"rack","material":"GLASS"}'))["parts"]), count)
 
 
-@case("rows of no book", "A job of state 9, a plan that is none, a turn of 5, a kind of 3 and a kept reply that is none are told as 99 with status 503 where they are asked for; all else is answered.")
+@case(
+    "rows of no book",
+    "A job of state 9, a plan that is none, a turn of 5, a kind of 3 and a kept reply that is none are told as 99 with "
+    "status 503 where they are asked for; all else is answered.",
+)
 def spoiled(trial):
     spoils = [
         ("UPDATE jobs SET state = 9", DONE, None),

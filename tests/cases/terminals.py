@@ -122,8 +122,9 @@ def stopped_at(shop, terminals, count, number):
 
 @case(
     "stops in the middle of posts",
-    "Eight terminals post at once; the shop is stopped by SIGKILL, SIGTERM and SIGKILL between their posts and started again, and all "
-    "is sent again: each message that was acknowledged gets its reply again, and the tables are those of a run without a stop.",
+    "Eight terminals post at once; the shop is stopped by SIGKILL, SIGTERM and SIGKILL between their posts and started "
+    "again, and all is sent again: each message that was acknowledged gets its reply again, and the tables are those of a "
+    "run without a stop.",
 )
 def stops(trial):
     count, terminals = 9, [Terminal(it) for it in range(1, 9)]
@@ -147,7 +148,10 @@ def stops(trial):
     trial.equal(tables.select(shop.store, "PRAGMA integrity_check"), [("ok",)])
 
 
-@case("a store in use", "A store that is served is `fault store` to a second `serve`, `ticket` and `yield`, and the first goes on.")
+@case(
+    "a store in use",
+    "A store that is served is `fault store` to a second `serve`, `ticket` and `yield`, and the first goes on.",
+)
 def in_use(trial):
     shop = trial.shop()
     sent(trial, shop, DAY[:3])
@@ -162,8 +166,8 @@ def in_use(trial):
 
 @case(
     "paths that are no store",
-    "A store in a folder that isn't there, a folder, and a file that is no database are `fault store` to `serve`, `ticket` and `yield`; "
-    "the file stays byte for byte.",
+    "A store in a folder that isn't there, a folder, and a file that is no database are `fault store` to `serve`, `ticket` "
+    "and `yield`; the file stays byte for byte.",
 )
 def no_store(trial):
     os.mkdir(trial.path("folder"))
@@ -187,7 +191,10 @@ def judged_by_modes():
         ctypes.CDLL(None).prctl(PR_CAPBSET_DROP, right, 0, 0, 0)
 
 
-@case("a store that can't be written", "A file and a folder that may only be read are `fault store`, and the file stays byte for byte.")
+@case(
+    "a store that can't be written",
+    "A file and a folder that may only be read are `fault store`, and the file stays byte for byte.",
+)
 def read_only(trial):
     path = tables.make(trial.path("shop.db"), {})
     os.mkdir(trial.path("folder"), 0o500)
@@ -216,8 +223,8 @@ def small_files(size):
 
 @case(
     "a full disk",
-    "Where the store's files can't grow a message is refused 99 with status 503 and changes nothing; after a start with room what was "
-    "acknowledged is there, and the refused message is accepted.",
+    "Where the store's files can't grow a message is refused 99 with status 503 and changes nothing; after a start with "
+    "room what was acknowledged is there, and the refused message is accepted.",
 )
 def full_disk(trial):
     trial.shop(limit=1).kill()
@@ -231,7 +238,8 @@ def full_disk(trial):
             terminal.told.append((line, body.decode()))
         else:
             refused = line
-            trial.equal((head.split(b"\r\n")[0], body), (b"HTTP/1.1 503 Service Unavailable", b'{"name":"StoreFault","refused":99}'))
+            trial.equal(body, b'{"name":"StoreFault","refused":99}', line)
+            trial.equal(head.split(b"\r\n")[0], b"HTTP/1.1 503 Service Unavailable", line)
     trial.holds(refused, "no message meets the limit")
     shop.kill()
     trial.equal([it[2:] for it in tables.rows(shop.store)["kept"]], terminal.told)

@@ -21,6 +21,9 @@ from dataclasses import dataclass, field
 from kit import case as cases
 from kit.shop import answer, request_of, status_of
 
+# The cases of all files, by name.
+EXCHANGES = {}
+
 # A request is sent whole, and in pieces of so many bytes.
 PIECES = (None, 1, 17, 8191)
 
@@ -121,4 +124,5 @@ def read(path):
         lacking = [step.at for step in it.steps if step.wanted is None]
         if lacking:
             raise SystemExit(f"{lacking[0]}: nothing is said of what comes of it")
+        EXCHANGES[it.name] = it
         cases.add(it.name, " ".join(it.says), it.at, it.run)

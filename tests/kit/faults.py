@@ -41,6 +41,7 @@ class Faults:
         os.truncate(number, 4096)
         os.close(number)
         under = os.path.realpath(trial.folder)
+        self.at = at
         self.environment = {
             "LD_PRELOAD": library(),
             "FAULT_OF": of,

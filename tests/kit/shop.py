@@ -146,6 +146,14 @@ class Shop:
     def get(self, path):
         return self.exchange(f"GET {path} HTTP/1.1\r\nHost: shop\r\n\r\n".encode())
 
+    def has_ended(self, seconds=0.2):
+        """Whether it ended by itself, or does so soon."""
+        try:
+            self.process.wait(timeout=seconds)
+        except subprocess.TimeoutExpired:
+            return False
+        return True
+
     def end(self):
         """Waits until it ends by itself, and gives its status and what it wrote on standard error."""
         out, errors = self.process.communicate(timeout=SECONDS)

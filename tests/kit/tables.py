@@ -34,7 +34,8 @@ TEXTS = {"name", "code", "material", "batch", "tree", "ord", "command", "reply",
 def rows(path):
     """All rows of all tables, by table, each in the order of its key."""
     with closing(sqlite3.connect(path)) as book:
-        return {name: book.execute(f"SELECT * FROM {name} ORDER BY {KEYS[name].replace(' ', ', ')}").fetchall() for name in COLUMNS}
+        by = {name: keys.replace(" ", ", ") for name, keys in KEYS.items()}
+        return {name: book.execute(f"SELECT * FROM {name} ORDER BY {by[name]}").fetchall() for name in COLUMNS}
 
 
 def select(path, statement):
@@ -56,7 +57,8 @@ def columns_of(path, name):
 
 def wanted_columns(name):
     keys = KEYS[name].split()
-    return [(it, "TEXT" if it in TEXTS else "INTEGER", 1, keys.index(it) + 1 if it in keys else 0) for it in COLUMNS[name].split()]
+    places = {it: keys.index(it) + 1 for it in keys}
+    return [(it, "TEXT" if it in TEXTS else "INTEGER", 1, places.get(it, 0)) for it in COLUMNS[name].split()]
 
 
 # The tables of version 1, as plain SQL, and the one that version 2 adds.
