@@ -6,6 +6,7 @@ from cases.stores import DAY, QUESTIONS, filled, sent
 from kit import tables
 from kit.case import case
 
+
 def opens(trial, store):
     """Whether a store is taken over; if not, it has to be told as of another version."""
     ran = trial.run("ticket", "--store", store, "2147483647")
@@ -31,7 +32,11 @@ def refused_as_it_was(trial, path, why):
     trial.equal(dump(path), before, why)
 
 
-@case("a file of version 1", "A file of version 1, with its totals in `totals`, becomes one of version 2 with the same content: same answers, and each message gets its kept reply.")
+@case(
+    "a file of version 1",
+    "A file of version 1, with its totals in `totals`, becomes one of version 2 with the same content: same answers, and each "
+    "message gets its kept reply.",
+)
 def version_1(trial):
     path = filled(trial)
     shop = trial.shop()
@@ -39,7 +44,10 @@ def version_1(trial):
     shop.kill()
     rows = tables.rows(path)
     names = tables.COLUMNS["totals"].replace(" ", ", ")
-    tables.change(path, f"INSERT INTO totals SELECT {names} FROM totals2; DROP TABLE totals2; UPDATE meta SET value = 1 WHERE name = 'version'")
+    tables.change(
+        path,
+        f"INSERT INTO totals SELECT {names} FROM totals2; DROP TABLE totals2; UPDATE meta SET value = 1 WHERE name = 'version'",
+    )
     again = trial.shop()
     sent(trial, again)
     trial.equal([again.reply(it) for it in QUESTIONS], before)
@@ -47,16 +55,26 @@ def version_1(trial):
     trial.equal(tables.rows(path), rows)
 
 
-@case("a file of version 1 of other totals", "A file of version 1 whose totals aren't the sums of its parts is `fault version` and stays as it was.")
+@case(
+    "a file of version 1 of other totals",
+    "A file of version 1 whose totals aren't the sums of its parts is `fault version` and stays as it was.",
+)
 def version_1_of_other_totals(trial):
     path = filled(trial)
     names = tables.COLUMNS["totals"].replace(" ", ", ")
-    tables.change(path, f"INSERT INTO totals SELECT {names} FROM totals2; DROP TABLE totals2; UPDATE meta SET value = 1 WHERE name = 'version'")
+    tables.change(
+        path,
+        f"INSERT INTO totals SELECT {names} FROM totals2; DROP TABLE totals2; UPDATE meta SET value = 1 WHERE name = 'version'",
+    )
     tables.change(path, "UPDATE totals SET kerf = kerf + 1")
     refused_as_it_was(trial, path, "another total")
 
 
-@case("a file of another version", "Versions 0, 1, 3, 7, -2 and 4294967298 in the tables of version 2, and none at all, are `fault version`, and the file stays as it was.")
+@case(
+    "a file of another version",
+    "Versions 0, 1, 3, 7, -2 and 4294967298 in the tables of version 2, and none at all, are `fault version`, and the file "
+    "stays as it was.",
+)
 def versions(trial):
     path = filled(trial, exchanges=DAY[:3])
     for version in (0, 1, 3, 7, -2, 4294967298):
@@ -68,9 +86,15 @@ def versions(trial):
     trial.holds(opens(trial, path), "version 2 is taken again")
 
 
-@case("tables of others beside ours", "A shop is made beside a table, an index and a view of others, which stay as they were, and they may be made beside a shop.")
+@case(
+    "tables of others beside ours",
+    "A shop is made beside a table, an index and a view of others, which stay as they were, and they may be made beside a "
+    "shop.",
+)
 def beside(trial):
-    others = "CREATE TABLE other (x INTEGER NOT NULL) STRICT; CREATE INDEX at ON other (x); CREATE VIEW shown AS SELECT x FROM other"
+    others = (
+        "CREATE TABLE other (x INTEGER NOT NULL) STRICT; CREATE INDEX at ON other (x); CREATE VIEW shown AS SELECT x FROM other"
+    )
     for store, exchanges in (("first.db", None), ("later.db", DAY)):
         path = filled(trial, store, exchanges) if exchanges else trial.path(store)
         tables.change(path, others + "; INSERT INTO other VALUES (7)")
@@ -80,9 +104,15 @@ def beside(trial):
         trial.equal(tables.select(path, "SELECT x FROM shown"), [(7,)])
 
 
-@case("names that others have", "Where a table, an index or a view of others has one of our names, the file is `fault version` and stays as it was.")
+@case(
+    "names that others have",
+    "Where a table, an index or a view of others has one of our names, the file is `fault version` and stays as it was.",
+)
 def names_taken(trial):
-    makes = ["CREATE TABLE parts (x INTEGER NOT NULL) STRICT", "CREATE TABLE a (x INTEGER NOT NULL); CREATE INDEX meta ON a (x)"]
+    makes = [
+        "CREATE TABLE parts (x INTEGER NOT NULL) STRICT",
+        "CREATE TABLE a (x INTEGER NOT NULL); CREATE INDEX meta ON a (x)",
+    ]
     makes += ["CREATE TABLE a (x INTEGER NOT NULL); CREATE VIEW totals2 AS SELECT x FROM a"]
     makes += ["CREATE TABLE meta (word TEXT NOT NULL, text TEXT NOT NULL) STRICT; INSERT INTO meta VALUES ('version', '2')"]
     for number, make in enumerate(makes):
@@ -118,7 +148,11 @@ STRANGE = [
 ]
 
 
-@case("parts and totals that are no values", "A part whose act, node, root, place, side, batch, state or detail is out of its range, and totals that aren't the sums of the parts, are `fault version`, and the file stays as it was.")
+@case(
+    "parts and totals that are no values",
+    "A part whose act, node, root, place, side, batch, state or detail is out of its range, and totals that aren't the sums "
+    "of the parts, are `fault version`, and the file stays as it was.",
+)
 def strange(trial):
     path = filled(trial, exchanges=DAY[:2])
     for table, column, values, good in STRANGE:
@@ -132,7 +166,10 @@ def strange(trial):
     trial.holds(opens(trial, path), "the good values are taken again")
 
 
-@case("parts of the greatest values", "Acts of 2147483647, nodes and places of 4294967295 and a batch of 16 characters are taken.")
+@case(
+    "parts of the greatest values",
+    "Acts of 2147483647, nodes and places of 4294967295 and a batch of 16 characters are taken.",
+)
 def greatest(trial):
     path = filled(trial, exchanges=DAY[:2])
     tables.change(path, "UPDATE parts SET node = 4294967295, root_node = 4294967295, x = 4294967295, y = 4294967295")

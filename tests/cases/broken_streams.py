@@ -25,7 +25,11 @@ def bytes_alone(trial):
         trial.equal(shop.send(line).partition(b"\r\n\r\n")[2], reply, line)
 
 
-@case("a read of lines fails", "Each read of `replay` fails in turn, of reads that take one byte: the lines before it have their replies, and `fault read` is told with status 1.")
+@case(
+    "a read of lines fails",
+    "Each read of `replay` fails in turn, of reads that take one byte: the lines before it have their replies, and `fault "
+    "read` is told with status 1.",
+)
 def reads_fail(trial):
     day = day_of(trial, NAME)
     lines, _ = whole(day)
@@ -35,7 +39,11 @@ def reads_fail(trial):
         trial.ended(ran, 1, b"".join(it + b"\n" for it in day.replies[:count]), b"fault read\n", sent=f"read {at + 1}")
 
 
-@case("a write of replies fails", "Each write of `replay` fails in turn, of writes that take one byte: a first part of the replies was written, and `fault write` is told with status 1.")
+@case(
+    "a write of replies fails",
+    "Each write of `replay` fails in turn, of writes that take one byte: a first part of the replies was written, and `fault "
+    "write` is told with status 1.",
+)
 def writes_fail(trial):
     day = day_of(trial, NAME)
     lines, replies = whole(day)
@@ -44,7 +52,11 @@ def writes_fail(trial):
         trial.ended(ran, 1, replies[:at], b"fault write\n", sent=f"write {at + 1}")
 
 
-@case("interrupted once, and for ever", "A read and a write that are interrupted are made again; where they are interrupted for ever the fault is told by the status.")
+@case(
+    "interrupted once, and for ever",
+    "A read and a write that are interrupted are made again; where they are interrupted for ever the fault is told by the "
+    "status.",
+)
 def interrupted(trial):
     day = day_of(trial, NAME)
     lines, replies = whole(day)
@@ -59,7 +71,11 @@ def interrupted(trial):
     trial.equal(trial.replay(lines, environment=ever.environment).status, 1)
 
 
-@case("a read of a request fails", "Each read of a POST's connection fails in turn: its message isn't done, the shop goes on, and the message sent again gets its reply.")
+@case(
+    "a read of a request fails",
+    "Each read of a POST's connection fails in turn: its message isn't done, the shop goes on, and the message sent again "
+    "gets its reply.",
+)
 def request_reads_fail(trial):
     request = request_of(DONE)
     for at in trial.places(len(request), 41):
@@ -75,7 +91,11 @@ def request_reads_fail(trial):
         again.kill()
 
 
-@case("a write of an answer fails", "Each write of an answer fails in turn: a first part of it came, the message is done, and sent again it gets the whole kept reply.")
+@case(
+    "a write of an answer fails",
+    "Each write of an answer fails in turn: a first part of it came, the message is done, and sent again it gets the whole "
+    "kept reply.",
+)
 def answer_writes_fail(trial):
     wanted = answer(200, DONE_REPLY)
     for at in trial.places(len(wanted), 41):

@@ -42,8 +42,7 @@ def plans(trial):
 
 @case(
     "a problem whose best tree drops pieces",
-    "Two pieces of 4 by 3 worth 66 are planned, where four fit: worth 132, ceiling 264, dropped 2, and no piece of 5 "
-    "by 8.",
+    "Two pieces of 4 by 3 worth 66 are planned, where four fit: worth 132, ceiling 264, dropped 2, and no piece of 5 " "by 8.",
 )
 def dropping(trial):
     path = trial.write("problem.txt", "  2 10 8\r\n4 3 2 66\r\n5 8 1 40\r\n")
@@ -75,8 +74,7 @@ def faults_of_problems(trial):
 
 @case(
     "lengths of problem texts",
-    "A text of 65536 bytes is read, and one byte more is too long, as is a file of 64 GiB, which isn't read to its "
-    "end.",
+    "A text of 65536 bytes is read, and one byte more is too long, as is a file of 64 GiB, which isn't read to its " "end.",
 )
 def lengths(trial):
     planned(trial, " " * 65536, "fault text 65536 Short")
@@ -92,7 +90,11 @@ def fault_of(text):
     for at, byte in enumerate(text):
         if byte not in b"0123456789 \t\r\n":
             return f"{at} Byte"
-    places = [at for at in range(len(text)) if text[at : at + 1].isdigit() and not text[at - 1 : at].isdigit() or at == 0 and text[:1].isdigit()]
+    places = [
+        at
+        for at in range(len(text))
+        if text[at : at + 1].isdigit() and not text[at - 1 : at].isdigit() or at == 0 and text[:1].isdigit()
+    ]
     numbers = [int(text[at:].split()[0]) for at in places]
     most = [200, 200000, 60000]
     if numbers and 1 <= numbers[0] <= 200:
@@ -129,7 +131,7 @@ def no_files(trial):
 
 
 def over(trial, *words, given=None, out=None):
-    """Runs the program with a file as its standard input or output, and gives its status and what it wrote on standard error."""
+    """Runs the program over files, and gives its status and what it wrote on standard error."""
     source = os.open(given or os.devnull, os.O_RDONLY)
     sink = os.open(out or os.devnull, os.O_WRONLY)
     try:
@@ -166,7 +168,9 @@ def no_input(trial):
 
 @case("all of standard error is closed", "Where no stream takes anything the status tells the fault.")
 def no_errors(trial):
-    ran = subprocess.run([trial.program, "plan", "no.txt", "--kerf", "0", "--step", "1"], stderr=open("/dev/full", "wb"), cwd=trial.folder)
+    ran = subprocess.run(
+        [trial.program, "plan", "no.txt", "--kerf", "0", "--step", "1"], stderr=open("/dev/full", "wb"), cwd=trial.folder
+    )
     trial.equal(ran.returncode, 1)
 
 
@@ -248,8 +252,16 @@ def order_of_faults(trial):
         trial.write("entry.toml", STEEL + "[[material]]\ncode = 1\n")
         trial.write("bad.toml", STEEL.replace("2.0", "0.0"))
         trial.write("shop.toml", STEEL)
-        wanted = [("no.toml", ".", "fault file"), ("text.toml", ".", "fault shop text"), ("entry.toml", ".", "fault shop entry 2")]
-        wanted += [("bad.toml", ".", "fault store"), ("bad.toml", "a.db", "shop entry 1 refused 22 BadMaterial"), ("shop.toml", "b.db", "fault port")]
+        wanted = [
+            ("no.toml", ".", "fault file"),
+            ("text.toml", ".", "fault shop text"),
+            ("entry.toml", ".", "fault shop entry 2"),
+        ]
+        wanted += [
+            ("bad.toml", ".", "fault store"),
+            ("bad.toml", "a.db", "shop entry 1 refused 22 BadMaterial"),
+            ("shop.toml", "b.db", "fault port"),
+        ]
         for shop, store, line in wanted:
             trial.ended(serving(trial, port, store, shop), 1, err=f"{line}\n", sent=f"{shop} {store}")
 
@@ -266,7 +278,10 @@ def growing(trial):
         port = taken.getsockname()[1]
         wanted = [(STEEL, "fault port"), (STEEL, "fault port"), (STEEL + GLASS, "fault port")]
         wanted += [(STEEL.replace("0.3", "0.4") + GLASS, "shop entry 1 refused 11 NumberReused")]
-        wanted += [(STEEL + GLASS + STEEL.replace("0.3", "0.4"), "shop entry 3 refused 21 MaterialExists"), (STEEL + GLASS + STEEL, "fault port")]
+        wanted += [
+            (STEEL + GLASS + STEEL.replace("0.3", "0.4"), "shop entry 3 refused 21 MaterialExists"),
+            (STEEL + GLASS + STEEL, "fault port"),
+        ]
         for text, line in wanted:
             trial.write("shop.toml", text)
             trial.ended(serving(trial, port, "a.db", "shop.toml"), 1, err=f"{line}\n", sent=text)
@@ -304,7 +319,12 @@ def no_stores(trial):
     with sqlite3.connect(trial.path("other.db")) as other:
         other.execute("CREATE TABLE parts (name TEXT) STRICT")
     other.close()
-    for store, line in ((junk, "fault store"), (".", "fault store"), ("no/such.db", "fault store"), ("other.db", "fault version")):
+    for store, line in (
+        (junk, "fault store"),
+        (".", "fault store"),
+        ("no/such.db", "fault store"),
+        ("other.db", "fault version"),
+    ):
         trial.ended(trial.run("ticket", "--store", store, "1"), 1, err=f"{line}\n", sent=store)
         trial.ended(trial.run("yield", "--store", store, "STEEL"), 1, err=f"{line}\n", sent=store)
     with open(junk, "rb") as file:
@@ -321,7 +341,9 @@ def ranges(trial):
         ran = trial.run("serve", "--port", port, "--store", "a.db", "--shop", "no.toml", "--limit", limit)
         trial.ended(ran, 1, err="fault file\n", sent=f"{port} {limit}")
     for kerf, step in (("0", "0"), ("200", "200000")):
-        trial.ended(trial.run("plan", "no.txt", f"--kerf={kerf}", f"--step={step}"), 1, err="fault file\n", sent=f"{kerf} {step}")
+        trial.ended(
+            trial.run("plan", "no.txt", f"--kerf={kerf}", f"--step={step}"), 1, err="fault file\n", sent=f"{kerf} {step}"
+        )
 
 
 MISTAKES = """

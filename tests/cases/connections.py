@@ -93,7 +93,9 @@ def listening(trial):
 )
 def limited(trial):
     shop = trial.shop(limit=2)
-    trial.equal((shop.reply(GLASS), shop.reply(SHEET)), (b'{"material":"GLASS","ok":"material"}', b'{"act":1,"count":1,"ok":"receive"}'))
+    trial.equal(
+        (shop.reply(GLASS), shop.reply(SHEET)), (b'{"material":"GLASS","ok":"material"}', b'{"act":1,"count":1,"ok":"receive"}')
+    )
     trial.equal(shop.end(), (0, f"listening on 127.0.0.1:{shop.port}\n".encode(), b""))
     again = trial.shop(limit=1)
     trial.equal(again.reply(TOTALS), totals(80, 0, 0, 0))
@@ -133,7 +135,9 @@ def limits(trial):
         trial.equal(shop.exchange(request), wanted, request)
     for length, wanted in ((131072, answer(200, '{"material":"GLASS","ok":"material"}')), (131073, answer(413))):
         body = GLASS.encode().ljust(131072)
-        request = f"POST /message HTTP/1.1\r\nHost: x\r\nContent-Length: {length}\r\n\r\n".encode() + (body if length == 131072 else b"")
+        request = f"POST /message HTTP/1.1\r\nHost: x\r\nContent-Length: {length}\r\n\r\n".encode() + (
+            body if length == 131072 else b""
+        )
         trial.equal(shop.exchange(request), wanted, f"a body of {length}")
 
 

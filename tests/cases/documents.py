@@ -20,7 +20,9 @@ def documents():
 
 def is_there(name):
     """Whether a file has this name, below the top, docs/ or crates/, or at the end of a path in a crate."""
-    return any(glob.glob(os.path.join(TOP, it, name)) for it in ("", "docs", "crates", "crates/*", "crates/*/src", "crates/*/specs"))
+    return any(
+        glob.glob(os.path.join(TOP, it, name)) for it in ("", "docs", "crates", "crates/*", "crates/*/src", "crates/*/specs")
+    )
 
 
 @case("each case is named in the examples", "docs/EXAMPLES.md has the name and the sentence of each case, and names no other.")

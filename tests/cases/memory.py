@@ -70,14 +70,21 @@ def sent(shop, line):
 
 
 def replay_case(name):
-    @case(f"memory refused in replay: {name}", f"Each request for memory of “{name}” is refused in turn: a message is refused 98 and changes nothing, and sent again gets its reply, or the program ends with `fault memory`.")
+    @case(
+        f"memory refused in replay: {name}",
+        f"Each request for memory of “{name}” is refused in turn: a message is refused 98 and changes nothing, and sent again "
+        "gets its reply, or the program ends with `fault memory`.",
+    )
     def body(trial):
         day = day_of(trial, name)
         sweep(trial, lambda it: replayed(trial, day, it), count_of(trial, lambda it: replayed(trial, day, it)), 3)
 
 
 def serve_case(name):
-    @case(f"memory refused in serve: {name}", f"The same of “{name}” over a store file: the tables in the end are those of a run that nothing disturbs.")
+    @case(
+        f"memory refused in serve: {name}",
+        f"The same of “{name}” over a store file: the tables in the end are those of a run that nothing disturbs.",
+    )
     def body(trial):
         day = day_of(trial, name)
         count = count_of(trial, lambda it: served(trial, day, it, "count.db"))
@@ -92,7 +99,11 @@ for NAME in NAMES:
 LINES = (b"fault memory\n", b"refused 98 NoMemory\n")
 
 
-@case("memory refused in a command", "Each request for memory of `plan`, `ticket` and `yield` is refused in turn: they print what they print else, or nothing and `fault memory` or `refused 98 NoMemory`.")
+@case(
+    "memory refused in a command",
+    "Each request for memory of `plan`, `ticket` and `yield` is refused in turn: they print what they print else, or nothing "
+    "and `fault memory` or `refused 98 NoMemory`.",
+)
 def commands(trial):
     day = day_of(trial, "remnant cut again")
     shop = trial.shop()

@@ -11,7 +11,7 @@ def asked(part="1/0", demands=(1,), step=1):
 
 
 def sheet(w, h, kerf, lines, kind="sheet"):
-    """The lines of a shop with one unit of these sides and an order of these pieces: sides, how many, worth, whether they turn."""
+    """The lines of a shop with one unit of these sides and an order of these pieces (sides, number, worth, turn)."""
     wanted = [
         {"count": count, "h": height, "line": number, "material": "S", "turn": turn, "w": width, "worth": worth}
         for number, (width, height, count, worth, turn) in enumerate(lines, 1)
@@ -39,7 +39,11 @@ def planned(trial, lines, wanted, **question):
     trial.equal((cells, totals["stock"]), (totals["received"], 0), reserve)
 
 
-@case("plans of sheets, as queries", "A sheet of 10 by 8 with a kerf of 1 and pieces of 4 by 3: worth 48 at step 1, 24 with a ceiling of 48 at step 2; turned pieces are worth as much. Two of 5 by 5 drop two; two small ones drop 98. Each tree is reserved and cut.")
+@case(
+    "plans of sheets, as queries",
+    "A sheet of 10 by 8 with a kerf of 1 and pieces of 4 by 3: worth 48 at step 1, 24 with a ceiling of 48 at step 2; turned "
+    "pieces are worth as much. Two of 5 by 5 drop two; two small ones drop 98. Each tree is reserved and cut.",
+)
 def sheets(trial):
     pieces = sheet(10, 8, 1, [(4, 3, 10, 12, False)])
     planned(trial, pieces, (48, 48, 0))
@@ -63,7 +67,10 @@ def bars(trial):
             trial.equal(reply.decode(), refused(91, "TableTooLarge"))
 
 
-@case("a sheet of 256 pieces and more", "16 by 16 pieces that fill a sheet take 255 cuts and are planned; 16 by 17 are refused 91.")
+@case(
+    "a sheet of 256 pieces and more",
+    "16 by 16 pieces that fill a sheet take 255 cuts and are planned; 16 by 17 are refused 91.",
+)
 def many(trial):
     planned(trial, sheet(16, 16, 0, [(1, 1, 256, 1, False)]), (256, 256, 0))
     lines = sheet(16, 17, 0, [(1, 1, 1000, 1, False)])

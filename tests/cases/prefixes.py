@@ -81,8 +81,7 @@ def is_record(line):
 
 @case(
     "prefixes of an order file",
-    "Each first part of an order file is imported, refused 80 for its text, or refused 41 where it is the header "
-    "alone.",
+    "Each first part of an order file is imported, refused 80 for its text, or refused 41 where it is the header " "alone.",
 )
 def order_files(trial):
     header = "line,material,length,width,turn,count,worth"

@@ -38,7 +38,10 @@ def tour(trial):
     trial.equal(ran.out.decode().split("\n")[:-1], wanted, "\n".join(sent))
 
 
-@case("the order file as typed", "The import of docs/EXAMPLES.md and the messages behind it get the replies that stand there, where STEEL is known.")
+@case(
+    "the order file as typed",
+    "The import of docs/EXAMPLES.md and the messages behind it get the replies that stand there, where STEEL is known.",
+)
 def order_file(trial):
     sent, wanted = exchanged(blocks("docs/EXAMPLES.md", "\n## An order file\n", "\n## A ticket and a yield report\n"))
     steel = '{"do":"material","kerf":3,"kind":"bar","material":"STEEL","min_long":20,"min_short":1,"number":1,"terminal":1}'
@@ -46,7 +49,10 @@ def order_file(trial):
     trial.equal(ran.out.decode().split("\n")[1:-1], wanted, "\n".join(sent))
 
 
-@case("the sheet's plans as typed", "`cutshop plan docs/sheet.txt` prints README's lines at steps 1 and 2, but for the tree, which is any best one.")
+@case(
+    "the sheet's plans as typed",
+    "`cutshop plan docs/sheet.txt` prints README's lines at steps 1 and 2, but for the tree, which is any best one.",
+)
 def plans(trial):
     problem, first, second = blocks("README.md", "\n## A plan of a sheet\n", "\n## A shop's day\n")
     trial.equal("\n".join(problem), open(os.path.join(TOP, "docs/sheet.txt"), encoding="utf-8").read().strip())
@@ -55,7 +61,10 @@ def plans(trial):
         trial.equal((ran.status, ran.out.decode().split("\n")[:3]), (0, wanted[:3]), f"step {step}")
 
 
-@case("the shop's day as typed", "README's curl lines get the replies that stand behind them, and its ticket and report are served.")
+@case(
+    "the shop's day as typed",
+    "README's curl lines get the replies that stand behind them, and its ticket and report are served.",
+)
 def day(trial):
     shown = blocks("README.md", "\n## A shop's day\n", "\n## What is proved\n")
     shop = trial.shop(shop_file=os.path.join(TOP, "docs/shop.toml"))
@@ -63,7 +72,9 @@ def day(trial):
     ticket, report = [next(it for it in shown if it[0].startswith(word)) for word in ("job 2", "yield GLASS")]
     for post, wanted in zip(posts, replies):
         _, _, body, address = shlex.split(post)
-        request = f"POST {re.sub('^http://[^/]*', '', address)} HTTP/1.1\r\nHost: shop\r\nContent-Length: {len(body)}\r\n\r\n{body}"
+        request = (
+            f"POST {re.sub('^http://[^/]*', '', address)} HTTP/1.1\r\nHost: shop\r\nContent-Length: {len(body)}\r\n\r\n{body}"
+        )
         got = shop.exchange(request.encode()).partition(b"\r\n\r\n")[2].decode()
         trial.equal(got, wanted, post)
         if '"reserve"' in post:

@@ -16,9 +16,7 @@ REQUEST_SECONDS = 10
 
 
 def receipt(number, terminal):
-    return (
-        f'{{"batch":"B-1","count":1,"do":"receive","h":8,"material":"GLASS","number":{number},"terminal":{terminal},"w":10}}'
-    )
+    return f'{{"batch":"B-1","count":1,"do":"receive","h":8,"material":"GLASS","number":{number},"terminal":{terminal},"w":10}}'
 
 
 def silent(shop, count):
@@ -56,7 +54,11 @@ def served_beside(trial, shop, count=125):
     trial.holds(f'"received":{8 * count * 80},'.encode() in shop.reply(TOTALS), "each receipt is counted once")
 
 
-@case("fifty silent connections and one that drips", "Beside 50 connections that say nothing and one that sends a byte now and then, eight terminals have their 1000 answers at once.")
+@case(
+    "fifty silent connections and one that drips",
+    "Beside 50 connections that say nothing and one that sends a byte now and then, eight terminals have their 1000 answers "
+    "at once.",
+)
 def fifty(trial):
     shop = trial.shop()
     held, drip, ends = silent(shop, 50), shop.connect(), threading.Event()
@@ -81,7 +83,11 @@ def fifty(trial):
             it.close()
 
 
-@case("half a request and silence", "A connection that says nothing, and one that stops within its request, are closed after ten seconds, and nothing is done.")
+@case(
+    "half a request and silence",
+    "A connection that says nothing, and one that stops within its request, are closed after ten seconds, and nothing is "
+    "done.",
+)
 def half(trial):
     shop = trial.shop()
     begin = time.monotonic()
@@ -95,7 +101,10 @@ def half(trial):
     trial.equal(shop.reply(TOTALS), b'{"name":"NoMaterial","refused":20}')
 
 
-@case("three hundred connections at once", "Where over 256 connections say nothing the oldest are closed, and a terminal's request is answered at once.")
+@case(
+    "three hundred connections at once",
+    "Where over 256 connections say nothing the oldest are closed, and a terminal's request is answered at once.",
+)
 def three_hundred(trial):
     shop = trial.shop()
     held = silent(shop, 300)
@@ -121,7 +130,9 @@ def three_hundred(trial):
 @case("two thousand quick requests", "2000 requests one after the other, each over a connection of its own, are answered.")
 def quick(trial):
     shop = trial.shop(limit=2001)
-    wanted = answer(200, '{"kerf":0,"material":"GLASS","ok":"totals","pieces":0,"rack":0,"received":0,"returned":0,"scrap":0,"stock":0}')
+    wanted = answer(
+        200, '{"kerf":0,"material":"GLASS","ok":"totals","pieces":0,"rack":0,"received":0,"returned":0,"scrap":0,"stock":0}'
+    )
     shop.reply(GLASS)
     for _ in range(2000):
         trial.equal(shop.send(TOTALS), wanted)
@@ -139,11 +150,20 @@ def resets(trial):
     served_beside(trial, shop, 5)
 
 
-@case("faults before a body was read", "A POST that is refused for its path, its length or its coding gets its whole answer, also where its body still comes.")
+@case(
+    "faults before a body was read",
+    "A POST that is refused for its path, its length or its coding gets its whole answer, also where its body still comes.",
+)
 def early_faults(trial):
     shop = trial.shop()
-    heads = [("/nowhere", "Content-Length: 100000", 100000, answer(404)), ("/totals/A", "Content-Length: 100000", 100000, answer(405, allow="GET"))]
-    heads += [("/message", "Content-Length: 2000000", 2000000, answer(413)), ("/message", "Transfer-Encoding: chunked", 50000, answer(411))]
+    heads = [
+        ("/nowhere", "Content-Length: 100000", 100000, answer(404)),
+        ("/totals/A", "Content-Length: 100000", 100000, answer(405, allow="GET")),
+    ]
+    heads += [
+        ("/message", "Content-Length: 2000000", 2000000, answer(413)),
+        ("/message", "Transfer-Encoding: chunked", 50000, answer(411)),
+    ]
     for path, field, length, wanted in heads * 5:
         request = f"POST {path} HTTP/1.1\r\nHost: shop\r\n{field}\r\n\r\n".encode() + b"x" * length
         trial.equal(shop.exchange(request), wanted, f"{path} {field}")

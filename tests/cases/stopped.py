@@ -76,18 +76,30 @@ def sweep(trial, stride, **named):
         list(pool.map(lambda at: disturbed(trial, day, at + 1, **named), trial.places(count_of(trial, day), stride)))
 
 
-@case("a call on the store's files fails once", "Each call that changes the files of “remnant cut again” fails in turn: its message is refused 99 with status 503 or `serve` tells `fault store` at its start, nothing is lost, and all sent again come to the same tables.")
+@case(
+    "a call on the store's files fails once",
+    "Each call that changes the files of “remnant cut again” fails in turn: its message is refused 99 with status 503 or "
+    "`serve` tells `fault store` at its start, nothing is lost, and all sent again come to the same tables.",
+)
 def fails_once(trial):
     sweep(trial, 2, error=errno.EIO)
 
 
-@case("a disk that is full from some call on", "From each call that changes the files of “remnant cut again” on none works: nothing that was acknowledged is lost, and all sent again to a shop that is opened with room come to the same tables.")
+@case(
+    "a disk that is full from some call on",
+    "From each call that changes the files of “remnant cut again” on none works: nothing that was acknowledged is lost, and "
+    "all sent again to a shop that is opened with room come to the same tables.",
+)
 def fails_on(trial):
     sweep(trial, 2, error=errno.ENOSPC, on=True)
 
 
 def stopped(how, says):
-    @case(f"stopped with unsynced writes {how}", f"The program is stopped at each call that changes the files of “remnant cut again”, {says}: what was acknowledged is there, and all sent again come to the same tables.")
+    @case(
+        f"stopped with unsynced writes {how}",
+        f"The program is stopped at each call that changes the files of “remnant cut again”, {says}: what was acknowledged is "
+        "there, and all sent again come to the same tables.",
+    )
     def body(trial):
         sweep(trial, 1, stop=how)
 

@@ -92,7 +92,17 @@ class Shop:
         self.shop_file = shop_file or trial.write("empty.toml", "")
         for _ in range(20):
             self.port = free_port()
-            command = [trial.program, "serve", "--port", str(self.port), "--store", self.store, "--shop", self.shop_file, *words]
+            command = [
+                trial.program,
+                "serve",
+                "--port",
+                str(self.port),
+                "--store",
+                self.store,
+                "--shop",
+                self.shop_file,
+                *words,
+            ]
             command += ["--limit", str(limit)] if limit else []
             self.process = subprocess.Popen(
                 command,
