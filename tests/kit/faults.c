@@ -1,227 +1,295 @@
-// Calls of the C library that fail, loaded before it: which, the how manieth, how, and from then on or once, by the
-// environment.
+// Calls of the C library that fail, loaded before it: which, the how manieth, how, and once or from then on, by the
+// environment. It needs no header, so that any C compiler for Linux on x86-64 makes it.
 //
-//   FAULT_OF     memory, read, write (of streams: what is no file below FAULT_UNDER), or files (calls that change a file there)
+//   FAULT_OF     memory (the program asks by malloc and realloc alone), read, write (of streams: all but standard error and
+//                the files below FAULT_UNDER), files (calls that change files there), or looks (that open, lock or read them)
+//   FAULT_UNDER  the path of a folder
 //   FAULT_AT     the number of the call, from 1, that fails; 0: none
 //   FAULT_ON     once, or on: that call alone, or each from then on
 //   FAULT_ERROR  the error's number
-//   FAULT_BY     bytes: reads and writes of streams take at most so many bytes
-//   FAULT_STOP   kept, dropped or torn: the process ends at the call of `files`, and of what wasn't synced all, nothing or some
-//                sectors stay
+//   FAULT_BY     reads and writes take at most so many bytes: of files where FAULT_OF is files, else of streams
+//   FAULT_STOP   kept, dropped or torn: the process ends at the call of `files`, and of what wasn't synced all stays, nothing,
+//                or in each sector what it held at some time since
+//   FAULT_SEED   which sectors are torn
 //   FAULT_COUNT  a file whose first 8 bytes count the calls
-#define _GNU_SOURCE
-#include <dlfcn.h>
-#include <errno.h>
-#include <fcntl.h>
-#include <stdarg.h>
-#include <stdint.h>
-#include <stdlib.h>
-#include <string.h>
-#include <sys/mman.h>
-#include <sys/socket.h>
-#include <sys/stat.h>
-#include <sys/syscall.h>
-#include <sys/types.h>
-#include <unistd.h>
 
-enum { MEMORY = 1, READ, WRITE, FILES };
-enum { SECTOR = 512, MOST_FILES = 1024, MOST_NOTES = 1 << 16 };
+typedef unsigned long size_t;
 
-// What a write replaced: the file, the place, the bytes before, and the file's length before.
+enum { EIO = 5, ENOMEM = 12, F_OFD_SETLK = 37, O_CREAT = 0100, O_RDWR = 2, PROT_READ_WRITE = 3, MAP_SHARED = 1, SEEK_END = 2 };
+enum { AT_FDCWD = -100, STANDARD_ERROR = 2 };
+enum { READ_CALL = 0, WRITE_CALL = 1, CLOSE_CALL = 3, LSEEK_CALL = 8, PREAD_CALL = 17, PWRITE_CALL = 18, ACCESS_CALL = 21 };
+enum { SENDTO_CALL = 44, RECVFROM_CALL = 45, FCNTL_CALL = 72, FSYNC_CALL = 74, FDATASYNC_CALL = 75, FTRUNCATE_CALL = 77 };
+enum { UNLINK_CALL = 87, FCHMOD_CALL = 91, FCHOWN_CALL = 93, OPENAT_CALL = 257 };
+
+extern int *__errno_location(void);
+extern long syscall(long, ...);
+extern void *dlsym(void *, const char *);
+extern char *getenv(const char *);
+extern long strtol(const char *, char **, int);
+extern int strcmp(const char *, const char *);
+extern int strncmp(const char *, const char *, size_t);
+extern size_t strlen(const char *);
+extern char *strncpy(char *, const char *, size_t);
+extern void *memset(void *, int, size_t);
+extern void *mmap(void *, size_t, int, int, int, long);
+extern void _exit(int) __attribute__((noreturn));
+
+enum { MEMORY = 1, READ, WRITE, FILES, LOOKS };
+enum { KEPT = 1, DROPPED, TORN };
+enum { SECTOR = 512, MOST_PATHS = 64, MOST_NOTES = 1 << 16, MOST_NUMBERS = 1024, MOST_LENGTH = 512 };
+
+// A file or folder that was opened, and a number of it that stays open, or -1 for a folder.
+struct path {
+    char name[MOST_LENGTH];
+    int own;
+};
+
+// What a call replaced that isn't synced yet: the path's place, where, the bytes before, and the file's length before; or
+// that the file was made.
 struct note {
-    int file;
-    off_t at;
-    size_t count;
-    off_t length;
+    int path;
+    int is_new;
+    long at;
+    long count;
+    long length;
     char *before;
 };
 
 static int of, on, error_number, stop, ready;
-static long at, most;
+static long at, most, seed;
 static const char *under;
-static volatile long *calls;
-static long own;
+static long own_count;
+static volatile long *calls = &own_count;
+static struct path paths[MOST_PATHS];
+static int path_count;
 static struct note notes[MOST_NOTES];
-static int noted;
-static char is_file[MOST_FILES];
+static int note_count;
+// By the number of an open file below the folder: one more than its path's place.
+static int places[MOST_NUMBERS];
 
 static void *(*real_malloc)(size_t);
 static void *(*real_realloc)(void *, size_t);
+
+static void find_real(void) {
+    void *next = (void *)-1L;
+    real_malloc = dlsym(next, "malloc");
+    real_realloc = dlsym(next, "realloc");
+}
 
 static long number(const char *name, long other) {
     const char *text = getenv(name);
     return text ? strtol(text, 0, 10) : other;
 }
 
+// Which of these words, from 1, a variable is, or 0.
+static int word(const char *name, const char *const *words) {
+    const char *text = getenv(name);
+    for (int i = 0; text && words[i]; i++)
+        if (!strcmp(text, words[i])) return i + 1;
+    return 0;
+}
+
 __attribute__((constructor)) static void begin(void) {
-    real_malloc = dlsym(RTLD_NEXT, "malloc");
-    real_realloc = dlsym(RTLD_NEXT, "realloc");
-    const char *kind = getenv("FAULT_OF"), *how = getenv("FAULT_STOP"), *path = getenv("FAULT_COUNT"), *from = getenv("FAULT_ON");
+    static const char *const kinds[] = {"memory", "read", "write", "files", "looks", 0};
+    static const char *const stops[] = {"kept", "dropped", "torn", 0};
+    static const char *const times[] = {"on", 0};
+    find_real();
+    of = word("FAULT_OF", kinds);
+    stop = word("FAULT_STOP", stops);
+    on = word("FAULT_ON", times);
     under = getenv("FAULT_UNDER");
     at = number("FAULT_AT", 0);
     most = number("FAULT_BY", 0);
+    seed = number("FAULT_SEED", 0);
     error_number = number("FAULT_ERROR", EIO);
-    on = from && !strcmp(from, "on");
-    stop = !how ? 0 : !strcmp(how, "kept") ? 1 : !strcmp(how, "dropped") ? 2 : 3;
-    calls = &own;
+    const char *path = getenv("FAULT_COUNT");
     if (path) {
-        int file = syscall(SYS_openat, AT_FDCWD, path, O_RDWR);
-        void *page = mmap(0, 4096, PROT_READ | PROT_WRITE, MAP_SHARED, file, 0);
-        if (page != MAP_FAILED) calls = page;
-        syscall(SYS_close, file);
+        int file = syscall(OPENAT_CALL, AT_FDCWD, path, O_RDWR);
+        void *page = mmap(0, 4096, PROT_READ_WRITE, MAP_SHARED, file, 0);
+        if (page != (void *)-1L) calls = page;
+        syscall(CLOSE_CALL, file);
     }
-    of = !kind ? 0 : !strcmp(kind, "memory") ? MEMORY : !strcmp(kind, "read") ? READ : !strcmp(kind, "write") ? WRITE : FILES;
     ready = 1;
 }
 
-// Whether this call of a kind fails.
-static int fails(int kind) {
+static int failed(int error) {
+    *__errno_location() = error;
+    return 1;
+}
+
+// Whether this call of a kind is the one, or one of those, at which something happens.
+static int is_hit(int kind) {
     if (!ready || kind != of) return 0;
     long count = ++*calls;
     return at && (count == at || (on && count > at));
 }
 
-// Undoes, from the last on, what wasn't synced: all of it, or every other sector.
+// The number of notes, from the first on, that stand in a sector of a torn file.
+static int standing(int path, long sector) {
+    unsigned long mixed = (sector + 1) * 0x9E3779B97F4A7C15UL ^ (path + 1) * 0xC2B2AE3D27D4EB4FUL ^ (seed + 1) * 0x165667B19E3779F9UL;
+    mixed = (mixed ^ mixed >> 31) * 0xBF58476D1CE4E5B9UL;
+    return (mixed >> 33) % (note_count + 1);
+}
+
+// Undoes, from the last on, what wasn't synced.
 static void restore(void) {
-    for (int i = noted - 1; i >= 0 && stop != 1; i--) {
+    for (int i = note_count - 1; i >= 0; i--) {
         struct note *it = &notes[i];
-        for (size_t k = 0; k < it->count; k += SECTOR) {
-            size_t size = it->count - k < SECTOR ? it->count - k : SECTOR;
-            if (stop == 2 || ((it->at + k) / SECTOR + i) % 2) syscall(SYS_pwrite64, it->file, it->before + k, size, it->at + k);
+        struct path *path = &paths[it->path];
+        if (it->is_new && (stop == DROPPED || i >= standing(it->path, -1))) syscall(UNLINK_CALL, path->name);
+        for (long k = 0, size; k < it->count; k += size) {
+            long sector = (it->at + k) / SECTOR, left = (sector + 1) * SECTOR - it->at - k;
+            size = it->count - k < left ? it->count - k : left;
+            if (stop == DROPPED || i >= standing(it->path, sector)) syscall(PWRITE_CALL, path->own, it->before + k, size, it->at + k);
         }
-        if (stop == 2) syscall(SYS_ftruncate, it->file, it->length);
+        if (stop == DROPPED && !it->is_new) syscall(FTRUNCATE_CALL, path->own, it->length);
     }
 }
 
 // Whether a call that changes files fails; where the process is to stop there, it does.
 static int file_fails(void) {
-    if (!fails(FILES)) return 0;
-    if (stop) {
-        restore();
-        _exit(9);
+    if (!is_hit(FILES)) return 0;
+    if (!stop) return failed(error_number);
+    if (stop != KEPT) restore();
+    _exit(9);
+}
+
+static int fails(int kind) { return is_hit(kind) && failed(error_number); }
+
+static int is_below(int file) { return file >= 0 && file < MOST_NUMBERS && places[file]; }
+
+// Notes that a path is changed here, over so many bytes.
+static void note(int path, int is_new, long place, long count) {
+    if (stop < DROPPED || note_count == MOST_NOTES) return;
+    int own = paths[path].own;
+    struct note *it = &notes[note_count++];
+    *it = (struct note){path, is_new, place, count, is_new ? 0 : syscall(LSEEK_CALL, own, 0, SEEK_END), 0};
+    if (count) {
+        it->before = real_malloc(count);
+        memset(it->before, 0, count);
+        syscall(PREAD_CALL, own, it->before, count, place);
     }
-    errno = error_number;
-    return 1;
 }
 
-static int is_kept(int file) { return file >= 0 && file < MOST_FILES && is_file[file]; }
+static void note_of(int file, long place, long count) { note(places[file] - 1, 0, place, count); }
 
-static void note(int file, off_t place, size_t count) {
-    if (!stop || noted == MOST_NOTES) return;
-    struct stat now;
-    if (fstat(file, &now)) return;
-    struct note *it = &notes[noted++];
-    *it = (struct note){file, place, 0, now.st_size, real_malloc(count + 1)};
-    ssize_t had = count ? syscall(SYS_pread64, file, it->before, count, place) : 0;
-    it->count = had > 0 ? had : 0;
-}
-
+// A file is synced, or by its folder that files were made.
 static void forget(int file) {
-    int left = 0;
-    for (int i = 0; i < noted; i++)
-        if (notes[i].file != file) notes[left++] = notes[i];
-    noted = left;
+    int path = places[file] - 1, left = 0, is_folder = paths[path].own < 0;
+    for (int i = 0; i < note_count; i++)
+        if (is_folder ? !notes[i].is_new : notes[i].is_new || notes[i].path != path) notes[left++] = notes[i];
+    note_count = left;
+}
+
+// The place of a path, which is put in where it is new.
+static int place_of(const char *name) {
+    int i = 0;
+    while (i < path_count && strcmp(paths[i].name, name)) i++;
+    if (i == path_count && path_count < MOST_PATHS - 1) {
+        strncpy(paths[i].name, name, MOST_LENGTH - 1);
+        paths[i].own = syscall(OPENAT_CALL, AT_FDCWD, name, O_RDWR);
+        path_count++;
+    }
+    return i;
 }
 
 void *malloc(size_t size) {
-    if (!real_malloc) real_malloc = dlsym(RTLD_NEXT, "malloc");
-    if (fails(MEMORY)) {
-        errno = ENOMEM;
-        return 0;
-    }
-    return real_malloc(size);
+    if (!real_malloc) find_real();
+    return is_hit(MEMORY) && failed(ENOMEM) ? 0 : real_malloc(size);
 }
 
 void *realloc(void *old, size_t size) {
-    if (!real_realloc) real_realloc = dlsym(RTLD_NEXT, "realloc");
-    if (fails(MEMORY)) {
-        errno = ENOMEM;
-        return 0;
-    }
-    return real_realloc(old, size);
+    if (!real_realloc) find_real();
+    return is_hit(MEMORY) && failed(ENOMEM) ? 0 : real_realloc(old, size);
 }
 
-static size_t fewer(size_t count) { return most && count > (size_t)most ? (size_t)most : count; }
-
-ssize_t read(int file, void *to, size_t count) {
-    if (is_kept(file)) return syscall(SYS_read, file, to, count);
-    if (fails(READ)) {
-        errno = error_number;
-        return -1;
-    }
-    return syscall(SYS_read, file, to, fewer(count));
+static size_t fewer(size_t count, int is_file) {
+    return most && is_file == (of == FILES) && count > (size_t)most ? (size_t)most : count;
 }
 
-ssize_t recv(int file, void *to, size_t count, int flags) {
-    if (fails(READ)) {
-        errno = error_number;
-        return -1;
-    }
-    return syscall(SYS_recvfrom, file, to, fewer(count), flags, 0, 0);
+long read(int file, void *to, size_t count) {
+    if (is_below(file)) return syscall(READ_CALL, file, to, count);
+    return fails(READ) ? -1 : syscall(READ_CALL, file, to, fewer(count, 0));
 }
 
-ssize_t write(int file, const void *from, size_t count) {
-    if (fails(WRITE)) {
-        errno = error_number;
-        return -1;
-    }
-    return syscall(SYS_write, file, from, fewer(count));
+long recv(int file, void *to, size_t count, int flags) {
+    return fails(READ) ? -1 : syscall(RECVFROM_CALL, file, to, fewer(count, 0), flags, 0L, 0L);
 }
 
-ssize_t send(int file, const void *from, size_t count, int flags) {
-    if (fails(WRITE)) {
-        errno = error_number;
-        return -1;
-    }
-    return syscall(SYS_sendto, file, from, fewer(count), flags, 0, 0);
+long write(int file, const void *from, size_t count) {
+    if (file == STANDARD_ERROR) return syscall(WRITE_CALL, file, from, count);
+    return fails(WRITE) ? -1 : syscall(WRITE_CALL, file, from, fewer(count, 0));
 }
 
-int open(const char *path, int flags, ...) {
-    va_list rest;
-    va_start(rest, flags);
-    int mode = flags & O_CREAT ? va_arg(rest, int) : 0;
-    va_end(rest);
-    int is_under = under && !strncmp(path, under, strlen(under));
-    if (is_under && flags & O_CREAT && file_fails()) return -1;
-    int file = syscall(SYS_openat, AT_FDCWD, path, flags, mode);
-    if (file >= 0 && file < MOST_FILES) is_file[file] = is_under;
+long send(int file, const void *from, size_t count, int flags) {
+    return fails(WRITE) ? -1 : syscall(SENDTO_CALL, file, from, fewer(count, 0), flags, 0L, 0L);
+}
+
+int open(const char *name, int flags, ...) {
+    __builtin_va_list rest;
+    __builtin_va_start(rest, flags);
+    int mode = flags & O_CREAT ? __builtin_va_arg(rest, int) : 0;
+    __builtin_va_end(rest);
+    int is_under = under && *under && !strncmp(name, under, strlen(under));
+    if (is_under && (flags & O_CREAT ? file_fails() : fails(LOOKS))) return -1;
+    int is_new = is_under && flags & O_CREAT && syscall(ACCESS_CALL, name, 0);
+    int file = syscall(OPENAT_CALL, AT_FDCWD, name, flags, mode);
+    if (file >= 0 && file < MOST_NUMBERS) {
+        places[file] = is_under ? place_of(name) + 1 : 0;
+        if (is_new) note(places[file] - 1, 1, 0, 0);
+    }
     return file;
 }
 
 int close(int file) {
-    if (file >= 0 && file < MOST_FILES) is_file[file] = 0;
-    return syscall(SYS_close, file);
+    if (is_below(file)) places[file] = 0;
+    return syscall(CLOSE_CALL, file);
 }
 
-ssize_t pwrite(int file, const void *from, size_t count, off_t place) {
-    if (is_kept(file)) {
+int fcntl(int file, int what, ...) {
+    __builtin_va_list rest;
+    __builtin_va_start(rest, what);
+    long given = __builtin_va_arg(rest, long);
+    __builtin_va_end(rest);
+    return is_below(file) && what == F_OFD_SETLK && fails(LOOKS) ? -1 : syscall(FCNTL_CALL, file, what, given);
+}
+
+long pread(int file, void *to, size_t count, long place) {
+    if (is_below(file) && fails(LOOKS)) return -1;
+    return syscall(PREAD_CALL, file, to, fewer(count, 1), place);
+}
+
+long pwrite(int file, const void *from, size_t count, long place) {
+    if (is_below(file)) {
         if (file_fails()) return -1;
-        note(file, place, count);
+        note_of(file, place, count);
     }
-    return syscall(SYS_pwrite64, file, from, count, place);
+    return syscall(PWRITE_CALL, file, from, fewer(count, 1), place);
 }
 
-int ftruncate(int file, off_t length) {
-    if (is_kept(file)) {
-        struct stat now;
+int ftruncate(int file, long length) {
+    if (is_below(file)) {
         if (file_fails()) return -1;
-        if (!fstat(file, &now)) note(file, length, now.st_size > length ? now.st_size - length : 0);
+        long had = syscall(LSEEK_CALL, paths[places[file] - 1].own, 0, SEEK_END);
+        note_of(file, length, had > length ? had - length : 0);
     }
-    return syscall(SYS_ftruncate, file, length);
+    return syscall(FTRUNCATE_CALL, file, length);
 }
 
-int fsync(int file) {
-    if (is_kept(file)) {
+static int synced(int file, int call) {
+    if (is_below(file)) {
         if (file_fails()) return -1;
         forget(file);
     }
-    return syscall(SYS_fsync, file);
+    return syscall(call, file);
 }
 
-int fdatasync(int file) {
-    if (is_kept(file)) {
-        if (file_fails()) return -1;
-        forget(file);
-    }
-    return syscall(SYS_fdatasync, file);
+int fsync(int file) { return synced(file, FSYNC_CALL); }
+
+int fdatasync(int file) { return synced(file, FDATASYNC_CALL); }
+
+int fchmod(int file, unsigned mode) { return is_below(file) && file_fails() ? -1 : syscall(FCHMOD_CALL, file, mode); }
+
+int fchown(int file, unsigned user, unsigned group) {
+    return is_below(file) && file_fails() ? -1 : syscall(FCHOWN_CALL, file, user, group);
 }

@@ -1,19 +1,28 @@
 """Runs of the program in which calls of the system fail, by a library that is loaded before the C library."""
 
 import errno
-import mmap
 import os
 import shutil
 import subprocess
 import tempfile
 import threading
+from contextlib import suppress
 
 from kit.case import Failed
 
 SOURCE = os.path.join(os.path.dirname(os.path.abspath(__file__)), "faults.c")
-COMPILERS = ("gcc", "cc", "clang")
+COMPILERS = ("gcc", "cc", "clang", "/opt/rattle/toolchain/bin/clang")
 LOCK = threading.Lock()
 BUILT = []
+
+
+def build(compiler, path):
+    """Builds the library; it stands alone, so nothing of a compiler's folders is needed."""
+    words = [compiler, "-O1", "-shared", "-fPIC", "-nostdlib", "-w", "-o", path, SOURCE]
+    if compiler.startswith("/"):
+        words.append(f"-fuse-ld={os.path.dirname(compiler)}/ld.lld")
+    ran = subprocess.run(words, capture_output=True, text=True)
+    return ran.returncode == 0, f"{' '.join(words)}\n{ran.stderr}"
 
 
 def library():
@@ -25,22 +34,23 @@ def library():
                 raise Failed(f"\n  none of {', '.join(COMPILERS)} is here, to build {SOURCE}")
             folder = tempfile.TemporaryDirectory(prefix="cutshop-faults-")
             path = os.path.join(folder.name, "faults.so")
-            subprocess.run([compiler, "-O1", "-shared", "-fPIC", "-o", path, SOURCE, "-ldl"], check=True)
+            is_built, told = build(compiler, path)
+            if not is_built:
+                raise Failed(f"\n  {told}")
             BUILT.append((path, folder))
         return BUILT[0][0]
 
 
 class Faults:
-    """Which calls fail: `of` memory, read, write or files; the `at`-th, from 1 (0: none); once or from then `on`; with this
-    error; streams take at most `by` bytes a call; `stop`: the program ends at the call of files, with what wasn't synced
-    kept, dropped or torn."""
+    """Which calls fail: `of` memory, read, write, files or looks, as faults.c says; the `at`-th, from 1 (0: none); once or
+    from then `on`; with this error; at most `by` bytes a call; `stop`: the program ends there, with what wasn't synced kept,
+    dropped or torn by a `seed`. `under` is the folder of the files, the case's own where none is given."""
 
-    def __init__(self, trial, of="", at=0, on=False, error=errno.EIO, by=0, stop=None):
+    def __init__(self, trial, of="", at=0, on=False, error=errno.EIO, by=0, stop="", seed=0, under=None):
         # (each run has its own count)
         number, self.count_path = tempfile.mkstemp(dir=trial.folder, prefix="calls-")
         os.truncate(number, 4096)
         os.close(number)
-        under = os.path.realpath(trial.folder)
         self.at = at
         self.environment = {
             "LD_PRELOAD": library(),
@@ -49,13 +59,18 @@ class Faults:
             "FAULT_ON": "on" if on else "once",
             "FAULT_ERROR": str(error),
             "FAULT_BY": str(by),
-            "FAULT_UNDER": under,
+            "FAULT_STOP": stop,
+            "FAULT_SEED": str(seed),
+            "FAULT_UNDER": os.path.realpath(trial.folder) if under is None else under,
             "FAULT_COUNT": self.count_path,
         }
-        if stop:
-            self.environment["FAULT_STOP"] = stop
 
     def calls(self):
         """How many calls of the kind were made so far."""
-        with open(self.count_path, "rb") as file, mmap.mmap(file.fileno(), 4096, access=mmap.ACCESS_READ) as page:
-            return int.from_bytes(page[:8], "little")
+        with open(self.count_path, "rb") as file:
+            return int.from_bytes(file.read(8), "little")
+
+    def end(self):
+        """Takes its count away."""
+        with suppress(FileNotFoundError):
+            os.remove(self.count_path)
