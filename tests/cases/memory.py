@@ -1,45 +1,76 @@
 """Requests for memory that are refused, one after the other: what is answered then, and what is kept."""
 
+import os
 import shutil
 from concurrent.futures import ThreadPoolExecutor
 
 from kit import tables
 from kit.case import case
-from kit.days import NAMES, REFUSED, Replay, day_of, questions_of
+from kit.days import ASKED, NAMES, REFUSED, Replay, day_of, questions_of
 from kit.faults import Faults
+from kit.shop import answer
+
+SHOP_FILE = "".join(
+    f'[[material]]\ncode = "{code}"\nkind = "{kind}"\nkerf = "0.3"\nmin_long = "2.0"\nmin_short = "0.1"\n'
+    for code, kind in (("STEEL", "bar"), ("GLASS", "sheet"))
+)
 
 
-def count_of(trial, run):
-    """How many requests for memory a run makes that nothing disturbs."""
-    faults = Faults(trial, "memory")
-    run(faults)
-    return faults.calls()
+def sweep(trial, run, stride):
+    """Runs with no request refused, then with each in turn, or with each of a stride, two at a time."""
+    whole = Faults(trial, "memory")
+    run(whole)
+    trial.holds(whole.calls(), "no request for memory was seen")
 
+    def disturbed(at):
+        faults = Faults(trial, "memory", at=at + 1)
+        run(faults)
+        faults.end()
 
-def sweep(trial, run, count, stride):
-    """Runs with each request refused in turn, or with each of a stride, two at a time."""
     with ThreadPoolExecutor(2) as pool:
-        list(pool.map(lambda at: run(Faults(trial, "memory", at=at + 1)), trial.places(count, stride)))
+        list(pool.map(disturbed, trial.places(whole.calls(), stride)))
+
+
+def is_as_before(trial, shop, day, number):
+    """Behind a refusal of a line the books and the kept replies are as before it."""
+    trial.equal(questions_of(shop), day.states[number], f"after 98 to {day.lines[number].decode()}")
+    for line, reply in day.accepted(number)[-1:]:
+        trial.equal(shop.reply(line), reply, f"{line.decode()} after 98 to {day.lines[number].decode()}")
 
 
 def replayed(trial, day, faults):
     """Sends a day's lines to `replay`. One that is refused 98 changes nothing, and gets its reply when it is sent again; where
-    the program ends it tells `fault memory`."""
+    the program ends it tells `fault memory`. In the end all that was accepted has its kept reply."""
     shop = Replay(trial, faults.environment)
     for number, (line, reply) in enumerate(zip(day.lines, day.replies)):
         got = shop.reply(line)
-        if got == REFUSED and reply != REFUSED:
-            trial.equal(questions_of(shop), day.states[number], f"after 98 to {line.decode()}")
+        if got == REFUSED:
+            is_as_before(trial, shop, day, number)
             got = shop.reply(line)
         if not got:
             trial.equal(shop.end(), (1, b"fault memory\n"), line)
             return
         trial.equal(got, reply, line)
-    trial.equal(shop.end(), (0, b""))
+    again = [(line, shop.reply(line), reply) for line, reply in day.accepted()]
+    status, errors = shop.end()
+    if status:
+        trial.equal((status, errors), (1, b"fault memory\n"))
+        again = [it for it in again if it[1]]
+    for line, got, reply in again:
+        trial.equal(got == REFUSED or got == reply, True, f"{line.decode()}, sent again: {got}")
 
 
-def served(trial, day, faults, store):
+def sent(shop, line):
+    """The answer's body, or nothing where the connection ended without one."""
+    try:
+        return shop.reply(line)
+    except OSError:
+        return b""
+
+
+def served(trial, day, faults):
     """The same over `serve`, where a connection may also end without an answer; where the program ends it is opened again."""
+    store = f"{faults.at}.db"
     shop = trial.shop(store, environment=faults.environment)
     if not shop.is_open:
         trial.equal((shop.status, shop.errors), (1, b"fault memory\n"), "the start")
@@ -47,7 +78,7 @@ def served(trial, day, faults, store):
     for number, (line, reply) in enumerate(zip(day.lines, day.replies)):
         got = sent(shop, line)
         if got == REFUSED:
-            trial.equal(questions_of(shop), day.states[number], f"after 98 to {line.decode()}")
+            is_as_before(trial, shop, day, number)
             got = sent(shop, line)
         if not got:
             if shop.has_ended():
@@ -55,18 +86,10 @@ def served(trial, day, faults, store):
                 shop = trial.shop(store)
             got = sent(shop, line)
         trial.equal(got, reply, line)
-    if shop.has_ended():
-        shop = trial.shop(store)
     trial.equal(questions_of(shop), day.states[-1])
     shop.kill()
     trial.equal(tables.rows(shop.store), day.rows)
-
-
-def sent(shop, line):
-    try:
-        return shop.reply(line)
-    except OSError:
-        return b""
+    os.remove(shop.store)
 
 
 def replay_case(name):
@@ -77,7 +100,7 @@ def replay_case(name):
     )
     def body(trial):
         day = day_of(trial, name)
-        sweep(trial, lambda it: replayed(trial, day, it), count_of(trial, lambda it: replayed(trial, day, it)), 3)
+        sweep(trial, lambda it: replayed(trial, day, it), 3)
 
 
 def serve_case(name):
@@ -87,44 +110,100 @@ def serve_case(name):
     )
     def body(trial):
         day = day_of(trial, name)
-        count = count_of(trial, lambda it: served(trial, day, it, "count.db"))
-        sweep(trial, lambda it: served(trial, day, it, f"{it.at}.db"), count, 151)
+        sweep(trial, lambda it: served(trial, day, it), 101)
 
 
-for NAME in NAMES:
+for NAME in (*NAMES, ASKED):
     replay_case(NAME)
     serve_case(NAME)
 
 
-LINES = (b"fault memory\n", b"refused 98 NoMemory\n")
+@case(
+    "memory refused in a start",
+    "Each request for memory of a `serve` with a shop file of two materials is refused in turn: it tells `fault memory` or the "
+    "entry that is refused 98, and the next start adds both.",
+)
+def starts(trial):
+    path = trial.write("shop.toml", SHOP_FILE)
+    wanted = [b'{"kerf":0,"material":"%s","ok":"totals","pieces":0,"rack":0,' % it for it in (b"STEEL", b"GLASS")]
+    told = (b"fault memory\n", b"shop entry 1 refused 98 NoMemory\n", b"shop entry 2 refused 98 NoMemory\n")
+
+    def run(faults):
+        shop = trial.shop(f"{faults.at}.db", shop_file=path, environment=faults.environment)
+        if not shop.is_open:
+            trial.equal((shop.status, shop.errors in told), (1, True), f"request {faults.at}: {shop.errors}")
+        shop.kill()
+        shop = trial.shop(f"{faults.at}.db", shop_file=path)
+        got = [shop.reply(f'{{"ask":"totals","material":"{it}"}}') for it in ("STEEL", "GLASS")]
+        trial.equal([it[: len(begin)] for it, begin in zip(got, wanted)], wanted, f"request {faults.at}")
+        shop.kill()
+        os.remove(shop.store)
+
+    sweep(trial, run, 41)
+
+
+def stored(trial):
+    """The path of a store after “remnant cut again”."""
+    shop = trial.shop()
+    for line in day_of(trial, "remnant cut again").lines:
+        shop.reply(line)
+    shop.kill()
+    return shop.store
+
+
+@case(
+    "memory refused in a text",
+    "Each request for memory of a ticket and a report over HTTP is refused in turn: the whole text comes, or 98 with status "
+    "503, or nothing, and asked again the whole text.",
+)
+def texts(trial):
+    store = stored(trial)
+    paths = ("/ticket/2", "/yield/GLASS")
+    shop = trial.shop()
+    wanted = [shop.get(it) for it in paths]
+    shop.kill()
+    trial.equal([it.partition(b"\r\n")[0] for it in wanted], [b"HTTP/1.1 200 OK"] * 2)
+
+    def run(faults):
+        # (each run has a store of its own)
+        copy = trial.path(f"{faults.at}.db")
+        shutil.copy(store, copy)
+        again = trial.shop(copy, environment=faults.environment)
+        if again.is_open:
+            for path, text in zip(paths, wanted):
+                got = again.get(path)
+                trial.equal(got in (text, answer(503, REFUSED), b""), True, f"{path}, request {faults.at}: {got}")
+                if not again.has_ended(0):
+                    trial.equal(again.get(path), text, f"{path}, request {faults.at}")
+        again.kill()
+        os.remove(copy)
+
+    sweep(trial, run, 41)
 
 
 @case(
     "memory refused in a command",
     "Each request for memory of `plan`, `ticket` and `yield` is refused in turn: they print what they print else, or nothing "
-    "and `fault memory` or `refused 98 NoMemory`.",
+    "and `fault memory`, or that the ticket or report is refused 98.",
 )
 def commands(trial):
-    day = day_of(trial, "remnant cut again")
-    shop = trial.shop()
-    for line in day.lines:
-        shop.reply(line)
-    shop.kill()
+    store = stored(trial)
     problem = trial.write("problem.txt", "1\n10 8\n4 3 10 12\n")
 
-    def swept(stride, *words):
+    def swept(stride, told, *words):
         whole = trial.run(*words)
         trial.equal((whole.status, whole.err), (0, b""), words)
 
         def run(faults):
-            # (each run has a store of its own)
-            store = trial.path(f"{words[0]}-{faults.at}.db")
-            shutil.copy(shop.store, store)
-            ran = trial.run(*[store if it == shop.store else it for it in words], environment=faults.environment)
-            trial.equal(ran == whole or (ran.status, ran.out, ran.err in LINES) == (1, b"", True), True, f"{words} {ran}")
+            copy = trial.path(f"{words[0]}-{faults.at}.db")
+            shutil.copy(store, copy)
+            ran = trial.run(*[copy if it == store else it for it in words], environment=faults.environment)
+            trial.equal(ran == whole or (ran.status, ran.out, ran.err in told) == (1, b"", True), True, f"{words} {ran}")
+            os.remove(copy)
 
-        sweep(trial, run, count_of(trial, run), stride)
+        sweep(trial, run, stride)
 
-    swept(3, "plan", problem, "--kerf", "1", "--step", "1")
-    swept(41, "ticket", "--store", shop.store, "2")
-    swept(41, "yield", "--store", shop.store, "GLASS")
+    refused = (b"fault memory\n", b"refused 98 NoMemory\n")
+    swept(3, refused[:1], "plan", problem, "--kerf", "1", "--step", "1")
+    swept(41, refused, "ticket", "--store", store, "2")
+    swept(41, refused, "yield", "--store", store, "GLASS")

@@ -1,29 +1,63 @@
-"""Calls that change the store's files: each fails, or the program stops there; what was acknowledged is kept."""
+"""Calls that change or read the store's files: each fails, or the program stops there; what was acknowledged is kept."""
 
 import errno
+import os
+import shutil
 from concurrent.futures import ThreadPoolExecutor
+from dataclasses import dataclass
 
 from kit import tables
 from kit.case import case
-from kit.days import day_of, questions_of
+from kit.days import Day, day_of, questions_of
 from kit.faults import Faults
 
-# The day whose commits are disturbed.
+# The day whose calls are disturbed.
 NAME = "remnant cut again"
 
+FAULT = b'{"name":"StoreFault","refused":99}'
+UNAVAILABLE = b"HTTP/1.1 503 Service Unavailable"
 
-def count_of(trial, day):
-    """How many calls change the files of a day that nothing disturbs, the start among them."""
-    faults = Faults(trial, "files")
-    shop = trial.shop("count.db", environment=faults.environment)
+
+@dataclass
+class Course:
+    """A start of `serve` on a store that is made first, and lines that are sent; `before` of the day's were sent earlier."""
+
+    name: str
+    day: Day
+    make: object
+    before: int
+
+    def lines(self):
+        return list(zip(self.day.lines, self.day.replies))[self.before :]
+
+
+def courses(trial):
+    """The day from an empty folder; a start behind a stop, with all in the log; and a start on a file of version 1. Each ends
+    by itself, and puts the log into the file then."""
+    day = day_of(trial, NAME)
+    end = len(day.lines)
+    shop = trial.shop("stopped.db")
     for line in day.lines:
         shop.reply(line)
     shop.kill()
-    return faults.calls()
+    earlier = dict(day.rows, totals2=[], totals=[it[:-1] for it in day.rows["totals2"]])
+    earlier["meta"] = [(name, 1 if name == "version" else value) for name, value in day.rows["meta"]]
+    earlier = tables.make(trial.path("earlier.db"), earlier, 1)
+
+    def copy(path):
+        for end in ("", "-wal"):
+            if os.path.exists(shop.store + end):
+                shutil.copy(shop.store + end, path + end)
+
+    return [
+        Course("day", day, lambda path: None, 0),
+        Course("again", day, copy, end),
+        Course("earlier", day, lambda path: shutil.copy(earlier, path), end),
+    ]
 
 
 def sent(shop, line):
-    """The whole answer to a line, or nothing."""
+    """The first line of the answer to a line, and its body; or nothing."""
     try:
         head, _, body = shop.send(line).partition(b"\r\n\r\n")
     except OSError:
@@ -31,79 +65,111 @@ def sent(shop, line):
     return head.partition(b"\r\n")[0], body
 
 
-def acknowledged(trial, day, shop):
-    """Sends a day's lines up to the first that isn't answered as it should be. How many were; any other answer is 99 with
-    status 503, or none."""
-    for number, (line, reply) in enumerate(zip(day.lines, day.replies)):
+def acknowledged(trial, course, shop, goes_on):
+    """Sends a course's lines and a question. How many of the day's lines are acknowledged then. A line may get 99 with status
+    503 or no answer; it is sent again once where the shop `goes_on`, and is the last else."""
+    lines = course.lines()
+    for number, (line, reply) in enumerate(lines):
         status, body = sent(shop, line)
         if body != reply:
-            wanted = [(b"", b""), (b"HTTP/1.1 503 Service Unavailable", b'{"name":"StoreFault","refused":99}')]
-            trial.equal((status, body) in wanted, True, f"{line.decode()}: {status} {body}")
-            return number
-    return len(day.lines)
+            trial.equal((status, body) in [(b"", b""), (UNAVAILABLE, FAULT)], True, f"{line.decode()}: {status} {body}")
+            if not goes_on or shop.has_ended(0):
+                return course.before + number
+            goes_on = False
+            trial.equal(sent(shop, line)[1], reply, f"{line.decode()}, sent again")
+    sent(shop, course.day.lines[-1])
+    return course.before + len(lines)
 
 
-def goes_on(trial, day, store, count):
+def goes_on(trial, course, store, count):
     """The store is opened again without faults: the books are those behind as many messages as were acknowledged, or behind
     one more; all that are accepted, sent again, get their replies, and come to the tables of a day that nothing disturbed."""
+    day = course.day
     shop = trial.shop(store)
-    trial.holds(shop.is_open, f"the store opens again: {getattr(shop, 'errors', '')}")
+    trial.holds(shop.is_open, f"the store {store} doesn't open again: {getattr(shop, 'errors', '')}")
     found = questions_of(shop)
-    trial.equal(found in day.states[count : count + 2], True, f"{count} acknowledged, found {found}")
-    for line, reply in zip(day.lines, day.replies):
-        if b'"do"' in line and b'"ok"' in reply:
-            trial.equal(shop.reply(line), reply, line)
+    trial.equal(found in day.states[count : count + 2], True, f"{store}: {count} acknowledged, found {found}")
+    for line, reply in day.accepted():
+        trial.equal(shop.reply(line), reply, f"{store}: {line.decode()}")
     shop.kill()
-    trial.equal(tables.rows(shop.store), day.rows)
+    trial.equal(tables.rows(shop.store), day.rows, store)
+    for end in ("", "-wal"):
+        if os.path.exists(shop.store + end):
+            os.remove(shop.store + end)
 
 
-def disturbed(trial, day, at, **named):
-    store = f"{at}-{'-'.join(map(str, named.values()))}.db"
-    faults = Faults(trial, "files", at=at, **named)
-    shop = trial.shop(store, environment=faults.environment)
-    count = 0
+def disturbed(trial, course, at, of, stop="", on=False, **named):
+    """A course with a fault at a call, and what is found behind it. How many calls there were."""
+    faults = Faults(trial, of, at=at, stop=stop, on=on, **named)
+    store = trial.path(f"{course.name}-{at}-{os.path.basename(faults.count_path)}.db")
+    course.make(store)
+    # (the line that gets no answer is sent once more, or else a question comes last)
+    shop = trial.shop(store, limit=len(course.lines()) + 1, environment=faults.environment)
+    count = course.before
     if shop.is_open:
-        count = acknowledged(trial, day, shop)
-        shop.kill()
-    elif "stop" not in named:
+        count = acknowledged(trial, course, shop, not on)
+    elif not stop:
         trial.equal((shop.status, shop.errors), (1, b"fault store\n"), f"the start, call {at}")
-    goes_on(trial, day, store, count)
+    if stop:
+        trial.equal(shop.end()[0] if shop.is_open else shop.status, 9, f"the stop at call {at}")
+    elif shop.is_open and shop.has_ended(0.5):
+        trial.equal(shop.end()[::2] in ((0, b""), (1, b"fault store\n")), True, f"the end, call {at}")
+    shop.kill()
+    goes_on(trial, course, store, count)
+    calls = faults.calls()
+    faults.end()
+    return calls
 
 
-def sweep(trial, stride, **named):
-    day = day_of(trial, NAME)
-    with ThreadPoolExecutor(2) as pool:
-        list(pool.map(lambda at: disturbed(trial, day, at + 1, **named), trial.places(count_of(trial, day), stride)))
+def sweep(trial, stride, of="files", **named):
+    """Disturbs each course at each call, or at each of a stride, two at a time."""
+    for course in courses(trial):
+        count = disturbed(trial, course, 0, of)
+        trial.holds(count, "no call was seen")
+        with ThreadPoolExecutor(2) as pool:
+            list(pool.map(lambda at: disturbed(trial, course, at + 1, of, **named), trial.places(count, stride)))
 
 
 @case(
     "a call on the store's files fails once",
-    "Each call that changes the files of “remnant cut again” fails in turn: its message is refused 99 with status 503 or "
-    "`serve` tells `fault store` at its start, nothing is lost, and all sent again come to the same tables.",
+    "Each call that changes the files of “remnant cut again” fails in turn, those of a start behind a stop and of a move from "
+    "version 1 among them: its message is refused 99 with status 503 and gets its reply when it is sent again, or `serve` tells "
+    "`fault store` at its start; nothing is lost.",
 )
 def fails_once(trial):
-    sweep(trial, 2, error=errno.EIO)
+    sweep(trial, 3, error=errno.EIO)
 
 
 @case(
     "a disk that is full from some call on",
-    "From each call that changes the files of “remnant cut again” on none works: nothing that was acknowledged is lost, and "
-    "all sent again to a shop that is opened with room come to the same tables.",
+    "From each call that changes the files of “remnant cut again” on none works: nothing that was acknowledged is lost, and all "
+    "sent again to a shop that is opened with room come to the same tables.",
 )
 def fails_on(trial):
-    sweep(trial, 2, error=errno.ENOSPC, on=True)
+    sweep(trial, 3, error=errno.ENOSPC, on=True)
 
 
-def stopped(how, says):
+@case(
+    "a read of the store's files fails",
+    "Each call that opens, locks or reads the files of “remnant cut again” fails once or from then on: 99 with status 503 or "
+    "`fault store`, and nothing is lost.",
+)
+def looks_fail(trial):
+    sweep(trial, 5, "looks", error=errno.EIO)
+    sweep(trial, 11, "looks", error=errno.EIO, on=True)
+
+
+def stopped(how, says, seeds=(0,)):
     @case(
         f"stopped with unsynced writes {how}",
-        f"The program is stopped at each call that changes the files of “remnant cut again”, {says}: what was acknowledged is "
-        "there, and all sent again come to the same tables.",
+        "The program is stopped at each call that changes the files of “remnant cut again”, of a start behind a stop and of a "
+        f"move from version 1, {says}: what was acknowledged is there, and all sent again come to the same tables.",
     )
     def body(trial):
-        sweep(trial, 1, stop=how)
+        for seed in seeds if trial.whole else seeds[:1]:
+            sweep(trial, 2, stop=how, seed=seed)
 
 
-stopped("kept", "all that was written stays")
-stopped("dropped", "what wasn't synced is lost")
-stopped("torn", "of what wasn't synced every other sector stays")
+stopped("kept", "and all that was written stays")
+stopped("dropped", "and what wasn't synced is lost, new files too")
+stopped("torn", "and of what wasn't synced some sectors of 512 bytes stay", range(8))

@@ -6,6 +6,7 @@ import threading
 from dataclasses import dataclass
 
 from kit import exchanges, tables
+from kit.case import SECONDS
 
 QUESTIONS = [f'{{"ask":"totals","material":"{it}"}}' for it in ("STEEL", "GLASS")]
 QUESTIONS += ['{"ask":"rack","material":"GLASS"}', '{"ask":"demand","demand":1}', '{"ask":"demand","demand":3}']
@@ -13,6 +14,15 @@ QUESTIONS += [f'{{"ask":"trace","part":"{it}"}}' for it in ("1/0", "2/0", "2/4",
 
 # The examples whose days are disturbed.
 NAMES = ("two bars", "three pieces", "broken sheet", "remnant cut again", "released and repeated", "import twice")
+
+# The day of all questions: “remnant cut again”, an order, and what is asked then.
+ASKED = "all questions"
+ORDER = (
+    '{"do":"order","lines":[{"count":3,"h":2,"line":1,"material":"GLASS","turn":true,"w":2,"worth":4}],'
+    '"number":90,"order":"A-9","terminal":9}'
+)
+PLANS = ['{"ask":"plan","demands":[4],"part":"3/2","step":1}', '{"ask":"plan","demands":[4],"part":"3/2","step":2}']
+PLANS += ['{"ask":"bound","demands":[4],"h":8,"material":"GLASS","step":1,"w":10}']
 
 REFUSED = b'{"name":"NoMemory","refused":98}'
 
@@ -30,6 +40,11 @@ class Day:
     states: list
     rows: dict
 
+    def accepted(self, count=None):
+        """The accepted messages among the first lines, with their replies."""
+        pairs = list(zip(self.lines, self.replies))[:count]
+        return [(line, reply) for line, reply in pairs if b'"do"' in line and b'"ok"' in reply]
+
 
 def asked(shop, question):
     """The answer to a question; one that was refused for want of memory, or got none, is asked again."""
@@ -44,19 +59,29 @@ def questions_of(shop):
     return [asked(shop, it) for it in QUESTIONS]
 
 
+def steps_of(name):
+    """The lines of a day and the replies that its example wants."""
+    steps = [(it.sent, it.wanted) for it in exchanges.EXCHANGES[NAMES[3] if name == ASKED else name].steps]
+    return steps + ([(it.encode(), None) for it in (ORDER, *PLANS, *QUESTIONS)] if name == ASKED else [])
+
+
 def day_of(trial, name):
     """The day of an example, from a run that nothing disturbs."""
     with LOCK:
         if name not in KNOWN:
-            steps = exchanges.EXCHANGES[name].steps
             shop = trial.shop("undisturbed.db")
-            states = []
-            for step in steps:
-                states.append(questions_of(shop))
-                trial.equal(shop.reply(step.sent), step.wanted, step.sent, step.at)
-            states.append(questions_of(shop))
+            day = Day([], [], [], {})
+            for line, wanted in steps_of(name):
+                day.states.append(questions_of(shop))
+                reply = shop.reply(line)
+                trial.equal(reply, wanted or reply, line)
+                trial.holds(wanted or b'"ok"' in reply or line.decode() in QUESTIONS, f"{line}: {reply}")
+                day.lines.append(line)
+                day.replies.append(reply)
+            day.states.append(questions_of(shop))
             shop.kill()
-            KNOWN[name] = Day([it.sent for it in steps], [it.wanted for it in steps], states, tables.rows(shop.store))
+            day.rows = tables.rows(shop.store)
+            KNOWN[name] = day
     return KNOWN[name]
 
 
@@ -85,5 +110,5 @@ class Replay:
 
     def end(self):
         """Its status and what it wrote on standard error, behind the last line."""
-        _, errors = self.process.communicate()
+        _, errors = self.process.communicate(timeout=SECONDS)
         return self.process.returncode, errors

@@ -126,8 +126,8 @@ static int is_hit(int kind) {
 
 // The number of notes, from the first on, that stand in a sector of a torn file.
 static int standing(int path, long sector) {
-    unsigned long mixed = (sector + 1) * 0x9E3779B97F4A7C15UL ^ (path + 1) * 0xC2B2AE3D27D4EB4FUL ^ (seed + 1) * 0x165667B19E3779F9UL;
-    mixed = (mixed ^ mixed >> 31) * 0xBF58476D1CE4E5B9UL;
+    unsigned long mixed = (sector + 1) * 0x9E3779B97F4A7C15UL ^ (path + 1) * 0xC2B2AE3D27D4EB4FUL;
+    mixed = (mixed ^ (seed + 1) * 0x165667B19E3779F9UL ^ mixed >> 31) * 0xBF58476D1CE4E5B9UL;
     return (mixed >> 33) % (note_count + 1);
 }
 
@@ -135,14 +135,14 @@ static int standing(int path, long sector) {
 static void restore(void) {
     for (int i = note_count - 1; i >= 0; i--) {
         struct note *it = &notes[i];
-        struct path *path = &paths[it->path];
-        if (it->is_new && (stop == DROPPED || i >= standing(it->path, -1))) syscall(UNLINK_CALL, path->name);
+        int own = paths[it->path].own;
+        if (it->is_new && (stop == DROPPED || i >= standing(it->path, -1))) syscall(UNLINK_CALL, paths[it->path].name);
         for (long k = 0, size; k < it->count; k += size) {
             long sector = (it->at + k) / SECTOR, left = (sector + 1) * SECTOR - it->at - k;
             size = it->count - k < left ? it->count - k : left;
-            if (stop == DROPPED || i >= standing(it->path, sector)) syscall(PWRITE_CALL, path->own, it->before + k, size, it->at + k);
+            if (stop == DROPPED || i >= standing(it->path, sector)) syscall(PWRITE_CALL, own, it->before + k, size, it->at + k);
         }
-        if (stop == DROPPED && !it->is_new) syscall(FTRUNCATE_CALL, path->own, it->length);
+        if (stop == DROPPED && !it->is_new) syscall(FTRUNCATE_CALL, own, it->length);
     }
 }
 
@@ -185,7 +185,8 @@ static void forget(int file) {
 static int place_of(const char *name) {
     int i = 0;
     while (i < path_count && strcmp(paths[i].name, name)) i++;
-    if (i == path_count && path_count < MOST_PATHS - 1) {
+    if (i == path_count) {
+        if (path_count == MOST_PATHS) _exit(10);
         strncpy(paths[i].name, name, MOST_LENGTH - 1);
         paths[i].own = syscall(OPENAT_CALL, AT_FDCWD, name, O_RDWR);
         path_count++;

@@ -18,7 +18,7 @@ BUILT = []
 
 def build(compiler, path):
     """Builds the library; it stands alone, so nothing of a compiler's folders is needed."""
-    words = [compiler, "-O1", "-shared", "-fPIC", "-nostdlib", "-w", "-o", path, SOURCE]
+    words = [compiler, "-O1", "-shared", "-fPIC", "-nostdlib", "-o", path, SOURCE]
     if compiler.startswith("/"):
         words.append(f"-fuse-ld={os.path.dirname(compiler)}/ld.lld")
     ran = subprocess.run(words, capture_output=True, text=True)
