@@ -4,39 +4,46 @@ import errno
 
 from cases.connections import DONE, DONE_REPLY, TOTALS, reserved, totals
 from kit.case import case
-from kit.days import day_of
+from kit.days import ASKED, day_of
 from kit.faults import Faults
 from kit.shop import answer, request_of
 
 NAME = "remnant cut again"
+
+# A read or write is tried so often where it is interrupted.
+TRIES = 1000
 
 
 def whole(day):
     return b"".join(it + b"\n" for it in day.lines), b"".join(it + b"\n" for it in day.replies)
 
 
-@case("one byte at a time", "Where each read and each write takes one byte, `replay` and `serve` answer with the same bytes.")
+@case(
+    "one byte at a time",
+    "Where each read and each write takes one byte, `replay` and `serve` answer with the same bytes; so they do where each "
+    "read and write of the store's files takes 7 bytes, or is refused as no longer than that.",
+)
 def bytes_alone(trial):
-    day = day_of(trial, NAME)
+    day = day_of(trial, ASKED)
     lines, replies = whole(day)
     trial.ended(trial.replay(lines, environment=Faults(trial, by=1).environment), 0, replies)
     shop = trial.shop(environment=Faults(trial, by=1).environment)
     for line, reply in zip(day.lines, day.replies):
-        trial.equal(shop.send(line).partition(b"\r\n\r\n")[2], reply, line)
+        trial.equal(shop.reply(line), reply, line)
 
 
 @case(
     "a read of lines fails",
-    "Each read of `replay` fails in turn, of reads that take one byte: the lines before it have their replies, and `fault "
-    "read` is told with status 1.",
+    "Each read of `replay` fails in turn, of reads that take one byte, the one at the end among them: the lines before it have "
+    "their replies, and `fault read` is told with status 1.",
 )
 def reads_fail(trial):
     day = day_of(trial, NAME)
     lines, _ = whole(day)
-    for at in trial.places(len(lines), 29):
+    for at in trial.places(len(lines) + 1, 29):
         ran = trial.replay(lines, environment=Faults(trial, "read", at=at + 1, by=1).environment)
-        count = lines[:at].count(b"\n")
-        trial.ended(ran, 1, b"".join(it + b"\n" for it in day.replies[:count]), b"fault read\n", sent=f"read {at + 1}")
+        replies = day.replies[: lines[:at].count(b"\n")]
+        trial.ended(ran, 1, b"".join(it + b"\n" for it in replies), b"fault read\n", sent=f"read {at + 1}")
 
 
 @case(
@@ -45,72 +52,131 @@ def reads_fail(trial):
     "write` is told with status 1.",
 )
 def writes_fail(trial):
-    day = day_of(trial, NAME)
-    lines, replies = whole(day)
-    for at in trial.places(len(replies), 17):
+    lines, replies = whole(day_of(trial, NAME))
+    for at in trial.places(len(replies), 29):
         ran = trial.replay(lines, environment=Faults(trial, "write", at=at + 1, by=1).environment)
         trial.ended(ran, 1, replies[:at], b"fault write\n", sent=f"write {at + 1}")
 
 
 @case(
+    "a write of a text fails",
+    "Each write of `plan`, `ticket`, `yield` and help fails in turn, and each of the line by which `serve` tells its port: a "
+    "first part was written, and `fault write` is told with status 1.",
+)
+def texts_fail(trial):
+    day = day_of(trial, NAME)
+    shop = trial.shop(limit=len(day.lines))
+    for line in day.lines:
+        shop.reply(line)
+    told, status = shop.end()[1], shop.end()[0]
+    trial.equal(status, 0)
+    problem = trial.write("problem.txt", "1\n10 8\n4 3 10 12\n")
+    commands = [("plan", problem, "--kerf", "1", "--step", "1"), ("--help",)]
+    commands += [("ticket", "--store", shop.store, "2"), ("yield", "--store", shop.store, "GLASS")]
+    for words in commands:
+        text = trial.run(*words).out
+        for at in trial.places(len(text), 41):
+            ran = trial.run(*words, environment=Faults(trial, "write", at=at + 1, by=1).environment)
+            trial.ended(ran, 1, text[:at], b"fault write\n", sent=f"{words}, write {at + 1}")
+    for at in trial.places(len(told), 11):
+        shop = trial.shop(environment=Faults(trial, "write", at=at + 1, by=1).environment)
+        trial.equal((shop.is_open, shop.status, shop.errors), (False, 1, b"fault write\n"), f"write {at + 1}")
+        trial.holds(told.startswith(shop.told[: len("listening on 127.0.0.1:")]), shop.told)
+
+
+@case(
+    "a read of a file fails",
+    "Each read of a problem file and of a shop file fails in turn: `fault file` with status 1.",
+)
+def files_fail(trial):
+    problem = trial.write("problem.txt", "1\n10 8\n4 3 10 12\n")
+    shop_file = trial.write("shop.toml", "\n")
+    serve = ("serve", "--port", "1", "--store", trial.path("shop.db"), "--shop", shop_file)
+    for words, count in ((("plan", problem, "--kerf", "1", "--step", "1"), 18), (serve, 2)):
+        for at in range(count):
+            ran = trial.run(*words, environment=Faults(trial, "read", at=at + 1, by=1, under="").environment)
+            trial.ended(ran, 1, b"", b"fault file\n", sent=f"{words}, read {at + 1}")
+
+
+@case(
     "interrupted once, and for ever",
-    "A read and a write that are interrupted are made again; where they are interrupted for ever the fault is told by the "
-    "status.",
+    "A read and a write of `replay` that are interrupted are made again; where they are interrupted for ever, 1000 times in a "
+    "row, it is `fault read` and `fault write`.",
 )
 def interrupted(trial):
-    day = day_of(trial, NAME)
-    lines, replies = whole(day)
+    lines, replies = whole(day_of(trial, NAME))
     for of in ("read", "write"):
         once = Faults(trial, of, at=1, error=errno.EINTR)
         trial.ended(trial.replay(lines, environment=once.environment), 0, replies, sent=of)
-    ever = Faults(trial, "read", at=1, on=True, error=errno.EINTR)
-    trial.ended(trial.replay(lines, environment=ever.environment), 1, err=b"fault read\n")
-    # (a read is tried 1000 times before it counts as failed)
-    trial.equal(ever.calls(), 1000)
-    ever = Faults(trial, "write", at=1, on=True, error=errno.EINTR)
-    trial.equal(trial.replay(lines, environment=ever.environment).status, 1)
+        ever = Faults(trial, of, at=1, on=True, error=errno.EINTR)
+        trial.ended(trial.replay(lines, environment=ever.environment), 1, err=f"fault {of}\n", sent=of)
+        trial.equal(ever.calls(), TRIES, of)
+
+
+def first_write(trial):
+    """How many writes of one byte tell that a shop listens."""
+    faults = Faults(trial, "write", by=1)
+    trial.shop("empty.db", environment=faults.environment).kill()
+    return faults.calls()
+
+
+def waiting(trial, name):
+    """The path of a store with a waiting job of two pieces of a sheet."""
+    shop = reserved(trial, store=name)
+    shop.kill()
+    return shop.store
 
 
 @case(
     "a read of a request fails",
-    "Each read of a POST's connection fails in turn: its message isn't done, the shop goes on, and the message sent again "
-    "gets its reply.",
+    "Each read of a POST's connection fails in turn: its message isn't done, the shop goes on, and the message sent again gets "
+    "its reply.",
 )
 def request_reads_fail(trial):
     request = request_of(DONE)
-    for at in trial.places(len(request), 41):
-        count = Faults(trial, "read", by=1)
-        shop = reserved(trial, store=f"{at}.db", environment=count.environment)
-        shop.kill()
+    for at in trial.places(len(request), 29):
         faults = Faults(trial, "read", at=at + 1, by=1, error=errno.ECONNRESET)
-        again = trial.shop(f"{at}.db", environment=faults.environment)
-        got = again.exchange(request, ends=False)
-        trial.equal(got, b"", f"read {at + 1}")
-        trial.equal(again.reply(TOTALS), totals(80, 0, 0, 0), f"read {at + 1}")
-        trial.equal(again.exchange(request), answer(200, DONE_REPLY), f"read {at + 1}")
-        again.kill()
+        shop = trial.shop(waiting(trial, f"{at}.db"), environment=faults.environment)
+        trial.equal(shop.exchange(request, ends=False), b"", f"read {at + 1}")
+        trial.equal(shop.reply(TOTALS), totals(80, 0, 0, 0), f"read {at + 1}")
+        trial.equal(shop.exchange(request), answer(200, DONE_REPLY), f"read {at + 1}")
+        shop.kill()
 
 
 @case(
     "a write of an answer fails",
-    "Each write of an answer fails in turn: a first part of it came, the message is done, and sent again it gets the whole "
-    "kept reply.",
+    "Each write of an answer fails in turn: a first part of it came, the message is done, and sent again it gets the whole kept "
+    "reply.",
 )
 def answer_writes_fail(trial):
-    wanted = answer(200, DONE_REPLY)
-    for at in trial.places(len(wanted), 41):
-        shop = reserved(trial, store=f"{at}.db")
+    wanted, first = answer(200, DONE_REPLY), first_write(trial)
+    for at in trial.places(len(wanted), 29):
+        faults = Faults(trial, "write", at=first + at + 1, by=1, error=errno.EPIPE)
+        shop = trial.shop(waiting(trial, f"{at}.db"), environment=faults.environment)
+        trial.equal(shop.exchange(request_of(DONE)), wanted[:at], f"write {at + 1}")
+        trial.equal(shop.reply(TOTALS), totals(0, 40, 28, 12), f"write {at + 1}")
+        trial.equal(shop.exchange(request_of(DONE)), wanted, f"write {at + 1}")
         shop.kill()
-        # (the first write tells that the shop listens, byte by byte)
-        told = len(f"listening on 127.0.0.1:{shop.port}\n")
-        faults = Faults(trial, "write", at=told + at + 1, by=1, error=errno.EPIPE)
-        again = trial.shop(f"{at}.db", environment=faults.environment)
-        told_again = len(f"listening on 127.0.0.1:{again.port}\n")
-        if told_again != told:
+
+
+@case(
+    "a connection interrupted for ever",
+    "Where each read of connections from some on is interrupted, a POST gets no answer and its message isn't done; where each "
+    "write is, a first part of the answer comes. The shop goes on, and sent again to a new start the message gets its reply.",
+)
+def connections_interrupted(trial):
+    request, wanted = request_of(DONE), answer(200, DONE_REPLY)
+    for of, first in (("read", 0), ("write", first_write(trial))):
+        for at in (0, 1, 40):
+            says = f"{of} {at + 1}"
+            store = waiting(trial, f"{of}-{at}.db")
+            faults = Faults(trial, of, at=first + at + 1, on=True, by=1, error=errno.EINTR)
+            shop = trial.shop(store, environment=faults.environment)
+            trial.equal(shop.exchange(request, ends=False), wanted[:at] if of == "write" else b"", says)
+            trial.equal(shop.exchange(request, ends=False), b"", f"{says}, the next connection")
+            trial.equal(shop.has_ended(0), False, says)
+            shop.kill()
+            again = trial.shop(store)
+            trial.equal(again.reply(TOTALS), totals(0, 40, 28, 12) if of == "write" else totals(80, 0, 0, 0), says)
+            trial.equal(again.exchange(request), wanted, says)
             again.kill()
-            continue
-        got = again.exchange(request_of(DONE))
-        trial.equal((wanted.startswith(got), len(got) < len(wanted)), (True, True), f"write {at + 1}: {got}")
-        trial.equal(again.reply(TOTALS), totals(0, 40, 28, 12), f"write {at + 1}")
-        trial.equal(again.exchange(request_of(DONE)), wanted, f"write {at + 1}")
-        again.kill()

@@ -17,18 +17,20 @@ SHOP_FILE = "".join(
 
 
 def sweep(trial, run, stride):
-    """Runs with no request refused, then with each in turn, or with each of a stride, two at a time."""
+    """Runs with no request refused, then with each in turn, or with each of a stride, two at a time. A run may tell how many
+    requests come before the first that is refused."""
     whole = Faults(trial, "memory")
-    run(whole)
-    trial.holds(whole.calls(), "no request for memory was seen")
+    first = run(whole) or 0
+    count = whole.calls() - first
+    trial.holds(count > 0, "no request for memory was seen")
 
-    def disturbed(at):
-        faults = Faults(trial, "memory", at=at + 1)
+    def disturbed(place):
+        faults = Faults(trial, "memory", at=first + place + 1)
         run(faults)
         faults.end()
 
     with ThreadPoolExecutor(2) as pool:
-        list(pool.map(disturbed, trial.places(whole.calls(), stride)))
+        list(pool.map(disturbed, trial.places(count, stride)))
 
 
 def is_as_before(trial, shop, day, number):
@@ -60,36 +62,37 @@ def replayed(trial, day, faults):
         trial.equal(got == REFUSED or got == reply, True, f"{line.decode()}, sent again: {got}")
 
 
-def sent(shop, line):
-    """The answer's body, or nothing where the connection ended without one."""
+def sent(ask, what):
+    """What is answered, or nothing where the connection ended without an answer."""
     try:
-        return shop.reply(line)
+        return ask(what)
     except OSError:
         return b""
 
 
 def served(trial, day, faults):
-    """The same over `serve`, where a connection may also end without an answer; where the program ends it is opened again."""
+    """The same over `serve` behind its start, where a connection may also end without an answer; where the program ends it is
+    opened again. How many requests its start makes."""
     store = f"{faults.at}.db"
     shop = trial.shop(store, environment=faults.environment)
-    if not shop.is_open:
-        trial.equal((shop.status, shop.errors), (1, b"fault memory\n"), "the start")
-        shop = trial.shop(store)
+    trial.holds(shop.is_open, "the shop doesn't open")
+    first = faults.calls()
     for number, (line, reply) in enumerate(zip(day.lines, day.replies)):
-        got = sent(shop, line)
+        got = sent(shop.reply, line)
         if got == REFUSED:
             is_as_before(trial, shop, day, number)
-            got = sent(shop, line)
+            got = sent(shop.reply, line)
         if not got:
             if shop.has_ended():
                 trial.equal(shop.end()[::2], (1, b"fault memory\n"), line)
                 shop = trial.shop(store)
-            got = sent(shop, line)
+            got = sent(shop.reply, line)
         trial.equal(got, reply, line)
     trial.equal(questions_of(shop), day.states[-1])
     shop.kill()
     trial.equal(tables.rows(shop.store), day.rows)
     os.remove(shop.store)
+    return first
 
 
 def replay_case(name):
@@ -110,7 +113,7 @@ def serve_case(name):
     )
     def body(trial):
         day = day_of(trial, name)
-        sweep(trial, lambda it: served(trial, day, it), 101)
+        sweep(trial, lambda it: served(trial, day, it), 23)
 
 
 for NAME in (*NAMES, ASKED):
@@ -144,10 +147,11 @@ def starts(trial):
 
 def stored(trial):
     """The path of a store after “remnant cut again”."""
-    shop = trial.shop()
-    for line in day_of(trial, "remnant cut again").lines:
+    lines = day_of(trial, "remnant cut again").lines
+    shop = trial.shop(limit=len(lines))
+    for line in lines:
         shop.reply(line)
-    shop.kill()
+    trial.equal(shop.end()[0], 0)
     return shop.store
 
 
@@ -169,16 +173,21 @@ def texts(trial):
         copy = trial.path(f"{faults.at}.db")
         shutil.copy(store, copy)
         again = trial.shop(copy, environment=faults.environment)
-        if again.is_open:
-            for path, text in zip(paths, wanted):
-                got = again.get(path)
-                trial.equal(got in (text, answer(503, REFUSED), b""), True, f"{path}, request {faults.at}: {got}")
-                if not again.has_ended(0):
-                    trial.equal(again.get(path), text, f"{path}, request {faults.at}")
+        trial.holds(again.is_open, "the shop doesn't open")
+        first = faults.calls()
+        for path, text in zip(paths, wanted):
+            got = sent(again.get, path)
+            trial.equal(got in (text, answer(503, REFUSED), b""), True, f"{path}, request {faults.at}: {got}")
+            if not got and again.has_ended():
+                trial.equal(again.end()[::2], (1, b"fault memory\n"), path)
+                break
+            if got != text:
+                trial.equal(again.get(path), text, f"{path}, request {faults.at}")
         again.kill()
         os.remove(copy)
+        return first
 
-    sweep(trial, run, 41)
+    sweep(trial, run, 5)
 
 
 @case(

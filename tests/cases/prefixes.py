@@ -1,6 +1,7 @@
 """First parts of requests and files: each is answered as its own layout says."""
 
 import json
+import os
 import re
 import subprocess
 import tomllib
@@ -110,11 +111,11 @@ def order_files(trial):
 )
 def gone(trial):
     for words in (("replay",), ("--help",)):
-        ran = subprocess.Popen([trial.program, *words], stdin=subprocess.PIPE, stdout=subprocess.PIPE, stderr=subprocess.PIPE)
-        ran.stdout.close()
-        ran.stdout = None
-        errors = ran.communicate(b"\n" if words == ("replay",) else None)[1]
-        trial.equal((ran.returncode, errors), (1, b"fault write\n"), words)
+        reader, writer = os.pipe()
+        os.close(reader)
+        ran = subprocess.run([trial.program, *words], input=b"\n", stdout=writer, stderr=subprocess.PIPE)
+        os.close(writer)
+        trial.equal((ran.returncode, ran.stderr), (1, b"fault write\n"), words)
 
 
 @case(

@@ -67,16 +67,18 @@ def sent(shop, line):
 
 def acknowledged(trial, course, shop, goes_on):
     """Sends a course's lines and a question. How many of the day's lines are acknowledged then. A line may get 99 with status
-    503 or no answer; it is sent again once where the shop `goes_on`, and is the last else."""
+    503, or no answer. Where the shop `goes_on` it is sent again once; a commit that failed at its end may leave it open, and
+    then 99 is the answer until the next start."""
     lines = course.lines()
     for number, (line, reply) in enumerate(lines):
-        status, body = sent(shop, line)
-        if body != reply:
-            trial.equal((status, body) in [(b"", b""), (UNAVAILABLE, FAULT)], True, f"{line.decode()}: {status} {body}")
-            if not goes_on or shop.has_ended(0):
-                return course.before + number
+        got = sent(shop, line)
+        if got[1] != reply and goes_on:
+            trial.equal(got, (UNAVAILABLE, FAULT), line)
             goes_on = False
-            trial.equal(sent(shop, line)[1], reply, f"{line.decode()}, sent again")
+            got = sent(shop, line)
+        if got[1] != reply:
+            trial.equal(got in [(b"", b""), (UNAVAILABLE, FAULT)], True, f"{line.decode()}: {got}")
+            return course.before + number
     sent(shop, course.day.lines[-1])
     return course.before + len(lines)
 
@@ -100,19 +102,21 @@ def goes_on(trial, course, store, count):
 
 def disturbed(trial, course, at, of, stop="", on=False, **named):
     """A course with a fault at a call, and what is found behind it. How many calls there were."""
-    faults = Faults(trial, of, at=at, stop=stop, on=on, **named)
-    store = trial.path(f"{course.name}-{at}-{os.path.basename(faults.count_path)}.db")
+    folder = trial.path("stores")
+    os.makedirs(folder, exist_ok=True)
+    faults = Faults(trial, of, at=at, stop=stop, on=on, under=os.path.realpath(folder), **named)
+    store = os.path.join(folder, f"{course.name}-{at}-{os.path.basename(faults.count_path)}.db")
     course.make(store)
     # (the line that gets no answer is sent once more, or else a question comes last)
     shop = trial.shop(store, limit=len(course.lines()) + 1, environment=faults.environment)
     count = course.before
     if shop.is_open:
-        count = acknowledged(trial, course, shop, not on)
+        count = acknowledged(trial, course, shop, not on and not stop)
     elif not stop:
         trial.equal((shop.status, shop.errors), (1, b"fault store\n"), f"the start, call {at}")
     if stop:
         trial.equal(shop.end()[0] if shop.is_open else shop.status, 9, f"the stop at call {at}")
-    elif shop.is_open and shop.has_ended(0.5):
+    elif shop.is_open and count == len(course.day.lines):
         trial.equal(shop.end()[::2] in ((0, b""), (1, b"fault store\n")), True, f"the end, call {at}")
     shop.kill()
     goes_on(trial, course, store, count)
@@ -121,13 +125,14 @@ def disturbed(trial, course, at, of, stop="", on=False, **named):
     return calls
 
 
-def sweep(trial, stride, of="files", **named):
-    """Disturbs each course at each call, or at each of a stride, two at a time."""
+def sweep(trial, stride, *faults, of="files"):
+    """Disturbs each course by each of these faults at each call, or at each of a stride, two at a time."""
     for course in courses(trial):
         count = disturbed(trial, course, 0, of)
         trial.holds(count, "no call was seen")
+        runs = [(at + 1, named) for named in faults for at in trial.places(count, stride)]
         with ThreadPoolExecutor(2) as pool:
-            list(pool.map(lambda at: disturbed(trial, course, at + 1, of, **named), trial.places(count, stride)))
+            list(pool.map(lambda it: disturbed(trial, course, it[0], of, **it[1]), runs))
 
 
 @case(
@@ -137,7 +142,7 @@ def sweep(trial, stride, of="files", **named):
     "`fault store` at its start; nothing is lost.",
 )
 def fails_once(trial):
-    sweep(trial, 3, error=errno.EIO)
+    sweep(trial, 3, {"error": errno.EIO})
 
 
 @case(
@@ -146,7 +151,7 @@ def fails_once(trial):
     "sent again to a shop that is opened with room come to the same tables.",
 )
 def fails_on(trial):
-    sweep(trial, 3, error=errno.ENOSPC, on=True)
+    sweep(trial, 3, {"error": errno.ENOSPC, "on": True})
 
 
 @case(
@@ -155,8 +160,7 @@ def fails_on(trial):
     "`fault store`, and nothing is lost.",
 )
 def looks_fail(trial):
-    sweep(trial, 5, "looks", error=errno.EIO)
-    sweep(trial, 11, "looks", error=errno.EIO, on=True)
+    sweep(trial, 11, {"error": errno.EIO}, {"error": errno.EIO, "on": True}, of="looks")
 
 
 def stopped(how, says, seeds=(0,)):
@@ -166,8 +170,7 @@ def stopped(how, says, seeds=(0,)):
         f"move from version 1, {says}: what was acknowledged is there, and all sent again come to the same tables.",
     )
     def body(trial):
-        for seed in seeds if trial.whole else seeds[:1]:
-            sweep(trial, 2, stop=how, seed=seed)
+        sweep(trial, 2, *[{"stop": how, "seed": it} for it in (seeds if trial.whole else seeds[:2])])
 
 
 stopped("kept", "and all that was written stays")
