@@ -20,8 +20,7 @@ def whole(day):
 
 @case(
     "one byte at a time",
-    "Where each read and each write takes one byte, `replay` and `serve` answer with the same bytes; so they do where each "
-    "read and write of the store's files takes 7 bytes, or is refused as no longer than that.",
+    "Where each read and each write takes one byte, `replay` and `serve` answer with the same bytes.",
 )
 def bytes_alone(trial):
     day = day_of(trial, ASKED)

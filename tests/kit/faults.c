@@ -7,11 +7,11 @@
 //   FAULT_AT     the number of the call, from 1, that fails; 0: none
 //   FAULT_ON     once, or on: that call alone, or each from then on
 //   FAULT_ERROR  the error's number
-//   FAULT_BY     reads and writes take at most so many bytes: of files where FAULT_OF is files, else of streams
+//   FAULT_BY     reads and writes of streams take at most so many bytes
 //   FAULT_STOP   kept, dropped or torn: the process ends at the call of `files`, and of what wasn't synced all stays, nothing,
 //                or in each sector what it held at some time since
 //   FAULT_SEED   which sectors are torn
-//   FAULT_COUNT  a file whose first 8 bytes count the calls
+//   FAULT_COUNT  a file of a page, whose first 8 bytes count the calls of the process that was started last
 
 typedef unsigned long size_t;
 
@@ -107,6 +107,7 @@ __attribute__((constructor)) static void begin(void) {
         int file = syscall(OPENAT_CALL, AT_FDCWD, path, O_RDWR);
         void *page = mmap(0, 4096, PROT_READ_WRITE, MAP_SHARED, file, 0);
         if (page != (void *)-1L) calls = page;
+        *calls = 0;
         syscall(CLOSE_CALL, file);
     }
     ready = 1;
@@ -204,26 +205,24 @@ void *realloc(void *old, size_t size) {
     return is_hit(MEMORY) && failed(ENOMEM) ? 0 : real_realloc(old, size);
 }
 
-static size_t fewer(size_t count, int is_file) {
-    return most && is_file == (of == FILES) && count > (size_t)most ? (size_t)most : count;
-}
+static size_t fewer(size_t count) { return most && count > (size_t)most ? (size_t)most : count; }
 
 long read(int file, void *to, size_t count) {
     if (is_below(file)) return syscall(READ_CALL, file, to, count);
-    return fails(READ) ? -1 : syscall(READ_CALL, file, to, fewer(count, 0));
+    return fails(READ) ? -1 : syscall(READ_CALL, file, to, fewer(count));
 }
 
 long recv(int file, void *to, size_t count, int flags) {
-    return fails(READ) ? -1 : syscall(RECVFROM_CALL, file, to, fewer(count, 0), flags, 0L, 0L);
+    return fails(READ) ? -1 : syscall(RECVFROM_CALL, file, to, fewer(count), flags, 0L, 0L);
 }
 
 long write(int file, const void *from, size_t count) {
     if (file == STANDARD_ERROR) return syscall(WRITE_CALL, file, from, count);
-    return fails(WRITE) ? -1 : syscall(WRITE_CALL, file, from, fewer(count, 0));
+    return fails(WRITE) ? -1 : syscall(WRITE_CALL, file, from, fewer(count));
 }
 
 long send(int file, const void *from, size_t count, int flags) {
-    return fails(WRITE) ? -1 : syscall(SENDTO_CALL, file, from, fewer(count, 0), flags, 0L, 0L);
+    return fails(WRITE) ? -1 : syscall(SENDTO_CALL, file, from, fewer(count), flags, 0L, 0L);
 }
 
 int open(const char *name, int flags, ...) {
@@ -257,7 +256,7 @@ int fcntl(int file, int what, ...) {
 
 long pread(int file, void *to, size_t count, long place) {
     if (is_below(file) && fails(LOOKS)) return -1;
-    return syscall(PREAD_CALL, file, to, fewer(count, 1), place);
+    return syscall(PREAD_CALL, file, to, count, place);
 }
 
 long pwrite(int file, const void *from, size_t count, long place) {
@@ -265,7 +264,7 @@ long pwrite(int file, const void *from, size_t count, long place) {
         if (file_fails()) return -1;
         note_of(file, place, count);
     }
-    return syscall(PWRITE_CALL, file, from, fewer(count, 1), place);
+    return syscall(PWRITE_CALL, file, from, count, place);
 }
 
 int ftruncate(int file, long length) {

@@ -43,8 +43,8 @@ def library():
 
 class Faults:
     """Which calls fail: `of` memory, read, write, files or looks, as faults.c says; the `at`-th, from 1 (0: none); once or
-    from then `on`; with this error; at most `by` bytes a call; `stop`: the program ends there, with what wasn't synced kept,
-    dropped or torn by a `seed`. `under` is the folder of the files, the case's own where none is given."""
+    from then `on`; with this error. Streams take at most `by` bytes a call. `stop`: the program ends there, with what wasn't
+    synced kept, dropped or torn by a `seed`. `under` is the folder of the files, the case's own where none is given."""
 
     def __init__(self, trial, of="", at=0, on=False, error=errno.EIO, by=0, stop="", seed=0, under=None):
         # (each run has its own count)
@@ -66,7 +66,7 @@ class Faults:
         }
 
     def calls(self):
-        """How many calls of the kind were made so far."""
+        """How many calls of the kind the program that was started last made so far."""
         with open(self.count_path, "rb") as file:
             return int.from_bytes(file.read(8), "little")
 

@@ -1,11 +1,14 @@
 """A shop that `cutshop serve` serves, and what terminals send to it over real sockets."""
 
+import itertools
 import json
 import os
 import select
 import signal
 import socket
 import subprocess
+import threading
+from contextlib import suppress
 
 # A client waits this long for an answer.
 SECONDS = 30
@@ -78,10 +81,30 @@ def request_of(line, reply=None):
     return f"POST /{route} HTTP/1.1\r\nHost: shop\r\nContent-Length: {len(line)}\r\n\r\n".encode() + line
 
 
+# Ports of shops, below those that the system gives to clients. Each run of the suite begins at another one.
+FIRST_PORT, LAST_PORT = 10000, 32000
+PORTS = itertools.count(os.getpid() * 61)
+LOCK = threading.Lock()
+
+
 def free_port():
-    with socket.socket() as it:
-        it.bind(("127.0.0.1", 0))
-        return it.getsockname()[1]
+    """A port that nobody listens to, and that no other shop of this run has."""
+    for _ in range(LAST_PORT - FIRST_PORT):
+        with LOCK:
+            port = FIRST_PORT + next(PORTS) % (LAST_PORT - FIRST_PORT)
+        with socket.socket() as it, suppress(OSError):
+            it.setsockopt(socket.SOL_SOCKET, socket.SO_REUSEADDR, 1)
+            it.bind(("127.0.0.1", port))
+            return port
+    raise OSError("no port is free")
+
+
+def begin_again(environment):
+    """Sets the count of calls to none, for a start that is made again."""
+    path = (environment or {}).get("FAULT_COUNT")
+    if path:
+        with open(path, "r+b") as file:
+            file.write(bytes(8))
 
 
 class Shop:
@@ -120,6 +143,7 @@ class Shop:
             self.errors = self.process.stderr.read()
             if self.errors != b"fault port\n":
                 break
+            begin_again(environment)
         self.port = None
 
     @property
