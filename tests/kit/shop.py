@@ -99,14 +99,6 @@ def free_port():
     raise OSError("no port is free")
 
 
-def begin_again(environment):
-    """Sets the count of calls to none, for a start that is made again."""
-    path = (environment or {}).get("FAULT_COUNT")
-    if path:
-        with open(path, "r+b") as file:
-            file.write(bytes(8))
-
-
 class Shop:
     """A running `cutshop serve`. `limit` is the number of connections after which it ends by itself."""
 
@@ -143,7 +135,6 @@ class Shop:
             self.errors = self.process.stderr.read()
             if self.errors != b"fault port\n":
                 break
-            begin_again(environment)
         self.port = None
 
     @property
