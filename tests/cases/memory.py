@@ -70,16 +70,23 @@ def sent(ask, what):
         return b""
 
 
+def opened(trial, store, faults):
+    """A shop with a request that is refused, or one that nothing disturbs where its start was refused."""
+    shop = trial.shop(store, environment=faults.environment)
+    if shop.is_open:
+        return shop
+    trial.equal((shop.status, shop.errors), (1, b"fault memory\n"), f"the start, request {faults.at}")
+    shop.kill()
+    return trial.shop(store)
+
+
 def served(trial, day, faults):
     """The same over `serve` behind its start, where a connection may also end without an answer; where the program ends it is
     opened again. How many requests its start makes."""
-    store = f"{faults.at}.db"
-    shop = trial.shop(store, environment=faults.environment)
+    # (a longer name would take more requests)
+    store = f"{faults.at:06}.db"
+    shop = opened(trial, store, faults)
     first = faults.calls()
-    if not shop.is_open:
-        trial.equal((shop.status, shop.errors), (1, b"fault memory\n"), "the start")
-        shop.kill()
-        shop = trial.shop(store)
     for number, (line, reply) in enumerate(zip(day.lines, day.replies)):
         got = sent(shop.reply, line)
         if got == REFUSED:
@@ -173,14 +180,10 @@ def texts(trial):
 
     def run(faults):
         # (each run has a store of its own)
-        copy = trial.path(f"{faults.at}.db")
+        copy = trial.path(f"{faults.at:06}.db")
         shutil.copy(store, copy)
-        again = trial.shop(copy, environment=faults.environment)
+        again = opened(trial, copy, faults)
         first = faults.calls()
-        if not again.is_open:
-            trial.equal((again.status, again.errors), (1, b"fault memory\n"), "the start")
-            again.kill()
-            again = trial.shop(copy)
         for path, text in zip(paths, wanted):
             got = sent(again.get, path)
             trial.equal(got in (text, answer(503, REFUSED), b""), True, f"{path}, request {faults.at}: {got}")
@@ -210,7 +213,7 @@ def commands(trial):
         trial.equal((whole.status, whole.err), (0, b""), words)
 
         def run(faults):
-            copy = trial.path(f"{words[0]}-{faults.at}.db")
+            copy = trial.path(f"{words[0]}-{faults.at:06}.db")
             shutil.copy(store, copy)
             ran = trial.run(*[copy if it == store else it for it in words], environment=faults.environment)
             trial.equal(ran == whole or (ran.status, ran.out, ran.err in told) == (1, b"", True), True, f"{words} {ran}")

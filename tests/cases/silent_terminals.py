@@ -6,6 +6,7 @@ import threading
 import time
 
 from cases.connections import GLASS, TOTALS
+from cases.stores import DAY, filled, many_parts
 from kit.case import case
 from kit.shop import answer, read_all, request_of
 
@@ -167,3 +168,21 @@ def early_faults(trial):
     for path, field, length, wanted in heads * 5:
         request = f"POST {path} HTTP/1.1\r\nHost: shop\r\n{field}\r\n\r\n".encode() + b"x" * length
         trial.equal(shop.exchange(request), wanted, f"{path} {field}")
+
+
+@case(
+    "a report that is never read",
+    "Beside a terminal that asks for a report of over a megabyte and never reads it, eight terminals have their answers at once.",
+)
+def unread(trial):
+    path = filled(trial, exchanges=DAY[:2])
+    many_parts(path, "GLASS", 40000, 5, 4, first_act=1000000)
+    shop = trial.shop()
+    with shop.connect() as it:
+        it.setsockopt(socket.SOL_SOCKET, socket.SO_RCVBUF, 4096)
+        it.sendall(b"GET /yield/GLASS HTTP/1.1\r\nHost: shop\r\n\r\n")
+        slowest, bad = posts(shop, 8, 20)
+        trial.equal(bad, [])
+        trial.holds(slowest < SOON, f"the slowest answer took {slowest:.2f} seconds")
+    report = shop.get("/yield/GLASS")
+    trial.equal((len(report) > 1 << 20, report[-5:]), (True, b"\nend\n"))
