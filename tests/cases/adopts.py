@@ -1,8 +1,8 @@
-"""Files that a shop takes over: version 1, tables of others, other versions, and rows that are no values."""
+"""Files that a shop takes over or not: tables of others, other versions, and rows that are no values."""
 
 import sqlite3
 
-from cases.stores import DAY, QUESTIONS, filled, sent
+from cases.stores import DAY, filled, sent
 from kit import tables
 from kit.case import case
 
@@ -30,44 +30,6 @@ def refused_as_it_was(trial, path, why):
     before = dump(path)
     trial.equal((opens(trial, path), why), (False, why))
     trial.equal(dump(path), before, why)
-
-
-@case(
-    "a file of version 1",
-    "A file of version 1, with its totals in `totals`, becomes one of version 2 with the same content: same answers, and each "
-    "message gets its kept reply.",
-)
-def version_1(trial):
-    path = filled(trial)
-    shop = trial.shop()
-    before = [shop.reply(it) for it in QUESTIONS]
-    shop.kill()
-    rows = tables.rows(path)
-    names = tables.COLUMNS["totals"].replace(" ", ", ")
-    tables.change(
-        path,
-        f"INSERT INTO totals SELECT {names} FROM totals2; DROP TABLE totals2; UPDATE meta SET value = 1 WHERE name = 'version'",
-    )
-    again = trial.shop()
-    sent(trial, again)
-    trial.equal([again.reply(it) for it in QUESTIONS], before)
-    again.kill()
-    trial.equal(tables.rows(path), rows)
-
-
-@case(
-    "a file of version 1 of other totals",
-    "A file of version 1 whose totals aren't the sums of its parts is `fault version` and stays as it was.",
-)
-def version_1_of_other_totals(trial):
-    path = filled(trial)
-    names = tables.COLUMNS["totals"].replace(" ", ", ")
-    tables.change(
-        path,
-        f"INSERT INTO totals SELECT {names} FROM totals2; DROP TABLE totals2; UPDATE meta SET value = 1 WHERE name = 'version'",
-    )
-    tables.change(path, "UPDATE totals SET kerf = kerf + 1")
-    refused_as_it_was(trial, path, "another total")
 
 
 @case(

@@ -4,6 +4,7 @@ import os
 import socket
 import sqlite3
 import subprocess
+from contextlib import contextmanager
 
 from kit.case import case
 
@@ -74,7 +75,7 @@ def faults_of_problems(trial):
 
 @case(
     "lengths of problem texts",
-    "A text of 65536 bytes is read, and one byte more is too long, as is a file of 64 GiB, which isn't read to its " "end.",
+    "A text of 65536 bytes is read, and one byte more is too long, as is a file of 64 GiB, which isn't read to its end.",
 )
 def lengths(trial):
     planned(trial, " " * 65536, "fault text 65536 Short")
@@ -166,7 +167,7 @@ def no_input(trial):
     trial.equal(over(trial, "replay", given=trial.folder), (1, b"fault read\n"))
 
 
-@case("all of standard error is closed", "Where no stream takes anything the status tells the fault.")
+@case("errors that can't be written", "Where standard error takes no byte the status alone tells the fault.")
 def no_errors(trial):
     ran = subprocess.run(
         [trial.program, "plan", "no.txt", "--kerf", "0", "--step", "1"], stderr=open("/dev/full", "wb"), cwd=trial.folder
@@ -235,6 +236,15 @@ def made(trial):
     trial.holds(os.path.exists(trial.path("new.db")), "new.db is there")
 
 
+@contextmanager
+def taken_port():
+    """A port that somebody else listens to."""
+    with socket.socket() as taken:
+        taken.bind(("127.0.0.1", 0))
+        taken.listen()
+        yield taken.getsockname()[1]
+
+
 def serving(trial, port, store, shop):
     return trial.run("serve", "--port", str(port), "--store", store, "--shop", shop, "--limit", "1")
 
@@ -244,10 +254,7 @@ def serving(trial, port, store, shop):
     "The shop file's text comes before the store, the store before the shop's entries, the entries before the port.",
 )
 def order_of_faults(trial):
-    with socket.socket() as taken:
-        taken.bind(("127.0.0.1", 0))
-        taken.listen()
-        port = taken.getsockname()[1]
+    with taken_port() as port:
         trial.write("text.toml", "material = 1")
         trial.write("entry.toml", STEEL + "[[material]]\ncode = 1\n")
         trial.write("bad.toml", STEEL.replace("2.0", "0.0"))
@@ -272,10 +279,7 @@ def order_of_faults(trial):
     "with other values 21.",
 )
 def growing(trial):
-    with socket.socket() as taken:
-        taken.bind(("127.0.0.1", 0))
-        taken.listen()
-        port = taken.getsockname()[1]
+    with taken_port() as port:
         wanted = [(STEEL, "fault port"), (STEEL, "fault port"), (STEEL + GLASS, "fault port")]
         wanted += [(STEEL.replace("0.3", "0.4") + GLASS, "shop entry 1 refused 11 NumberReused")]
         wanted += [

@@ -125,12 +125,23 @@ def steps_of_sheets(trial):
     over_both(trial, steps)
 
 
+def ordered(trial, lines):
+    """Sends an order of each line alone; a line that is none is refused 41."""
+    steps, first = [(material("S", 1), added("S"))], 1
+    for number, (line, is_good) in enumerate(lines, 2):
+        order = compact({"do": "order", "lines": [line], "number": number, "order": f"A-{number}", "terminal": 1})
+        reply = compact({"count": 1, "first": first, "ok": "order", "order": f"A-{number}"})
+        steps.append((order, reply if is_good else refused(41, "BadLine")))
+        first += is_good
+    over_both(trial, steps)
+
+
 @case(
     "counts and worths of a line at their limits",
     "A count goes from 1 to 1000000 and a worth from 1 to 1000000000; others are refused 41.",
 )
 def limits_of_orders(trial):
-    steps, first = [(material("S", 1), added("S"))], 1
+    lines = []
     rows = [
         (1, 1, True),
         (0, 1, False),
@@ -140,19 +151,10 @@ def limits_of_orders(trial):
         (1, 1000000001, False),
         (1, 0, False),
     ]
-    for number, (count, worth, is_good) in enumerate(rows, 2):
+    for count, worth, is_good in rows:
         line = {"count": count, "h": 1, "line": 4294967295, "material": "S", "turn": False, "w": 1, "worth": worth}
-        order = compact({"do": "order", "lines": [line], "number": number, "order": f"A-{number}", "terminal": 1})
-        steps.append(
-            (
-                order,
-                compact({"count": 1, "first": first, "ok": "order", "order": f"A-{number}"})
-                if is_good
-                else refused(41, "BadLine"),
-            )
-        )
-        first += is_good
-    over_both(trial, steps)
+        lines.append((line, is_good))
+    ordered(trial, lines)
 
 
 @case(
@@ -160,21 +162,12 @@ def limits_of_orders(trial):
     "A piece of 200000 by 60000 is ordered; one more along either side, and a side of 0, is refused 41.",
 )
 def sides(trial):
-    steps, first = [(material("S", 1), added("S"))], 1
+    lines = []
     rows = [(200000, 60000, True), (200001, 1, False), (1, 60001, False), (0, 1, False), (1, 0, False)]
-    for number, (w, h, is_good) in enumerate(rows, 2):
+    for w, h, is_good in rows:
         line = {"count": 1, "h": h, "line": 1, "material": "S", "turn": True, "w": w, "worth": 1}
-        order = compact({"do": "order", "lines": [line], "number": number, "order": f"A-{number}", "terminal": 1})
-        steps.append(
-            (
-                order,
-                compact({"count": 1, "first": first, "ok": "order", "order": f"A-{number}"})
-                if is_good
-                else refused(41, "BadLine"),
-            )
-        )
-        first += is_good
-    over_both(trial, steps)
+        lines.append((line, is_good))
+    ordered(trial, lines)
 
 
 def imported(number, order, form, text, **more):

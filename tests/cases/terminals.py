@@ -8,18 +8,13 @@ import signal
 import threading
 import time
 
+from cases.earlier_files import REPORT
 from cases.stores import DAY, sent
 from kit import tables
 from kit.case import case
 from kit.shop import request_of
 
 CAP_DAC_OVERRIDE, CAP_DAC_READ_SEARCH, PR_CAPBSET_DROP = 1, 2, 24
-
-GLASS_REPORT = (
-    b"yield GLASS sheet\nreceived               80\nstock                   0\nrack                   20\n"
-    b"pieces                 43\nkerf                   17\nscrap                   0\nreturned                0\n"
-    b"yield 53.7 %\npart 3/2 0.5 x 0.4 standing\nend\n"
-)
 
 
 class Terminal:
@@ -161,7 +156,7 @@ def in_use(trial):
         trial.ended(trial.run(words[0], "--store", shop.store, words[1]), 1, err="fault store\n", sent=words[0])
     sent(trial, shop)
     shop.kill()
-    trial.ended(trial.run("yield", "--store", shop.store, "GLASS"), 0, GLASS_REPORT)
+    trial.ended(trial.run("yield", "--store", shop.store, "GLASS"), 0, REPORT)
 
 
 @case(
