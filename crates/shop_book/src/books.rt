@@ -1,13 +1,16 @@
-ghost use Rattle.std.specs.Prelude.{◌≡◌, ◌+◌, ◌≤◌, ◌⊎◌, ℕ, IfOk, IfSome, OnOk, OnErr};
+ghost use Rattle.std.specs.Prelude.{◌≡◌, ◌+◌, ◌≤◌, ◌⊎◌, ℕ, IfOk, IfSome, OnOk, OnErr, map, take};
 ghost use Rattle.shop_machine.specs.Content.{Content, material_at, part_at, job_at, has_order, demand_at, kept_at, import_at, totals_of, parts_of as listed_parts, changed};
+ghost use Rattle.shop_machine.specs.Listing.{IsLastNumber, materials_of, parts_behind, open_demands, waiting_jobs};
 ghost use Rattle.shop_machine.specs.Soundness.{Fits};
+ghost use Rattle.shop_machine.specs.declared.records.Job.{Job as JobOf};
 ghost use Rattle.shop_book.specs.Failures.{CountsFailure};
 ghost use Rattle.shop_book.specs.Books.{Keeps};
 ghost use Rattle.shop_machine.specs.Visits.{IsVisit};
 
 use cut_measure::{Code, PartName};
 use shop_machine::{
-    Change, Demand, ImportRow, Job, Kept, Material, Part, PartList, PartVisitor, Refusal, Totals,
+    Change, Demand, DemandList, ImportRow, Job, Kept, Material, MaterialList, NumberList, Part,
+    PartList, PartVisitor, Refusal, Totals,
 };
 use std::alloc::{AllocError, Global};
 use std::error::Error;
@@ -162,6 +165,44 @@ pub trait Book {
         visitor: &mut V,
     ) -> Result<bool, BookFault>
         ensures visit { IsVisit V.looks (λ what. is_honest self.new → (m : Content) → holds self.old m → what (listed_parts m material)) visitor.old result visitor.new }
+        ensures keeps { Keeps is_honest holds may_leave failed (CountsFailure result) self.old self.new };
+
+    /// All materials, by rising code.
+    fn materials(&mut self, alloc: Global) -> Result<MaterialList, BookFault>
+        ensures rows { is_honest self.new → (m : Content) → holds self.old m → IfOk result (λ rows. rows ≡ materials_of m) }
+        ensures keeps { Keeps is_honest holds may_leave failed (CountsFailure result) self.old self.new };
+
+    /// The first standing and reserved parts of a material behind a name, or from the first on, by rising act and then
+    /// node: at most so many.
+    fn first_parts(
+        &mut self,
+        alloc: Global,
+        material: Code,
+        after: Option<PartName>,
+        most: usize,
+    ) -> Result<PartList, BookFault>
+        ensures rows { is_honest self.new → (m : Content) → holds self.old m → IfOk result (λ rows. rows ≡ take most (parts_behind m material after)) }
+        ensures keeps { Keeps is_honest holds may_leave failed (CountsFailure result) self.old self.new };
+
+    /// The first open demands with greater numbers, of one material or of all, by rising number: at most so many.
+    fn first_demands(
+        &mut self,
+        alloc: Global,
+        after: u32,
+        material: Option<Code>,
+        most: usize,
+    ) -> Result<DemandList, BookFault>
+        ensures rows { is_honest self.new → (m : Content) → holds self.old m → IfOk result (λ rows. rows ≡ take most (open_demands m after material)) }
+        ensures keeps { Keeps is_honest holds may_leave failed (CountsFailure result) self.old self.new };
+
+    /// The numbers of the first waiting jobs with greater numbers, rising: at most so many.
+    fn first_jobs(&mut self, alloc: Global, after: u32, most: usize) -> Result<NumberList, BookFault>
+        ensures rows { is_honest self.new → (m : Content) → holds self.old m → IfOk result (λ numbers. numbers ≡ take most (map (λ (job : JobOf). job.act) (waiting_jobs m after))) }
+        ensures keeps { Keeps is_honest holds may_leave failed (CountsFailure result) self.old self.new };
+
+    /// The greatest number under which a message of a terminal is kept, 0 where none is.
+    fn last_number(&mut self, terminal: u32) -> Result<u32, BookFault>
+        ensures number { is_honest self.new → (m : Content) → holds self.old m → IfOk result (λ last. IsLastNumber m terminal last) }
         ensures keeps { Keeps is_honest holds may_leave failed (CountsFailure result) self.old self.new };
 
     /// Makes a change that fits the content as a whole, or not at all. After an `Err` the content is what it was, whatever

@@ -15,7 +15,8 @@ use crate::books::{Book, BookFault};
 use crate::order_codes::{OrderCode, put_and_keep};
 use cut_measure::{Code, PartName};
 use shop_machine::{
-    Change, Demand, ImportRow, Job, Kept, Material, Pair, Part, PartList, PartVisitor, Totals,
+    Change, Demand, DemandList, ImportRow, Job, Kept, Material, MaterialList, NumberList, Pair,
+    Part, PartList, PartVisitor, Totals,
 };
 use shop_rows::{
     Sums, add_part, at, find, put, put_all, put_run, put_some, sums_of, take_replaced, totals_in,
@@ -567,6 +568,43 @@ impl Book for MemBook {
     {
         let on = visit(&self.parts, material, visitor);
         Ok(on)
+    }
+
+    fn materials(&mut self, _alloc: Global) -> Result<MaterialList, BookFault> {
+        Err(BookFault::NoMemory)
+    }
+
+    fn first_parts(
+        &mut self,
+        _alloc: Global,
+        _material: Code,
+        _after: Option<PartName>,
+        _most: usize,
+    ) -> Result<PartList, BookFault> {
+        Err(BookFault::NoMemory)
+    }
+
+    fn first_demands(
+        &mut self,
+        _alloc: Global,
+        _after: u32,
+        _material: Option<Code>,
+        _most: usize,
+    ) -> Result<DemandList, BookFault> {
+        Err(BookFault::NoMemory)
+    }
+
+    fn first_jobs(
+        &mut self,
+        _alloc: Global,
+        _after: u32,
+        _most: usize,
+    ) -> Result<NumberList, BookFault> {
+        Err(BookFault::NoMemory)
+    }
+
+    fn last_number(&mut self, _terminal: u32) -> Result<u32, BookFault> {
+        Err(BookFault::NoMemory)
     }
 
     fn commit(&mut self, change: Change) -> Result<(), BookFault>

@@ -19,3 +19,4 @@ pub mod Machine
 pub mod Soundness
 pub mod History
 pub mod Visits
+pub mod Listing

@@ -4,6 +4,9 @@ use crate::messages::Reply;
 use crate::records::{Demand, Job, Material, Part, Totals};
 use cut_measure::{Code, RowList};
 
+/// Rows of materials, in order.
+pub type MaterialList = RowList<Material>;
+
 /// Rows of parts, in order.
 pub type PartList = RowList<Part>;
 

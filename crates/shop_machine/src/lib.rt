@@ -22,7 +22,7 @@ mod turning;
 mod visits;
 
 pub use adding::decide_material;
-pub use changes::{Change, DemandList, MaterialTotals, PartList};
+pub use changes::{Change, DemandList, MaterialList, MaterialTotals, PartList};
 pub use cut_measure::RowList;
 pub use ending::{decide_break, decide_done, decide_release};
 pub use importing::{

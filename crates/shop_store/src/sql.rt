@@ -19,8 +19,8 @@ use crate::takers::PartTaker;
 use cut_measure::{Code, PartName};
 use shop_book::{Book, BookFault};
 use shop_machine::{
-    Change, Demand, ImportRow, Job, Kept, Material, Pair, Part, PartList, PartVisitor, Totals,
-    no_totals,
+    Change, Demand, DemandList, ImportRow, Job, Kept, Material, MaterialList, NumberList, Pair,
+    Part, PartList, PartVisitor, Totals, no_totals,
 };
 use shop_tables::{
     AdoptFault, Adopted, TableFault, adopt_tables, commit_change, find_demand, find_import,
@@ -378,6 +378,43 @@ impl<S: Alter> Book for SqlBook<S> {
     ) -> Result<bool, BookFault> {
         let answer = lend_parts(&mut self.conn, material, visitor);
         self.tell(answer)
+    }
+
+    fn materials(&mut self, _alloc: Global) -> Result<MaterialList, BookFault> {
+        Err(BookFault::NoMemory)
+    }
+
+    fn first_parts(
+        &mut self,
+        _alloc: Global,
+        _material: Code,
+        _after: Option<PartName>,
+        _most: usize,
+    ) -> Result<PartList, BookFault> {
+        Err(BookFault::NoMemory)
+    }
+
+    fn first_demands(
+        &mut self,
+        _alloc: Global,
+        _after: u32,
+        _material: Option<Code>,
+        _most: usize,
+    ) -> Result<DemandList, BookFault> {
+        Err(BookFault::NoMemory)
+    }
+
+    fn first_jobs(
+        &mut self,
+        _alloc: Global,
+        _after: u32,
+        _most: usize,
+    ) -> Result<NumberList, BookFault> {
+        Err(BookFault::NoMemory)
+    }
+
+    fn last_number(&mut self, _terminal: u32) -> Result<u32, BookFault> {
+        Err(BookFault::NoMemory)
     }
 
     fn commit(&mut self, change: Change) -> Result<(), BookFault> {
