@@ -24,8 +24,9 @@ use shop_machine::{
 };
 use shop_tables::{
     AdoptFault, Adopted, TableFault, adopt_tables, commit_change, find_demand, find_import,
-    find_job, find_kept, find_last_act, find_last_demand, find_material, find_order, find_part,
-    find_totals, lend_parts, renew_shop,
+    find_job, find_kept, find_last_act, find_last_demand, find_last_number, find_material,
+    find_order, find_part, find_totals, lend_parts, list_first_parts, list_materials,
+    list_open_demands, list_waiting_jobs, renew_shop,
 };
 use sqlite::{Alter, Connection, MemStore};
 use std::alloc::Global;
@@ -380,41 +381,46 @@ impl<S: Alter> Book for SqlBook<S> {
         self.tell(answer)
     }
 
-    fn materials(&mut self, _alloc: Global) -> Result<MaterialList, BookFault> {
-        Err(BookFault::NoMemory)
+    fn materials(&mut self, alloc: Global) -> Result<MaterialList, BookFault> {
+        let answer = list_materials(alloc, &mut self.conn);
+        self.tell(answer)
     }
 
     fn first_parts(
         &mut self,
-        _alloc: Global,
-        _material: Code,
-        _after: Option<PartName>,
-        _most: usize,
+        alloc: Global,
+        material: Code,
+        after: Option<PartName>,
+        most: usize,
     ) -> Result<PartList, BookFault> {
-        Err(BookFault::NoMemory)
+        let answer = list_first_parts(alloc, &mut self.conn, material, after, most);
+        self.tell(answer)
     }
 
     fn first_demands(
         &mut self,
-        _alloc: Global,
-        _after: u32,
-        _material: Option<Code>,
-        _most: usize,
+        alloc: Global,
+        after: u32,
+        material: Option<Code>,
+        most: usize,
     ) -> Result<DemandList, BookFault> {
-        Err(BookFault::NoMemory)
+        let answer = list_open_demands(alloc, &mut self.conn, after, material, most);
+        self.tell(answer)
     }
 
     fn first_jobs(
         &mut self,
-        _alloc: Global,
-        _after: u32,
-        _most: usize,
+        alloc: Global,
+        after: u32,
+        most: usize,
     ) -> Result<NumberList, BookFault> {
-        Err(BookFault::NoMemory)
+        let answer = list_waiting_jobs(alloc, &mut self.conn, after, most);
+        self.tell(answer)
     }
 
-    fn last_number(&mut self, _terminal: u32) -> Result<u32, BookFault> {
-        Err(BookFault::NoMemory)
+    fn last_number(&mut self, terminal: u32) -> Result<u32, BookFault> {
+        let answer = find_last_number(&mut self.conn, terminal);
+        self.tell(answer)
     }
 
     fn commit(&mut self, change: Change) -> Result<(), BookFault> {

@@ -92,7 +92,7 @@ pub lists_earlier_totals : (old new : State) (b : Books) → ShowsEarlier old b 
 lists_earlier_totals old new b has rows shown =
     let is = earlier_totals_is in
     let a = (reads_as earlier_totals_text [] old new earlier_schema has.schema _ is.command is.plain is.listing rows shown).answer in
-    in_order code_total code_same 15 [] earlier_totals_terms by_code (λ e. (Text e.0 ∷ [], zero_listed e)) (λ e f. by_first e.0 f.0) old.now.trees [] refl earlier_row (λ _. true) (λ _. true) (λ r. refl) (λ e. refl)
+    in_order code_total code_same 15 [] earlier_totals_terms by_code (λ e. (Text e.0 ∷ [], zero_listed e)) (λ e f. by_first e.0 f.0) 1 old.now.trees [] refl earlier_row (λ _. true) (λ _. true) (λ r. refl) (λ e. refl)
     (λ d. (column d 0 ∷ [], column d 1 ∷ column d 2 ∷ column d 3 ∷ column d 4 ∷ column d 5 ∷ column d 6 ∷ Int (pos 0) ∷ column d 0 ∷ [])) later (λ e. refl) rows b.totals has.stands.totals a
     ∙ ap (map zero_listed) (filter_true (entries b.totals)) ∙ zeros (entries b.totals) has.stands.returned
   where

@@ -37,3 +37,9 @@ pub mod Taken
 pub mod LaidTables
 pub mod Reopened
 pub mod FreshBooks
+pub mod ListTexts
+pub mod Firsts
+pub mod Falling
+pub mod FirstRows
+pub mod LastNumbers
+pub mod FirstParts

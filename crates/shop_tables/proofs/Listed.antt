@@ -49,23 +49,23 @@ use Rattle.shop_tables.proofs.Texts.{shop, shop_is, parts_of_text, parts_of_test
 
 -- ---- the order of the rows
 
-abbrev whole : Row → Row
+abbrev pub whole : Row → Row
 whole d = column d 0 ∷ column d 1 ∷ column d 2 ∷ column d 3 ∷ column d 4 ∷ column d 5 ∷ column d 6 ∷ column d 7 ∷ column d 8 ∷ column d 9 ∷ column d 10 ∷ column d 11 ∷ []
 
-abbrev part_out : Name × Part → Output
+abbrev pub part_out : Name × Part → Output
 part_out e = (Int (pos e.0.act) ∷ Int (pos e.0.node) ∷ [], part_row e)
 
-shown_later : (r : Row) → ◌≡◌ {A = Output} (column r 1 ∷ column r 2 ∷ [], column r 1 ∷ column r 2 ∷ column r 3 ∷ column r 4 ∷ column r 5 ∷ column r 6 ∷ column r 7 ∷ column r 8 ∷ column r 9 ∷ column r 10 ∷ column r 11 ∷ column r 12 ∷ []) (column (drop 1 r) 0 ∷ column (drop 1 r) 1 ∷ [], whole (drop 1 r))
+pub shown_later : (r : Row) → ◌≡◌ {A = Output} (column r 1 ∷ column r 2 ∷ [], column r 1 ∷ column r 2 ∷ column r 3 ∷ column r 4 ∷ column r 5 ∷ column r 6 ∷ column r 7 ∷ column r 8 ∷ column r 9 ∷ column r 10 ∷ column r 11 ∷ column r 12 ∷ []) (column (drop 1 r) 0 ∷ column (drop 1 r) 1 ∷ [], whole (drop 1 r))
 shown_later [] = refl
 shown_later (x ∷ d) = refl
 
 as_nat : (m n : ℕ) → int_cmp (pos m) (pos n) ≡ nat_cmp m n
 as_nat m n = grind (arith, ints, nat_tests)
 
-ranked : (m n : ℕ) → value_cmp (Int (pos m)) (Int (pos n)) ≡ nat_cmp m n
+pub ranked : (m n : ℕ) → value_cmp (Int (pos m)) (Int (pos n)) ≡ nat_cmp m n
 ranked m n = value_cmp-Int (pos m) (pos n) ∙ as_nat m n
 
-by_output : (tests : List Term) (a b : Name × Part) → output_cmp (from_table 4 tests parts_of_terms parts_of_order) (part_out a) (part_out b) ≡ name_cmp a.0 b.0
+pub by_output : (tests : List Term) (a b : Name × Part) → output_cmp (from_table 4 tests parts_of_terms parts_of_order) (part_out a) (part_out b) ≡ name_cmp a.0 b.0
 by_output tests a b = (λ i. ordering_then (ranked a.0.act b.0.act i) (ordering_then (ranked a.0.node b.0.node i) Equal)) ∙ ap (ordering_then (nat_cmp a.0.act b.0.act)) (then-Equal (nat_cmp a.0.node b.0.node))
 
 -- ---- from rows to parts
@@ -105,13 +105,13 @@ IsOwnValue name part = (part.name ≡ name) × IsPartValue part
 
 -- ---- the standing parts of a material
 
-abbrev either_state : Row → ℕ → Bool
+abbrev pub either_state : Row → ℕ → Bool
 either_state d at = is_true (binary Or (binary (Compare Eq Binary) (column d at) (Int (pos 0))) (binary (Compare Eq Binary) (column d at) (Int (pos 1))))
 
-abbrev stands_of : List ℕ → Row → Bool
+abbrev pub stands_of : List ℕ → Row → Bool
 stands_of code d = equal (column d 2) (Text code) && (either_state d 10 && true)
 
-two : (x y : Bool) → is_true (from_truth (or3 (truth (from_truth (Some x))) (truth (from_truth (Some y))))) ≡ (x || y)
+pub two : (x y : Bool) → is_true (from_truth (or3 (truth (from_truth (Some x))) (truth (from_truth (Some y))))) ≡ (x || y)
 two true true = refl
 two true false = refl
 two false true = refl
@@ -133,10 +133,10 @@ there stands.Kerf = refl
 there stands.Scrap = refl
 there stands.Returned = refl
 
-listed : (code : List ℕ) (e : Name × Part) → stands_of code (part_row e) ≡ is_listed code e.1
+pub listed : (code : List ℕ) (e : Name × Part) → stands_of code (part_row e) ≡ is_listed code e.1
 listed code e = (λ i. equal-Text e.1.material code i && ((or_test (state_number e.1.state) ∙ there e.1.state) i && true)) ∙ ap (λ b. is_eq (code_cmp e.1.material code) && b) (and_true (is_there e.1.state))
 
-listed_later : (code : List ℕ) (r : Row) → (equal (column r 3) (Text code) && (either_state r 11 && true)) ≡ stands_of code (drop 1 r)
+pub listed_later : (code : List ℕ) (r : Row) → (equal (column r 3) (Text code) && (either_state r 11 && true)) ≡ stands_of code (drop 1 r)
 listed_later code [] = refl
 listed_later code (x ∷ d) = refl
 
@@ -146,7 +146,7 @@ module _ (old : State) (code : List ℕ) (b : Books) (has : Shows old b) where
 
   mine : (rows : List Row) → IsProgramAnswer [] (from_table 4 parts_of_tests parts_of_terms parts_of_order) old.now.trees (Text code ∷ []) rows → rows ≡ map part_row (filter (λ e. is_listed code e.1) (entries b.content.parts))
   mine rows a =
-      in_order name_total name_same 4 parts_of_tests parts_of_terms parts_of_order part_out (by_output parts_of_tests) old.now.trees (Text code ∷ []) refl part_row (λ e. is_listed code e.1) (stands_of code) (listed_later code) (listed code)
+      in_order name_total name_same 4 parts_of_tests parts_of_terms parts_of_order part_out (by_output parts_of_tests) 1 old.now.trees (Text code ∷ []) refl part_row (λ e. is_listed code e.1) (stands_of code) (listed_later code) (listed code)
       (λ d. (column d 0 ∷ column d 1 ∷ [], whole d)) shown_later (λ e. refl) rows b.content.parts has.stands.parts a
 
   listed_named : AllByRecursion (λ (e : Name × Part). e.1.name ≡ e.0) (filter (λ e. is_listed code e.1) (entries b.content.parts))
@@ -191,7 +191,7 @@ module _ (old : State) (schema : Schema) (has : old.now.schema ≡ schema) (name
     (m : Content) (keyed : IsKeyed m) (are : AreRows 1 (map part_row (entries m.parts)) (old.now.trees 4)) where
   every : (rows : List Row) → IsProgramAnswer [] (from_table 4 [] parts_of_terms parts_of_order) old.now.trees [] rows → rows ≡ map part_row (entries m.parts)
   every rows a =
-      in_order name_total name_same 4 [] parts_of_terms parts_of_order part_out (by_output []) old.now.trees [] refl part_row (λ _. true) (λ _. true) (λ r. refl) (λ e. refl)
+      in_order name_total name_same 4 [] parts_of_terms parts_of_order part_out (by_output []) 1 old.now.trees [] refl part_row (λ _. true) (λ _. true) (λ r. refl) (λ e. refl)
       (λ d. (column d 0 ∷ column d 1 ∷ [], whole d)) shown_later (λ e. refl) rows m.parts are a
       ∙ ap (map part_row) (filter_true (entries m.parts))
 

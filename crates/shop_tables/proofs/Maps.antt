@@ -22,12 +22,12 @@ eq_is Less h = absurd (true≢false (sym h))
 eq_is Equal h = refl
 eq_is Greater h = absurd (true≢false (sym h))
 
-lt_is : (r : Ordering) → T (is_lt r) → r ≡ Less
+pub lt_is : (r : Ordering) → T (is_lt r) → r ≡ Less
 lt_is Less h = refl
 lt_is Equal h = absurd h
 lt_is Greater h = absurd h
 
-both : (a b : Bool) → T (a && b) → T a × T b
+pub both : (a b : Bool) → T (a && b) → T a × T b
 both true b h = (tt, h)
 both false b h = absurd h
 

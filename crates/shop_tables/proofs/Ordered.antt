@@ -65,18 +65,18 @@ module _ {K X : Type 0} {R : K → K → Ordering} (o : IsTotalOrder R) (same : 
       let first = up k (out d) low inside in
       ap is_lt (sym (by_output (get_or to (k + 1) d) (get_or to k d))) ∙ rw (get_or-map out to (k + 1) d (out d) within, get_or-map out to k d (out d) (omega arith)) at first
 
-  rises : (to : List (K × X)) → IsSorted (output_cmp asked) (map out to) → Rises X o same to
+  pub rises : (to : List (K × X)) → IsSorted (output_cmp asked) (map out to) → Rises X o same to
   rises to up = ascends (λ a b. is_lt (R b.0 a.0) ≡ Rattle.std.proofs.Common.false) to (λ i j d lt within. sorted_far (λ a b. is_lt (R a.0 b.0)) (ranks_by o (λ (e : K × X). e.0)) to (adjacent to up) i j d (omega arith) within)
 
   -- what a query answers on a table whose rows are those of a map
-  module _ (db : Trees) (params : Row) (low : overlay db [] tree ≡ db tree) (row_of : K × X → Row) (t : K × X → Bool) (q : Row → Bool)
-      (later : (r : Row) → list_all (holds (params ∷ r ∷ [])) tests ≡ q (drop 1 r)) (passes : (e : K × X) → q (row_of e) ≡ t e)
-      (show : Row → Output) (shown_later : (r : Row) → output asked (params ∷ r ∷ []) ≡ show (drop 1 r)) (shows : (e : K × X) → show (row_of e) ≡ out e) where
-    pub in_order : (rows : List Row) (m : FinMap R X) → AreRows 1 (map row_of (entries m)) (db tree) → IsProgramAnswer [] asked db params rows → rows ≡ map (λ e. (out e).1) (filter t (entries m))
+  module _ (skip : ℕ) (db : Trees) (params : Row) (low : overlay db [] tree ≡ db tree) (row_of : K × X → Row) (t : K × X → Bool) (q : Row → Bool)
+      (later : (r : Row) → list_all (holds (params ∷ r ∷ [])) tests ≡ q (drop skip r)) (passes : (e : K × X) → q (row_of e) ≡ t e)
+      (show : Row → Output) (shown_later : (r : Row) → output asked (params ∷ r ∷ []) ≡ show (drop skip r)) (shows : (e : K × X) → show (row_of e) ≡ out e) where
+    pub in_order : (rows : List Row) (m : FinMap R X) → AreRows skip (map row_of (entries m)) (db tree) → IsProgramAnswer [] asked db params rows → rows ≡ map (λ e. (out e).1) (filter t (entries m))
     in_order rows m are a =
         let s = selects tree tests terms order db params low rows a in
         let mine = filter t (entries m) in
-        let all = shown_as 1 row_of t _ q later passes _ show out shown_later shows (entries m) (db tree) are in
+        let all = shown_as skip row_of t _ q later passes _ show out shown_later shows (entries m) (db tree) are in
         let back = pull_back out _ s.ordered (IsPermutation-trans _ _ _ all s.same) mine refl in
         let to = back.0 in
         let one : mine ≡ to = one_order X o same mine to (sorted_filter X o same t (entries m) (entries_sorted m))
@@ -97,7 +97,7 @@ pub lists_codes_of : (old new : State) (schema : Schema) (has : old.now.schema �
     → AreRows 1 (map material_row (entries m)) (old.now.trees 2) → (rows : List Row) → Shown all_codes_text [] old new rows → rows ≡ map (λ e. code_row (key_of e)) (entries m)
 lists_codes_of old new schema has names is m are rows shown =
     let a = (reads_as all_codes_text [] old new schema has _ is.command is.plain is.listing rows shown).answer in
-    in_order code_total code_same 2 [] all_codes_terms by_code (λ e. (Text e.0 ∷ [], code_row e.0)) (λ e f. by_first e.0 f.0) old.now.trees [] refl material_row (λ _. true) (λ _. true) (λ r. refl) (λ e. refl)
+    in_order code_total code_same 2 [] all_codes_terms by_code (λ e. (Text e.0 ∷ [], code_row e.0)) (λ e f. by_first e.0 f.0) 1 old.now.trees [] refl material_row (λ _. true) (λ _. true) (λ r. refl) (λ e. refl)
     (λ d. (column d 0 ∷ [], column d 0 ∷ [])) one_later (λ e. refl) rows m are a
     ∙ ap (map (λ e. code_row (key_of e))) (filter_true (entries m))
   where
@@ -113,7 +113,7 @@ module _ (old new : State) (b : Books) (has : Shows old b) where
   lists_totals rows shown =
       let is = all_totals_is old.now.schema has.schema in
       let a = (reads_as all_totals_text [] old new (shop old.now.schema has.schema) (shop_is old.now.schema has.schema) _ is.command is.plain is.listing rows shown).answer in
-      in_order code_total code_same 17 [] all_totals_terms by_code (λ e. (Text e.0 ∷ [], listed_row e)) (λ e f. by_first e.0 f.0) old.now.trees [] refl totals_row (λ _. true) (λ _. true) (λ r. refl) (λ e. refl)
+      in_order code_total code_same 17 [] all_totals_terms by_code (λ e. (Text e.0 ∷ [], listed_row e)) (λ e f. by_first e.0 f.0) 1 old.now.trees [] refl totals_row (λ _. true) (λ _. true) (λ r. refl) (λ e. refl)
       (λ d. (column d 0 ∷ [], column d 1 ∷ column d 2 ∷ column d 3 ∷ column d 4 ∷ column d 5 ∷ column d 6 ∷ column d 7 ∷ column d 0 ∷ [])) eight_later (λ e. refl) rows b.totals has.stands.totals2 a
       ∙ ap (map listed_row) (filter_true (entries b.totals))
     where

@@ -12,3 +12,4 @@ pub mod Lending
 pub mod Listing
 pub mod Adopting
 pub mod Earlier
+pub mod ListedRows

@@ -1,5 +1,6 @@
-ghost use Rattle.std.specs.Prelude.{◌≡◌, false, IfOk, IfSome};
+ghost use Rattle.std.specs.Prelude.{◌≡◌, ◌++◌, false, IfOk, IfSome};
 ghost use Rattle.sqlite.specs.Held.{state};
+ghost use Rattle.sqlite_value.specs.Order.{Row as Values};
 ghost use Rattle.shop_machine.specs.Content.{demand_at};
 ghost use Rattle.shop_machine.specs.declared.records.Demand.{Demand as DemandRecord};
 ghost use Rattle.shop_tables.specs.Rows.{demand_columns};
@@ -15,9 +16,10 @@ use crate::running::run;
 use shop_machine::Demand;
 use sqlite::{Alter, Connection, Error, Row, Transaction, params};
 
-fn read_demand(number: u32, row: &Row) -> Result<Demand, TableFault>
+// The columns behind them don't matter.
+pub(crate) fn read_demand(number: u32, row: &Row) -> Result<Demand, TableFault>
     ensures key { IfOk result (λ read. read.number ≡ number) }
-    ensures row { (demand : DemandRecord) → demand.number ≡ number → row.now ≡ demand_columns demand → IfOk result (λ read. read ≡ demand) }
+    ensures row { (demand : DemandRecord) (behind : Values) → demand.number ≡ number → row.now ≡ demand_columns demand ++ behind → IfOk result (λ read. read ≡ demand) }
 {
     Ok(Demand {
         number,

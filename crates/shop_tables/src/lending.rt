@@ -36,7 +36,7 @@ pub enum Lent {
 }
 
 // A part of which each column is shown, its name first.
-fn read_whole(row: &Row) -> Result<Part, TableFault>
+pub(crate) fn read_whole(row: &Row) -> Result<Part, TableFault>
     ensures { IfOk result (IsReadOf row.now) }
 {
     Ok(Part {

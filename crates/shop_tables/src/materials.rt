@@ -1,5 +1,6 @@
-ghost use Rattle.std.specs.Prelude.{◌≡◌, false, IfOk};
+ghost use Rattle.std.specs.Prelude.{◌≡◌, ◌++◌, false, IfOk};
 ghost use Rattle.sqlite.specs.Held.{state};
+ghost use Rattle.sqlite_value.specs.Order.{Row as Values};
 ghost use Rattle.shop_machine.specs.Content.{material_at};
 ghost use Rattle.shop_machine.specs.declared.records.Material.{Material as MaterialRecord};
 ghost use Rattle.shop_tables.specs.Rows.{material_columns};
@@ -16,8 +17,9 @@ use cut_measure::Code;
 use shop_machine::Material;
 use sqlite::{Alter, Connection, Error, Row, Transaction, params};
 
-fn read_material(code: Code, row: &Row) -> Result<Material, TableFault>
-    ensures { (material : MaterialRecord) → material.code ≡ code → row.now ≡ material_columns material → IfOk result (λ read. read ≡ material) }
+// The columns behind them don't matter.
+pub(crate) fn read_material(code: Code, row: &Row) -> Result<Material, TableFault>
+    ensures { (material : MaterialRecord) (behind : Values) → material.code ≡ code → row.now ≡ material_columns material ++ behind → IfOk result (λ read. read ≡ material) }
 {
     let kind = kind_in(row, 0)?;
     Ok(Material {

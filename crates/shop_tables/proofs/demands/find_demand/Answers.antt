@@ -1,4 +1,4 @@
-use Rattle.std.proofs.Common.{◌≡◌}
+use Rattle.std.proofs.Common.{◌≡◌, []}
 use Rattle.shop_machine.specs.Content.{demand_at}
 use Rattle.shop_machine.specs.declared.records.Demand.{Demand}
 use Rattle.shop_tables.specs.Rows.{demand_columns}
@@ -11,4 +11,4 @@ returns-in_default-clause-row g c clean b was = none_as (λ (demand : Demand). d
 pub returns-clause-row : goal.returns-clause-row
 returns-clause-row g c clean b was =
     read_as (λ (demand : Demand). demand.number ≡ c.args.number) demand_columns (demand_at b.content c.args.number) c.in-Some.row c.in_ok-demand.demand (rw c.in-Some.is at (c.in_ok-row.ensures.row clean b was))
-    c.in_ok-demand.ensures.row
+    (λ demand own is. c.in_ok-demand.ensures.row demand [] own is)

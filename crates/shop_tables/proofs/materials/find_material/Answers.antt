@@ -1,4 +1,4 @@
-use Rattle.std.proofs.Common.{◌≡◌}
+use Rattle.std.proofs.Common.{◌≡◌, []}
 use Rattle.shop_machine.specs.Content.{material_at}
 use Rattle.shop_machine.specs.declared.records.Material.{Material}
 use Rattle.shop_tables.specs.Rows.{material_columns}
@@ -11,4 +11,4 @@ returns-in_default-clause-row g c clean b was = none_as (λ (material : Material
 pub returns-clause-row : goal.returns-clause-row
 returns-clause-row g c clean b was =
     read_as (λ (material : Material). material.code ≡ c.args.code) material_columns (material_at b.content c.args.code) c.in-Some.row c.in_ok-material.material (rw c.in-Some.is at (c.in_ok-row.ensures.row clean b was))
-    c.in_ok-material.ensures
+    (λ material own is. c.in_ok-material.ensures material [] own is)

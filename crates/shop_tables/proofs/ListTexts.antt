@@ -1,0 +1,142 @@
+-- What the texts of the statements that list rows mean, over a schema that has the shop's tables in front.
+use Rattle.std.proofs.Common.{◌≡◌, ℕ, pos, List, [], ◌∷◌, codes, true, refl}
+use Rattle.sqlite_tied.specs.Compute.{everything}
+use Rattle.sqlite.specs.Listing.{understood}
+use Rattle.sqlite.specs.Query.{Query}
+use Rattle.sqlite.specs.Term.{Term, lit, col, op2}
+use Rattle.sqlite_sql.specs.declared.ops.BinaryOp.TheVariants.{Compare, Or}
+use Rattle.sqlite_sql.specs.declared.ops.CompareOp.TheVariants.{Ge, Gt, Lt}
+use Rattle.sqlite_value.specs.declared.keys.Collation.TheVariants.{Binary}
+use Rattle.sqlite_value.specs.declared.keys.Key.{Key}
+use Rattle.sqlite_value.specs.Keys.{ascending}
+use Rattle.sqlite_value.specs.declared.value.Value.TheVariants.{Int}
+use Rattle.sqlite.specs.Schema.{Schema}
+use Rattle.shop_tables.specs.Layout.{IsShop}
+use Rattle.shop_tables.specs.Selecting.{is_select}
+use Rattle.shop_tables.proofs.Terms.{same, from_table, Reads}
+use Rattle.shop_tables.proofs.Texts.{by_code, parts_of_order, parts_of_terms, parts_of_tests, shop}
+
+-- the first rows of a query, at most so many
+abbrev pub first_of : Term → Query → Query
+first_of most query = record query { limit = most }
+
+-- one is greater than another, or less
+abbrev pub above : Term → Term → Term
+above a b = op2 (Compare Gt Binary) a b
+
+abbrev pub below : Term → Term → Term
+below a b = op2 (Compare Lt Binary) a b
+
+abbrev pub all_materials_text : List ℕ
+all_materials_text = codes "SELECT kind, kerf, min_long, min_short, code FROM materials ORDER BY code"
+
+abbrev pub all_materials_terms : List Term
+all_materials_terms = col 1 2 ∷ col 1 3 ∷ col 1 4 ∷ col 1 5 ∷ col 1 1 ∷ []
+
+abbrev pub by_rowid : List (Term × Key)
+by_rowid = (col 1 0, ascending Binary) ∷ []
+
+abbrev pub open_demands_text : List ℕ
+open_demands_text = codes "SELECT ord, line, material, w, h, turn, worth, wanted, reserved, made, number FROM demands WHERE number > ?1 AND made < wanted ORDER BY number LIMIT ?2"
+
+abbrev pub open_demands_terms : List Term
+open_demands_terms = col 1 2 ∷ col 1 3 ∷ col 1 4 ∷ col 1 5 ∷ col 1 6 ∷ col 1 7 ∷ col 1 8 ∷ col 1 9 ∷ col 1 10 ∷ col 1 11 ∷ col 1 0 ∷ []
+
+abbrev pub open_demands_tests : List Term
+open_demands_tests = above (col 1 0) (col 0 0) ∷ below (col 1 11) (col 1 9) ∷ []
+
+abbrev pub open_demands_of_text : List ℕ
+open_demands_of_text = codes "SELECT ord, line, material, w, h, turn, worth, wanted, reserved, made, number FROM demands WHERE number > ?1 AND material = ?3 AND made < wanted ORDER BY number LIMIT ?2"
+
+abbrev pub open_demands_of_tests : List Term
+open_demands_of_tests = above (col 1 0) (col 0 0) ∷ same (col 1 4) (col 0 2) ∷ below (col 1 11) (col 1 9) ∷ []
+
+abbrev pub first_parts_text : List ℕ
+first_parts_text = codes "SELECT act, node, material, batch, root_act, root_node, x, y, w, h, state, detail FROM parts WHERE material = ?1 AND (state = 0 OR state = 1) ORDER BY act, node LIMIT ?2"
+
+abbrev pub parts_behind_text : List ℕ
+parts_behind_text = codes "SELECT act, node, material, batch, root_act, root_node, x, y, w, h, state, detail FROM parts WHERE material = ?1 AND (state = 0 OR state = 1) AND act >= ?2 AND (act > ?2 OR node > ?3) ORDER BY act, node LIMIT ?4"
+
+abbrev pub parts_behind_tests : List Term
+parts_behind_tests =
+    same (col 1 3) (col 0 0) ∷ op2 Or (same (col 1 11) (lit (Int (pos 0)))) (same (col 1 11) (lit (Int (pos 1)))) ∷ op2 (Compare Ge Binary) (col 1 1) (col 0 1)
+    ∷ op2 Or (above (col 1 1) (col 0 1)) (above (col 1 2) (col 0 2)) ∷ []
+
+abbrev pub waiting_jobs_text : List ℕ
+waiting_jobs_text = codes "SELECT job FROM jobs WHERE job > ?1 AND state = 0 ORDER BY job LIMIT ?2"
+
+abbrev pub waiting_jobs_terms : List Term
+waiting_jobs_terms = col 1 0 ∷ []
+
+abbrev pub waiting_jobs_tests : List Term
+waiting_jobs_tests = above (col 1 0) (col 0 0) ∷ same (col 1 5) (lit (Int (pos 0))) ∷ []
+
+abbrev pub last_number_text : List ℕ
+last_number_text = codes "SELECT number FROM kept WHERE terminal = ?1 ORDER BY number DESC LIMIT 1"
+
+abbrev pub last_number_terms : List Term
+last_number_terms = col 1 2 ∷ []
+
+-- by a falling column
+abbrev pub falling : ℕ → List (Term × Key)
+falling at = (col 1 at, record { collation = Binary; descending = true }) ∷ []
+
+abbrev pub last_number_tests : List Term
+last_number_tests = same (col 1 1) (col 0 0) ∷ []
+
+module _ (schema : Schema) (h : IsShop schema) where
+  pub all_materials_is : Reads (shop schema h) all_materials_text (from_table 2 [] all_materials_terms by_code) (codes "kind" ∷ codes "kerf" ∷ codes "min_long" ∷ codes "min_short" ∷ codes "code" ∷ [])
+  unfolding understood everything
+  all_materials_is = record { command = refl; listing = refl; plain = (refl, refl) }
+
+  pub open_demands_is : Reads (shop schema h) open_demands_text (first_of (col 0 1) (from_table 9 open_demands_tests open_demands_terms by_rowid)) (codes "ord" ∷ codes "line" ∷ codes "material" ∷ codes "w" ∷ codes "h" ∷ codes "turn" ∷ codes "worth" ∷ codes "wanted" ∷ codes "reserved" ∷ codes "made" ∷ codes "number" ∷ [])
+  unfolding understood everything
+  open_demands_is = record { command = refl; listing = refl; plain = (refl, refl) }
+
+  pub open_demands_of_is : Reads (shop schema h) open_demands_of_text (first_of (col 0 1) (from_table 9 open_demands_of_tests open_demands_terms by_rowid)) (codes "ord" ∷ codes "line" ∷ codes "material" ∷ codes "w" ∷ codes "h" ∷ codes "turn" ∷ codes "worth" ∷ codes "wanted" ∷ codes "reserved" ∷ codes "made" ∷ codes "number" ∷ [])
+  unfolding understood everything
+  open_demands_of_is = record { command = refl; listing = refl; plain = (refl, refl) }
+
+  pub first_parts_is : Reads (shop schema h) first_parts_text (first_of (col 0 1) (from_table 4 parts_of_tests parts_of_terms parts_of_order)) (codes "act" ∷ codes "node" ∷ codes "material" ∷ codes "batch" ∷ codes "root_act" ∷ codes "root_node" ∷ codes "x" ∷ codes "y" ∷ codes "w" ∷ codes "h" ∷ codes "state" ∷ codes "detail" ∷ [])
+  unfolding understood everything
+  first_parts_is = record { command = refl; listing = refl; plain = (refl, refl) }
+
+  pub parts_behind_is : Reads (shop schema h) parts_behind_text (first_of (col 0 3) (from_table 4 parts_behind_tests parts_of_terms parts_of_order)) (codes "act" ∷ codes "node" ∷ codes "material" ∷ codes "batch" ∷ codes "root_act" ∷ codes "root_node" ∷ codes "x" ∷ codes "y" ∷ codes "w" ∷ codes "h" ∷ codes "state" ∷ codes "detail" ∷ [])
+  unfolding understood everything
+  parts_behind_is = record { command = refl; listing = refl; plain = (refl, refl) }
+
+  pub waiting_jobs_is : Reads (shop schema h) waiting_jobs_text (first_of (col 0 1) (from_table 6 waiting_jobs_tests waiting_jobs_terms by_rowid)) (codes "job" ∷ [])
+  unfolding understood everything
+  waiting_jobs_is = record { command = refl; listing = refl; plain = (refl, refl) }
+
+  pub last_number_is : Reads (shop schema h) last_number_text (first_of (lit (Int (pos 1))) (from_table 11 last_number_tests last_number_terms (falling 2))) (codes "number" ∷ [])
+  unfolding understood everything
+  last_number_is = record { command = refl; listing = refl; plain = (refl, refl) }
+
+pub all_materials_selects : is_select all_materials_text ≡ true
+unfolding everything
+all_materials_selects = refl
+
+pub open_demands_selects : is_select open_demands_text ≡ true
+unfolding everything
+open_demands_selects = refl
+
+pub open_demands_of_selects : is_select open_demands_of_text ≡ true
+unfolding everything
+open_demands_of_selects = refl
+
+pub first_parts_selects : is_select first_parts_text ≡ true
+unfolding everything
+first_parts_selects = refl
+
+pub parts_behind_selects : is_select parts_behind_text ≡ true
+unfolding everything
+parts_behind_selects = refl
+
+pub waiting_jobs_selects : is_select waiting_jobs_text ≡ true
+unfolding everything
+waiting_jobs_selects = refl
+
+pub last_number_selects : is_select last_number_text ≡ true
+unfolding everything
+last_number_selects = refl

@@ -1,0 +1,26 @@
+use Rattle.std.proofs.Common.{◌≡◌, [], ◌∷◌, pos, map, take, Ok}
+use Rattle.sqlite.specs.Held.{state}
+use Rattle.sqlite_value.specs.declared.value.Value.TheVariants.{Int}
+use Rattle.shop_machine.specs.Listing.{waiting_jobs}
+use Rattle.shop_machine.specs.declared.records.Job.{Job}
+use Rattle.shop_tables.specs.ListedRows.{number_row}
+use Rattle.shop_tables.proofs.FirstRows.{held_given, lists_waiting_jobs}
+use Rattle.shop_tables.proofs.ListTexts.{waiting_jobs_text, waiting_jobs_selects}
+use Rattle.shop_tables.proofs.Reading.{leaves_itself}
+use Rattle.shop_tables.proofs.waiting_jobs.job_rows.Goals as goal
+
+pub returns-in_err-limit-clause-leaves : goal.returns-in_err-limit-clause-leaves
+returns-in_err-limit-clause-leaves g c = leaves_itself _
+
+pub returns-in_err-rows-clause-leaves : goal.returns-in_err-rows-clause-leaves
+returns-in_err-rows-clause-leaves g c = c.all_rows.ensures.leaves waiting_jobs_selects
+
+pub returns-clause-rows : goal.returns-clause-rows
+returns-clause-rows g c clean b was =
+    let old = state g.S.Store c.args.conn.now in
+    let new = state g.S.Store c.all_rows.new.conn in
+    held_given waiting_jobs_text (Int (pos c.args.after) ∷ Int (pos c.args.most) ∷ []) old new waiting_jobs_selects c.all_rows.ensures.leaves b (λ rows. rows ≡ map number_row (take c.args.most (map (λ (job : Job). job.act) (waiting_jobs b.content c.args.after)))) (Ok c.in_ok-rows.rows) clean was
+    (λ rows has. lists_waiting_jobs old new b has c.args.after c.args.most rows) (rw (c.params-to_sql.ensures, c.params-to_sql-2.ensures, c.in_ok-limit.ensures) at (c.in_ok-rows.ensures.rows clean))
+
+pub returns-clause-leaves : goal.returns-clause-leaves
+returns-clause-leaves g c = c.all_rows.ensures.leaves waiting_jobs_selects

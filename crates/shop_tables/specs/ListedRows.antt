@@ -1,0 +1,31 @@
+-- Rows that show a value whole.
+use Rattle.std.specs.Prelude.{◌≡◌, ℕ, pos, List, [], ◌∷◌, ◌++◌, Option, Some, None}
+use Rattle.sqlite_value.specs.declared.value.Value.TheVariants.{Int}
+use Rattle.sqlite_value.specs.Order.{Row}
+use Rattle.shop_machine.specs.declared.records.Demand.{Demand}
+use Rattle.shop_machine.specs.declared.records.Material.{Material}
+use Rattle.shop_machine.specs.declared.records.Part.{Part}
+use Rattle.shop_machine.specs.Content.{Content}
+use Rattle.shop_machine.specs.Listing.{IsLastNumber}
+use Rattle.shop_tables.specs.Listing.{code_row}
+use Rattle.shop_tables.specs.Rows.{demand_columns, material_columns, part_row}
+
+abbrev pub number_row : ℕ → Row
+number_row number = Int (pos number) ∷ []
+
+-- a material's row, its code behind it
+abbrev pub listed_material : Material → Row
+listed_material material = material_columns material ++ code_row material.code
+
+-- a part's row, its name in front of it
+abbrev pub listed_part : Part → Row
+listed_part part = part_row (part.name, part)
+
+-- a demand's row, its number behind it
+abbrev pub listed_demand : Demand → Row
+listed_demand demand = demand_columns demand ++ number_row demand.number
+
+-- the row of a terminal's greatest number; there is none where no message is kept
+abbrev pub IsLastRow : Content → ℕ → Option Row → Type 0
+IsLastRow content terminal None = IsLastNumber content terminal 0
+IsLastRow content terminal (Some row) = (last : ℕ) × (row ≡ number_row last) × IsLastNumber content terminal last

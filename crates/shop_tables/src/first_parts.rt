@@ -1,0 +1,100 @@
+//! The first listed parts of a material, from its first on or behind a name.
+
+ghost use Rattle.std.specs.Prelude.{◌≡◌, false, map, take, Some, None, IfOk};
+ghost use Rattle.sqlite.specs.Held.{state};
+ghost use Rattle.shop_machine.specs.Listing.{parts_behind};
+ghost use Rattle.shop_tables.specs.ListedRows.{listed_part};
+ghost use Rattle.shop_tables.specs.Shown.{Leaves, Says};
+
+use crate::TableFault;
+use crate::listed_rows::{at_most, read_rows};
+use crate::rows::all_rows;
+use cut_measure::{Code, PartName};
+use shop_machine::PartList;
+use sqlite::{Alter, Connection, Row, params};
+use std::alloc::Global;
+
+fn first_rows<S: Alter>(
+    conn: &mut Connection<S>,
+    material: Code,
+    most: usize,
+) -> Result<Vec<Row>, TableFault>
+    ensures rows { Says (state S.Store conn.old) (state S.Store conn.new) (λ books. IfOk result (λ rows. rows.items ≡ map listed_part (take most (parts_behind books.content material None)))) }
+    ensures leaves { Leaves (state S.Store conn.old) (state S.Store conn.new) }
+    ensures mode { conn.old.in_transaction ≡ false → conn.new.in_transaction ≡ false }
+{
+    let limit = at_most(most)?;
+    let rows = all_rows(
+        conn,
+        "SELECT act, node, material, batch, root_act, root_node, x, y, w, h, state, detail FROM parts WHERE material = ?1 AND (state = 0 OR state = 1) ORDER BY act, node LIMIT ?2",
+        params![material.as_str(), &limit.rows],
+    )?;
+    Ok(rows)
+}
+
+fn rows_behind<S: Alter>(
+    conn: &mut Connection<S>,
+    material: Code,
+    after: PartName,
+    most: usize,
+) -> Result<Vec<Row>, TableFault>
+    ensures rows { Says (state S.Store conn.old) (state S.Store conn.new) (λ books. IfOk result (λ rows. rows.items ≡ map listed_part (take most (parts_behind books.content material (Some after))))) }
+    ensures leaves { Leaves (state S.Store conn.old) (state S.Store conn.new) }
+    ensures mode { conn.old.in_transaction ≡ false → conn.new.in_transaction ≡ false }
+{
+    let limit = at_most(most)?;
+    let rows = all_rows(
+        conn,
+        "SELECT act, node, material, batch, root_act, root_node, x, y, w, h, state, detail FROM parts WHERE material = ?1 AND (state = 0 OR state = 1) AND act >= ?2 AND (act > ?2 OR node > ?3) ORDER BY act, node LIMIT ?4",
+        params![material.as_str(), after.act(), after.node(), &limit.rows],
+    )?;
+    Ok(rows)
+}
+
+fn first_parts<S: Alter>(
+    alloc: Global,
+    conn: &mut Connection<S>,
+    material: Code,
+    most: usize,
+) -> Result<PartList, TableFault>
+    ensures rows { Says (state S.Store conn.old) (state S.Store conn.new) (λ books. IfOk result (λ rows. rows ≡ take most (parts_behind books.content material None))) }
+    ensures leaves { Leaves (state S.Store conn.old) (state S.Store conn.new) }
+    ensures mode { conn.old.in_transaction ≡ false → conn.new.in_transaction ≡ false }
+{
+    let rows = first_rows(conn, material, most)?;
+    read_rows(alloc, &rows)
+}
+
+fn parts_behind<S: Alter>(
+    alloc: Global,
+    conn: &mut Connection<S>,
+    material: Code,
+    after: PartName,
+    most: usize,
+) -> Result<PartList, TableFault>
+    ensures rows { Says (state S.Store conn.old) (state S.Store conn.new) (λ books. IfOk result (λ rows. rows ≡ take most (parts_behind books.content material (Some after)))) }
+    ensures leaves { Leaves (state S.Store conn.old) (state S.Store conn.new) }
+    ensures mode { conn.old.in_transaction ≡ false → conn.new.in_transaction ≡ false }
+{
+    let rows = rows_behind(conn, material, after, most)?;
+    read_rows(alloc, &rows)
+}
+
+/// The first standing and reserved parts of a material behind a name, or from its first on, by rising act and then node: at
+/// most so many.
+pub fn list_first_parts<S: Alter>(
+    alloc: Global,
+    conn: &mut Connection<S>,
+    material: Code,
+    after: Option<PartName>,
+    most: usize,
+) -> Result<PartList, TableFault>
+    ensures rows { Says (state S.Store conn.old) (state S.Store conn.new) (λ books. IfOk result (λ rows. rows ≡ take most (parts_behind books.content material after))) }
+    ensures leaves { Leaves (state S.Store conn.old) (state S.Store conn.new) }
+    ensures mode { conn.old.in_transaction ≡ false → conn.new.in_transaction ≡ false }
+{
+    match after {
+        Some(name) => parts_behind(alloc, conn, material, name, most),
+        None => first_parts(alloc, conn, material, most),
+    }
+}

@@ -1,0 +1,39 @@
+//! The greatest number under which a message of a terminal is kept.
+
+ghost use Rattle.std.specs.Prelude.{◌≡◌, false, Some, None, IfOk};
+ghost use Rattle.sqlite.specs.Held.{state};
+ghost use Rattle.shop_machine.specs.Listing.{IsLastNumber};
+ghost use Rattle.shop_tables.specs.Shown.{Leaves, Says};
+ghost use Rattle.shop_tables.specs.ListedRows.{IsLastRow};
+
+use crate::TableFault;
+use crate::columns::number_in;
+use crate::rows::row_by_number;
+use sqlite::{Alter, Connection, Error, Row};
+
+fn last_row<S: Alter>(conn: &mut Connection<S>, terminal: u32) -> Result<Option<Row>, Error>
+    ensures row { Says (state S.Store conn.old) (state S.Store conn.new) (λ books. IfOk result (IsLastRow books.content terminal)) }
+    ensures leaves { Leaves (state S.Store conn.old) (state S.Store conn.new) }
+    ensures mode { conn.old.in_transaction ≡ false → conn.new.in_transaction ≡ false }
+{
+    row_by_number(
+        conn,
+        "SELECT number FROM kept WHERE terminal = ?1 ORDER BY number DESC LIMIT 1",
+        terminal,
+    )
+}
+
+/// The greatest number under which a message of a terminal is kept, 0 where none is.
+pub fn find_last_number<S: Alter>(
+    conn: &mut Connection<S>,
+    terminal: u32,
+) -> Result<u32, TableFault>
+    ensures number { Says (state S.Store conn.old) (state S.Store conn.new) (λ books. IfOk result (λ last. IsLastNumber books.content terminal last)) }
+    ensures leaves { Leaves (state S.Store conn.old) (state S.Store conn.new) }
+    ensures mode { conn.old.in_transaction ≡ false → conn.new.in_transaction ≡ false }
+{
+    let Some(row) = last_row(conn, terminal)? else {
+        return Ok(0);
+    };
+    number_in(&row, 0)
+}

@@ -1,0 +1,93 @@
+//! Rows of a query, each of which shows a value whole.
+
+ghost use Rattle.std.specs.Prelude.{◌≡◌, List, map, pos, IfOk};
+ghost use Rattle.sqlite_value.specs.Order.{Row as Values};
+
+use crate::TableFault;
+use crate::columns::{code_in, number_in};
+use crate::demands::read_demand;
+use crate::lending::read_whole;
+use crate::materials::read_material;
+use shop_machine::{Demand, Material, Part, RowList};
+use sqlite::Row;
+use std::alloc::Global;
+
+/// What a row shows whole.
+pub(crate) trait Listed: Copy + Drop {
+    /// The row of a value.
+    ghost row_of: { Self → Values };
+
+    /// The value of a row.
+    fn read(row: &Row) -> Result<Self, TableFault>
+        ensures { (value : Self) → row.now ≡ row_of value → IfOk result (λ read. read ≡ value) };
+}
+
+impl Listed for Material {
+    ghost use Rattle.shop_tables.specs.ListedRows.{listed_material};
+
+    ghost row_of = { listed_material };
+
+    fn read(row: &Row) -> Result<Material, TableFault> {
+        let code = code_in(row, 4)?;
+        read_material(code, row)
+    }
+}
+
+impl Listed for Part {
+    ghost use Rattle.shop_tables.specs.ListedRows.{listed_part};
+
+    ghost row_of = { listed_part };
+
+    fn read(row: &Row) -> Result<Part, TableFault> {
+        read_whole(row)
+    }
+}
+
+impl Listed for Demand {
+    ghost use Rattle.shop_tables.specs.ListedRows.{listed_demand};
+
+    ghost row_of = { listed_demand };
+
+    fn read(row: &Row) -> Result<Demand, TableFault> {
+        let number = number_in(row, 10)?;
+        read_demand(number, row)
+    }
+}
+
+impl Listed for u32 {
+    ghost use Rattle.shop_tables.specs.ListedRows.{number_row};
+
+    ghost row_of = { number_row };
+
+    fn read(row: &Row) -> Result<u32, TableFault> {
+        number_in(row, 0)
+    }
+}
+
+/// How many rows are asked for at most, as a statement has it.
+#[derive(Clone, Copy)]
+pub(crate) struct Limit {
+    pub rows: i64,
+}
+
+/// At most so many, below 9223372036854775808.
+pub(crate) fn at_most(most: usize) -> Result<Limit, TableFault>
+    ensures { IfOk result (λ limit. limit.rows ≡ pos most) }
+{
+    match i64::try_from(most) {
+        Ok(rows) => Ok(Limit { rows }),
+        Err(_) => Err(TableFault::Store),
+    }
+}
+
+/// The values of these rows, in order.
+pub(crate) fn read_rows<T: Listed>(alloc: Global, rows: &[Row]) -> Result<RowList<T>, TableFault>
+    ensures { (values : List T) → rows.now ≡ map T.Listed.row_of values → IfOk result (λ list. list ≡ values) }
+{
+    let mut list = RowList::new(alloc);
+    for row in rows {
+        let value = T::read(row)?;
+        list.push(value)?;
+    }
+    Ok(list)
+}

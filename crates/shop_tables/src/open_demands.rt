@@ -1,0 +1,100 @@
+//! The demands of which not all pieces are made.
+
+ghost use Rattle.std.specs.Prelude.{◌≡◌, false, map, take, Some, None, IfOk};
+ghost use Rattle.sqlite.specs.Held.{state};
+ghost use Rattle.shop_machine.specs.Listing.{open_demands};
+ghost use Rattle.shop_tables.specs.ListedRows.{listed_demand};
+ghost use Rattle.shop_tables.specs.Shown.{Leaves, Says};
+
+use crate::TableFault;
+use crate::listed_rows::{at_most, read_rows};
+use crate::rows::all_rows;
+use cut_measure::Code;
+use shop_machine::DemandList;
+use sqlite::{Alter, Connection, Row, params};
+use std::alloc::Global;
+
+fn demand_rows<S: Alter>(
+    conn: &mut Connection<S>,
+    after: u32,
+    most: usize,
+) -> Result<Vec<Row>, TableFault>
+    ensures rows { Says (state S.Store conn.old) (state S.Store conn.new) (λ books. IfOk result (λ rows. rows.items ≡ map listed_demand (take most (open_demands books.content after None)))) }
+    ensures leaves { Leaves (state S.Store conn.old) (state S.Store conn.new) }
+    ensures mode { conn.old.in_transaction ≡ false → conn.new.in_transaction ≡ false }
+{
+    let limit = at_most(most)?;
+    let rows = all_rows(
+        conn,
+        "SELECT ord, line, material, w, h, turn, worth, wanted, reserved, made, number FROM demands WHERE number > ?1 AND made < wanted ORDER BY number LIMIT ?2",
+        params![after, &limit.rows],
+    )?;
+    Ok(rows)
+}
+
+fn demand_rows_of<S: Alter>(
+    conn: &mut Connection<S>,
+    after: u32,
+    material: Code,
+    most: usize,
+) -> Result<Vec<Row>, TableFault>
+    ensures rows { Says (state S.Store conn.old) (state S.Store conn.new) (λ books. IfOk result (λ rows. rows.items ≡ map listed_demand (take most (open_demands books.content after (Some material))))) }
+    ensures leaves { Leaves (state S.Store conn.old) (state S.Store conn.new) }
+    ensures mode { conn.old.in_transaction ≡ false → conn.new.in_transaction ≡ false }
+{
+    let limit = at_most(most)?;
+    let rows = all_rows(
+        conn,
+        "SELECT ord, line, material, w, h, turn, worth, wanted, reserved, made, number FROM demands WHERE number > ?1 AND material = ?3 AND made < wanted ORDER BY number LIMIT ?2",
+        params![after, &limit.rows, material.as_str()],
+    )?;
+    Ok(rows)
+}
+
+// Of all materials.
+fn open_demands_of_all<S: Alter>(
+    alloc: Global,
+    conn: &mut Connection<S>,
+    after: u32,
+    most: usize,
+) -> Result<DemandList, TableFault>
+    ensures rows { Says (state S.Store conn.old) (state S.Store conn.new) (λ books. IfOk result (λ rows. rows ≡ take most (open_demands books.content after None))) }
+    ensures leaves { Leaves (state S.Store conn.old) (state S.Store conn.new) }
+    ensures mode { conn.old.in_transaction ≡ false → conn.new.in_transaction ≡ false }
+{
+    let rows = demand_rows(conn, after, most)?;
+    read_rows(alloc, &rows)
+}
+
+fn open_demands_of<S: Alter>(
+    alloc: Global,
+    conn: &mut Connection<S>,
+    after: u32,
+    material: Code,
+    most: usize,
+) -> Result<DemandList, TableFault>
+    ensures rows { Says (state S.Store conn.old) (state S.Store conn.new) (λ books. IfOk result (λ rows. rows ≡ take most (open_demands books.content after (Some material)))) }
+    ensures leaves { Leaves (state S.Store conn.old) (state S.Store conn.new) }
+    ensures mode { conn.old.in_transaction ≡ false → conn.new.in_transaction ≡ false }
+{
+    let rows = demand_rows_of(conn, after, material, most)?;
+    read_rows(alloc, &rows)
+}
+
+/// The first open demands with greater numbers, of one material or of all, by rising number: at most so many.
+pub fn list_open_demands<S: Alter>(
+    alloc: Global,
+    conn: &mut Connection<S>,
+    after: u32,
+    material: Option<Code>,
+    most: usize,
+) -> Result<DemandList, TableFault>
+    ensures rows { Says (state S.Store conn.old) (state S.Store conn.new) (λ books. IfOk result (λ rows. rows ≡ take most (open_demands books.content after material))) }
+    ensures leaves { Leaves (state S.Store conn.old) (state S.Store conn.new) }
+    ensures mode { conn.old.in_transaction ≡ false → conn.new.in_transaction ≡ false }
+{
+    match material {
+        Some(code) => open_demands_of(alloc, conn, after, code, most),
+        None => open_demands_of_all(alloc, conn, after, most),
+    }
+}

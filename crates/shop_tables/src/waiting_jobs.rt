@@ -1,0 +1,48 @@
+//! The jobs that wait.
+
+ghost use Rattle.std.specs.Prelude.{◌≡◌, false, map, take, IfOk};
+ghost use Rattle.sqlite.specs.Held.{state};
+ghost use Rattle.shop_machine.specs.Listing.{waiting_jobs};
+ghost use Rattle.shop_machine.specs.declared.records.Job.{Job};
+ghost use Rattle.shop_tables.specs.ListedRows.{number_row};
+ghost use Rattle.shop_tables.specs.Shown.{Leaves, Says};
+
+use crate::TableFault;
+use crate::listed_rows::{at_most, read_rows};
+use crate::rows::all_rows;
+use shop_machine::NumberList;
+use sqlite::{Alter, Connection, Row, params};
+use std::alloc::Global;
+
+fn job_rows<S: Alter>(
+    conn: &mut Connection<S>,
+    after: u32,
+    most: usize,
+) -> Result<Vec<Row>, TableFault>
+    ensures rows { Says (state S.Store conn.old) (state S.Store conn.new) (λ books. IfOk result (λ rows. rows.items ≡ map number_row (take most (map (λ (job : Job). job.act) (waiting_jobs books.content after))))) }
+    ensures leaves { Leaves (state S.Store conn.old) (state S.Store conn.new) }
+    ensures mode { conn.old.in_transaction ≡ false → conn.new.in_transaction ≡ false }
+{
+    let limit = at_most(most)?;
+    let rows = all_rows(
+        conn,
+        "SELECT job FROM jobs WHERE job > ?1 AND state = 0 ORDER BY job LIMIT ?2",
+        params![after, &limit.rows],
+    )?;
+    Ok(rows)
+}
+
+/// The numbers of the first waiting jobs with greater numbers, rising: at most so many.
+pub fn list_waiting_jobs<S: Alter>(
+    alloc: Global,
+    conn: &mut Connection<S>,
+    after: u32,
+    most: usize,
+) -> Result<NumberList, TableFault>
+    ensures numbers { Says (state S.Store conn.old) (state S.Store conn.new) (λ books. IfOk result (λ numbers. numbers ≡ take most (map (λ (job : Job). job.act) (waiting_jobs books.content after)))) }
+    ensures leaves { Leaves (state S.Store conn.old) (state S.Store conn.new) }
+    ensures mode { conn.old.in_transaction ≡ false → conn.new.in_transaction ≡ false }
+{
+    let rows = job_rows(conn, after, most)?;
+    read_rows(alloc, &rows)
+}
