@@ -18,4 +18,5 @@ pub mod Planning
 pub mod Machine
 pub mod Soundness
 pub mod History
+pub mod Sharing
 pub mod Visits
