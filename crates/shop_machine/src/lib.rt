@@ -30,7 +30,10 @@ pub use importing::{
 };
 pub use imports::{Form, ImportRow};
 pub use kept_texts::{Kept, KeptMessage, Pair, Text};
-pub use laws::{accepted_changes_fit, histories_have_accounts, told_plans_can_be_reserved};
+pub use laws::{
+    accepted_changes_fit, histories_have_accounts, shared_cells_are_laid,
+    told_plans_can_be_reserved,
+};
 pub use messages::{Command, LineList, Message, NumberList, Query, RackList, Reply};
 pub use moving::no_totals;
 pub use ordering::{FoundLine, decide_order};
