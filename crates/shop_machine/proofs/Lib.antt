@@ -50,6 +50,8 @@ pub mod TurningDeed
 -- asking for a plan, or for a bound
 pub mod PlanningDecision
 pub mod PlanningReply
+-- asking for lists, for a job and for a terminal
+pub mod ListingReply
 -- every command, every history and every run
 pub mod Sound
 pub mod Given
