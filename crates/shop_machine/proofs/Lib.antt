@@ -14,6 +14,7 @@ pub mod Tallied
 pub mod PartStep
 pub mod RecountedRows
 -- laid rectangles and cells
+pub mod SharedCells
 pub mod Inside
 pub mod Cells
 -- what a history says of the content
@@ -49,6 +50,8 @@ pub mod TurningDeed
 -- asking for a plan, or for a bound
 pub mod PlanningDecision
 pub mod PlanningReply
+-- asking for lists, for a job and for a terminal
+pub mod ListingReply
 -- every command, every history and every run
 pub mod Sound
 pub mod Given

@@ -33,6 +33,7 @@ use Rattle.shop_machine.specs.Reserving.{IsReading, reserve_refusal, IsReservati
 use Rattle.shop_machine.specs.Ending.{end_refusal, IsWork, IsDone, IsBroken, IsRelease}
 use Rattle.shop_machine.specs.Turning.{scrap_refusal, return_refusal, turn_change}
 use Rattle.shop_machine.specs.Planning.{IsPlanAnswer, IsBoundAnswer}
+use Rattle.shop_machine.specs.Listing.{materials_of, parts_behind, open_demands, waiting_jobs, job_numbers, is_known, job_with_part, told_parts, told_demands, told_jobs, told_job, IsTerminalAnswer}
 
 -- ---- commands
 
@@ -185,6 +186,12 @@ IsAnswer content (query.Plan part demands step) answer =
     IsPlanAnswer (part_at content part) (material_of content (part_at content part)) (demand_at content) demands step answer
 IsAnswer content (query.Bound material w h demands step) answer =
     IsBoundAnswer (material_at content material) material (record { w = w; h = h }) (demand_at content) demands step answer
+IsAnswer content query.Materials answer = answer ≡ reply.Materials (materials_of content)
+IsAnswer content (query.Parts material after) answer = answer ≡ told_parts (material_at content material) material (parts_behind content material after)
+IsAnswer content (query.Demands after material) answer = answer ≡ told_demands (is_known content material) (open_demands content after material)
+IsAnswer content (query.Jobs after) answer = answer ≡ told_jobs content (job_numbers (waiting_jobs content after))
+IsAnswer content (query.Job job) answer = answer ≡ told_job (job_with_part content job)
+IsAnswer content (query.Terminal terminal) answer = IsTerminalAnswer content terminal answer
 
 -- the same, memory and the store aside; a query changes nothing
 abbrev pub Answers : Content → Query → Reply → Type 0

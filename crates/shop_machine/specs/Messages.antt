@@ -82,6 +82,12 @@ IsMade (reply.Trace batch h of part root state w x y) = ⊥
 IsMade (reply.Demand demand line made material order reserved wanted) = ⊥
 IsMade (reply.Plan ceiling dropped tree worth) = ⊥
 IsMade (reply.Bound best units) = ⊥
+IsMade (reply.Materials materials) = ⊥
+IsMade (reply.Parts material more parts) = ⊥
+IsMade (reply.Demands demands more) = ⊥
+IsMade (reply.Jobs jobs more) = ⊥
+IsMade (reply.Job cuts h job kerf material part state tree w) = ⊥
+IsMade (reply.Terminal last terminal) = ⊥
 IsMade (reply.Refused refusal) = ⊥
 
 -- the refusal that a reply tells of

@@ -9,6 +9,7 @@ mod importing;
 mod imports;
 mod kept_texts;
 mod laws;
+mod listing;
 mod messages;
 mod moving;
 mod ordering;
@@ -30,14 +31,20 @@ pub use importing::{
 };
 pub use imports::{Form, ImportRow};
 pub use kept_texts::{Kept, KeptMessage, Pair, Text};
-pub use laws::{accepted_changes_fit, histories_have_accounts, told_plans_can_be_reserved};
-pub use messages::{Command, LineList, Message, NumberList, Query, RackList, Reply};
+pub use laws::{
+    accepted_changes_fit, histories_have_accounts, shared_cells_are_laid,
+    told_plans_can_be_reserved,
+};
+pub use listing::{
+    MOST_TOLD, answer_demands, answer_job, answer_parts, are_more, first_told, job_row,
+};
+pub use messages::{Command, JobList, LineList, Message, NumberList, Query, RackList, Reply};
 pub use moving::no_totals;
 pub use ordering::{FoundLine, decide_order};
 pub use planning::{FoundDemand, FoundList, answer_bound, answer_plan, can_be_planned};
 pub use receiving::decide_receive;
 pub use records::{
-    Column, Demand, Job, JobState, Material, Part, RackRow, State, StateWord, Totals,
+    Column, Demand, Job, JobRow, JobState, Material, Part, RackRow, State, StateWord, Totals,
 };
 pub use recounts::FoundLeaf;
 pub use refusals::Refusal;

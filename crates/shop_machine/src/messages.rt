@@ -1,6 +1,7 @@
+use crate::changes::{DemandList, MaterialList, PartList};
 use crate::imports::Form;
 use crate::kept_texts::Text;
-use crate::records::{RackRow, StateWord};
+use crate::records::{JobRow, JobState, RackRow, StateWord};
 use crate::refusals::Refusal;
 use cut_measure::{Code, Kind, PartName, RowList};
 use cut_tree::Halt;
@@ -12,7 +13,10 @@ pub type LineList = RowList<OrderLine>;
 /// Parts on the rack, in order.
 pub type RackList = RowList<RackRow>;
 
-/// Numbers of demands, in order.
+/// Waiting jobs as they are told, in order.
+pub type JobList = RowList<JobRow>;
+
+/// Numbers of demands or of jobs, in order.
 pub type NumberList = RowList<u32>;
 
 /// What a terminal wants done. Numbers are as they came: the shop judges their ranges.
@@ -104,6 +108,30 @@ pub enum Query {
         h: u32,
         demands: NumberList,
         step: u32,
+    },
+    /// All materials.
+    Materials,
+    /// The first standing and reserved parts of a material behind a name, or from the first on.
+    Parts {
+        material: Code,
+        after: Option<PartName>,
+    },
+    /// The first open demands with greater numbers, of one material or of all.
+    Demands {
+        after: u32,
+        material: Option<Code>,
+    },
+    /// The first waiting jobs with greater numbers.
+    Jobs {
+        after: u32,
+    },
+    /// A job, whatever its state, and its plan.
+    Job {
+        job: u32,
+    },
+    /// The greatest number under which a message of a terminal is kept.
+    Terminal {
+        terminal: u32,
     },
 }
 
@@ -210,6 +238,43 @@ pub enum Reply {
     Bound {
         best: u64,
         units: u64,
+    },
+    /// All materials, by rising code.
+    Materials {
+        materials: MaterialList,
+    },
+    /// Standing and reserved parts of a material, by rising act and then node, and whether others follow the last one.
+    Parts {
+        material: Code,
+        more: bool,
+        parts: PartList,
+    },
+    /// Open demands, by rising number, and whether others follow the last one.
+    Demands {
+        demands: DemandList,
+        more: bool,
+    },
+    /// Waiting jobs, by rising number, and whether others follow the last one.
+    Jobs {
+        jobs: JobList,
+        more: bool,
+    },
+    /// A job with its plan's text, and the material and the sides of its part. Lengths are tenths of a millimetre.
+    Job {
+        cuts: u32,
+        h: u32,
+        job: u32,
+        kerf: u32,
+        material: Code,
+        part: PartName,
+        state: JobState,
+        tree: Text,
+        w: u32,
+    },
+    /// The greatest number kept of a terminal, 0 where none is.
+    Terminal {
+        last: u32,
+        terminal: u32,
     },
     Refused(Refusal),
 }

@@ -135,7 +135,7 @@ fn asked_wants(
 }
 
 // The text of a plan's tree.
-fn tree_text(alloc: Global, plan: &Plan) -> Result<Text, AllocError>
+pub(crate) fn tree_text(alloc: Global, plan: &Plan) -> Result<Text, AllocError>
     ensures { IfOk result (λ text. text ≡ text_of plan.now.tree) }
 {
     let mut text = String::new(alloc);

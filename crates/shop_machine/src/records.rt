@@ -188,6 +188,17 @@ pub struct RackRow {
     pub w: u32,
 }
 
+/// A waiting job, as it is told: how many cuts its plan has, and its part with that one's material and sides.
+#[derive(Clone, Copy, Debug, PartialEq)]
+pub struct JobRow {
+    pub cuts: u32,
+    pub h: u32,
+    pub job: u32,
+    pub material: Code,
+    pub part: PartName,
+    pub w: u32,
+}
+
 /// What is told of a material, in cells.
 #[derive(Clone, Copy, Debug, PartialEq, Eq)]
 pub struct Totals {
