@@ -6,6 +6,7 @@ use Rattle.cut_measure.specs.Codes.{code_cmp}
 use Rattle.cut_measure.specs.Names.{name_cmp}
 use Rattle.shop_machine.specs.Content.{pair_cmp}
 use Rattle.shop_rows.specs.Rows.{rise}
+use Rattle.shop_rows.specs.Open.{own_key, open_cmp, AreListed}
 use Rattle.shop_rows.specs.Sums.{sums_key, AreSumsOf, all_small}
 use Rattle.shop_book.specs.Memory.{MemoryBook, order_key, content_of_rows}
 use Rattle.shop_rows.specs.Keys.{material_key, part_key, job_key, demand_key, import_key}
@@ -17,7 +18,7 @@ book_of book = record {
   failures = book.failures;
 }
 
--- the rows rise by their keys, and the sums are those of the parts
+-- the rows rise by their keys, the sums are those of the parts, and the list has the names of those that stand
 pub record IsConsistent (book : Inside) : Type 0 where
   pub materials : IsTrue (rise material_key code_cmp book.materials.items)
   pub parts : IsTrue (rise part_key name_cmp book.parts.items)
@@ -29,3 +30,5 @@ pub record IsConsistent (book : Inside) : Type 0 where
   pub imports : IsTrue (rise import_key code_cmp book.imports.items)
   pub small : IsTrue (all_small book.parts.items)
   pub sums : AreSumsOf book.parts.items book.totals.items
+  pub open : IsTrue (rise own_key open_cmp book.open.parts.items)
+  pub listed : AreListed book.parts.items book.open.parts.items

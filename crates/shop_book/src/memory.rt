@@ -1,14 +1,17 @@
-ghost use Rattle.std.specs.Prelude.{◌≡◌, ◌≢◌, ◌+◌, ◌<◌, ◌≤◌, ◌^◌, ⊤, false, IfOk, IfErr, IfSome, IsOk, OnOk, OnErr, IsTrue, List, ℕ, ◌-◌, filter, length, vec_len, vec_capacity};
+ghost use Rattle.std.specs.Prelude.{◌≡◌, ◌≢◌, ◌+◌, ◌++◌, ◌<◌, ◌≤◌, ◌^◌, ⊤, false, IfOk, IfErr, IfSome, IsOk, OnOk, OnErr, IsTrue, List, ℕ, ◌-◌, length, option_copied, take, vec_len, vec_capacity};
+ghost use Rattle.std.specs.Option.{option_to_list};
 ghost use Rattle.cut_measure.specs.Codes.{code_cmp};
 ghost use Rattle.cut_measure.specs.Names.{name_cmp};
 ghost use Rattle.std.specs.Ordering.{nat_cmp};
-ghost use Rattle.shop_machine.specs.Content.{Content, material_at, part_at, job_at, has_order, demand_at, kept_at, import_at, totals_of, parts_of as listed_parts, changed, is_listed, with_parts, with_moved, with_material, with_job, with_order, with_demands, pair_cmp};
+ghost use Rattle.shop_machine.specs.Content.{Content, material_at, part_at, job_at, has_order, demand_at, kept_at, import_at, totals_of, parts_of as listed_parts, changed, with_parts, with_moved, with_material, with_job, with_order, with_demands, pair_cmp};
+ghost use Rattle.shop_machine.specs.Listing.{parts_behind};
 ghost use Rattle.shop_machine.specs.Soundness.{IsInRange};
 ghost use Rattle.shop_rows.specs.Keys.{material_key, part_key, job_key, import_key};
 ghost use Rattle.std.specs.FinMap.{find as find_entry};
 ghost use Rattle.shop_rows.specs.Rows.{rise, row_at, map_of, IsPut};
-ghost use Rattle.shop_machine.specs.Visits.{IsVisit};
+ghost use Rattle.shop_machine.specs.Visits.{HasSeen, IsVisit};
 ghost use Rattle.shop_book.specs.declared.books.BookFault.{BookFault as Fault};
+ghost use Rattle.shop_rows.specs.Open.{own_key, open_cmp, parts_named, AreListed};
 ghost use Rattle.shop_rows.specs.Sums.{sums_key, AreSumsOf, all_small};
 
 use crate::books::{Book, BookFault};
@@ -19,8 +22,8 @@ use shop_machine::{
     Part, PartList, PartVisitor, Totals,
 };
 use shop_rows::{
-    Sums, add_part, at, find, put, put_all, put_run, put_some, sums_of, take_replaced, totals_in,
-    with_all,
+    OpenPart, OpenRows, Sums, add_part, at, find, list_all, list_part, names_behind, put, put_all,
+    put_run, put_some, sums_of, take_replaced, totals_in, with_all,
 };
 use std::alloc::{AllocError, Global};
 use std::collections::{BTreeMap, BTreeSet};
@@ -40,6 +43,7 @@ pub struct MemBook {
     last_act: u32,
     last_demand: u32,
     failures: u64,
+    open: OpenRows,
 }
 
 impl Model for MemBook {
@@ -77,6 +81,7 @@ impl MemBook {
             last_act: 0,
             last_demand: 0,
             failures: 0,
+            open: OpenRows::new(alloc),
         }
     }
 }
@@ -96,6 +101,7 @@ impl MemBook {
         let demands = Vec::from_slice(alloc, &self.demands)?;
         let kept = self.kept.clone()?;
         let imports = self.imports.clone()?;
+        let open = self.open.copy(alloc)?;
         Ok(MemBook {
             materials,
             parts,
@@ -108,33 +114,65 @@ impl MemBook {
             last_act: self.last_act,
             last_demand: self.last_demand,
             failures: self.failures,
+            open,
         })
     }
 }
 
-// The listed parts of a material.
-fn listed(alloc: Global, parts: &[Part], material: Code) -> Result<PartList, AllocError>
-    ensures { IfOk result (λ rows. rows ≡ filter (is_listed material) parts.now) }
+// Appends a part that was found.
+fn push_found(rows: &mut PartList, found: Option<Part>) -> Result<(), AllocError>
+    ensures { OnOk result (rows.new ≡ rows.old ++ option_to_list found) }
+{
+    match found {
+        Some(part) => rows.push(part),
+        None => Ok(()),
+    }
+}
+
+// The parts of these names.
+fn listed(alloc: Global, parts: &[Part], keys: &[OpenPart]) -> Result<PartList, AllocError>
+    requires { IsTrue (rise part_key name_cmp parts.now) }
+    ensures { IfOk result (λ rows. rows ≡ parts_named keys.now parts.now) }
 {
     let mut rows = PartList::new(alloc);
-    for part in parts {
-        if part.is_listed(&material) {
-            rows.push(*part)?;
-        }
+    for key in keys {
+        push_found(&mut rows, find(parts, key.name))?;
     }
     Ok(rows)
 }
 
-// Hands out the listed parts of a material, for as long as the visitor answers true.
-fn visit<V: PartVisitor>(parts: &[Part], material: Code, visitor: &mut V) -> bool
-    ensures { IsVisit V.looks {Fault = Fault} (λ what. what (filter (is_listed material) parts.now)) visitor.old (Ok result) visitor.new }
+// Hands out a part that was found.
+fn hand<V: PartVisitor>(part: Option<&Part>, visitor: &mut V) -> bool
+    ensures { HasSeen V.looks (option_to_list (option_copied part)) result visitor.old visitor.new }
 {
-    for part in parts {
-        if part.is_listed(&material) && !visitor.part(part) {
+    match part {
+        Some(part) => visitor.part(part),
+        None => true,
+    }
+}
+
+// Hands out the parts of these names, for as long as the visitor answers true.
+fn visit<V: PartVisitor>(parts: &[Part], keys: &[OpenPart], visitor: &mut V) -> bool
+    requires { IsTrue (rise part_key name_cmp parts.now) }
+    ensures { IsVisit V.looks {Fault = Fault} (λ what. what (parts_named keys.now parts.now)) visitor.old (Ok result) visitor.new }
+{
+    for key in keys {
+        if !hand(at(parts, key.name), visitor) {
             return false;
         }
     }
     true
+}
+
+// At most so many, from the first on.
+fn first<T>(items: &[T], most: usize) -> &[T]
+    ensures { result.now ≡ take most items.now }
+{
+    if most < items.len() {
+        &items[..most]
+    } else {
+        items
+    }
 }
 
 // A copy of the job of a number.
@@ -186,65 +224,98 @@ fn find_kept(
     }
 }
 
-// Puts a part, and keeps the sums.
-fn put_part(parts: &mut Vec<Part>, totals: &mut Vec<Sums>, part: Part)
+// Puts a part, and keeps the sums and the list of standing parts.
+fn put_part(
+    parts: &mut Vec<Part>,
+    totals: &mut Vec<Sums>,
+    open: &mut Vec<OpenPart>,
+    part: Part,
+)
     requires parts { IsTrue (rise part_key name_cmp parts.old.items) }
     requires totals { IsTrue (rise sums_key code_cmp totals.old.items) }
     requires small { IsTrue (all_small parts.old.items) }
     requires sums { AreSumsOf parts.old.items totals.old.items }
+    requires open { IsTrue (rise own_key open_cmp open.old.items) }
+    requires listed { AreListed parts.old.items open.old.items }
     requires parts_room { vec_len parts.old < vec_capacity parts.old }
     requires totals_room { vec_len totals.old < vec_capacity totals.old }
+    requires open_room { vec_len open.old < vec_capacity open.old }
     ensures put { IsPut part_key name_cmp part parts.old.items parts.new.items }
     ensures parts { IsTrue (rise part_key name_cmp parts.new.items) }
     ensures totals { IsTrue (rise sums_key code_cmp totals.new.items) }
     ensures small { IsTrue (all_small parts.new.items) }
     ensures sums { AreSumsOf parts.new.items totals.new.items }
+    ensures open { IsTrue (rise own_key open_cmp open.new.items) }
+    ensures listed { AreListed parts.new.items open.new.items }
     ensures parts_len { vec_len parts.new ≤ vec_len parts.old + 1 }
     ensures totals_len { vec_len totals.new ≤ vec_len totals.old + 1 }
+    ensures open_len { vec_len open.new ≤ vec_len open.old + 1 }
     ensures parts_capacity { vec_capacity parts.old ≤ vec_capacity parts.new }
     ensures totals_capacity { vec_capacity totals.old ≤ vec_capacity totals.new }
+    ensures open_capacity { vec_capacity open.old ≤ vec_capacity open.new }
 {
     let _len = parts.len();
     let _cells = part.size.cells();
     let replaced = put(parts, part);
+    list_part(open, replaced, &part);
     take_replaced(totals, replaced);
     add_part(totals, &part);
 }
 
 // Puts parts one after another.
-fn put_one_by_one(parts: &mut Vec<Part>, totals: &mut Vec<Sums>, rows: &[Part])
+fn put_one_by_one(
+    parts: &mut Vec<Part>,
+    totals: &mut Vec<Sums>,
+    open: &mut Vec<OpenPart>,
+    rows: &[Part],
+)
     requires parts { IsTrue (rise part_key name_cmp parts.old.items) }
     requires totals { IsTrue (rise sums_key code_cmp totals.old.items) }
     requires small { IsTrue (all_small parts.old.items) }
     requires sums { AreSumsOf parts.old.items totals.old.items }
+    requires open { IsTrue (rise own_key open_cmp open.old.items) }
+    requires listed { AreListed parts.old.items open.old.items }
     requires parts_room { vec_len parts.old + length rows.now ≤ vec_capacity parts.old }
     requires totals_room { vec_len totals.old + length rows.now ≤ vec_capacity totals.old }
+    requires open_room { vec_len open.old + length rows.now ≤ vec_capacity open.old }
     ensures put { map_of part_key name_cmp parts.new.items ≡ with_parts rows.now (map_of part_key name_cmp parts.old.items) }
     ensures parts { IsTrue (rise part_key name_cmp parts.new.items) }
     ensures totals { IsTrue (rise sums_key code_cmp totals.new.items) }
     ensures small { IsTrue (all_small parts.new.items) }
     ensures sums { AreSumsOf parts.new.items totals.new.items }
+    ensures open { IsTrue (rise own_key open_cmp open.new.items) }
+    ensures listed { AreListed parts.new.items open.new.items }
 {
     for part in rows {
-        put_part(parts, totals, *part);
+        put_part(parts, totals, open, *part);
     }
 }
 
 // Puts parts of one material that stand together between two others, all by one move, and tells whether they do; else nothing
 // changes.
-fn put_together(parts: &mut Vec<Part>, totals: &mut Vec<Sums>, rows: &[Part]) -> bool
+fn put_together(
+    parts: &mut Vec<Part>,
+    totals: &mut Vec<Sums>,
+    open: &mut Vec<OpenPart>,
+    rows: &[Part],
+) -> bool
     requires parts { IsTrue (rise part_key name_cmp parts.old.items) }
     requires totals { IsTrue (rise sums_key code_cmp totals.old.items) }
     requires small { IsTrue (all_small parts.old.items) }
     requires sums { AreSumsOf parts.old.items totals.old.items }
+    requires open { IsTrue (rise own_key open_cmp open.old.items) }
+    requires listed { AreListed parts.old.items open.old.items }
     requires parts_room { vec_len parts.old + length rows.now ≤ vec_capacity parts.old }
     requires totals_room { vec_len totals.old + length rows.now ≤ vec_capacity totals.old }
+    requires open_room { vec_len open.old + length rows.now ≤ vec_capacity open.old }
     ensures put { IsTrue result → map_of part_key name_cmp parts.new.items ≡ with_parts rows.now (map_of part_key name_cmp parts.old.items) }
     ensures parts { IsTrue result → IsTrue (rise part_key name_cmp parts.new.items) }
     ensures totals { IsTrue result → IsTrue (rise sums_key code_cmp totals.new.items) }
     ensures small { IsTrue result → IsTrue (all_small parts.new.items) }
     ensures sums { IsTrue result → AreSumsOf parts.new.items totals.new.items }
-    ensures same { result ≡ false → (parts.new ≡ parts.old) × (totals.new ≡ totals.old) }
+    ensures open { IsTrue result → IsTrue (rise own_key open_cmp open.new.items) }
+    ensures listed { IsTrue result → AreListed parts.new.items open.new.items }
+    ensures same { result ≡ false → (parts.new ≡ parts.old) × (totals.new ≡ totals.old) × (open.new ≡ open.old) }
 {
     let Some(first) = rows.first() else {
         return false;
@@ -259,49 +330,72 @@ fn put_together(parts: &mut Vec<Part>, totals: &mut Vec<Sums>, rows: &[Part]) ->
         return false;
     }
     let _ = put(totals, sums);
+    list_all(open, rows);
     true
 }
 
 // Puts parts, as one after another.
-fn put_parts(parts: &mut Vec<Part>, totals: &mut Vec<Sums>, rows: &[Part])
+fn put_parts(
+    parts: &mut Vec<Part>,
+    totals: &mut Vec<Sums>,
+    open: &mut Vec<OpenPart>,
+    rows: &[Part],
+)
     requires parts { IsTrue (rise part_key name_cmp parts.old.items) }
     requires totals { IsTrue (rise sums_key code_cmp totals.old.items) }
     requires small { IsTrue (all_small parts.old.items) }
     requires sums { AreSumsOf parts.old.items totals.old.items }
+    requires open { IsTrue (rise own_key open_cmp open.old.items) }
+    requires listed { AreListed parts.old.items open.old.items }
     requires parts_room { vec_len parts.old + length rows.now ≤ vec_capacity parts.old }
     requires totals_room { vec_len totals.old + length rows.now ≤ vec_capacity totals.old }
+    requires open_room { vec_len open.old + length rows.now ≤ vec_capacity open.old }
     ensures put { map_of part_key name_cmp parts.new.items ≡ with_parts rows.now (map_of part_key name_cmp parts.old.items) }
     ensures parts { IsTrue (rise part_key name_cmp parts.new.items) }
     ensures totals { IsTrue (rise sums_key code_cmp totals.new.items) }
     ensures small { IsTrue (all_small parts.new.items) }
     ensures sums { AreSumsOf parts.new.items totals.new.items }
+    ensures open { IsTrue (rise own_key open_cmp open.new.items) }
+    ensures listed { AreListed parts.new.items open.new.items }
 {
-    if put_together(parts, totals, rows) {
+    if put_together(parts, totals, open, rows) {
         return;
     }
-    put_one_by_one(parts, totals, rows);
+    put_one_by_one(parts, totals, open, rows);
 }
 
 // Puts a part that moves, if there is one.
-fn put_moved(parts: &mut Vec<Part>, totals: &mut Vec<Sums>, row: Option<Part>)
+fn put_moved(
+    parts: &mut Vec<Part>,
+    totals: &mut Vec<Sums>,
+    open: &mut Vec<OpenPart>,
+    row: Option<Part>,
+)
     requires parts { IsTrue (rise part_key name_cmp parts.old.items) }
     requires totals { IsTrue (rise sums_key code_cmp totals.old.items) }
     requires small { IsTrue (all_small parts.old.items) }
     requires sums { AreSumsOf parts.old.items totals.old.items }
+    requires open { IsTrue (rise own_key open_cmp open.old.items) }
+    requires listed { AreListed parts.old.items open.old.items }
     requires parts_room { vec_len parts.old < vec_capacity parts.old }
     requires totals_room { vec_len totals.old < vec_capacity totals.old }
+    requires open_room { vec_len open.old < vec_capacity open.old }
     ensures put { map_of part_key name_cmp parts.new.items ≡ with_moved row (map_of part_key name_cmp parts.old.items) }
     ensures parts { IsTrue (rise part_key name_cmp parts.new.items) }
     ensures totals { IsTrue (rise sums_key code_cmp totals.new.items) }
     ensures small { IsTrue (all_small parts.new.items) }
     ensures sums { AreSumsOf parts.new.items totals.new.items }
+    ensures open { IsTrue (rise own_key open_cmp open.new.items) }
+    ensures listed { AreListed parts.new.items open.new.items }
     ensures parts_len { vec_len parts.new ≤ vec_len parts.old + 1 }
     ensures totals_len { vec_len totals.new ≤ vec_len totals.old + 1 }
+    ensures open_len { vec_len open.new ≤ vec_len open.old + 1 }
     ensures parts_capacity { vec_capacity parts.old ≤ vec_capacity parts.new }
     ensures totals_capacity { vec_capacity totals.old ≤ vec_capacity totals.new }
+    ensures open_capacity { vec_capacity open.old ≤ vec_capacity open.new }
 {
     if let Some(row) = row {
-        put_part(parts, totals, row);
+        put_part(parts, totals, open, row);
     }
 }
 
@@ -310,17 +404,20 @@ fn reserve(
     materials: &mut Vec<Material>,
     parts: &mut Vec<Part>,
     totals: &mut Vec<Sums>,
+    open: &mut Vec<OpenPart>,
     count: usize,
 ) -> Result<(), AllocError>
     ensures materials { materials.new.items ≡ materials.old.items }
     ensures parts { parts.new.items ≡ parts.old.items }
     ensures totals { totals.new.items ≡ totals.old.items }
-    ensures room { OnOk result ((vec_len materials.new < vec_capacity materials.new)
-        × (vec_len parts.new + count ≤ vec_capacity parts.new) × (vec_len totals.new + count ≤ vec_capacity totals.new)) }
+    ensures open { open.new.items ≡ open.old.items }
+    ensures room { OnOk result ((vec_len materials.new < vec_capacity materials.new) × (vec_len parts.new + count ≤ vec_capacity parts.new)
+        × (vec_len totals.new + count ≤ vec_capacity totals.new) × (vec_len open.new + count ≤ vec_capacity open.new)) }
 {
     materials.reserve(1)?;
     parts.reserve(count)?;
     totals.reserve(count)?;
+    open.reserve(count)?;
     Ok(())
 }
 
@@ -553,7 +650,8 @@ impl Book for MemBook {
         ensures memory { IfErr result (λ fault. fault ≡ NoMemory) }
         ensures same { self.new ≡ self.old }
     {
-        let rows = listed(alloc, &self.parts, material)?;
+        let keys = names_behind(&self.open.parts, material, None);
+        let rows = listed(alloc, &self.parts, keys)?;
         Ok(rows)
     }
 
@@ -566,7 +664,8 @@ impl Book for MemBook {
         ensures sure { IsOk result }
         ensures same { self.new ≡ self.old }
     {
-        let on = visit(&self.parts, material, visitor);
+        let keys = names_behind(&self.open.parts, material, None);
+        let on = visit(&self.parts, keys, visitor);
         Ok(on)
     }
 
@@ -576,12 +675,18 @@ impl Book for MemBook {
 
     fn first_parts(
         &mut self,
-        _alloc: Global,
-        _material: Code,
-        _after: Option<PartName>,
-        _most: usize,
-    ) -> Result<PartList, BookFault> {
-        Err(BookFault::NoMemory)
+        alloc: Global,
+        material: Code,
+        after: Option<PartName>,
+        most: usize,
+    ) -> Result<PartList, BookFault>
+        ensures rows { IfOk result (λ rows. rows ≡ take most (parts_behind self.old.content material after)) }
+        ensures memory { IfErr result (λ fault. fault ≡ NoMemory) }
+        ensures same { self.new ≡ self.old }
+    {
+        let keys = names_behind(&self.open.parts, material, after);
+        let rows = listed(alloc, &self.parts, first(keys, most))?;
+        Ok(rows)
     }
 
     fn first_demands(
@@ -633,6 +738,7 @@ impl Book for MemBook {
             &mut self.materials,
             &mut self.parts,
             &mut self.totals,
+            &mut self.open.parts,
             rows.len() + 1,
         )?;
         reserve_demands(
@@ -643,8 +749,18 @@ impl Book for MemBook {
         )?;
         put_and_keep(&mut self.orders, &mut self.kept, order, kept)?;
         put_some(&mut self.materials, material);
-        put_moved(&mut self.parts, &mut self.totals, moved);
-        put_parts(&mut self.parts, &mut self.totals, rows);
+        put_moved(
+            &mut self.parts,
+            &mut self.totals,
+            &mut self.open.parts,
+            moved,
+        );
+        put_parts(
+            &mut self.parts,
+            &mut self.totals,
+            &mut self.open.parts,
+            rows,
+        );
         put_some(&mut self.jobs, job);
         put_all(&mut self.demands, wanted);
         put_some(&mut self.imports, import);

@@ -1,5 +1,8 @@
 -- rows that rise by their keys
 pub mod Places
+-- lists of keys, and which rows they name
+pub mod Listed
+pub mod Named
 -- sums of parts
 pub mod Summed
 pub mod Counting

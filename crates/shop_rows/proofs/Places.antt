@@ -1,28 +1,29 @@
 -- Where a row stands among rows that rise by their keys, and what it is to put one there.
 use Rattle.std.proofs.Common.{◌≡◌, inl, inr, ℕ, zero, suc, ◌-◌, ◌<◌, ◌≤◌, Bool, true, false, List, [], ◌∷◌, ◌++◌, length, take, drop, get_or, refl, sym, ap, subst, ◌∙◌, arith}
-use Rattle.std.specs.Prelude.{Some, None, T, cond, ◌&&◌}
+use Rattle.std.specs.Prelude.{All, Some, None, T, cond, not, is_some, ◌&&◌}
 use Rattle.std.specs.declared.cmp.Ordering.{Ordering}
 use Rattle.std.specs.declared.cmp.Ordering.TheVariants.{Less, Equal, Greater}
-use Rattle.std.specs.Ordering.{is_eq, is_lt, ordering_index, ordering_reverse}
-use Rattle.std.specs.Cmp.{IsTotalOrder, alike_right}
+use Rattle.std.specs.Ordering.{eq_by_cmp, is_eq, is_lt, ordering_index, ordering_reverse}
+use Rattle.std.specs.Cmp.{IsTotalOrder, alike_right, eq_by_cmp_equiv}
 use Rattle.std.specs.List.{insert, insert_slice, slice_get}
 use Rattle.std.specs.List.Sorted.{IsPartitionPoint, IsNonDecreasingBy}
-use Rattle.std.specs.FinMap.{IsAntisymmetric, is_sorted, put}
-use Rattle.std.specs.FinMap.Entries.{below_all, by_order, is_sorted-put}
+use Rattle.std.specs.FinMap.{IsAntisymmetric, find, is_sorted, put}
+use Rattle.std.specs.FinMap.Entries.{below_all, by_order, find-put, find-where_key, is_sorted-put, is_sorted-where_key, where_key}
 use Rattle.std.proofs.Math.ListN.{set}
 use Rattle.std.proofs.Math.Seq.{drop-cons}
 use Rattle.std.proofs.lemmas.Bool.{cases_lt}
 use Rattle.std.proofs.lemmas.Option.{get_or_from_slice_get}
+use Rattle.std.proofs.lemmas.List.Elements.{filter-append}
 use Rattle.std.proofs.lemmas.List.{append_assoc, get_or_default, set_split, map-append, take-append-drop}
 use Rattle.shop_machine.proofs.Sums.{first, second, less}
-use Rattle.shop_rows.specs.Rows.{entry_of, entries_of, rise, row_at, put_each, IsPut, ArePut}
+use Rattle.shop_rows.specs.Rows.{entry_of, entries_of, rise, row_at, put_each, IsPut, IsSettled, IsTaken, ArePut}
 
-lesser : (r : Ordering) → r ≡ Less → T (is_lt r)
+pub lesser : (r : Ordering) → r ≡ Less → T (is_lt r)
 lesser Less e = tt
 lesser Equal e = absurd (cc)
 lesser Greater e = absurd (cc)
 
-pair_of : (a b : Bool) → T a → T b → T (a && b)
+pub pair_of : (a b : Bool) → T a → T b → T (a && b)
 pair_of true b p q = q
 pair_of false b p q = absurd p
 
@@ -82,6 +83,16 @@ module _ {X K : Type 0} (key_of : X → K) (cmp : K → K → Ordering) (o : IsT
   flipped : (a b : K) (r : Ordering) → cmp a b ≡ r → cmp b a ≡ ordering_reverse r
   flipped a b r e = o.antisymm b a ∙ ap ordering_reverse e
 
+  abbrev others : K → List (K × X) → List (K × X)
+  others key es = where_key cmp (λ other. not (eq_by_cmp cmp key other)) es
+
+  -- rows whose keys are all before a key, or all behind it, are others
+  kept : (key : K) (r : Ordering) → is_eq r ≡ false → (ys : List X) → all (λ y. cmp key (key_of y) ≡ r) ys → others key (entries_of key_of cmp ys) ≡ entries_of key_of cmp ys
+  kept key r apart [] h = refl
+  kept key r apart (y ∷ ys) h =
+      ap (λ b. cond (not b) ((key_of y, y) ∷ others key (entries_of key_of cmp ys)) (others key (entries_of key_of cmp ys))) (ap is_eq h.0 ∙ apart)
+      ∙ ap (λ es. (key_of y, y) ∷ es) (kept key r apart ys h.1)
+
   -- ---- a row with the key
 
   module _ (xs : List X) (up : T (rise key_of cmp xs)) (i : ℕ) (x : X) (key : K) (within : i < length xs) (here : x ≡ get_or xs i x) (holds : (d : X) → cmp (key_of (get_or xs i d)) key ≡ Equal) where
@@ -108,6 +119,21 @@ module _ {X K : Type 0} (key_of : X → K) (cmp : K → K → Ordering) (o : IsT
     row_found =
         ap (row_at key_of cmp key) split ∙ find_past key (take i xs) (x ∷ drop (suc i) xs) passed
         ∙ ap (λ r. cond (is_eq r) (Some x) (row_at key_of cmp key (drop (suc i) xs))) (flipped (key_of x) key Equal ties)
+
+    behind : all (λ y. cmp key (key_of y) ≡ Less) (drop (suc i) xs)
+    behind =
+        all_from (λ y. cmp key (key_of y) ≡ Less) xs (suc i) (λ k d le lt.
+        o.congr key (key_of x) (key_of (get_or xs k d)) (flipped (key_of x) key Equal ties)
+        ∙ ap (λ y. cmp (key_of y) (key_of (get_or xs k d))) here ∙ ap (λ y. cmp (key_of y) (key_of (get_or xs k d))) (get_or_default xs i x d within) ∙ rising_at xs up i k d (omega arith) lt)
+
+    -- without it
+    pub taken_found : IsTaken key_of cmp key xs (take i xs ++ drop (suc i) xs)
+    taken_found =
+        map-append (entry_of key_of cmp) (take i xs) (drop (suc i) xs)
+        ∙ (λ j. sym (kept key Greater refl (take i xs) passed) j ++ sym (kept key Less refl (drop (suc i) xs) behind) j)
+        ∙ ap (λ r. others key (entries_of key_of cmp (take i xs)) ++ cond (not (is_eq r)) ((key_of x, x) ∷ others key (entries_of key_of cmp (drop (suc i) xs))) (others key (entries_of key_of cmp (drop (suc i) xs)))) (sym (flipped (key_of x) key Equal ties))
+        ∙ sym (filter-append (λ (e : K × X). not (eq_by_cmp cmp key e.0)) (entries_of key_of cmp (take i xs)) (entries_of key_of cmp (x ∷ drop (suc i) xs)))
+        ∙ ap (others key) (sym (map-append (entry_of key_of cmp) (take i xs) (x ∷ drop (suc i) xs)) ∙ ap (entries_of key_of cmp) (sym split))
 
     pub put_found : (row : X) → key_of row ≡ key → IsPut key_of cmp row xs (set xs i row)
     put_found row e =
@@ -147,6 +173,13 @@ module _ {X K : Type 0} (key_of : X → K) (cmp : K → K → Ordering) (o : IsT
 
     pub row_missed : row_at key_of cmp key xs ≡ None
     row_missed = ap (row_at key_of cmp key) (sym (take-append-drop i xs)) ∙ find_past key (take i xs) (drop i xs) low ∙ find_before key (drop i xs) high
+
+    pub taken_missed : IsTaken key_of cmp key xs xs
+    taken_missed =
+        ap (entries_of key_of cmp) (sym (take-append-drop i xs)) ∙ map-append (entry_of key_of cmp) (take i xs) (drop i xs)
+        ∙ (λ j. sym (kept key Greater refl (take i xs) low) j ++ sym (kept key Less refl (drop i xs) high) j)
+        ∙ sym (filter-append (λ (e : K × X). not (eq_by_cmp cmp key e.0)) (entries_of key_of cmp (take i xs)) (entries_of key_of cmp (drop i xs)))
+        ∙ ap (others key) (sym (map-append (entry_of key_of cmp) (take i xs) (drop i xs)) ∙ ap (entries_of key_of cmp) (take-append-drop i xs))
 
     pub put_missed : (row : X) → key_of row ≡ key → IsPut key_of cmp row xs (insert xs i row)
     put_missed row e =
@@ -240,6 +273,29 @@ module _ {X K : Type 0} (key_of : X → K) (cmp : K → K → Ordering) (o : IsT
       ∙ put_together (z ∷ added) (take i xs) (drop i xs) rises (under, behind_front z added (take i xs) (first _ _ rises) under) over
       ∙ ap (entries_of key_of cmp) (sym (append_assoc (take i xs) (z ∷ added) (drop i xs)))
 
+  all_at : (P : X → Type 0) (ys : List X) → all P ys → All P ys
+  all_at P [] h k d lt = absurd (omega arith)
+  all_at P (y ∷ ys) h zero d lt = h.0
+  all_at P (y ∷ ys) h (suc k) d lt = all_at P ys h.1 k d (omega arith)
+
+  -- and none of their keys was there
+  pub put_new : (xs added : List X) (i : ℕ) (x y : X) → T (rise key_of cmp xs) → T (rise key_of cmp added) → i ≤ length xs
+      → slice_get added 0 ≡ Some x → slice_get added (length added - 1) ≡ Some y
+      → (IsNonDecreasingBy (λ z. ordering_index (cmp (key_of z) (key_of x))) xs → IsPartitionPoint (λ z. cmp (key_of z) (key_of x) ≡ Less) (λ z. cmp (key_of z) (key_of x) ≡ Greater) xs i)
+      → (i < length xs → (d : X) → cmp (key_of (get_or xs i d)) (key_of y) ≡ Greater)
+      → All (λ row. row_at key_of cmp (key_of row) xs ≡ None) added
+  put_new xs [] i x y up rises within front last point before = λ k d lt. absurd (omega arith)
+  put_new xs (z ∷ added) i x y up rises within front last point before =
+      let same : z ≡ x = cc in
+      let under : Above (take i xs) (key_of z) = subst (λ r. Above (take i xs) (key_of r)) (sym same) (low xs up i (key_of x) within point) in
+      let over = before_back (z ∷ added) (drop i xs) y rises last (before_drop xs up i (key_of y) before) in
+      all_at (λ row. row_at key_of cmp (key_of row) xs ≡ None) (z ∷ added) (each (z ∷ added) (under, behind_front z added (take i xs) (first _ _ rises) under) over)
+    where
+      each : (rows : List X) → all (λ r. Above (take i xs) (key_of r)) rows → all (λ r. Below (drop i xs) (key_of r)) rows → all (λ row. row_at key_of cmp (key_of row) xs ≡ None) rows
+      each [] under over = tt
+      each (r ∷ rows) under over =
+          (ap (row_at key_of cmp (key_of r)) (sym (take-append-drop i xs)) ∙ find_past (key_of r) (take i xs) (drop i xs) under.0 ∙ find_before (key_of r) (drop i xs) over.0, each rows under.1 over.1)
+
   -- ---- rows of which each is below the next rise
 
   far_below : (x y : K) (ys : List X) → cmp x y ≡ Less → T (below_all cmp y (entries_of key_of cmp ys)) → T (below_all cmp x (entries_of key_of cmp ys))
@@ -291,3 +347,22 @@ sorted_each key_of cmp o (row ∷ rows) entries sorted = sorted_each key_of cmp 
 -- rows into which others were put one after another rise
 pub rise-put_each : {X K : Type 0} (key_of : X → K) (cmp : K → K → Ordering) → IsTotalOrder cmp → (added old new : List X) → ArePut key_of cmp added old new → rise key_of cmp old ≡ true → rise key_of cmp new ≡ true
 rise-put_each key_of cmp o added old new are_put up = ap (is_sorted cmp) are_put ∙ sorted_each key_of cmp o added (entries_of key_of cmp old) up
+
+-- rows without one rise
+pub rise-taken : {X K : Type 0} (key_of : X → K) (cmp : K → K → Ordering) (key : K) (old new : List X) → IsTaken key_of cmp key old new → rise key_of cmp old ≡ true → rise key_of cmp new ≡ true
+rise-taken key_of cmp key old new taken up =
+    ap (is_sorted cmp) taken ∙ met _ (is_sorted-where_key cmp (λ other. not (eq_by_cmp cmp key other)) (entries_of key_of cmp old) (tested _ up))
+
+-- ---- which keys are there
+
+module _ {X K : Type 0} (key_of : X → K) (cmp : K → K → Ordering) (o : IsTotalOrder cmp) where
+  pub settled_put : (row : X) (old new : List X) → IsPut key_of cmp row old new → IsSettled key_of cmp (key_of row) true old new
+  settled_put row old new put_there other =
+      ap is_some (ap (find cmp other) put_there ∙ find-put cmp o other (key_of row) row (entries_of key_of cmp old))
+      ∙ elim (eq_by_cmp cmp other (key_of row)) as (λ b. is_some (cond b (Some row) (row_at key_of cmp other old)) ≡ cond b true (is_some (row_at key_of cmp other old))) [ true ↦ refl | false ↦ refl ]
+
+  pub settled_taken : (key : K) (old new : List X) → IsTaken key_of cmp key old new → IsSettled key_of cmp key false old new
+  settled_taken key old new taken other =
+      ap is_some (ap (find cmp other) taken ∙ find-where_key cmp (λ q. not (eq_by_cmp cmp key q)) other (λ x t. ap (λ r. not (is_eq r)) (sym (alike_right o other x key t))) (entries_of key_of cmp old))
+      ∙ ap (λ b. is_some (cond (not b) (row_at key_of cmp other old) None)) ((eq_by_cmp_equiv o).symm key other)
+      ∙ elim (eq_by_cmp cmp other key) as (λ b. is_some (cond (not b) (row_at key_of cmp other old) None) ≡ cond b false (is_some (row_at key_of cmp other old))) [ true ↦ refl | false ↦ refl ]

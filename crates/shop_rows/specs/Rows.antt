@@ -1,7 +1,9 @@
 -- Rows in the order of their keys, as entries of a map.
-use Rattle.std.specs.Prelude.{◌≡◌, List, [], ◌∷◌, map, Bool, Option}
+use Rattle.std.specs.Prelude.{◌≡◌, List, [], ◌∷◌, map, Bool, Option, cond, is_some, not}
 use Rattle.std.specs.declared.cmp.Ordering.{Ordering}
+use Rattle.std.specs.Ordering.{eq_by_cmp}
 use Rattle.std.specs.FinMap.{FinMap, is_sorted, find, put, insert, from_sorted}
+use Rattle.std.specs.FinMap.Entries.{where_key}
 
 module _ {X K : Type 0} (key_of : X → K) (cmp : K → K → Ordering) where
   abbrev pub entry_of : X → K × X
@@ -18,9 +20,21 @@ module _ {X K : Type 0} (key_of : X → K) (cmp : K → K → Ordering) where
   abbrev pub row_at : K → List X → Option X
   row_at key rows = find cmp key (entries_of rows)
 
+  -- whether there is a row of the key
+  abbrev pub has_row : K → List X → Bool
+  has_row key rows = is_some (row_at key rows)
+
   -- The new rows are the old ones with this row in its place, instead of the one with its key.
   abbrev pub IsPut : X → List X → List X → Type 0
   IsPut row old new = entries_of new ≡ put cmp (key_of row) row (entries_of old)
+
+  -- the new rows are the old ones without the one of this key
+  abbrev pub IsTaken : K → List X → List X → Type 0
+  IsTaken key old new = entries_of new ≡ where_key cmp (λ other. not (eq_by_cmp cmp key other)) (entries_of old)
+
+  -- a row has this key, or none has, and all others are there as they were
+  abbrev pub IsSettled : K → Bool → List X → List X → Type 0
+  IsSettled key is_there old new = (other : K) → has_row other new ≡ cond (eq_by_cmp cmp other key) is_there (has_row other old)
 
   -- the entries with these rows put one after another
   abbrev pub put_each : List X → List (K × X) → List (K × X)

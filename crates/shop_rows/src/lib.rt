@@ -1,11 +1,13 @@
-//! Rows in the order of their keys, and the sums of a material's parts.
+//! Rows in the order of their keys, lists of the keys of what is open, and the sums of a material's parts.
 #![tactic(auto)]
 
 mod keys;
+mod open;
 mod rows;
 mod sums;
 
-pub use rows::{Row, at, find, put, put_all, put_run, put_some};
+pub use open::{OpenPart, OpenRows, list_all, list_part, names_behind};
+pub use rows::{Row, at, find, put, put_all, put_run, put_some, settle, take_row};
 pub use sums::{
     Sums, add_part, count_part, has_totals, no_sums, sums_of, take_replaced, totals_in, with_all,
 };

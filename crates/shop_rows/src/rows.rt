@@ -1,10 +1,10 @@
 ghost use Rattle.std.specs.declared.cmp.Ordering.{Ordering};
 ghost use Rattle.std.specs.declared.cmp.Ordering.TheVariants.{Equal, Greater};
-ghost use Rattle.std.specs.Prelude.{◌≡◌, ◌+◌, ◌++◌, ◌<◌, ◌≤◌, ℕ, List, IfSome, IsSome, IsTrue, Err, false, length, option_copied, vec_len, vec_capacity};
+ghost use Rattle.std.specs.Prelude.{◌≡◌, ◌+◌, ◌++◌, ◌<◌, ◌≤◌, ℕ, All, List, IfSome, IsSome, IsTrue, None, Err, false, length, option_copied, vec_len, vec_capacity};
 ghost use Rattle.std.specs.List.{HoldsAt, insert_slice};
 ghost use Rattle.std.specs.List.Sorted.{IsBinarySearchResult, IsSearchInRange};
 ghost use Rattle.std.specs.Option.{option_to_list};
-ghost use Rattle.shop_rows.specs.Rows.{rise, row_at, IsPut, ArePut};
+ghost use Rattle.shop_rows.specs.Rows.{rise, row_at, IsPut, IsSettled, IsTaken, ArePut};
 
 use std::cmp::Ordering;
 use std::mem::replace;
@@ -100,6 +100,7 @@ fn run_place<R: Row>(rows: &[R], added: &[R]) -> Option<usize>
     requires { IsTrue (rise R.key_of R.cmp rows.now) }
     ensures range { IfSome result (λ i. i ≤ length rows.now) }
     ensures put { IfSome result (λ i. ArePut R.key_of R.cmp added.now rows.now (insert_slice rows.now i added.now)) }
+    ensures new { IfSome result (λ i. All (λ row. row_at R.key_of R.cmp (R.key_of row) rows.now ≡ None) added.now) }
     ensures rising { IfSome result (λ i. IsTrue (rise R.key_of R.cmp (insert_slice rows.now i added.now))) }
 {
     let Some(first) = added.first() else {
@@ -170,6 +171,37 @@ pub fn put<R: Row>(rows: &mut Vec<R>, row: R) -> Option<R>
     }
 }
 
+/// Takes the row of a key out, where it stands, and gives it.
+pub fn take_row<R: Row>(rows: &mut Vec<R>, key: R::Key) -> Option<R>
+    requires { IsTrue (rise R.key_of R.cmp rows.old.items) }
+    ensures taken { IsTaken R.key_of R.cmp key rows.old.items rows.new.items }
+    ensures row { result ≡ row_at R.key_of R.cmp key rows.old.items }
+    ensures rising { IsTrue (rise R.key_of R.cmp rows.new.items) }
+    ensures len { vec_len rows.new ≤ vec_len rows.old }
+    ensures capacity { vec_capacity rows.new ≡ vec_capacity rows.old }
+{
+    match place(rows, key) {
+        Ok(i) => Some(rows.remove(i)),
+        Err(_) => None,
+    }
+}
+
+/// Has a row there, or none of its key.
+pub fn settle<R: Row>(rows: &mut Vec<R>, row: R, is_there: bool)
+    requires rising { IsTrue (rise R.key_of R.cmp rows.old.items) }
+    requires room { vec_len rows.old < vec_capacity rows.old }
+    ensures settled { IsSettled R.key_of R.cmp (R.key_of row) is_there rows.old.items rows.new.items }
+    ensures rising { IsTrue (rise R.key_of R.cmp rows.new.items) }
+    ensures len { vec_len rows.new ≤ vec_len rows.old + 1 }
+    ensures capacity { vec_capacity rows.old ≤ vec_capacity rows.new }
+{
+    if is_there {
+        let _ = put(rows, row);
+        return;
+    }
+    let _ = take_row(rows, row.key());
+}
+
 /// Puts a row in its place, if there is one.
 pub fn put_some<R: Row>(rows: &mut Vec<R>, row: Option<R>)
     requires rising { IsTrue (rise R.key_of R.cmp rows.old.items) }
@@ -196,6 +228,7 @@ pub fn put_run<R: Row + Copy>(rows: &mut Vec<R>, added: &[R]) -> bool
     requires rising { IsTrue (rise R.key_of R.cmp rows.old.items) }
     requires room { vec_len rows.old + length added.now ≤ vec_capacity rows.old }
     ensures put { IsTrue result → ArePut R.key_of R.cmp added.now rows.old.items rows.new.items }
+    ensures new { IsTrue result → All (λ row. row_at R.key_of R.cmp (R.key_of row) rows.old.items ≡ None) added.now }
     ensures run { IsTrue result → (i : ℕ) × (rows.new.items ≡ insert_slice rows.old.items i added.now) }
     ensures rising { IsTrue result → IsTrue (rise R.key_of R.cmp rows.new.items) }
     ensures same { result ≡ false → rows.new ≡ rows.old }

@@ -1,4 +1,4 @@
-ghost use Rattle.std.specs.Prelude.{◌≡◌, ◌⊎◌, ◌+◌, ◌*◌, ◌<◌, ◌≤◌, ◌^◌, ℕ, List, true, false, IsTrue, IfSome, IfNone, IsSome, length, vec_len, vec_capacity, slice_index};
+ghost use Rattle.std.specs.Prelude.{◌≡◌, ◌⊎◌, ◌+◌, ◌*◌, ◌<◌, ◌≤◌, ◌^◌, ℕ, All, List, true, false, IsTrue, IfSome, IfNone, IsSome, length, vec_len, vec_capacity, slice_index};
 ghost use Rattle.cut_measure.specs.Codes.{code_cmp};
 ghost use Rattle.shop_machine.specs.declared.records.Column.{Column as ColumnOf};
 ghost use Rattle.shop_rows.specs.Rows.{rise};
@@ -122,6 +122,7 @@ pub fn with_all(sums: Sums, parts: &[Part]) -> Option<Sums>
     ensures sums { IfSome result (λ more. (column : ColumnOf) → sum_in column more ≡ sum_in column sums + cells_in column sums.code parts.now) }
     ensures others { IsSome result → (column : ColumnOf) (code : List ℕ) → is_eq (code_cmp sums.code code) ≡ false → cells_in column code parts.now ≡ 0 }
     ensures small { IsSome result → IsTrue (all_small parts.now) }
+    ensures own { IsSome result → All (λ part. part.material ≡ sums.code) parts.now }
 {
     let mut more = sums;
     for part in parts {

@@ -1,4 +1,6 @@
-use Rattle.std.proofs.Common.{◌≡◌, length, take, ◌∙◌, arith}
+use Rattle.std.proofs.Common.{◌≡◌, length, take, subst, ◌∙◌, arith}
+use Rattle.std.proofs.lemmas.List.Elements.{All-more}
+use Rattle.shop_machine.specs.declared.records.Part.{Part}
 use Rattle.std.proofs.lemmas.List.{length-take-le}
 use Rattle.shop_rows.proofs.Summed.{cells_bounded, cells-more, small-more, cells_own, cells_other}
 use Rattle.shop_rows.proofs.sums.with_all.Goals as goal
@@ -23,4 +25,5 @@ loop-part-preserved c =
       others = λ column code other.
           omega (arith, cells-more parts i part c.loop-part-test.true c.part-item.is column code, c.loop-part.invariant.others column code other, cells_other column part c.args.sums.code code same other);
       small = small-more parts i part c.loop-part-test.true c.part-item.is (omega (arith, c.cells-cells.ensures.value, c.cells-cells.ensures.most)) c.loop-part.invariant.small;
+      owned = All-more (λ (p : Part). p.material ≡ c.args.sums.code) parts i part c.loop-part-test.true c.loop-part.invariant.owned (subst (λ (p : Part). p.material ≡ c.args.sums.code) c.part-item.is same);
     }

@@ -1,5 +1,5 @@
 use Rattle.std.proofs.Common.{◌≡◌, ◌+◌, List, ℕ, false, take}
-use Rattle.std.specs.Prelude.{IsTrue}
+use Rattle.std.specs.Prelude.{All, IsTrue}
 use Rattle.std.specs.Ordering.{is_eq}
 use Rattle.cut_measure.specs.Codes.{code_cmp}
 use Rattle.shop_machine.specs.declared.records.Column.{Column}
@@ -14,4 +14,5 @@ invariant-loop-part l =
       own : (column : Column) → sum_in column l.more ≡ sum_in column l.sums + cells_in column l.sums.code (take l.part-index l.parts);
       others : (column : Column) (code : List ℕ) → is_eq (code_cmp l.sums.code code) ≡ false → cells_in column code (take l.part-index l.parts) ≡ 0;
       small : IsTrue (all_small (take l.part-index l.parts));
+      owned : All (λ part. part.material ≡ l.sums.code) (take l.part-index l.parts);
     }

@@ -1,0 +1,268 @@
+-- Lists of keys: which they have, their runs, and the rows that they name.
+use Rattle.std.proofs.Common.{◌≡◌, inl, inr, ℕ, zero, suc, ◌<◌, ◌≤◌, Bool, true, false, List, [], ◌∷◌, length, take, drop, get_or, refl, sym, ap, subst, ◌∙◌, arith, true≢false}
+use Rattle.std.specs.Prelude.{All, IfSome, Option, Some, None, cond, not, filter, ◌&&◌}
+use Rattle.std.specs.declared.cmp.Ordering.{Ordering}
+use Rattle.std.specs.declared.cmp.Ordering.TheVariants.{Less, Equal, Greater}
+use Rattle.std.specs.Ordering.{eq_by_cmp, is_eq, is_gt, is_lt, ordering_then}
+use Rattle.std.specs.Cmp.{IsTotalOrder, alike_right, eq_by_cmp_equiv, tied_itself}
+use Rattle.std.specs.Cmp.Lexicographic.{nat_list_cmp_total}
+use Rattle.std.specs.FinMap.{IsAntisymmetric, find, is_sorted, put}
+use Rattle.std.specs.FinMap.Entries.{find-put, is_sorted-where_key, where_key}
+use Rattle.std.specs.List.Sorted.{IsPartitionedBy, IsPartitionPoint}
+use Rattle.std.proofs.lemmas.Bool.{cases_lt}
+use Rattle.cut_measure.specs.Codes.{code_cmp}
+use Rattle.cut_measure.specs.Names.{Name, name_cmp}
+use Rattle.shop_machine.specs.declared.records.Part.{Part}
+use Rattle.shop_machine.specs.Columns.{is_there}
+use Rattle.shop_machine.specs.Content.{is_listed}
+use Rattle.shop_machine.specs.Listing.{is_behind}
+use Rattle.shop_machine.specs.Same.{same_code}
+use Rattle.shop_rows.specs.Keys.{part_key, names_total, names_exact}
+use Rattle.shop_rows.specs.Open.{own_key, open_cmp, open_total, open_exact, open_key, has, is_found, finds_with, finds_with_all, ListsParts, ListsOthers, KeepsMaterial, KeepMaterials, passed_at, is_passed, is_upto, is_after}
+use Rattle.shop_rows.specs.Rows.{entries_of, put_each, rise, row_at, ArePut, IsPut, IsSettled}
+use Rattle.shop_rows.specs.declared.open.OpenPart.{OpenPart}
+use Rattle.shop_rows.proofs.Places.{rising_at, tested, met}
+
+pub tie : (r : Ordering) → is_eq r ≡ true → r ≡ Equal
+tie Less e = absurd (true≢false (sym e))
+tie Equal e = refl
+tie Greater e = absurd (true≢false (sym e))
+
+-- ---- which keys a list has, where a part takes the place of another
+
+pub code_turned : (a b : List ℕ) → same_code a b ≡ same_code b a
+code_turned a b = (eq_by_cmp_equiv nat_list_cmp_total).symm a b
+
+far_code : (a b : Ordering) → is_eq b ≡ true → is_eq (ordering_then a b) ≡ false → is_eq a ≡ false
+far_code Less b e apart = refl
+far_code Equal b e apart = absurd (true≢false (sym e ∙ apart))
+far_code Greater b e apart = refl
+
+far_name : (a b : Ordering) → is_eq b ≡ false → is_eq (ordering_then a b) ≡ false
+far_name Less b e = refl
+far_name Equal b e = e
+far_name Greater b e = refl
+
+module _ (part : Part) (find_part : Name → Option Part) (keys : List OpenPart) (lists : ListsParts find_part keys) where
+  -- a part isn't listed for another material
+  not_there : (code : List ℕ) (p : Part) → same_code code p.material ≡ false → is_listed code p ≡ false
+  not_there code p apart = ap (λ b. b && is_there p.state) (code_turned p.material code ∙ apart)
+
+  others : (new : List OpenPart) → ((key : OpenPart) → eq_by_cmp name_cmp key.name part.name ≡ false → has open_cmp key new ≡ has open_cmp key keys)
+      → ((key : OpenPart) → key.name ≡ part.name → same_code key.material part.material ≡ false → has open_cmp key new ≡ false)
+      → ListsOthers part (finds_with name_cmp part.name part find_part) new
+  others new far near key apart = by_name (eq_by_cmp name_cmp key.name part.name) refl
+    where
+      by_name : (b : Bool) → eq_by_cmp name_cmp key.name part.name ≡ b → has open_cmp key new ≡ is_found (is_listed key.material) (cond b (Some part) (find_part key.name))
+      by_name true e =
+          let code = far_code (code_cmp key.material part.material) (name_cmp key.name part.name) e apart in
+          near key (names_exact key.name part.name (tie _ e)) code ∙ sym (not_there key.material part code)
+      by_name false e = far key e ∙ lists key
+
+  found_at : (key : OpenPart) (found : Option Part) → find_part part.name ≡ found → key.name ≡ part.name → has open_cmp key keys ≡ is_found (is_listed key.material) found
+  found_at key found is same = lists key ∙ ap (λ n. is_found (is_listed key.material) (find_part n)) same ∙ ap (is_found (is_listed key.material)) is
+
+  -- no part had the name
+  pub unlisted_none : find_part part.name ≡ None → ListsOthers part (finds_with name_cmp part.name part find_part) keys
+  unlisted_none none = others keys (λ key e. refl) (λ key same code. found_at key None none same)
+
+  -- one of the same material had it
+  pub unlisted_same : (old : Part) → find_part part.name ≡ Some old → old.material ≡ part.material → ListsOthers part (finds_with name_cmp part.name part find_part) keys
+  unlisted_same old is alike =
+      others keys (λ key e. refl) (λ key same code. found_at key (Some old) is same ∙ not_there key.material old (ap (same_code key.material) alike ∙ code))
+
+  -- one of another material had it, and is taken from the list
+  pub unlisted_taken : (old : Part) (new : List OpenPart) → find_part part.name ≡ Some old → IsSettled own_key open_cmp (record { material = old.material; name = part.name }) false keys new
+      → ListsOthers part (finds_with name_cmp part.name part find_part) new
+  unlisted_taken old new is taken =
+      others new
+      (λ key e. taken key ∙ ap (λ b. cond b false (has open_cmp key keys)) (far_name (code_cmp key.material old.material) (name_cmp key.name part.name) e))
+      (λ key same code. taken key ∙ by_key key same (eq_by_cmp open_cmp key (record { material = old.material; name = part.name })) refl)
+    where
+      by_key : (key : OpenPart) → key.name ≡ part.name → (b : Bool) → eq_by_cmp open_cmp key (record { material = old.material; name = part.name }) ≡ b → cond b false (has open_cmp key keys) ≡ false
+      by_key key same true e = refl
+      by_key key same false e =
+          found_at key (Some old) is same
+          ∙ not_there key.material old (far_code (code_cmp key.material old.material) (name_cmp key.name part.name) (ap (λ n. is_eq (name_cmp n part.name)) same ∙ ap is_eq (tied_itself names_total part.name)) e)
+
+  -- one of the same material had it, or none
+  pub unlisted_kept : KeepsMaterial find_part part → ListsOthers part (finds_with name_cmp part.name part find_part) keys
+  unlisted_kept keep = by_found (find_part part.name) refl keep
+    where
+      by_found : (found : Option Part) → find_part part.name ≡ found → IfSome found (λ old. old.material ≡ part.material) → ListsOthers part (finds_with name_cmp part.name part find_part) keys
+      by_found None is alike = unlisted_none is
+      by_found (Some old) is alike = unlisted_same old is alike
+
+-- then the part's own key is in the list, or is not
+pub listed : (part : Part) (find_part : Name → Option Part) (mid new : List OpenPart) → ListsOthers part find_part mid → find_part part.name ≡ Some part
+    → IsSettled own_key open_cmp (open_key part) (is_listed part.material part) mid new → ListsParts find_part new
+listed part find_part mid new lists is settled key = settled key ∙ by_key (eq_by_cmp open_cmp key (open_key part)) refl
+  where
+    by_key : (b : Bool) → eq_by_cmp open_cmp key (open_key part) ≡ b → cond b (is_listed part.material part) (has open_cmp key mid) ≡ is_found (is_listed key.material) (find_part key.name)
+    by_key true e = ap (is_found (is_listed part.material)) (sym is) ∙ ap (λ (k : OpenPart). is_found (is_listed k.material) (find_part k.name)) (sym (open_exact key (open_key part) (tie _ e)))
+    by_key false e = lists key e
+
+pub found_own : (part : Part) (find_part : Name → Option Part) → finds_with name_cmp part.name part find_part part.name ≡ Some part
+found_own part find_part = ap (λ r. cond (is_eq r) (Some part) (find_part part.name)) (tied_itself names_total part.name)
+
+-- ---- parts that are put one after another
+
+same_find : (find_part other : Name → Option Part) → ((name : Name) → find_part name ≡ other name) → find_part ≡ other
+same_find find_part other same = λ i name. same name i
+
+pub lists_same : (find_part other : Name → Option Part) (keys : List OpenPart) → ((name : Name) → find_part name ≡ other name) → ListsParts find_part keys → ListsParts other keys
+lists_same find_part other keys same lists key = lists key ∙ ap (is_found (is_listed key.material)) (same key.name)
+
+-- the part among those so far
+pub finds_more : (parts : List Part) (i : ℕ) (part : Part) (find_part : Name → Option Part) → i < length parts → part ≡ get_or parts i part
+    → finds_with_all (take (suc i) parts) find_part ≡ finds_with name_cmp part.name part (finds_with_all (take i parts) find_part)
+finds_more [] i part find_part within is = absurd (omega arith)
+finds_more (p ∷ parts) zero part find_part within is = ap (λ (q : Part). finds_with name_cmp q.name q find_part) (sym is)
+finds_more (p ∷ parts) (suc i) part find_part within is = finds_more parts i part (finds_with name_cmp p.name p find_part) (omega arith) is
+
+pub keep_at : (parts : List Part) (i : ℕ) (part : Part) (find_part : Name → Option Part) → i < length parts → part ≡ get_or parts i part → KeepMaterials find_part parts
+    → KeepsMaterial (finds_with_all (take i parts) find_part) part
+keep_at [] i part find_part within is keep = absurd (omega arith)
+keep_at (p ∷ parts) zero part find_part within is keep = subst (KeepsMaterial find_part) (sym is) keep.0
+keep_at (p ∷ parts) (suc i) part find_part within is keep = keep_at parts i part (finds_with name_cmp p.name p find_part) (omega arith) is keep.1
+
+-- parts of one material, where all that they take the place of are of it
+pub keep_one : (code : List ℕ) (parts : List Part) (find_part : Name → Option Part) → All (λ part. IfSome (find_part part.name) (λ old. old.material ≡ code)) parts → All (λ part. part.material ≡ code) parts
+    → KeepMaterials find_part parts
+keep_one code [] find_part before own = tt
+keep_one code (p ∷ parts) find_part before own =
+    (by_found (find_part p.name) (before 0 p (omega arith)),
+    keep_one code parts (finds_with name_cmp p.name p find_part) (λ k d lt. later (get_or parts k d) (before (suc k) d (omega arith))) (λ k d lt. own (suc k) d (omega arith)))
+  where
+    by_found : (found : Option Part) → IfSome found (λ old. old.material ≡ code) → IfSome found (λ old. old.material ≡ p.material)
+    by_found None h = h
+    by_found (Some old) h = h ∙ sym (own 0 p (omega arith))
+
+    later : (q : Part) → IfSome (find_part q.name) (λ old. old.material ≡ code) → IfSome (finds_with name_cmp p.name p find_part q.name) (λ old. old.material ≡ code)
+    later q h = elim (eq_by_cmp name_cmp q.name p.name) as (λ b. IfSome (cond b (Some p) (find_part q.name)) (λ old. old.material ≡ code)) [ true ↦ own 0 p (omega arith) | false ↦ h ]
+
+-- a row that is put is found under its key
+pub found_put : (part : Part) (old new : List Part) → IsPut part_key name_cmp part old new → (name : Name)
+    → finds_with name_cmp part.name part (λ n. row_at part_key name_cmp n old) name ≡ row_at part_key name_cmp name new
+found_put part old new is_put name = sym (ap (find name_cmp name) is_put ∙ find-put name_cmp names_total name part.name part (entries_of part_key name_cmp old))
+
+-- and so is each of those that are put one after another
+pub found_put_each : (parts old new : List Part) → ArePut part_key name_cmp parts old new → (name : Name)
+    → finds_with_all parts (λ n. row_at part_key name_cmp n old) name ≡ row_at part_key name_cmp name new
+found_put_each parts old new are_put name = in_turn parts (entries_of part_key name_cmp old) ∙ sym (ap (find name_cmp name) are_put)
+  where
+    in_turn : (ps : List Part) (es : List (Name × Part)) → finds_with_all ps (λ n. find name_cmp n es) name ≡ find name_cmp name (put_each part_key name_cmp ps es)
+    in_turn [] es = refl
+    in_turn (p ∷ ps) es =
+        ap (λ f. finds_with_all ps f name) (same_find (finds_with name_cmp p.name p (λ n. find name_cmp n es)) (λ n. find name_cmp n (put name_cmp p.name p es)) (λ n. sym (find-put name_cmp names_total n p.name p es)))
+        ∙ in_turn ps (put name_cmp p.name p es)
+
+-- ---- runs
+
+module _ {X : Type 0} (p : X → Bool) where
+  pub point_front : (xs : List X) (i : ℕ) → i ≤ length xs → IsPartitionPoint (λ y. p y ≡ true) (λ y. p y ≡ false) xs i → filter p xs ≡ take i xs
+  point_front [] zero within point = refl
+  point_front [] (suc i) within point = refl
+  point_front (x ∷ xs) zero within point =
+      ap (λ b. cond b (x ∷ filter p xs) (filter p xs)) (point.1 0 x (omega arith) (omega arith))
+      ∙ point_front xs zero (omega arith) (λ k d le lt. absurd (omega arith), λ k d le lt. point.1 (suc k) d (omega arith) (omega arith))
+  point_front (x ∷ xs) (suc i) within point =
+      ap (λ b. cond b (x ∷ filter p xs) (filter p xs)) (point.0 0 x (omega arith) (omega arith))
+      ∙ ap (λ ys. x ∷ ys) (point_front xs i (omega arith) (λ k d le lt. point.0 (suc k) d (omega arith) (omega arith), λ k d le lt. point.1 (suc k) d (omega arith) (omega arith)))
+
+  pub point_back : (xs : List X) (i : ℕ) → i ≤ length xs → IsPartitionPoint (λ y. p y ≡ true) (λ y. p y ≡ false) xs i → filter (λ y. not (p y)) xs ≡ drop i xs
+  point_back [] zero within point = refl
+  point_back [] (suc i) within point = refl
+  point_back (x ∷ xs) zero within point =
+      ap (λ b. cond (not b) (x ∷ filter (λ y. not (p y)) xs) (filter (λ y. not (p y)) xs)) (point.1 0 x (omega arith) (omega arith))
+      ∙ ap (λ ys. x ∷ ys) (point_back xs zero (omega arith) (λ k d le lt. absurd (omega arith), λ k d le lt. point.1 (suc k) d (omega arith) (omega arith)))
+  point_back (x ∷ xs) (suc i) within point =
+      ap (λ b. cond (not b) (x ∷ filter (λ y. not (p y)) xs) (filter (λ y. not (p y)) xs)) (point.0 0 x (omega arith) (omega arith))
+      ∙ point_back xs i (omega arith) (λ k d le lt. point.0 (suc k) d (omega arith) (omega arith), λ k d le lt. point.1 (suc k) d (omega arith) (omega arith))
+
+  pub filter_filter : (q : X → Bool) (xs : List X) → filter q (filter p xs) ≡ filter (λ x. p x && q x) xs
+  filter_filter q [] = refl
+  filter_filter q (x ∷ xs) =
+      elim (p x) as (λ b. filter q (cond b (x ∷ filter p xs) (filter p xs)) ≡ cond (b && q x) (x ∷ filter (λ y. p y && q y) xs) (filter (λ y. p y && q y) xs)) [
+        | true ↦ ap (λ ys. cond (q x) (x ∷ ys) ys) (filter_filter q xs)
+        | false ↦ filter_filter q xs
+      ]
+
+module _ {K : Type 0} (cmp : K → K → Ordering) where
+  entries_filter : (p : K → Bool) (keys : List K) → entries_of own_key cmp (filter p keys) ≡ where_key cmp p (entries_of own_key cmp keys)
+  entries_filter p [] = refl
+  entries_filter p (k ∷ keys) =
+      elim (p k) as (λ b. entries_of own_key cmp (cond b (k ∷ filter p keys) (filter p keys)) ≡ cond b ((k, k) ∷ where_key cmp p (entries_of own_key cmp keys)) (where_key cmp p (entries_of own_key cmp keys))) [
+        | true ↦ ap (λ es. (k, k) ∷ es) (entries_filter p keys)
+        | false ↦ entries_filter p keys
+      ]
+
+  pub rise-filter : (p : K → Bool) (keys : List K) → rise own_key cmp keys ≡ true → rise own_key cmp (filter p keys) ≡ true
+  rise-filter p keys up = ap (is_sorted cmp) (entries_filter p keys) ∙ met _ (is_sorted-where_key cmp p (entries_of own_key cmp keys) (tested _ up))
+
+  -- a test that no key passes behind one that fails
+  pub parted : IsTotalOrder cmp → IsAntisymmetric cmp → (p : K → Bool) → ((a b : K) → cmp a b ≡ Less → p b ≡ true → p a ≡ true) → (keys : List K) → rise own_key cmp keys ≡ true → IsPartitionedBy p keys
+  parted o exact p falls keys up i j d le within passes =
+      elim (cases_lt i j) [
+        | inl lt ↦ falls (get_or keys i d) (get_or keys j d) (rising_at own_key cmp o exact keys (tested _ up) i j d lt within) passes
+        | inr ge ↦ let same : i ≡ j = omega arith in subst (λ n. p (get_or keys n d) ≡ true) (sym same) passes
+      ]
+
+module _ (code : List ℕ) (after : Option Name) where
+  earlier : (b c : Name) → name_cmp b c ≡ Less → (other : Option Name) → not (is_behind other c) ≡ true → not (is_behind other b) ≡ true
+  earlier b c lt None passes = passes
+  earlier b c lt (Some a) passes = by_order (name_cmp a b) refl
+    where
+      by_order : (r : Ordering) → name_cmp a b ≡ r → not (is_lt r) ≡ true
+      by_order Less e = absurd (true≢false (sym passes ∙ ap (λ r. not (is_lt r)) (names_total.trans a b c e lt)))
+      by_order Equal e = refl
+      by_order Greater e = refl
+
+  -- what comes before a passed key is passed
+  pub passed_falls : (a b : OpenPart) → open_cmp a b ≡ Less → is_passed code after b ≡ true → is_passed code after a ≡ true
+  passed_falls a b lt passes = by_code (code_cmp a.material b.material) refl lt
+    where
+      by_code : (r : Ordering) → code_cmp a.material b.material ≡ r → ordering_then r (name_cmp a.name b.name) ≡ Less → is_passed code after a ≡ true
+      by_code Less e _ = by_place (code_cmp b.material code) refl passes
+        where
+          by_place : (q : Ordering) → code_cmp b.material code ≡ q → passed_at q (is_behind after b.name) ≡ true → is_passed code after a ≡ true
+          by_place Less is _ = ap (λ r. passed_at r (is_behind after a.name)) (nat_list_cmp_total.trans a.material b.material code e is)
+          by_place Equal is _ = ap (λ r. passed_at r (is_behind after a.name)) (sym (alike_right nat_list_cmp_total b.material code a.material is) ∙ e)
+          by_place Greater is fails = absurd (true≢false (sym fails))
+      by_code Equal e names = ap (λ r. passed_at r (is_behind after a.name)) (nat_list_cmp_total.congr a.material b.material code e) ∙ by_place (code_cmp b.material code) passes
+        where
+          by_place : (q : Ordering) → passed_at q (is_behind after b.name) ≡ true → passed_at q (is_behind after a.name) ≡ true
+          by_place Less _ = refl
+          by_place Equal is = earlier a.name b.name names after is
+          by_place Greater fails = absurd (true≢false (sym fails))
+      by_code Greater e names = absurd (true≢false (sym (ap is_lt names)))
+
+  -- what comes before a key of the material or before those is so too
+  pub upto_falls : (a b : OpenPart) → open_cmp a b ≡ Less → is_upto code b ≡ true → is_upto code a ≡ true
+  upto_falls a b lt passes = by_code (code_cmp a.material b.material) refl lt
+    where
+      by_code : (r : Ordering) → code_cmp a.material b.material ≡ r → ordering_then r (name_cmp a.name b.name) ≡ Less → is_upto code a ≡ true
+      by_code Less e _ = by_place (code_cmp b.material code) refl passes
+        where
+          by_place : (q : Ordering) → code_cmp b.material code ≡ q → not (is_gt q) ≡ true → is_upto code a ≡ true
+          by_place Less is _ = ap (λ r. not (is_gt r)) (nat_list_cmp_total.trans a.material b.material code e is)
+          by_place Equal is _ = ap (λ r. not (is_gt r)) (sym (alike_right nat_list_cmp_total b.material code a.material is) ∙ e)
+          by_place Greater is fails = absurd (true≢false (sym fails))
+      by_code Equal e _ = ap (λ r. not (is_gt r)) (nat_list_cmp_total.congr a.material b.material code e) ∙ passes
+      by_code Greater e names = absurd (true≢false (sym (ap is_lt names)))
+
+  between : (r : Ordering) (b : Bool) → (not (passed_at r b) && not (is_gt r)) ≡ (is_eq r && b)
+  between Less b = refl
+  between Equal true = refl
+  between Equal false = refl
+  between Greater b = refl
+
+  pub run_is : (keys : List OpenPart) → filter (is_upto code) (filter (λ key. not (is_passed code after key)) keys) ≡ filter (is_after code after) keys
+  run_is keys =
+      filter_filter (λ key. not (is_passed code after key)) (is_upto code) keys
+      ∙ filter_same (λ key. not (is_passed code after key) && is_upto code key) (is_after code after) (λ key. between (code_cmp key.material code) (is_behind after key.name)) keys
+    where
+      filter_same : (p q : OpenPart → Bool) → ((x : OpenPart) → p x ≡ q x) → (xs : List OpenPart) → filter p xs ≡ filter q xs
+      filter_same p q same [] = refl
+      filter_same p q same (x ∷ xs) =
+          ap (λ b. cond b (x ∷ filter p xs) (filter p xs)) (same x) ∙ ap (λ ys. cond (q x) (x ∷ ys) ys) (filter_same p q same xs)

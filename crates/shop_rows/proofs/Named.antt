@@ -1,0 +1,262 @@
+-- Lists of keys that are those of the rows that pass a test, and the rows found by them.
+use Rattle.std.proofs.Common.{◌≡◌, ℕ, zero, suc, Bool, true, false, List, [], ◌∷◌, take, map, refl, sym, ap, subst, ◌∙◌, true≢false}
+use Rattle.std.specs.List.{cons_option}
+use Rattle.std.specs.Prelude.{Option, Some, None, T, cond, is_some, filter, filter_map, ◌&&◌}
+use Rattle.std.specs.declared.cmp.Ordering.{Ordering}
+use Rattle.std.specs.declared.cmp.Ordering.TheVariants.{Less, Equal, Greater}
+use Rattle.std.specs.Ordering.{eq_by_cmp, is_eq, is_lt, ordering_reverse, ordering_then}
+use Rattle.std.specs.Cmp.{IsTotalOrder, alike_right, tied_itself}
+use Rattle.std.specs.Cmp.Lexicographic.{nat_list_cmp_total}
+use Rattle.std.specs.FinMap.{IsAntisymmetric, find}
+use Rattle.std.specs.FinMap.Entries.{below_all}
+use Rattle.cut_measure.specs.Codes.{code_cmp}
+use Rattle.cut_measure.specs.Names.{Name, name_cmp}
+use Rattle.shop_machine.specs.declared.records.Part.{Part}
+use Rattle.shop_machine.specs.Content.{is_listed}
+use Rattle.shop_machine.specs.Listing.{is_behind}
+use Rattle.shop_machine.specs.Same.{same_code}
+use Rattle.shop_machine.proofs.Sums.{first, second, less, none_below}
+use Rattle.shop_rows.specs.Keys.{part_key, names_total, names_exact}
+use Rattle.shop_rows.specs.Open.{own_key, open_cmp, has, is_found, ListsParts, is_after, parts_named}
+use Rattle.shop_rows.specs.Rows.{entries_of, rise, row_at}
+use Rattle.shop_rows.specs.declared.open.OpenPart.{OpenPart}
+use Rattle.shop_rows.proofs.Places.{lesser, pair_of, tested, met}
+use Rattle.shop_rows.proofs.Listed.{tie, code_turned, filter_filter}
+
+-- what is below all keys is none of them
+missed : {K X : Type 0} (cmp : K → K → Ordering) (q : K) (es : List (K × X)) → T (below_all cmp q es) → find cmp q es ≡ None
+missed cmp q [] h = refl
+missed cmp q (e ∷ es) h = ap (λ r. cond (is_eq r) (Some e.1) (find cmp q es)) (less _ (first _ _ h)) ∙ missed cmp q es (second _ _ h)
+
+module _ {X K : Type 0} (key_of : X → K) (cmp : K → K → Ordering) (o : IsTotalOrder cmp) (exact : IsAntisymmetric cmp) where
+  -- a row that is found has its key
+  pub row_key : (key : K) (rows : List X) (row : X) → row_at key_of cmp key rows ≡ Some row → key_of row ≡ key
+  row_key key [] row e = absurd (true≢false (sym (ap is_some e)))
+  row_key key (x ∷ xs) row e = by_tie (row_key key xs row) (eq_by_cmp cmp key (key_of x)) refl e
+    where
+      by_tie : (row_at key_of cmp key xs ≡ Some row → key_of row ≡ key) → (b : Bool) → eq_by_cmp cmp key (key_of x) ≡ b → cond b (Some x) (row_at key_of cmp key xs) ≡ Some row → key_of row ≡ key
+      by_tie later true is found = let same : x ≡ row = cc in ap key_of (sym same) ∙ sym (exact key (key_of x) (tie _ is))
+      by_tie later false is found = later found
+
+  module _ (test : X → Bool) where
+    abbrev Names : List K → List X → Type 0
+    Names keys rows = (key : K) → has cmp key keys ≡ is_found test (row_at key_of cmp key rows)
+
+    abbrev Later : List X → Type 0
+    Later rows = (keys : List K) → T (rise own_key cmp keys) → Names keys rows → keys ≡ map key_of (filter test rows)
+
+    -- keys that rise, and are there exactly where a row passes, are those of the rows that pass
+    pub same_keys : (keys : List K) (rows : List X) → T (rise own_key cmp keys) → T (rise key_of cmp rows) → Names keys rows → keys ≡ map key_of (filter test rows)
+    same_keys [] [] up rises names = refl
+    same_keys (k ∷ keys) [] up rises names =
+        absurd (true≢false (ap (λ r. is_some (cond (is_eq r) (Some k) (row_at own_key cmp k keys))) (sym (tied_itself o k)) ∙ names k))
+    same_keys keys (x ∷ xs) up rises names = by_test (λ ks ks_up. same_keys ks xs ks_up (second _ _ rises)) (test x) refl
+      where
+        own : is_found test (row_at key_of cmp (key_of x) (x ∷ xs)) ≡ test x
+        own = ap (λ r. is_found test (cond (is_eq r) (Some x) (row_at key_of cmp (key_of x) xs))) (tied_itself o (key_of x))
+
+        gone : row_at key_of cmp (key_of x) xs ≡ None
+        gone = missed cmp (key_of x) (entries_of key_of cmp xs) (first _ _ rises)
+
+        -- the rest of the keys are those of the rest of the rows
+        rest : (ks : List K) → has cmp (key_of x) ks ≡ false → ((key : K) → eq_by_cmp cmp key (key_of x) ≡ false → has cmp key ks ≡ has cmp key keys) → Names ks xs
+        rest ks none far key = by_key (eq_by_cmp cmp key (key_of x)) refl
+          where
+            by_key : (b : Bool) → eq_by_cmp cmp key (key_of x) ≡ b → has cmp key ks ≡ is_found test (row_at key_of cmp key xs)
+            by_key true e =
+                let same = exact key (key_of x) (tie _ e) in
+                ap (λ q. has cmp q ks) same ∙ none ∙ ap (is_found test) (sym gone) ∙ ap (λ q. is_found test (row_at key_of cmp q xs)) (sym same)
+            by_key false e = far key e ∙ names key ∙ ap (λ b. is_found test (cond b (Some x) (row_at key_of cmp key xs))) e
+
+        passes : Later xs → (ks : List K) → ks ≡ keys → T (rise own_key cmp ks) → test x ≡ true → ks ≡ key_of x ∷ map key_of (filter test xs)
+        passes later [] is ks_up so = absurd (true≢false (sym (ap (has cmp (key_of x)) is ∙ names (key_of x) ∙ own ∙ so)))
+        passes later (k ∷ ks) is ks_up so = by_order (cmp (key_of x) k) refl
+          where
+            here : has cmp (key_of x) (k ∷ ks) ≡ true
+            here = ap (has cmp (key_of x)) is ∙ names (key_of x) ∙ own ∙ so
+
+            by_order : (r : Ordering) → cmp (key_of x) k ≡ r → k ∷ ks ≡ key_of x ∷ map key_of (filter test xs)
+            by_order Less e =
+                absurd (true≢false (sym here
+                ∙ ap is_some (missed cmp (key_of x) (entries_of own_key cmp (k ∷ ks)) (pair_of _ _ (lesser _ e) (below (key_of x) k ks e (first _ _ ks_up))))))
+              where
+                below : (a b : K) (cs : List K) → cmp a b ≡ Less → T (below_all cmp b (entries_of own_key cmp cs)) → T (below_all cmp a (entries_of own_key cmp cs))
+                below a b [] lt h = tt
+                below a b (c ∷ cs) lt h = pair_of _ _ (lesser _ (o.trans a b c lt (less _ (first _ _ h)))) (below a b cs lt (second _ _ h))
+            by_order Equal e =
+                let same : key_of x ≡ k = exact (key_of x) k e in
+                let none : has cmp (key_of x) ks ≡ false = ap is_some (ap (λ q. row_at own_key cmp q ks) same ∙ missed cmp k (entries_of own_key cmp ks) (first _ _ ks_up)) in
+                (λ i. sym same i ∷ later ks (second _ _ ks_up)
+                (rest ks none (λ key apart. sym (ap (λ b. is_some (cond b (Some k) (row_at own_key cmp key ks))) (ap (λ q. eq_by_cmp cmp key q) (sym same) ∙ apart)) ∙ ap (has cmp key) is)) i)
+            by_order Greater e =
+                absurd (true≢false (sym (ap is_some (ap (λ r. cond (is_eq r) (Some k) (row_at own_key cmp k ks)) (tied_itself o k))) ∙ ap (has cmp k) is ∙ names k
+                ∙ ap (is_found test) (ap (λ r. cond (is_eq r) (Some x) (row_at key_of cmp k xs)) lower ∙ none_below o k (key_of x) (entries_of key_of cmp xs) lower (first _ _ rises))))
+              where
+                lower : cmp k (key_of x) ≡ Less
+                lower = o.antisymm k (key_of x) ∙ ap ordering_reverse e
+
+        by_test : Later xs → (b : Bool) → test x ≡ b → keys ≡ map key_of (cond b (x ∷ filter test xs) (filter test xs))
+        by_test later true e = passes later keys refl up e
+        by_test later false e = later keys up (rest keys (names (key_of x) ∙ own ∙ e) (λ key apart. refl))
+
+    below_filter : (q : K) (rows : List X) → T (below_all cmp q (entries_of key_of cmp rows)) → T (below_all cmp q (entries_of key_of cmp (filter test rows)))
+    below_filter q [] h = tt
+    below_filter q (x ∷ xs) h =
+        elim (test x) as (λ b. T (below_all cmp q (entries_of key_of cmp (cond b (x ∷ filter test xs) (filter test xs))))) [
+          | true ↦ pair_of _ _ (first _ _ h) (below_filter q xs (second _ _ h))
+          | false ↦ below_filter q xs (second _ _ h)
+        ]
+
+    behind_first : (x : X) (xs ys : List X) → T (below_all cmp (key_of x) (entries_of key_of cmp ys))
+        → map (λ key. row_at key_of cmp key (x ∷ xs)) (map key_of ys) ≡ map (λ key. row_at key_of cmp key xs) (map key_of ys)
+    behind_first x xs [] h = refl
+    behind_first x xs (y ∷ ys) h =
+        let apart : is_eq (cmp (key_of y) (key_of x)) ≡ false = ap is_eq (o.antisymm (key_of y) (key_of x) ∙ ap ordering_reverse (less _ (first _ _ h))) in
+        λ i. cond (apart i) (Some x) (row_at key_of cmp (key_of y) xs) ∷ behind_first x xs ys (second _ _ h) i
+
+    -- each row that passes is found by its key
+    pub found_each : (rows : List X) → T (rise key_of cmp rows) → map (λ key. row_at key_of cmp key rows) (map key_of (filter test rows)) ≡ map (λ row. Some row) (filter test rows)
+    found_each [] up = refl
+    found_each (x ∷ xs) up =
+        let later = behind_first x xs (filter test xs) (below_filter (key_of x) xs (first _ _ up)) ∙ found_each xs (second _ _ up) in
+        elim (test x) as (λ b. map (λ key. row_at key_of cmp key (x ∷ xs)) (map key_of (cond b (x ∷ filter test xs) (filter test xs))) ≡ map (λ row. Some row) (cond b (x ∷ filter test xs) (filter test xs))) [
+          | true ↦ λ i. cond (is_eq (tied_itself o (key_of x) i)) (Some x) (row_at key_of cmp (key_of x) xs) ∷ later i
+          | false ↦ later
+        ]
+
+-- the first of what is found of each
+pub found_first : {A X : Type 0} (at : A → Option X) (names : List A) (xs : List X) (n : ℕ) → map at names ≡ map (λ x. Some x) xs → filter_map at (take n names) ≡ take n xs
+found_first at names xs zero e = refl
+found_first at [] [] (suc n) e = refl
+found_first at [] (x ∷ xs) (suc n) e = cc
+found_first at (a ∷ names) [] (suc n) e = cc
+found_first at (a ∷ names) (x ∷ xs) (suc n) e =
+    let one : at a ≡ Some x = cc in
+    let more : map at names ≡ map (λ y. Some y) xs = cc in
+    ap (λ r. cons_option r (filter_map at (take n names))) one ∙ ap (λ ys. x ∷ ys) (found_first at names xs n more)
+
+pub found_all : {A X : Type 0} (at : A → Option X) (names : List A) (xs : List X) → map at names ≡ map (λ x. Some x) xs → filter_map at names ≡ xs
+found_all at [] [] e = refl
+found_all at [] (x ∷ xs) e = cc
+found_all at (a ∷ names) [] e = cc
+found_all at (a ∷ names) (x ∷ xs) e =
+    let one : at a ≡ Some x = cc in
+    let more : map at names ≡ map (λ y. Some y) xs = cc in
+    ap (λ r. cons_option r (filter_map at names)) one ∙ ap (λ ys. x ∷ ys) (found_all at names xs more)
+
+-- ---- the names of a run
+
+module _ (code : List ℕ) (after : Option Name) where
+  abbrev names_in : List OpenPart → List Name
+  names_in keys = map (λ key. key.name) (filter (is_after code after) keys)
+
+  tied_names : (a b : OpenPart) → is_after code after a ≡ true → is_after code after b ≡ true → open_cmp a b ≡ Less → name_cmp a.name b.name ≡ Less
+  tied_names a b in_a in_b lt =
+      by_code (code_cmp a.material b.material) (nat_list_cmp_total.congr a.material code b.material (tie _ (both _ _ in_a)) ∙ tie _ (code_turned code b.material ∙ both _ _ in_b)) lt
+    where
+      both : (p q : Bool) → (p && q) ≡ true → p ≡ true
+      both true q e = refl
+      both false q e = e
+      by_code : (r : Ordering) → r ≡ Equal → ordering_then r (name_cmp a.name b.name) ≡ Less → name_cmp a.name b.name ≡ Less
+      by_code Less is e = absurd (true≢false (sym (ap is_eq is)))
+      by_code Equal is e = e
+      by_code Greater is e = absurd (true≢false (sym (ap is_eq is)))
+
+  below_names : (key : OpenPart) (keys : List OpenPart) → is_after code after key ≡ true → T (below_all open_cmp key (entries_of own_key open_cmp keys))
+      → T (below_all name_cmp key.name (entries_of own_key name_cmp (names_in keys)))
+  below_names key [] is h = tt
+  below_names key (k ∷ keys) is h = by_test (below_names key keys is (second _ _ h)) (is_after code after k) refl
+    where
+      by_test : T (below_all name_cmp key.name (entries_of own_key name_cmp (names_in keys))) → (b : Bool) → is_after code after k ≡ b
+          → T (below_all name_cmp key.name (entries_of own_key name_cmp (map (λ (q : OpenPart). q.name) (cond b (k ∷ filter (is_after code after) keys) (filter (is_after code after) keys)))))
+      by_test later true e = pair_of _ _ (lesser _ (tied_names key k is e (less _ (first _ _ h)))) later
+      by_test later false e = later
+
+  names_rise : (keys : List OpenPart) → T (rise own_key open_cmp keys) → T (rise own_key name_cmp (names_in keys))
+  names_rise [] up = tt
+  names_rise (k ∷ keys) up = by_test (names_rise keys (second _ _ up)) (is_after code after k) refl
+    where
+      by_test : T (rise own_key name_cmp (names_in keys)) → (b : Bool) → is_after code after k ≡ b → T (rise own_key name_cmp (map (λ (q : OpenPart). q.name) (cond b (k ∷ filter (is_after code after) keys) (filter (is_after code after) keys))))
+      by_test later true e = pair_of _ _ (below_names k keys e (first _ _ up)) later
+      by_test later false e = later
+
+  has_name : (name : Name) (keys : List OpenPart) → has name_cmp name (names_in keys) ≡ (has open_cmp (record { material = code; name = name }) keys && is_behind after name)
+  has_name name [] = refl
+  has_name name (k ∷ keys) = by_name (has_name name keys) (eq_by_cmp name_cmp name k.name) refl
+    where
+      then_eq : (a b : Ordering) → is_eq (ordering_then a b) ≡ (is_eq a && is_eq b)
+      then_eq Less b = refl
+      then_eq Equal b = refl
+      then_eq Greater b = refl
+
+      tied : eq_by_cmp open_cmp (record { material = code; name = name }) k ≡ (same_code k.material code && eq_by_cmp name_cmp name k.name)
+      tied = then_eq (code_cmp code k.material) (name_cmp name k.name) ∙ ap (λ b. b && eq_by_cmp name_cmp name k.name) (code_turned code k.material)
+
+      rest : Option OpenPart
+      rest = row_at own_key open_cmp (record { material = code; name = name }) keys
+
+      right : (c n : Bool) → same_code k.material code ≡ c → eq_by_cmp name_cmp name k.name ≡ n → has open_cmp (record { material = code; name = name }) (k ∷ keys) ≡ is_some (cond (c && n) (Some k) rest)
+      right c n is_c is_n = ap (λ b. is_some (cond b (Some k) rest)) (tied ∙ (λ i. is_c i && is_n i))
+
+      by_name : has name_cmp name (names_in keys) ≡ (has open_cmp (record { material = code; name = name }) keys && is_behind after name) → (n : Bool) → eq_by_cmp name_cmp name k.name ≡ n → has name_cmp name (names_in (k ∷ keys)) ≡ (has open_cmp (record { material = code; name = name }) (k ∷ keys) && is_behind after name)
+      by_name more n is_n = by_code (same_code k.material code) (is_behind after k.name) refl refl
+        where
+          left : (c b : Bool) → same_code k.material code ≡ c → is_behind after k.name ≡ b
+              → has name_cmp name (names_in (k ∷ keys)) ≡ has name_cmp name (map (λ (q : OpenPart). q.name) (cond (c && b) (k ∷ filter (is_after code after) keys) (filter (is_after code after) keys)))
+          left c b is_c is_b = λ i. has name_cmp name (map (λ (q : OpenPart). q.name) (cond (is_c i && is_b i) (k ∷ filter (is_after code after) keys) (filter (is_after code after) keys)))
+
+          -- the name is that of the key
+          behind_same : n ≡ true → is_behind after name ≡ is_behind after k.name
+          behind_same so = ap (is_behind after) (names_exact name k.name (tie _ (is_n ∙ so)))
+
+          by_code : (c b : Bool) → same_code k.material code ≡ c → is_behind after k.name ≡ b → has name_cmp name (names_in (k ∷ keys)) ≡ (has open_cmp (record { material = code; name = name }) (k ∷ keys) && is_behind after name)
+          by_code true true is_c is_b =
+              left true true is_c is_b ∙ by_own n is_n behind_same ∙ ap (λ h. h && is_behind after name) (sym (right true n is_c is_n))
+            where
+              by_own : (m : Bool) → eq_by_cmp name_cmp name k.name ≡ m → (m ≡ true → is_behind after name ≡ is_behind after k.name)
+                  → is_some (cond (eq_by_cmp name_cmp name k.name) (Some k.name) (row_at own_key name_cmp name (names_in keys))) ≡ (is_some (cond m (Some k) rest) && is_behind after name)
+              by_own true e same = ap (λ t. is_some (cond t (Some k.name) (row_at own_key name_cmp name (names_in keys)))) e ∙ sym (same refl ∙ is_b)
+              by_own false e same = ap (λ t. is_some (cond t (Some k.name) (row_at own_key name_cmp name (names_in keys)))) e ∙ more
+          by_code true false is_c is_b = left true false is_c is_b ∙ more ∙ by_own n behind_same ∙ ap (λ h. h && is_behind after name) (sym (right true n is_c is_n))
+            where
+              none : (a : Bool) → is_behind after name ≡ false → (a && is_behind after name) ≡ false
+              none true e = e
+              none false e = refl
+
+              by_own : (m : Bool) → (m ≡ true → is_behind after name ≡ is_behind after k.name)
+                  → (is_some rest && is_behind after name) ≡ (is_some (cond m (Some k) rest) && is_behind after name)
+              by_own true same = none (is_some rest) (same refl ∙ is_b) ∙ sym (same refl ∙ is_b)
+              by_own false same = refl
+          by_code false b is_c is_b = left false b is_c is_b ∙ more ∙ ap (λ h. h && is_behind after name) (sym (right false n is_c is_n))
+
+  module _ (keys : List OpenPart) (parts : List Part) (up : rise own_key open_cmp keys ≡ true) (rises : rise part_key name_cmp parts ≡ true)
+      (lists : ListsParts (λ name. row_at part_key name_cmp name parts) keys) where
+    abbrev stands : Part → Bool
+    stands part = is_listed code part && is_behind after part.name
+
+    names_are : names_in keys ≡ map part_key (filter stands parts)
+    names_are =
+        same_keys part_key name_cmp names_total names_exact stands (names_in keys) parts (names_rise keys (tested _ up)) (tested _ rises)
+        (λ name. has_name name keys ∙ ap (λ b. b && is_behind after name) (lists (record { material = code; name = name })) ∙ by_found name (row_at part_key name_cmp name parts) refl)
+      where
+        by_found : (name : Name) (found : Option Part) → row_at part_key name_cmp name parts ≡ found → (is_found (is_listed code) found && is_behind after name) ≡ is_found stands found
+        by_found name None e = refl
+        by_found name (Some part) e = ap (λ n. is_listed code part && is_behind after n) (sym (row_key part_key name_cmp names_total names_exact name parts part e))
+
+    each_is : map (λ key. row_at part_key name_cmp key.name parts) (filter (is_after code after) keys) ≡ map (λ part. Some part) (filter (λ part. is_behind after part.name) (filter (is_listed code) parts))
+    each_is =
+        map_map (filter (is_after code after) keys) ∙ ap (map (λ name. row_at part_key name_cmp name parts)) names_are
+        ∙ found_each part_key name_cmp names_total names_exact stands parts (tested _ rises)
+        ∙ ap (map (λ part. Some part)) (sym (filter_filter (is_listed code) (λ part. is_behind after part.name) parts))
+      where
+        map_map : (ks : List OpenPart) → map (λ key. row_at part_key name_cmp key.name parts) ks ≡ map (λ name. row_at part_key name_cmp name parts) (map (λ key. key.name) ks)
+        map_map [] = refl
+        map_map (k ∷ ks) = ap (λ rs. row_at part_key name_cmp k.name parts ∷ rs) (map_map ks)
+
+    -- the parts of these names are those of the material that stand and come behind the name
+    pub named_are : parts_named (filter (is_after code after) keys) parts ≡ filter (λ part. is_behind after part.name) (filter (is_listed code) parts)
+    named_are = found_all (λ key. row_at part_key name_cmp key.name parts) (filter (is_after code after) keys) (filter (λ part. is_behind after part.name) (filter (is_listed code) parts)) each_is
+
+    -- and those of the first names are the first of these
+    pub first_named_are : (most : ℕ) → parts_named (take most (filter (is_after code after) keys)) parts ≡ take most (filter (λ part. is_behind after part.name) (filter (is_listed code) parts))
+    first_named_are most = found_first (λ key. row_at part_key name_cmp key.name parts) (filter (is_after code after) keys) (filter (λ part. is_behind after part.name) (filter (is_listed code) parts)) most each_is

@@ -1,0 +1,197 @@
+ghost use Rattle.std.specs.Prelude.{◌≡◌, ◌+◌, ◌<◌, ◌≤◌, List, ℕ, Option, IsTrue, filter, length, not, vec_len, vec_capacity};
+ghost use Rattle.cut_measure.specs.Names.{Name, name_cmp};
+ghost use Rattle.shop_machine.specs.declared.records.Part.{Part as PartOf};
+ghost use Rattle.shop_rows.specs.Rows.{rise};
+ghost use Rattle.shop_rows.specs.Open.{own_key, open_cmp, finds_with, finds_with_all, ListsParts, ListsOthers, KeepsMaterial, KeepMaterials, is_passed, is_upto, is_after};
+
+use crate::rows::{Row, settle, take_row};
+use cut_measure::{Code, PartName};
+use shop_machine::Part;
+use std::alloc::{AllocError, Global};
+use std::cmp::Ordering;
+
+/// The key of a part that stands, reserved or not, by its material and then its name.
+#[derive(Clone, Copy, Debug)]
+pub struct OpenPart {
+    pub material: Code,
+    pub name: PartName,
+}
+
+impl Row for OpenPart {
+    ghost use Rattle.shop_rows.specs.Open.{own_key, open_cmp, open_total, open_exact};
+
+    type Key = OpenPart;
+
+    ghost key_of = { own_key };
+
+    ghost cmp = { open_cmp };
+
+    fn compare(&self, key: OpenPart) -> Ordering {
+        self.material
+            .order(&key.material)
+            .then(self.name.order(&key.name))
+    }
+
+    fn key(&self) -> OpenPart {
+        *self
+    }
+
+    ghost total = { open_total };
+
+    ghost exact = { open_exact };
+}
+
+impl OpenPart {
+    ghost use Rattle.std.specs.Prelude.{◌≡◌};
+    ghost use Rattle.shop_rows.specs.Open.{is_passed, is_upto, open_key};
+
+    // The key of a part.
+    fn of(part: &Part) -> OpenPart
+        ensures { result ≡ open_key part.now }
+    {
+        OpenPart {
+            material: part.material,
+            name: part.name,
+        }
+    }
+
+    // Whether it comes before those of a material that are behind a name.
+    fn is_passed(&self, material: Code, after: Option<PartName>) -> bool
+        ensures { result ≡ is_passed material after self.now }
+    {
+        match self.material.order(&material) {
+            Ordering::Less => true,
+            Ordering::Equal => match after {
+                Some(name) => !matches!(name.order(&self.name), Ordering::Less),
+                None => false,
+            },
+            Ordering::Greater => false,
+        }
+    }
+
+    // Whether it comes before those of the materials behind this one.
+    fn is_upto(&self, material: Code) -> bool
+        ensures { result ≡ is_upto material self.now }
+    {
+        !matches!(self.material.order(&material), Ordering::Greater)
+    }
+}
+
+/// The keys of what is open, in lists that rise.
+#[derive(Drop)]
+pub struct OpenRows {
+    /// The parts that stand, by material and then name.
+    pub parts: Vec<OpenPart>,
+}
+
+impl OpenRows {
+    ghost use Rattle.std.specs.Prelude.{◌≡◌, [], IfOk};
+
+    /// Nothing is open.
+    pub fn new(alloc: Global) -> OpenRows
+        ensures parts { result.parts.items ≡ [] }
+    {
+        OpenRows {
+            parts: Vec::new(alloc),
+        }
+    }
+
+    /// The same lists.
+    pub fn copy(&self, alloc: Global) -> Result<OpenRows, AllocError>
+        ensures parts { IfOk result (λ copy. copy.parts.items ≡ self.now.parts.items) }
+    {
+        let parts = Vec::from_slice(alloc, &self.parts)?;
+        Ok(OpenRows { parts })
+    }
+}
+
+// Takes the key of a part that another one replaces, where that is of another material.
+fn unlist(open: &mut Vec<OpenPart>, replaced: Option<Part>, part: &Part)
+    requires { IsTrue (rise own_key open_cmp open.old.items) }
+    ensures others { (find : Name → Option PartOf) → ListsParts find open.old.items → find part.now.name ≡ replaced
+        → ListsOthers part.now (finds_with name_cmp part.now.name part.now find) open.new.items }
+    ensures rising { IsTrue (rise own_key open_cmp open.new.items) }
+    ensures len { vec_len open.new ≤ vec_len open.old }
+    ensures capacity { vec_capacity open.new ≡ vec_capacity open.old }
+{
+    let Some(old) = replaced else {
+        return;
+    };
+    if old.material.is(&part.material) {
+        return;
+    }
+    let key = OpenPart {
+        material: old.material,
+        name: part.name,
+    };
+    let _ = take_row(open, key);
+}
+
+/// Lists a part where it stands, and not where it doesn't, in place of the one that it replaces, if there is one.
+pub fn list_part(open: &mut Vec<OpenPart>, replaced: Option<Part>, part: &Part)
+    requires rising { IsTrue (rise own_key open_cmp open.old.items) }
+    requires room { vec_len open.old < vec_capacity open.old }
+    ensures lists { (find : Name → Option PartOf) → ListsParts find open.old.items → find part.now.name ≡ replaced
+        → ListsParts (finds_with name_cmp part.now.name part.now find) open.new.items }
+    ensures rising { IsTrue (rise own_key open_cmp open.new.items) }
+    ensures len { vec_len open.new ≤ vec_len open.old + 1 }
+    ensures capacity { vec_capacity open.old ≤ vec_capacity open.new }
+{
+    unlist(open, replaced, part);
+    let stands = part.is_listed(&part.material);
+    settle(open, OpenPart::of(part), stands);
+}
+
+// Lists a part where it stands, and not where it doesn't, in place of one of the same material, if there is one.
+fn list_in_place(open: &mut Vec<OpenPart>, part: &Part)
+    requires rising { IsTrue (rise own_key open_cmp open.old.items) }
+    requires room { vec_len open.old < vec_capacity open.old }
+    ensures lists { (find : Name → Option PartOf) → ListsParts find open.old.items → KeepsMaterial find part.now
+        → ListsParts (finds_with name_cmp part.now.name part.now find) open.new.items }
+    ensures rising { IsTrue (rise own_key open_cmp open.new.items) }
+    ensures len { vec_len open.new ≤ vec_len open.old + 1 }
+    ensures capacity { vec_capacity open.old ≤ vec_capacity open.new }
+{
+    let stands = part.is_listed(&part.material);
+    settle(open, OpenPart::of(part), stands);
+}
+
+/// Lists parts one after another, each where it stands, in place of one of the same material, if there is one.
+pub fn list_all(open: &mut Vec<OpenPart>, parts: &[Part])
+    requires rising { IsTrue (rise own_key open_cmp open.old.items) }
+    requires room { vec_len open.old + length parts.now ≤ vec_capacity open.old }
+    ensures lists { (find : Name → Option PartOf) → ListsParts find open.old.items → KeepMaterials find parts.now
+        → ListsParts (finds_with_all parts.now find) open.new.items }
+    ensures rising { IsTrue (rise own_key open_cmp open.new.items) }
+{
+    for part in parts {
+        list_in_place(open, part);
+    }
+}
+
+// The keys from those of a material that are behind a name on.
+fn from_name(open: &[OpenPart], material: Code, after: Option<PartName>) -> &[OpenPart]
+    requires { IsTrue (rise own_key open_cmp open.now) }
+    ensures keys { result.now ≡ filter (λ key. not (is_passed material after key)) open.now }
+    ensures rising { IsTrue (rise own_key open_cmp result.now) }
+{
+    let from = open.partition_point(|key| key.is_passed(material, after));
+    &open[from..]
+}
+
+// The keys up to those of a material.
+fn upto_material(open: &[OpenPart], material: Code) -> &[OpenPart]
+    requires { IsTrue (rise own_key open_cmp open.now) }
+    ensures { result.now ≡ filter (is_upto material) open.now }
+{
+    let len = open.partition_point(|key| key.is_upto(material));
+    &open[..len]
+}
+
+/// The keys of the standing parts of a material, those behind a name or all.
+pub fn names_behind(open: &[OpenPart], material: Code, after: Option<PartName>) -> &[OpenPart]
+    requires { IsTrue (rise own_key open_cmp open.now) }
+    ensures { result.now ≡ filter (is_after material after) open.now }
+{
+    upto_material(from_name(open, material, after), material)
+}
