@@ -2,6 +2,7 @@
 #![tactic(auto)]
 
 mod counted;
+mod laws;
 mod printing;
 mod streams;
 mod tickets;
@@ -9,6 +10,7 @@ mod writer;
 mod yields;
 
 pub use counted::Counted;
+pub use laws::texts_are_told;
 pub use printing::PrintFault;
 pub use streams::{Failed, Sink, Source};
 pub use tickets::{ticket, ticket_text};

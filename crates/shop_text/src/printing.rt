@@ -16,8 +16,8 @@ use std::fmt;
 /// Why a text wasn't printed.
 #[derive(Clone, Copy, Debug, PartialEq, Eq)]
 pub enum PrintFault {
-    /// There is nothing to print for this refusal, memory was wanting (98), or the store failed or rows contradict each
-    /// other (99). Nothing was written.
+    /// There is nothing to print for this refusal, memory was wanting (98), or the store failed (99), as do rows that no
+    /// history gives where they contradict each other. Nothing was written.
     Refused(Refusal),
     /// The sink failed. A first part of the text was written.
     Write,
