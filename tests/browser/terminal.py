@@ -2,6 +2,7 @@
 
 import json
 import os
+import re
 import time
 
 from browser.chromium import Browser
@@ -109,7 +110,7 @@ class Terminal(Browser):
         """Reserves the plan that is shown, goes to the saw, and gives the job's number."""
         self.click(by_id("reserve"))
         self.says(": job ")
-        job = self.ask("/jobs/0")["jobs"][-1]["job"]
+        job = int(re.search(r": job (\d+),", self.told())[1])
         self.click("[...document.querySelectorAll('#lastNotice button')].find(it => it.textContent === 'To the saw')")
         self.until(f"atSaw.told && atSaw.told.job === {job} && document.querySelector('#jobPicture svg')")
         return job
