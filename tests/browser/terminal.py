@@ -41,6 +41,14 @@ def open_shop(trial, shop_file=SHOP_FILE, store="shop.db"):
     return shop
 
 
+def exchange(shop, path, message=None):
+    """What a shop answers to a GET, or to a message of another terminal. (A shop with a page looks at the host's name.)"""
+    body = b"" if message is None else json.dumps(message).encode()
+    method = "GET" if message is None else "POST"
+    head = f"{method} {path} HTTP/1.1\r\nHost: 127.0.0.1:{shop.port}\r\nContent-Length: {len(body)}\r\n\r\n"
+    return json.loads(shop.exchange(head.encode() + body).partition(b"\r\n\r\n")[2])
+
+
 class Terminal(Browser):
     """A browser with the page of a shop, as one terminal."""
 
@@ -59,7 +67,7 @@ class Terminal(Browser):
 
     def ask(self, path):
         """What the shop answers to a GET, asked beside the page."""
-        return json.loads(self.shop.get(path).partition(b"\r\n\r\n")[2])
+        return exchange(self.shop, path)
 
     def view(self, name):
         self.click(f"document.querySelector('nav [data-view={name}]')")

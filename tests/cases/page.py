@@ -6,7 +6,7 @@ import os
 import re
 import time
 
-from browser.terminal import PAGE, SHOP_FILE, Terminal, by_id, open_shop
+from browser.terminal import PAGE, SHOP_FILE, Terminal, by_id, exchange, open_shop
 from kit import tables
 from kit.case import case
 from kit.shop import answer
@@ -289,8 +289,8 @@ def overdrawn(trial):
         it.propose("STEEL")
         tree, part = it.value("[chosenPlan().tree, chosenPlan().part]")
         other = next(row["part"] for row in it.ask("/parts/STEEL")["parts"] if row["part"] != part)
-        line = json.dumps({"do": "reserve", "number": 1, "part": other, "terminal": 8, "tree": tree})
-        trial.holds(b'"ok":"reserve"' in it.shop.reply(line), "the other terminal can't reserve")
+        reply = exchange(it.shop, "/message", {"do": "reserve", "number": 1, "part": other, "terminal": 8, "tree": tree})
+        trial.equal(reply.get("ok"), "reserve", "the other terminal can't reserve")
         it.value(f"send({{ do: 'reserve', part: '{part}', tree: '{tree}' }}, 'Reserve {part}')")
         it.says("(63 TooMany)")
         trial.holds(re.search(r"only \d+ of demand \d+ (is|are) left \(63 TooMany\)", it.told()), it.told())
@@ -344,7 +344,7 @@ def hundreds(trial):
     shop = open_shop(trial, SHOP_FILE + more)
     with Terminal(trial, shop) as it:
         said = iter(range(1, 1000))
-        send = lambda **keys: shop.reply(json.dumps({"number": next(said), "terminal": 8, **keys}))
+        send = lambda **keys: exchange(shop, "/message", {"number": next(said), "terminal": 8, **keys})
         for batch in ("B-1", "B-2"):
             send(do="receive", material="STEEL", batch=batch, w=60000, h=1, count=100)
         send(do="receive", material="GLASS", batch="G-1", w=12000, h=8000, count=1)
