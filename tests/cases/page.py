@@ -231,6 +231,77 @@ def widths(trial):
 
 
 @case(
+    "orders and stock at the page",
+    "In a browser: an order by hand whose bad field is told at its line, a code that is used refused in words, a problem file, "
+    "how many units are wanted at least, a plan by a step of one's own; a release, a trace, a return and a scrap.",
+)
+def by_hand(trial):
+    shop = open_shop(trial)
+    with Terminal(trial, shop) as it:
+        it.begin(7)
+        stock(it)
+        it.view("orders")
+        it.type(by_id("orderCode"), "b-2")
+        field = "document.querySelector('#orderLines [data-field={}]')"
+        it.choose(field.format("material"), "GLASS")
+        for name, text in (("length", "600"), ("width", "450,5"), ("count", "x")):
+            it.type(field.format(name), text)
+        it.key("Enter")
+        it.until("document.querySelector('#orderLines .fault')")
+        told = it.value("document.querySelector('#orderLines .fault').textContent")
+        trial.equal(told, "count “x”: write a whole number from 1 to 1\u202f000\u202f000")
+        it.type(field.format("count"), "2")
+        it.key("Enter")
+        it.says("Order B-2: 1 line ordered, demands from 1 on")
+        row = it.ask("/demands/0")["demands"][0]
+        trial.equal([row[key] for key in ("w", "h", "wanted", "worth", "turn")], [6000, 4505, 2, 270300, False])
+        it.view("orders")
+        it.type(by_id("fileCode"), "B-2")
+        it.choose(by_id("problemMaterial"), "GLASS")
+        it.pick(by_id("problemFile"), trial.write("sheet.txt", "1\n6000 4000\n1500 1000 4 150\n"))
+        it.click(by_id("sendProblem"))
+        it.says("an order with this code is there already (40 OrderExists)")
+        it.type(by_id("fileCode"), "P-1")
+        it.click(by_id("sendProblem"))
+        it.says("Order P-1 from a file: 1 line ordered, demands from 2 on, unit 3/0 received")
+        it.view("tocut")
+        it.until("toCut.part === '3/0'")
+        it.propose("GLASS")
+        it.type(by_id("step"), "3,3")
+        it.click(by_id("tryStep"))
+        it.until("chosenPlan() && chosenPlan().step === 33")
+        it.click("document.querySelector('#cutFrom [data-key=\"p1/0\"]')")
+        it.click(by_id("askBound"))
+        it.until(f"{by_id('boundWords')}.textContent.includes('takes at least 2 units of 1200.0 × 800.0')")
+        it.click(by_id("propose"))
+        it.until("!toCut.planning && chosenPlan()")
+        job = it.reserve()
+        it.click(by_id("release"))
+        it.confirm()
+        it.says(f"Release job {job}: done")
+        it.view("stock")
+        it.material("stock", "GLASS")
+        it.click("document.querySelector('#stockList [data-key=\"r1/0\"]')")
+        it.until(f"{by_id('confirm')}.open")
+        it.key("Enter")
+        it.until(f"!{by_id('confirm')}.open")
+        trial.equal(it.ask("/trace/1/0")["state"], "standing", "Enter alone returns nothing")
+        it.click("document.querySelector('#stockList [data-key=\"r1/0\"]')")
+        it.confirm()
+        it.says("Return 1/0: done")
+        it.click("document.querySelector('#stockList [data-key=\"s3/0\"]')")
+        it.confirm()
+        it.says("Scrap 3/0: done")
+        it.type(by_id("tracePart"), "1/0")
+        it.key("Enter")
+        it.until(f"{by_id('traceWords')}.textContent.includes('returned to its supplier')")
+        is_quiet(it)
+    shop.kill()
+    states = {row[:2]: row[10] for row in tables.rows(shop.store)["parts"]}
+    trial.equal((states[1, 0], states[1, 1], states[3, 0]), (6, 0, 5))
+
+
+@case(
     "a page of another origin",
     "A page of another origin that posts a scrap is refused 403, and nothing changes.",
 )
