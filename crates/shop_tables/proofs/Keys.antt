@@ -36,7 +36,7 @@ use Rattle.shop_tables.proofs.Lists.{filter-map, filter-same, map-map, map-same}
 abbrev pub equal : Value → Value → Bool
 equal a b = is_true (binary (Compare Eq Binary) a b)
 
-told : (b : Bool) → is_true (from_truth (Rattle.std.proofs.Common.Some b)) ≡ b
+pub told : (b : Bool) → is_true (from_truth (Rattle.std.proofs.Common.Some b)) ≡ b
 told true = refl
 told false = refl
 

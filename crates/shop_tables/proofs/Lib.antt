@@ -37,3 +37,5 @@ pub mod Taken
 pub mod LaidTables
 pub mod Reopened
 pub mod FreshBooks
+pub mod Versions
+pub mod UnderKeys
