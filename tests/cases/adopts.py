@@ -91,6 +91,20 @@ def lacking(trial):
         refused_as_it_was(trial, path, name)
 
 
+@case(
+    "a version that can't be read",
+    "Where ten tables have our names and `meta` has no such columns as ours, no version can be read: `fault store`, and the file "
+    "stays as it was.",
+)
+def unread(trial):
+    for number, change in enumerate(("value TO amount", "name TO word")):
+        path = filled(trial, f"unread-{number}.db", DAY[:1])
+        tables.change(path, f"ALTER TABLE meta RENAME COLUMN {change}")
+        before = dump(path)
+        trial.ended(trial.run("ticket", "--store", path, "2147483647"), 1, err="fault store\n", sent=change)
+        trial.equal(dump(path), before, change)
+
+
 # What makes a part or a total no value of its type, and what makes it one again.
 STRANGE = [
     ("parts", "state", ("7", "-1"), "0"),

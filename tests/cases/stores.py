@@ -350,3 +350,21 @@ def spoiled(trial):
         trial.equal(shop.send(line).partition(b"\r\n")[0], b"HTTP/1.1 503 Service Unavailable", statement)
         trial.equal(shop.reply(line), b'{"name":"StoreFault","refused":99}', statement)
         trial.equal(shop.reply('{"ask":"trace","part":"1/0"}')[:14], b'{"batch":"B-1"', statement)
+
+
+@case(
+    "imports that are none",
+    "An import whose form is 7, or 0 beside a material, whose material is none or no code, or whose kept reply is none is told "
+    "as 99 with status 503 where its order comes again; all else is answered.",
+)
+def spoiled_imports(trial):
+    keys, _ = STATES[1]
+    lines = [compact(keys | {"terminal": 1, "number": number}) for number in (2, 3)]
+    exchanges = [DAY[0], (lines[0], compact(IMPORTED))]
+    for number, change in enumerate(("form = 7", "form = 0", "material = ''", "material = 'glass'", "reply = '{'")):
+        path = filled(trial, f"imports-{number}.db", exchanges)
+        tables.change(path, f"UPDATE imports SET {change}")
+        shop = trial.shop(f"imports-{number}.db")
+        trial.equal(shop.send(lines[1]).partition(b"\r\n")[0], b"HTTP/1.1 503 Service Unavailable", change)
+        trial.equal(shop.reply(lines[1]), b'{"name":"StoreFault","refused":99}', change)
+        trial.equal(shop.reply('{"ask":"trace","part":"1/0"}')[:15], b'{"batch":"CG-1"', change)

@@ -11,7 +11,7 @@ use Rattle.sqlite.proofs.StateLemmas.{survives_then}
 use Rattle.sqlite.proofs.Callers.{survives_begin}
 use Rattle.shop_tables.specs.Adopting.{IsVacant}
 use Rattle.shop_tables.specs.Layout.{no_schema}
-use Rattle.shop_tables.specs.Shown.{Holds, Lays, StandsIn, Within, fresh_books}
+use Rattle.shop_tables.specs.Shown.{HasShopSchema, Holds, Lays, StandsIn, Within, fresh_books}
 use Rattle.shop_tables.proofs.Commits.{shows_along, stands_in}
 
 pub on_ok_from : {A B C X E : Type 0} (r : Result X E) → (C → OnOk r A) → ((C → A) → B) → OnOk r B
@@ -30,6 +30,9 @@ module _ {S : Type 0} (g : Ghosts S) (h : Held S) where
     commits_fresh end clean up =
         let e = end clean in
         record { shows = shows_along done last fresh_books (sym e.now_is) (laid.shows (late clean)); committed = e.now_is ∙ sym e.committed_is }
+
+    pub commits_schema : (HasCleanDisk last → sql.Shows done last done.now done.now false) → HasShopSchema last
+    commits_schema end clean up = ap (λ (d : Database). d.schema) (end clean).now_is ∙ laid.schema (late clean)
 
     pub survives_fresh : Within begun done → Survives done last (λ db. db ≡ done.now.trees) → Survives old last (λ db. StandsIn db fresh_books)
     survives_fresh within end = survives_begin g h last (λ db. StandsIn db fresh_books)

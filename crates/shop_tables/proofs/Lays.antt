@@ -226,7 +226,7 @@ fresh_keyed = record {
 }
 
 module _ {S : Type 0} (g : Ghosts S) where
-  fills : (old new : Held S) (count : ℕ) → Blank shop_schema (state g old) → ExecutesIn true eleven_text [] (state g old) (state g new) (Ok count) → Shows (state g new) fresh_books × IsTrue (state g new).is_open
+  fills : (old new : Held S) (count : ℕ) → Blank shop_schema (state g old) → ExecutesIn true eleven_text [] (state g old) (state g new) (Ok count) → Shows (state g new) fresh_books × IsTrue (state g new).is_open × ((state g new).now.schema ≡ shop_schema)
   fills old new count blank h =
       let s = state g old in
       let t = state g new in
@@ -255,6 +255,7 @@ module _ {S : Type 0} (g : Ghosts S) where
           keyed = fresh_keyed;
         },
         w.shown.is_open,
+        e.schema_is ∙ blank.schema_is,
       )
 
   abbrev rest_one : List ℕ
@@ -337,6 +338,7 @@ module _ {S : Type 0} (g : Ghosts S) where
     pub is_open : IsTrue (state g new).is_open
     pub inside : IsTrue new.in_transaction
     pub shows : Shows (state g new) fresh_books
+    pub schema : (state g new).now.schema ≡ shop_schema
 
   pub lays : (old new : Held S) → old.schema ≡ no_schema → ExecutesAllInside g 0 tables_text old new (Ok tt) → Laid old new
   unfolding ExecutesAllInside
@@ -371,6 +373,7 @@ module _ {S : Type 0} (g : Ghosts S) where
         is_open = subst (λ (x : Held S). IsTrue (state g x).is_open) same shown.1;
         inside = subst (λ (x : Held S). IsTrue x.in_transaction) same last.inside;
         shows = subst (λ (x : Held S). Shows (state g x) fresh_books) same shown.0;
+        schema = subst (λ (x : Held S). (state g x).now.schema ≡ shop_schema) same shown.2;
       }
 
   pub lays_when : (old new : Held S) (r : Result (Unit {0}) Error) → old.schema ≡ no_schema → (HasCleanDisk (state g new) → HasCleanDisk (state g old)) → (HasCleanDisk (state g new) → ExecutesAllInside g 0 tables_text old new r)
@@ -379,5 +382,6 @@ module _ {S : Type 0} (g : Ghosts S) where
     earlier = earlier;
     on = λ clean. let l = lays old new has (ran clean) in (l.was_open, l.is_open, l.inside);
     shows = λ clean. (lays old new has (ran clean)).shows;
+    schema = λ clean. (lays old new has (ran clean)).schema;
   }
   lays_when old new (Err e) has earlier ran = tt

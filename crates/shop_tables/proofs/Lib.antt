@@ -43,3 +43,5 @@ pub mod Falling
 pub mod FirstRows
 pub mod LastNumbers
 pub mod FirstParts
+pub mod Versions
+pub mod UnderKeys

@@ -219,6 +219,7 @@ module _ {S : Type 0} (g : Ghosts S) where
     pub is_open : IsTrue (state g new).is_open
     pub inside : IsTrue new.in_transaction
     pub shows : Shows (state g new) b
+    pub schema : (state g new).now.schema ≡ shop_schema
 
   renews : (old new : Held S) (b : Books) → ShowsEarlier (state g old) b → ExecutesAllInside g 0 renew_text old new (Ok tt) → IsRenewed old new b
   unfolding ExecutesAllInside
@@ -266,6 +267,7 @@ module _ {S : Type 0} (g : Ghosts S) where
         is_open = subst (λ (x : Held S). IsTrue (state g x).is_open) same four.0.is_open;
         inside = subst (λ (x : Held S). IsTrue x.in_transaction) same a4.inside;
         shows = subst (λ (x : Held S). Shows (state g x) b) same shows;
+        schema = subst (λ (x : Held S). (state g x).now.schema ≡ shop_schema) same four.0.schema_is;
       }
 
   began : (old new : Held S) → ExecutesAllInside g 0 renew_text old new (Ok tt) → IsTrue (state g old).is_open
@@ -278,5 +280,6 @@ module _ {S : Type 0} (g : Ghosts S) where
     earlier = earlier;
     on = λ clean. let l = renews old new b (has (earlier clean) (began old new (ran clean))) (ran clean) in (l.was_open, l.is_open, l.inside);
     shows = λ clean. (renews old new b (has (earlier clean) (began old new (ran clean))) (ran clean)).shows;
+    schema = λ clean. (renews old new b (has (earlier clean) (began old new (ran clean))) (ran clean)).schema;
   }
   renews_when old new b (Err e) has earlier ran = tt

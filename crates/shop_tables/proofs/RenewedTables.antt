@@ -3,13 +3,14 @@ use Rattle.std.proofs.Common.{◌≡◌, inl, inr, true≢false, IsTrue, sym, ap
 use Rattle.sqlite_trees.specs.declared.store.Store.{Ghosts}
 use Rattle.sqlite.specs.State.{State, HasCleanDisk, IsRolledBack, Survives}
 use Rattle.sqlite.specs.State as sql
+use Rattle.sqlite.specs.Effect.{Database}
 use Rattle.sqlite.specs.Held.{Held}
 use Rattle.sqlite.specs.Steps.{FailsToCommit}
 use Rattle.sqlite.specs.declared.error.Error.{Error}
 use Rattle.sqlite.proofs.StateLemmas.{survives_then}
 use Rattle.sqlite.proofs.Callers.{survives_begin}
 use Rattle.shop_tables.specs.Earlier.{HoldsEarlier, Renews, ShowsEarlier}
-use Rattle.shop_tables.specs.Shown.{Books, Holds, StandsIn, Within}
+use Rattle.shop_tables.specs.Shown.{Books, HasShopSchema, Holds, StandsIn, Within}
 use Rattle.shop_tables.proofs.Commits.{old, begun, shows_along, stands_in}
 use Rattle.shop_tables.proofs.EarlierRows.{shows_earlier_along}
 
@@ -42,6 +43,9 @@ module _ {S : Type 0} (g : Ghosts S) (h : Held S) (b : Books) (was : HoldsEarlie
       renewal_commits end clean up =
           let e = end clean in
           record { shows = shows_along done last b (sym e.now_is) (renewed.shows (late clean)); committed = e.now_is ∙ sym e.committed_is }
+
+      pub renewal_schema : (HasCleanDisk last → sql.Shows done last done.now done.now Rattle.std.proofs.Common.false) → HasShopSchema last
+      renewal_schema end clean up = ap (λ (d : Database). d.schema) (end clean).now_is ∙ renewed.schema (late clean)
 
       -- what a crash may leave after the commit
       pub renewal_survives : Survives done last (λ db. db ≡ done.now.trees) → Survives (old g h) last (λ db. StandsIn db b)

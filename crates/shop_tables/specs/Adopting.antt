@@ -1,5 +1,7 @@
 -- What a connection is taken over from.
-use Rattle.std.specs.Prelude.{◌≡◌, ◌&&◌, not, is_some, Bool, ℕ, List, codes, IsTrue}
+use Rattle.std.specs.Prelude.{◌≡◌, ◌&&◌, not, is_some, Bool, ℕ, pos, List, [], ◌∷◌, codes, IsTrue, Contains}
+use Rattle.sqlite_value.specs.Order.{Row, column}
+use Rattle.sqlite_value.specs.declared.value.Value.TheVariants.{Int, Text}
 use Rattle.sqlite_trees.specs.Tree.{Trees}
 use Rattle.sqlite.specs.State.{State, HasCleanDisk}
 use Rattle.sqlite_catalog.specs.Change.{is_used}
@@ -22,6 +24,14 @@ names_are_tables schema = is_table schema (codes "meta") && (is_table schema (co
 -- it has no table, index or view, and nothing is under way
 abbrev pub IsVacant : State → Type 0
 IsVacant s = HasCleanDisk s → IsTrue s.is_open → (s.now.schema ≡ no_schema) × (s.now ≡ s.committed)
+
+-- a row of `meta`, the first table of both versions, has the word, and this is shown of it
+abbrev pub IsNumberRow : State → List ℕ → Row → Type 0
+IsNumberRow s word shown = (row : Row) × Contains (s.now.trees 0) row × (column row 1 ≡ Text word) × (shown ≡ column row 2 ∷ [])
+
+-- a row of `meta` says that the tables are of this version
+abbrev pub HasVersion : State → ℕ → Type 0
+HasVersion s version = IsNumberRow s (codes "version") (Int (pos version) ∷ [])
 
 -- an open after a crash finds the books
 abbrev pub LeavesBooks : State → Books → Type 0

@@ -14,7 +14,7 @@ use Rattle.cut_measure.specs.Codes.{code_cmp}
 use Rattle.shop_machine.specs.Content.{Content}
 use Rattle.shop_machine.specs.declared.records.Totals.{Totals}
 use Rattle.shop_tables.specs.Adopting.{is_table}
-use Rattle.shop_tables.specs.Layout.{created_all, no_schema, meta_table, materials_table, parts_table, jobs_table, orders_table, demands_table, kept_table, imports_table, totals_table}
+use Rattle.shop_tables.specs.Layout.{created_all, no_schema, shop_schema, meta_table, materials_table, parts_table, jobs_table, orders_table, demands_table, kept_table, imports_table, totals_table}
 use Rattle.shop_tables.specs.Rows.{AreRows, AreOrders, IsKeyed, meta_row, material_row, part_row, job_row, demand_row, kept_row, import_row}
 use Rattle.shop_tables.specs.Shown.{Books, Shows}
 
@@ -84,3 +84,4 @@ pub record Renews (old new : State) (b : Books) : Type 0 where
   pub earlier : HasCleanDisk new → HasCleanDisk old
   pub on : HasCleanDisk new → IsTrue old.is_open × IsTrue new.is_open × IsTrue new.in_transaction
   pub shows : HasCleanDisk new → Shows new b
+  pub schema : HasCleanDisk new → new.now.schema ≡ shop_schema

@@ -1,6 +1,7 @@
 pub mod Layout
 pub mod Values
 pub mod Rows
+pub mod Found
 pub mod Selecting
 pub mod Shown
 pub mod Faults

@@ -1,5 +1,5 @@
 -- When a connection holds a content, and what a call on it keeps.
-use Rattle.std.specs.Prelude.{◌≡◌, ℕ, pos, List, [], ◌∷◌, IsTrue, Option, Some, Ok, option_map}
+use Rattle.std.specs.Prelude.{◌≡◌, ℕ, pos, List, [], ◌∷◌, IsTrue, IfSome, Contains, Option, Some, None, Ok, option_map}
 use Rattle.sqlite_value.specs.declared.value.Value.TheVariants.{Int}
 use Rattle.std.specs.Option.{option_to_list}
 use Rattle.sqlite_value.specs.Order.{Row}
@@ -12,7 +12,7 @@ use Rattle.sqlite_schema.specs.declared.schema.Schema.{Schema}
 use Rattle.cut_measure.specs.Codes.{code_cmp}
 use Rattle.shop_machine.specs.Content.{Content, fresh}
 use Rattle.shop_machine.specs.declared.records.Totals.{Totals}
-use Rattle.shop_tables.specs.Layout.{IsShop}
+use Rattle.shop_tables.specs.Layout.{IsShop, shop_schema}
 use Rattle.shop_tables.specs.Rows.{Stands, IsKeyed}
 
 -- what the tables stand for: a content, and a row of totals for each material
@@ -30,6 +30,10 @@ pub record Shows (s : State) (b : Books) : Type 0 where
   pub sound : IsDatabase s.now
   pub stands : Stands s.now.trees b.content b.totals
   pub keyed : IsKeyed b.content
+
+-- Its tables are those of a new shop, with their keys, checks and references, and it has nothing else.
+abbrev pub HasShopSchema : State → Type 0
+HasShopSchema s = HasCleanDisk s → IsTrue s.is_open → s.now.schema ≡ shop_schema
 
 -- and the last commit is what it sees
 pub record IsSettled (s : State) (b : Books) : Type 0 where
@@ -80,11 +84,13 @@ pub record Within (old new : State) : Type 0 where
   pub kept : HasCleanDisk new → KeepsCommit old new
   pub survives : Survives old new (λ _. ⊥)
 
--- the query gave one row at most, and this is it
+-- this is a row that the query gave, and the one where it gave one at most
 pub record GivesRow (sql : List ℕ) (params : Row) (old new : State) (row : Option Row) : Type 0 where
   pub rows : List Row
   pub shown : Shown sql params old new rows
   pub only : (o : Option Row) → rows ≡ option_to_list o → row ≡ o
+  pub among : IfSome row (Contains rows)
+  pub none : row ≡ None → rows ≡ []
 
 -- the row of what was found, of which this is known
 pub record IsRowOf {X : Type 0} (Is : X → Type 0) (columns : X → Row) (found : Option X) (row : Option Row) : Type 0 where
@@ -100,6 +106,7 @@ pub record Lays (old new : State) : Type 0 where
   pub earlier : HasCleanDisk new → HasCleanDisk old
   pub on : HasCleanDisk new → IsTrue old.is_open × IsTrue new.is_open × IsTrue new.in_transaction
   pub shows : HasCleanDisk new → Shows new fresh_books
+  pub schema : HasCleanDisk new → new.now.schema ≡ shop_schema
 
 -- the statement ran inside a transaction
 abbrev pub HasRun : List ℕ → Row → State → State → Type 0

@@ -1,13 +1,13 @@
 //! From a connection to one that holds books.
 
-ghost use Rattle.std.specs.Prelude.{◌≡◌, ◌≢◌, true, false, Ok, Err, IfOk, IsTrue, OnOk, OnErr};
+ghost use Rattle.std.specs.Prelude.{◌≡◌, ◌≢◌, ◌⊎◌, true, false, Ok, Err, IfOk, IsTrue, OnOk, OnErr};
 ghost use Rattle.sqlite.specs.State.{HasCleanDisk, Survives};
 ghost use Rattle.sqlite.specs.Held.{state};
 ghost use Rattle.sqlite_catalog.specs.Change.{is_used};
-ghost use Rattle.shop_tables.specs.Adopting.{IsVacant, LeavesBooks, is_table, names_are_free, names_are_tables};
+ghost use Rattle.shop_tables.specs.Adopting.{HasVersion, IsVacant, LeavesBooks, is_table, names_are_free, names_are_tables};
 ghost use Rattle.shop_tables.specs.Earlier.{HoldsEarlier, IsSettledEarlier, SaysEarlier, earlier_schema, names_are_earlier};
 ghost use Rattle.shop_tables.specs.Layout.{no_schema, IsShop};
-ghost use Rattle.shop_tables.specs.Shown.{Books, Holds, IsSettled, Leaves, Says, StandsIn, fresh_books};
+ghost use Rattle.shop_tables.specs.Shown.{Books, HasShopSchema, Holds, IsSettled, Leaves, Says, StandsIn, fresh_books};
 ghost use Rattle.shop_tables.specs.declared.adopting.Adopted.TheVariants.{Made, Found, Earlier};
 ghost use Rattle.shop_tables.specs.declared.adopting.AdoptFault.TheVariants.{WrongVersion};
 
@@ -112,6 +112,7 @@ fn lay<S: Alter>(conn: &mut Connection<S>) -> Result<(), Error>
     ensures vacant { conn.old.schema ≡ no_schema → OnErr result (IsVacant (state S.Store conn.new)) }
     ensures crash { conn.old.schema ≡ no_schema → Survives (state S.Store conn.old) (state S.Store conn.new) (λ db. StandsIn db fresh_books) }
     ensures after { conn.old.schema ≡ no_schema → OnOk result (LeavesBooks (state S.Store conn.new) fresh_books) }
+    ensures schema { conn.old.schema ≡ no_schema → OnOk result (HasShopSchema (state S.Store conn.new)) }
 {
     let mut tx = conn.transaction();
     lay_tables(&mut tx)?;
@@ -122,6 +123,7 @@ fn lay<S: Alter>(conn: &mut Connection<S>) -> Result<(), Error>
 fn has_version<S: Alter>(conn: &mut Connection<S>, wanted: u32) -> Result<bool, TableFault>
     ensures ours { wanted ≡ 2 → Says (state S.Store conn.old) (state S.Store conn.new) (λ books. IfOk result (λ is. is ≡ true)) }
     ensures one { wanted ≡ 1 → SaysEarlier (state S.Store conn.old) (state S.Store conn.new) (λ books. IfOk result (λ is. is ≡ true)) }
+    ensures named { HasCleanDisk (state S.Store conn.new) → IsShop conn.old.schema ⊎ (conn.old.schema ≡ earlier_schema) → IfOk result (λ is. IsTrue is → HasVersion (state S.Store conn.old) wanted) }
     ensures leaves { Leaves (state S.Store conn.old) (state S.Store conn.new) }
     ensures mode { conn.old.in_transaction ≡ false → conn.new.in_transaction ≡ false }
 {
@@ -156,6 +158,7 @@ fn adopt_earlier<S: Alter>(conn: &mut Connection<S>) -> Result<Adopted, AdoptFau
     ensures only { IfOk result (λ how. how ≡ Earlier) }
     ensures leaves { Leaves (state S.Store conn.old) (state S.Store conn.new) }
     ensures neither { result ≡ Err WrongVersion → HasCleanDisk (state S.Store conn.new) → (b : Books) → HoldsEarlier (state S.Store conn.old) b → ⊥ }
+    ensures named { conn.old.schema ≡ earlier_schema → HasCleanDisk (state S.Store conn.new) → OnOk result (HasVersion (state S.Store conn.old) 1) }
 {
     match has_version(conn, 1) {
         Ok(true) => Ok(Adopted::Earlier),
@@ -174,6 +177,7 @@ fn adopt_new<S: Alter>(conn: &mut Connection<S>) -> Result<Adopted, AdoptFault>
     ensures vacant { conn.old.schema ≡ no_schema → OnErr result (IsVacant (state S.Store conn.new)) }
     ensures crash { conn.old.schema ≡ no_schema → Survives (state S.Store conn.old) (state S.Store conn.new) (λ db. StandsIn db fresh_books) }
     ensures after { conn.old.schema ≡ no_schema → OnOk result (LeavesBooks (state S.Store conn.new) fresh_books) }
+    ensures schema { conn.old.schema ≡ no_schema → OnOk result (HasShopSchema (state S.Store conn.new)) }
     ensures only { IfOk result (λ how. how ≡ Made) }
     ensures never { result ≢ Err WrongVersion }
 {
@@ -189,6 +193,7 @@ fn adopt_found<S: Alter>(conn: &mut Connection<S>) -> Result<Adopted, AdoptFault
     ensures only { IfOk result (λ how. how ≡ Found) }
     ensures leaves { Leaves (state S.Store conn.old) (state S.Store conn.new) }
     ensures neither { result ≡ Err WrongVersion → HasCleanDisk (state S.Store conn.new) → (b : Books) → Holds (state S.Store conn.old) b → ⊥ }
+    ensures named { IsShop conn.old.schema → HasCleanDisk (state S.Store conn.new) → OnOk result (HasVersion (state S.Store conn.old) 2) }
 {
     match has_version(conn, 2) {
         Ok(true) => Ok(Adopted::Found),
@@ -207,6 +212,8 @@ fn adopt_taken<S: Alter>(conn: &mut Connection<S>) -> Result<Adopted, AdoptFault
     ensures one { result ≡ Ok Earlier → ¬ IsShop conn.old.schema }
     ensures one_only { conn.old.schema ≡ earlier_schema → IfOk result (λ how. how ≡ Earlier) }
     ensures one_neither { result ≡ Err WrongVersion → HasCleanDisk (state S.Store conn.new) → (b : Books) → IsSettledEarlier (state S.Store conn.old) b → ⊥ }
+    ensures named { IsShop conn.old.schema → HasCleanDisk (state S.Store conn.new) → OnOk result (HasVersion (state S.Store conn.old) 2) }
+    ensures one_named { conn.old.schema ≡ earlier_schema → HasCleanDisk (state S.Store conn.new) → OnOk result (HasVersion (state S.Store conn.old) 1) }
 {
     if are_earlier(conn.schema()) {
         return adopt_earlier(conn);
@@ -228,6 +235,7 @@ pub fn adopt_tables<S: Alter>(conn: &mut Connection<S>) -> Result<Adopted, Adopt
     ensures vacant { conn.old.schema ≡ no_schema → OnErr result (IsVacant (state S.Store conn.new)) }
     ensures crash { conn.old.schema ≡ no_schema → Survives (state S.Store conn.old) (state S.Store conn.new) (λ db. StandsIn db fresh_books) }
     ensures after { conn.old.schema ≡ no_schema → OnOk result (LeavesBooks (state S.Store conn.new) fresh_books) }
+    ensures schema { conn.old.schema ≡ no_schema → OnOk result (HasShopSchema (state S.Store conn.new)) }
     ensures held { (b : Books) → IsSettled (state S.Store conn.old) b → Holds (state S.Store conn.new) b }
     ensures made { result ≡ Ok Made → (b : Books) → IsSettled (state S.Store conn.old) b → ⊥ }
     ensures found { result ≡ Ok Found → (conn.old.schema ≢ no_schema) × Leaves (state S.Store conn.old) (state S.Store conn.new) }
@@ -239,6 +247,10 @@ pub fn adopt_tables<S: Alter>(conn: &mut Connection<S>) -> Result<Adopted, Adopt
     ensures one_only { conn.old.schema ≡ earlier_schema → IfOk result (λ how. how ≡ Earlier) }
     ensures one_leaves { conn.old.schema ≡ earlier_schema → Leaves (state S.Store conn.old) (state S.Store conn.new) }
     ensures one_neither { result ≡ Err WrongVersion → HasCleanDisk (state S.Store conn.new) → (b : Books) → IsSettledEarlier (state S.Store conn.old) b → ⊥ }
+    ensures named { IsShop conn.old.schema → HasCleanDisk (state S.Store conn.new) → OnOk result (HasVersion (state S.Store conn.old) 2) }
+    ensures one_named { conn.old.schema ≡ earlier_schema → HasCleanDisk (state S.Store conn.new) → OnOk result (HasVersion (state S.Store conn.old) 1) }
+    ensures free { names_are_free conn.old.schema ≡ true → IfOk result (λ how. how ≡ Made) × (result ≢ Err WrongVersion) }
+    ensures taken { names_are_free conn.old.schema ≡ false → Leaves (state S.Store conn.old) (state S.Store conn.new) }
 {
     let _outside = conn.is_autocommit();
     if are_free(conn.schema()) {

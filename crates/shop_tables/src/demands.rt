@@ -8,6 +8,11 @@ ghost use Rattle.shop_tables.specs.Shown.{Leaves, Says, IsRowOf};
 ghost use Rattle.std.specs.Prelude.{Some, None, OnOk};
 ghost use Rattle.shop_tables.specs.Changes.{with_demand};
 ghost use Rattle.shop_tables.specs.Shown.{Books, Makes, Ran, Within};
+ghost use Rattle.sqlite.specs.State.{HasCleanDisk};
+ghost use Rattle.shop_tables.specs.Found.{IsUnder, columns_of};
+ghost use Rattle.shop_tables.specs.Layout.{IsShop};
+ghost use Rattle.sqlite_value.specs.declared.value.Value.TheVariants.{Int};
+ghost use Rattle.std.specs.Prelude.{[], ◌∷◌, option_map, pos};
 
 use crate::TableFault;
 use crate::columns::{code_in, number_in, number_of_turn, size_in, turn_in};
@@ -20,6 +25,7 @@ use sqlite::{Alter, Connection, Error, Row, Transaction, params};
 pub(crate) fn read_demand(number: u32, row: &Row) -> Result<Demand, TableFault>
     ensures key { IfOk result (λ read. read.number ≡ number) }
     ensures row { (demand : DemandRecord) (behind : Values) → demand.number ≡ number → row.now ≡ demand_columns demand ++ behind → IfOk result (λ read. read ≡ demand) }
+    ensures exact { IfOk result (λ read. columns_of 10 0 row.now ≡ demand_columns read) }
 {
     Ok(Demand {
         number,
@@ -37,6 +43,7 @@ pub(crate) fn read_demand(number: u32, row: &Row) -> Result<Demand, TableFault>
 
 fn demand_row<S: Alter>(conn: &mut Connection<S>, number: u32) -> Result<Option<Row>, Error>
     ensures row { Says (state S.Store conn.old) (state S.Store conn.new) (λ books. IfOk result (IsRowOf (λ (demand : DemandRecord). demand.number ≡ number) demand_columns (demand_at books.content number))) }
+    ensures stands { HasCleanDisk (state S.Store conn.new) → IsShop conn.old.schema → IfOk result (λ found. IsUnder ((state S.Store conn.old).now.trees 9) 0 (Int (pos number) ∷ []) 10 2 found) }
     ensures leaves { Leaves (state S.Store conn.old) (state S.Store conn.new) }
     ensures mode { conn.old.in_transaction ≡ false → conn.new.in_transaction ≡ false }
 {
@@ -54,6 +61,7 @@ pub fn find_demand<S: Alter>(
 ) -> Result<Option<Demand>, TableFault>
     ensures row { Says (state S.Store conn.old) (state S.Store conn.new) (λ books. IfOk result (λ row. row ≡ demand_at books.content number)) }
     ensures key { IfOk result (λ row. IfSome row (λ demand. demand.number ≡ number)) }
+    ensures stands { HasCleanDisk (state S.Store conn.new) → IsShop conn.old.schema → IfOk result (λ found. IsUnder ((state S.Store conn.old).now.trees 9) 0 (Int (pos number) ∷ []) 10 2 (option_map demand_columns found)) }
     ensures leaves { Leaves (state S.Store conn.old) (state S.Store conn.new) }
     ensures mode { conn.old.in_transaction ≡ false → conn.new.in_transaction ≡ false }
 {

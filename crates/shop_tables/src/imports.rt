@@ -7,6 +7,11 @@ ghost use Rattle.shop_tables.specs.Shown.{Leaves, Says, IsRowOf};
 ghost use Rattle.std.specs.Prelude.{None, OnOk};
 ghost use Rattle.shop_tables.specs.Changes.{with_import};
 ghost use Rattle.shop_tables.specs.Shown.{Books, Makes, Ran, Within};
+ghost use Rattle.sqlite.specs.State.{HasCleanDisk};
+ghost use Rattle.shop_tables.specs.Found.{IsUnder, columns_of};
+ghost use Rattle.shop_tables.specs.Layout.{IsShop};
+ghost use Rattle.sqlite_value.specs.declared.value.Value.TheVariants.{Text as Word};
+ghost use Rattle.std.specs.Prelude.{[], ◌∷◌, option_map};
 
 use crate::TableFault;
 use crate::columns::{form_in, material_of_form, number_of_form, text_in};
@@ -17,7 +22,8 @@ use shop_machine::ImportRow;
 use sqlite::{Alter, Connection, Error, Row, Transaction, params};
 
 fn read_import(order: Code, row: &Row) -> Result<ImportRow, TableFault>
-    ensures { (import : ImportRecord) → import.order ≡ order → row.now ≡ import_columns import → IfOk result (λ read. read ≡ import) }
+    ensures row { (import : ImportRecord) → import.order ≡ order → row.now ≡ import_columns import → IfOk result (λ read. read ≡ import) }
+    ensures exact { IfOk result (λ read. columns_of 4 0 row.now ≡ import_columns read) }
 {
     Ok(ImportRow {
         order,
@@ -29,6 +35,7 @@ fn read_import(order: Code, row: &Row) -> Result<ImportRow, TableFault>
 
 fn import_row<S: Alter>(conn: &mut Connection<S>, order: Code) -> Result<Option<Row>, Error>
     ensures row { Says (state S.Store conn.old) (state S.Store conn.new) (λ books. IfOk result (IsRowOf (λ (import : ImportRecord). import.order ≡ order) import_columns (import_at books.content order))) }
+    ensures stands { HasCleanDisk (state S.Store conn.new) → IsShop conn.old.schema → IfOk result (λ found. IsUnder ((state S.Store conn.old).now.trees 13) 1 (Word order ∷ []) 4 2 found) }
     ensures leaves { Leaves (state S.Store conn.old) (state S.Store conn.new) }
     ensures mode { conn.old.in_transaction ≡ false → conn.new.in_transaction ≡ false }
 {
@@ -45,6 +52,7 @@ pub fn find_import<S: Alter>(
     order: Code,
 ) -> Result<Option<ImportRow>, TableFault>
     ensures row { Says (state S.Store conn.old) (state S.Store conn.new) (λ books. IfOk result (λ row. row ≡ import_at books.content order)) }
+    ensures stands { HasCleanDisk (state S.Store conn.new) → IsShop conn.old.schema → IfOk result (λ found. IsUnder ((state S.Store conn.old).now.trees 13) 1 (Word order ∷ []) 4 2 (option_map import_columns found)) }
     ensures leaves { Leaves (state S.Store conn.old) (state S.Store conn.new) }
     ensures mode { conn.old.in_transaction ≡ false → conn.new.in_transaction ≡ false }
 {

@@ -1,11 +1,14 @@
-ghost use Rattle.std.specs.Prelude.{◌≡◌, ◌≤◌, false, Some, IfOk};
+ghost use Rattle.std.specs.Prelude.{◌≡◌, ◌≤◌, ℕ, List, [], ◌∷◌, pos, false, Some, IfOk};
+ghost use Rattle.sqlite.specs.State.{HasCleanDisk};
+ghost use Rattle.shop_tables.specs.Found.{AreJobColumns, IsJobUnder, IsUnder, columns_of};
+ghost use Rattle.shop_tables.specs.Layout.{IsShop};
 ghost use Rattle.sqlite.specs.Held.{state};
-ghost use Rattle.sqlite_value.specs.declared.value.Value.TheVariants.{Text as Word};
+ghost use Rattle.sqlite_value.specs.declared.value.Value.TheVariants.{Int, Text as Word};
 ghost use Rattle.sqlite_value.specs.Order.{column};
 ghost use Rattle.cut_measure.specs.declared.ranges.TheConstants.{MOST_KERF};
 ghost use Rattle.cut_measure.specs.Measures.{Extent};
 ghost use Rattle.cut_tree.specs.Patterns.{Pattern, IsPlan};
-ghost use Rattle.cut_tree.specs.Spelling.{text_of};
+ghost use Rattle.cut_tree.specs.Spelling.{IsSpelling, text_of};
 ghost use Rattle.shop_machine.specs.Content.{job_at, part_at, material_at};
 ghost use Rattle.shop_machine.specs.declared.records.Job.{Job as JobRecord};
 ghost use Rattle.shop_machine.specs.declared.records.Part.{Part as PartRecord};
@@ -30,6 +33,7 @@ use std::alloc::{AllocError, Global};
 
 fn job_row<S: Alter>(conn: &mut Connection<S>, number: u32) -> Result<Option<Row>, Error>
     ensures row { Says (state S.Store conn.old) (state S.Store conn.new) (λ books. IfOk result (IsRowOf (IsOwnJob books.content number) job_columns (job_at books.content number))) }
+    ensures stands { HasCleanDisk (state S.Store conn.new) → IsShop conn.old.schema → IfOk result (λ found. IsUnder ((state S.Store conn.old).now.trees 6) 0 (Int (pos number) ∷ []) 4 2 found) }
     ensures leaves { Leaves (state S.Store conn.old) (state S.Store conn.new) }
     ensures mode { conn.old.in_transaction ≡ false → conn.new.in_transaction ≡ false }
 {
@@ -60,7 +64,8 @@ fn cut_of<S: Alter>(conn: &mut Connection<S>, name: PartName) -> Result<(Size, u
 // The plan of a tree's text.
 fn read_plan(alloc: Global, row: &Row, size: Size, kerf: u32) -> Result<Plan, TableFault>
     requires { kerf ≤ MOST_KERF }
-    ensures { (plan : Pattern) → IsPlan plan → column row.now 2 ≡ Word (text_of plan.tree) → plan.w ≡ size.w → plan.h ≡ size.h → plan.kerf ≡ kerf → IfOk result (λ read. read ≡ plan) }
+    ensures spelled { IfOk result (λ plan. (text : List ℕ) × (column row.now 2 ≡ Word text) × IsSpelling text plan.tree plan.w plan.h plan.kerf) }
+    ensures read { (plan : Pattern) → IsPlan plan → column row.now 2 ≡ Word (text_of plan.tree) → plan.w ≡ size.w → plan.h ≡ size.h → plan.kerf ≡ kerf → IfOk result (λ read. read ≡ plan) }
 {
     let text = word_in(row, 2)?;
     match Plan::read(alloc, text, size, kerf) {
@@ -79,7 +84,8 @@ fn read_job(
     cut: (Size, u32),
 ) -> Result<Job, TableFault>
     requires { cut.1 ≤ MOST_KERF }
-    ensures { (job : JobRecord) → job.act ≡ number → IsPlan job.plan → job.kerf ≡ job.plan.kerf → job.part ≡ part → job.plan.w ≡ cut.0.w → job.plan.h ≡ cut.0.h → job.kerf ≡ cut.1 → row.now ≡ job_columns job → IfOk result (λ read. read ≡ job) }
+    ensures exact { IfOk result (λ job. column row.now 0 ≡ Int (pos part.act) → column row.now 1 ≡ Int (pos part.node) → AreJobColumns (columns_of 4 0 row.now) job) }
+    ensures read { (job : JobRecord) → job.act ≡ number → IsPlan job.plan → job.kerf ≡ job.plan.kerf → job.part ≡ part → job.plan.w ≡ cut.0.w → job.plan.h ≡ cut.0.h → job.kerf ≡ cut.1 → row.now ≡ job_columns job → IfOk result (λ read. read ≡ job) }
 {
     let (size, kerf) = cut;
     let plan = read_plan(alloc, row, size, kerf)?;
@@ -99,6 +105,7 @@ fn job_of_row<S: Alter>(
     number: u32,
     row: &Row,
 ) -> Result<Job, TableFault>
+    ensures exact { IfOk result (AreJobColumns (columns_of 4 0 row.now)) }
     ensures read { Says (state S.Store conn.old) (state S.Store conn.new) (λ books. (job : JobRecord) → IsOwnJob books.content number job → row.now ≡ job_columns job → IfOk result (λ read. read ≡ job)) }
     ensures leaves { Leaves (state S.Store conn.old) (state S.Store conn.new) }
     ensures mode { conn.old.in_transaction ≡ false → conn.new.in_transaction ≡ false }
@@ -115,6 +122,7 @@ pub fn find_job<S: Alter>(
     number: u32,
 ) -> Result<Option<Job>, TableFault>
     ensures row { Says (state S.Store conn.old) (state S.Store conn.new) (λ books. IfOk result (λ row. row ≡ job_at books.content number)) }
+    ensures stands { HasCleanDisk (state S.Store conn.new) → IsShop conn.old.schema → IfOk result (IsJobUnder ((state S.Store conn.old).now.trees 6) number) }
     ensures leaves { Leaves (state S.Store conn.old) (state S.Store conn.new) }
     ensures mode { conn.old.in_transaction ≡ false → conn.new.in_transaction ≡ false }
 {

@@ -7,6 +7,11 @@ ghost use Rattle.shop_tables.specs.Shown.{Leaves, Says, IsRowOf};
 ghost use Rattle.std.specs.Prelude.{None, OnOk};
 ghost use Rattle.shop_tables.specs.Changes.{with_kept};
 ghost use Rattle.shop_tables.specs.Shown.{Books, Makes, Ran, Within};
+ghost use Rattle.sqlite.specs.State.{HasCleanDisk};
+ghost use Rattle.shop_tables.specs.Found.{IsUnder, columns_of};
+ghost use Rattle.shop_tables.specs.Layout.{IsShop};
+ghost use Rattle.sqlite_value.specs.declared.value.Value.TheVariants.{Int};
+ghost use Rattle.std.specs.Prelude.{[], ◌∷◌, option_map, pos};
 
 use crate::TableFault;
 use crate::columns::text_in;
@@ -16,7 +21,8 @@ use shop_machine::{Kept, KeptMessage, Pair};
 use sqlite::{Alter, Connection, Error, Row, Transaction, params};
 
 fn read_kept(row: &Row) -> Result<Kept, TableFault>
-    ensures { (kept : KeptRecord) → row.now ≡ kept_columns kept → IfOk result (λ read. read ≡ kept) }
+    ensures row { (kept : KeptRecord) → row.now ≡ kept_columns kept → IfOk result (λ read. read ≡ kept) }
+    ensures exact { IfOk result (λ read. columns_of 2 0 row.now ≡ kept_columns read) }
 {
     Ok(Kept {
         command: text_in(row, 0)?,
@@ -26,6 +32,7 @@ fn read_kept(row: &Row) -> Result<Kept, TableFault>
 
 fn kept_row<S: Alter>(conn: &mut Connection<S>, pair: Pair) -> Result<Option<Row>, Error>
     ensures row { Says (state S.Store conn.old) (state S.Store conn.new) (λ books. IfOk result (IsRowOf (λ (kept : KeptRecord). Unit {0}) kept_columns (kept_at books.content pair))) }
+    ensures stands { HasCleanDisk (state S.Store conn.new) → IsShop conn.old.schema → IfOk result (λ found. IsUnder ((state S.Store conn.old).now.trees 11) 1 (Int (pos pair.terminal) ∷ Int (pos pair.number) ∷ []) 2 3 found) }
     ensures leaves { Leaves (state S.Store conn.old) (state S.Store conn.new) }
     ensures mode { conn.old.in_transaction ≡ false → conn.new.in_transaction ≡ false }
 {
@@ -40,6 +47,7 @@ fn kept_row<S: Alter>(conn: &mut Connection<S>, pair: Pair) -> Result<Option<Row
 /// What is kept of the accepted message with this pair.
 pub fn find_kept<S: Alter>(conn: &mut Connection<S>, pair: Pair) -> Result<Option<Kept>, TableFault>
     ensures row { Says (state S.Store conn.old) (state S.Store conn.new) (λ books. IfOk result (λ row. row ≡ kept_at books.content pair)) }
+    ensures stands { HasCleanDisk (state S.Store conn.new) → IsShop conn.old.schema → IfOk result (λ found. IsUnder ((state S.Store conn.old).now.trees 11) 1 (Int (pos pair.terminal) ∷ Int (pos pair.number) ∷ []) 2 3 (option_map kept_columns found)) }
     ensures leaves { Leaves (state S.Store conn.old) (state S.Store conn.new) }
     ensures mode { conn.old.in_transaction ≡ false → conn.new.in_transaction ≡ false }
 {

@@ -8,6 +8,11 @@ ghost use Rattle.shop_tables.specs.Shown.{Leaves, Says, IsRowOf};
 ghost use Rattle.std.specs.Prelude.{None, OnOk};
 ghost use Rattle.shop_tables.specs.Changes.{with_material};
 ghost use Rattle.shop_tables.specs.Shown.{Books, Makes, Ran, Within};
+ghost use Rattle.sqlite.specs.State.{HasCleanDisk};
+ghost use Rattle.shop_tables.specs.Found.{IsUnder, columns_of};
+ghost use Rattle.shop_tables.specs.Layout.{IsShop};
+ghost use Rattle.sqlite_value.specs.declared.value.Value.TheVariants.{Text as Word};
+ghost use Rattle.std.specs.Prelude.{[], ◌∷◌, option_map};
 
 use crate::TableFault;
 use crate::columns::{kind_in, limits_in, number_of_kind};
@@ -19,7 +24,8 @@ use sqlite::{Alter, Connection, Error, Row, Transaction, params};
 
 // The columns behind them don't matter.
 pub(crate) fn read_material(code: Code, row: &Row) -> Result<Material, TableFault>
-    ensures { (material : MaterialRecord) (behind : Values) → material.code ≡ code → row.now ≡ material_columns material ++ behind → IfOk result (λ read. read ≡ material) }
+    ensures row { (material : MaterialRecord) (behind : Values) → material.code ≡ code → row.now ≡ material_columns material ++ behind → IfOk result (λ read. read ≡ material) }
+    ensures exact { IfOk result (λ read. columns_of 4 0 row.now ≡ material_columns read) }
 {
     let kind = kind_in(row, 0)?;
     Ok(Material {
@@ -31,6 +37,7 @@ pub(crate) fn read_material(code: Code, row: &Row) -> Result<Material, TableFaul
 
 fn material_row<S: Alter>(conn: &mut Connection<S>, code: Code) -> Result<Option<Row>, Error>
     ensures row { Says (state S.Store conn.old) (state S.Store conn.new) (λ books. IfOk result (IsRowOf (λ (material : MaterialRecord). material.code ≡ code) material_columns (material_at books.content code))) }
+    ensures stands { HasCleanDisk (state S.Store conn.new) → IsShop conn.old.schema → IfOk result (λ found. IsUnder ((state S.Store conn.old).now.trees 2) 1 (Word code ∷ []) 4 2 found) }
     ensures leaves { Leaves (state S.Store conn.old) (state S.Store conn.new) }
     ensures mode { conn.old.in_transaction ≡ false → conn.new.in_transaction ≡ false }
 {
@@ -47,6 +54,7 @@ pub fn find_material<S: Alter>(
     code: Code,
 ) -> Result<Option<Material>, TableFault>
     ensures row { Says (state S.Store conn.old) (state S.Store conn.new) (λ books. IfOk result (λ row. row ≡ material_at books.content code)) }
+    ensures stands { HasCleanDisk (state S.Store conn.new) → IsShop conn.old.schema → IfOk result (λ found. IsUnder ((state S.Store conn.old).now.trees 2) 1 (Word code ∷ []) 4 2 (option_map material_columns found)) }
     ensures leaves { Leaves (state S.Store conn.old) (state S.Store conn.new) }
     ensures mode { conn.old.in_transaction ≡ false → conn.new.in_transaction ≡ false }
 {

@@ -9,6 +9,11 @@ ghost use Rattle.shop_machine.specs.Content.{in_state};
 ghost use Rattle.shop_tables.specs.Changes.{with_part};
 ghost use Rattle.shop_tables.specs.Shown.{Books, Makes, Ran, Within};
 ghost use Rattle.shop_tables.specs.Values.{IsPartValue};
+ghost use Rattle.sqlite.specs.State.{HasCleanDisk};
+ghost use Rattle.shop_tables.specs.Found.{IsUnder, columns_of};
+ghost use Rattle.shop_tables.specs.Layout.{IsShop};
+ghost use Rattle.sqlite_value.specs.declared.value.Value.TheVariants.{Int};
+ghost use Rattle.std.specs.Prelude.{[], ◌∷◌, option_map, pos};
 
 use crate::TableFault;
 use crate::columns::{code_in, name_in, number_in, number_of_state, size_in, state_in};
@@ -20,7 +25,8 @@ use sqlite::{Alter, Connection, Error, Row, Transaction, params};
 
 // The part under this name that the columns from `at` on are of.
 pub(crate) fn read_part(name: PartName, row: &Row) -> Result<Part, TableFault>
-    ensures { (part : PartRecord) → part.name ≡ name → row.now ≡ part_columns part → IfOk result (λ read. read ≡ part) }
+    ensures row { (part : PartRecord) → part.name ≡ name → row.now ≡ part_columns part → IfOk result (λ read. read ≡ part) }
+    ensures exact { IfOk result (λ read. columns_of 10 0 row.now ≡ part_columns read) }
 {
     Ok(Part {
         name,
@@ -36,6 +42,7 @@ pub(crate) fn read_part(name: PartName, row: &Row) -> Result<Part, TableFault>
 
 fn part_row<S: Alter>(conn: &mut Connection<S>, name: PartName) -> Result<Option<Row>, Error>
     ensures row { Says (state S.Store conn.old) (state S.Store conn.new) (λ books. IfOk result (IsRowOf (λ (part : PartRecord). part.name ≡ name) part_columns (part_at books.content name))) }
+    ensures stands { HasCleanDisk (state S.Store conn.new) → IsShop conn.old.schema → IfOk result (λ found. IsUnder ((state S.Store conn.old).now.trees 4) 1 (Int (pos name.act) ∷ Int (pos name.node) ∷ []) 10 3 found) }
     ensures leaves { Leaves (state S.Store conn.old) (state S.Store conn.new) }
     ensures mode { conn.old.in_transaction ≡ false → conn.new.in_transaction ≡ false }
 {
@@ -53,6 +60,7 @@ pub fn find_part<S: Alter>(
     name: PartName,
 ) -> Result<Option<Part>, TableFault>
     ensures row { Says (state S.Store conn.old) (state S.Store conn.new) (λ books. IfOk result (λ row. row ≡ part_at books.content name)) }
+    ensures stands { HasCleanDisk (state S.Store conn.new) → IsShop conn.old.schema → IfOk result (λ found. IsUnder ((state S.Store conn.old).now.trees 4) 1 (Int (pos name.act) ∷ Int (pos name.node) ∷ []) 10 3 (option_map part_columns found)) }
     ensures leaves { Leaves (state S.Store conn.old) (state S.Store conn.new) }
     ensures mode { conn.old.in_transaction ≡ false → conn.new.in_transaction ≡ false }
 {

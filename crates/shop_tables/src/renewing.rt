@@ -7,7 +7,7 @@ ghost use Rattle.sqlite.specs.Held.{state};
 ghost use Rattle.shop_tables.specs.Adopting.{LeavesBooks};
 ghost use Rattle.shop_tables.specs.Earlier.{HoldsEarlier, Renews, SaysEarlier, ShowsEarlier};
 ghost use Rattle.shop_tables.specs.Listing.{AreAllTotals, listed_row};
-ghost use Rattle.shop_tables.specs.Shown.{Books, Holds, Leaves, StandsIn, Within};
+ghost use Rattle.shop_tables.specs.Shown.{Books, HasShopSchema, Holds, Leaves, StandsIn, Within};
 
 use crate::TableFault;
 use crate::listing::{material_rows, read_all};
@@ -64,6 +64,7 @@ pub fn renew_shop<S: Alter>(conn: &mut Connection<S>) -> Result<(), TableFault>
     ensures as_before { (b : Books) → HoldsEarlier (state S.Store conn.old) b → OnErr result (HoldsEarlier (state S.Store conn.new) b) }
     ensures crash { (b : Books) → HoldsEarlier (state S.Store conn.old) b → Survives (state S.Store conn.old) (state S.Store conn.new) (λ db. StandsIn db b) }
     ensures after { (b : Books) → HoldsEarlier (state S.Store conn.old) b → OnOk result (LeavesBooks (state S.Store conn.new) b) }
+    ensures schema { (b : Books) → HoldsEarlier (state S.Store conn.old) b → OnOk result (HasShopSchema (state S.Store conn.new)) }
 {
     let mut tx = conn.transaction();
     renew_tables(&mut tx)?;

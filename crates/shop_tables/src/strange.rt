@@ -1,6 +1,6 @@
 //! Rows that stand for no part and for no totals.
 
-ghost use Rattle.std.specs.Prelude.{◌≡◌, ◌<◌, ◌≤◌, ◌+◌, ◌^◌, ℕ, ℤ, List, pos, Some, IsTrue, ◌↔◌};
+ghost use Rattle.std.specs.Prelude.{◌≡◌, ◌<◌, ◌≤◌, ◌+◌, ◌^◌, ℕ, ℤ, List, pos, Some, IfSome, IsTrue, ◌↔◌};
 ghost use Rattle.sqlite_value.specs.declared.value.Value.TheVariants.{Int, Text as Word};
 ghost use Rattle.cut_measure.specs.Codes.{is_code};
 ghost use Rattle.cut_measure.specs.Measures.{is_size};
@@ -20,7 +20,8 @@ use sqlite::Row;
 use sqlite::types::ValueRef;
 
 fn int_in(row: &Row, at: usize) -> Option<i64>
-    ensures { (n : ℤ) → Shows row.now at (Int n) → result ≡ Some n }
+    ensures known { (n : ℤ) → Shows row.now at (Int n) → result ≡ Some n }
+    ensures shown { IfSome result (λ n. Shows row.now at (Int n)) }
 {
     match row.get_ref(at) {
         Ok(ValueRef::Int(number)) => Some(number),
@@ -34,7 +35,8 @@ fn int_in(row: &Row, at: usize) -> Option<i64>
 
 // A number from the least to the most.
 pub(crate) fn has_number(row: &Row, at: usize, least: u32, most: u32) -> bool
-    ensures { (n : ℕ) → least ≤ n → n ≤ most → Shows row.now at (Int (pos n)) → IsTrue result }
+    ensures known { (n : ℕ) → least ≤ n → n ≤ most → Shows row.now at (Int (pos n)) → IsTrue result }
+    ensures shown { IsTrue result → (n : ℕ) × (least ≤ n) × (n ≤ most) × Shows row.now at (Int (pos n)) }
 {
     match int_in(row, at) {
         Some(number) => i64::from(least) <= number && number <= i64::from(most),

@@ -8,6 +8,11 @@ ghost use Rattle.shop_tables.specs.Shown.{Leaves, Says, IsRowOf};
 ghost use Rattle.std.specs.Prelude.{pos, Some, None, OnOk};
 ghost use Rattle.shop_tables.specs.Changes.{with_totals};
 ghost use Rattle.shop_tables.specs.Shown.{Books, HasRun, Makes, Ran, Within};
+ghost use Rattle.sqlite.specs.State.{HasCleanDisk};
+ghost use Rattle.shop_tables.specs.Found.{IsUnder, columns_of};
+ghost use Rattle.shop_tables.specs.Layout.{IsShop};
+ghost use Rattle.sqlite_value.specs.declared.value.Value.TheVariants.{Text as Word};
+ghost use Rattle.std.specs.Prelude.{[], ◌∷◌, option_map};
 
 use crate::TableFault;
 use crate::columns::{count_in, counted};
@@ -19,7 +24,8 @@ use sqlite::{Alter, Connection, Error, Row, Transaction, params};
 
 // The columns behind them don't matter.
 pub(crate) fn read_totals(row: &Row) -> Result<Totals, TableFault>
-    ensures { (totals : TotalsRecord) (behind : Values) → row.now ≡ totals_columns totals ++ behind → IfOk result (λ read. read ≡ totals) }
+    ensures row { (totals : TotalsRecord) (behind : Values) → row.now ≡ totals_columns totals ++ behind → IfOk result (λ read. read ≡ totals) }
+    ensures exact { IfOk result (λ read. columns_of 7 0 row.now ≡ totals_columns read) }
 {
     Ok(Totals {
         received: count_in(row, 0)?,
@@ -34,6 +40,7 @@ pub(crate) fn read_totals(row: &Row) -> Result<Totals, TableFault>
 
 fn totals_row<S: Alter>(conn: &mut Connection<S>, material: Code) -> Result<Option<Row>, Error>
     ensures row { Says (state S.Store conn.old) (state S.Store conn.new) (λ books. IfOk result (IsRowOf (λ (totals : TotalsRecord). Unit {0}) totals_columns (get books.totals material))) }
+    ensures stands { HasCleanDisk (state S.Store conn.new) → IsShop conn.old.schema → IfOk result (λ found. IsUnder ((state S.Store conn.old).now.trees 17) 1 (Word material ∷ []) 7 2 found) }
     ensures leaves { Leaves (state S.Store conn.old) (state S.Store conn.new) }
     ensures mode { conn.old.in_transaction ≡ false → conn.new.in_transaction ≡ false }
 {
@@ -50,6 +57,7 @@ pub fn find_totals<S: Alter>(
     material: Code,
 ) -> Result<Option<Totals>, TableFault>
     ensures row { Says (state S.Store conn.old) (state S.Store conn.new) (λ books. IfOk result (λ row. row ≡ get books.totals material)) }
+    ensures stands { HasCleanDisk (state S.Store conn.new) → IsShop conn.old.schema → IfOk result (λ found. IsUnder ((state S.Store conn.old).now.trees 17) 1 (Word material ∷ []) 7 2 (option_map totals_columns found)) }
     ensures leaves { Leaves (state S.Store conn.old) (state S.Store conn.new) }
     ensures mode { conn.old.in_transaction ≡ false → conn.new.in_transaction ≡ false }
 {

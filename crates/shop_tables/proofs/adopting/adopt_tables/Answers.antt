@@ -29,3 +29,18 @@ returns-else-are_free-clause-crash g c empty = absurd (true≢false (sym (c.are_
 
 pub returns-else-are_free-clause-after : goal.returns-else-are_free-clause-after
 returns-else-are_free-clause-after g c empty = absurd (true≢false (sym (c.are_free.ensures ∙ ap names_are_free (c.schema.ensures.value ∙ empty)) ∙ c.if-are_free.false))
+
+pub returns-then-are_free-clause-named : goal.returns-then-are_free-clause-named
+returns-then-are_free-clause-named g c it = absurd (true≢false (sym c.if-are_free.true ∙ c.are_free.ensures ∙ ap names_are_free c.schema.ensures.value ∙ taken c.args.conn.now.schema it))
+
+pub returns-then-are_free-clause-one_named : goal.returns-then-are_free-clause-one_named
+returns-then-are_free-clause-one_named g c is = absurd (true≢false (sym c.if-are_free.true ∙ c.are_free.ensures ∙ ap names_are_free c.schema.ensures.value ∙ earlier_taken c.args.conn.now.schema is))
+
+pub returns-then-are_free-clause-taken : goal.returns-then-are_free-clause-taken
+returns-then-are_free-clause-taken g c used = absurd (true≢false (sym c.if-are_free.true ∙ c.are_free.ensures ∙ ap names_are_free c.schema.ensures.value ∙ used))
+
+pub returns-else-are_free-clause-schema : goal.returns-else-are_free-clause-schema
+returns-else-are_free-clause-schema g c empty = absurd (true≢false (sym (c.are_free.ensures ∙ ap names_are_free (c.schema.ensures.value ∙ empty)) ∙ c.if-are_free.false))
+
+pub returns-else-are_free-clause-free : goal.returns-else-are_free-clause-free
+returns-else-are_free-clause-free g c free = absurd (true≢false (sym (c.are_free.ensures ∙ ap names_are_free c.schema.ensures.value ∙ free) ∙ c.if-are_free.false))

@@ -25,3 +25,9 @@ returns-clause-one_neither g c is clean b was = absurd (true≢false (sym (c.are
 
 pub returns-then-not-are_tables-clause-leaves : goal.returns-then-not-are_tables-clause-leaves
 returns-then-not-are_tables-clause-leaves g c = leaves_itself _
+
+pub returns-then-are_earlier-clause-named : goal.returns-then-are_earlier-clause-named
+returns-then-are_earlier-clause-named g c it = absurd (true≢false (sym c.if-are_earlier.true ∙ c.are_earlier.ensures ∙ ap names_are_earlier c.schema.ensures.value ∙ not_earlier c.args.conn.now.schema it))
+
+pub returns-clause-one_named : goal.returns-clause-one_named
+returns-clause-one_named g c is = absurd (true≢false (sym (c.are_earlier.ensures ∙ ap names_are_earlier c.schema.ensures.value ∙ earlier_stand c.args.conn.now.schema is) ∙ c.if-are_earlier.false))

@@ -3,8 +3,8 @@ use Rattle.sqlite.specs.Effect.{Database}
 use Rattle.sqlite.specs.Held.{state}
 use Rattle.shop_tables.specs.Adopting.{LeavesBooks}
 use Rattle.shop_tables.specs.Layout.{no_schema}
-use Rattle.shop_tables.specs.Shown.{Holds, Lays, StandsIn, fresh_books}
-use Rattle.shop_tables.proofs.LaidTables.{on_ok_from, commits_fresh}
+use Rattle.shop_tables.specs.Shown.{HasShopSchema, Holds, Lays, StandsIn, fresh_books}
+use Rattle.shop_tables.proofs.LaidTables.{on_ok_from, commits_fresh, commits_schema}
 use Rattle.shop_tables.proofs.Commits.{stands_in}
 use Rattle.shop_tables.proofs.adopting.lay.Goals as goal
 
@@ -16,6 +16,15 @@ returns-clause-fresh g c has =
     subst (λ h. OnOk c.commit.result (Holds (state g.S.Store h) fresh_books)) ends
     (on_ok_from c.commit.result c.commit.ensures.ok
     (λ end. commits_fresh g.S.Store c.args.conn.now (state g.S.Store c.lay_tables.new.tx.conn.now) (state g.S.Store c.commit.new.self.0) (λ clean. omega (arith, c.commit.ensures.survives.clean)) laid (λ clean. (end clean).1)))
+
+pub returns-clause-schema : goal.returns-clause-schema
+returns-clause-schema g c has =
+    let ends : c.commit.new.self.0 ≡ c.conn-2-1.given.0 = sym (c.conn-2-1.given.1 (sym (c.lay_tables.ensures.same_reference ∙ c.transaction-tx.ensures.same_reference))) in
+    let laid : Lays (state g.S.Store (record c.args.conn.now { in_transaction = true })) (state g.S.Store c.lay_tables.new.tx.conn.now) =
+    subst (λ h. h.schema ≡ no_schema → Lays (state g.S.Store h) (state g.S.Store c.lay_tables.new.tx.conn.now)) c.transaction-tx.ensures.begun c.in_ok-lay_tables.ensures.laid has in
+    subst (λ h. OnOk c.commit.result (HasShopSchema (state g.S.Store h))) ends
+    (on_ok_from c.commit.result c.commit.ensures.ok
+    (λ end. commits_schema g.S.Store c.args.conn.now (state g.S.Store c.lay_tables.new.tx.conn.now) (state g.S.Store c.commit.new.self.0) (λ clean. omega (arith, c.commit.ensures.survives.clean)) laid (λ clean. (end clean).1)))
 
 pub returns-clause-after : goal.returns-clause-after
 returns-clause-after g c has =

@@ -1,13 +1,15 @@
-use Rattle.std.proofs.Common.{◌≡◌, pos, [], ◌∷◌}
+use Rattle.std.proofs.Common.{◌≡◌, pos, [], ◌∷◌, refl}
 use Rattle.sqlite.specs.Held.{state}
 use Rattle.sqlite_value.specs.declared.value.Value.TheVariants.{Int}
 use Rattle.shop_machine.specs.Content.{demand_at}
 use Rattle.shop_machine.specs.declared.records.Demand.{Demand}
 use Rattle.shop_tables.specs.Rows.{demand_columns}
-use Rattle.shop_tables.proofs.Texts.{get_demand_text, get_demand_selects}
-use Rattle.shop_tables.proofs.Reading.{row_given}
+use Rattle.shop_tables.proofs.Texts.{by_number, get_demand_text, get_demand_terms, get_demand_is, get_demand_selects}
+use Rattle.shop_tables.proofs.Reading.{asked, row_given}
+use Rattle.shop_tables.proofs.UnderKeys.{under}
 use Rattle.shop_tables.proofs.Finding.{finds_demand}
 use Rattle.shop_tables.proofs.demands.demand_row.Goals as goal
+use Rattle.std.proofs.lemmas.Result.{IfOk-weaker}
 
 pub returns-clause-row : goal.returns-clause-row
 returns-clause-row g c clean b was =
@@ -18,3 +20,11 @@ returns-clause-row g c clean b was =
 
 pub returns-clause-leaves : goal.returns-clause-leaves
 returns-clause-leaves g c = c.row_by_number.ensures.leaves get_demand_selects
+
+pub returns-clause-stands : goal.returns-clause-stands
+returns-clause-stands g c clean h =
+    let old = state g.S.Store c.args.conn.now in
+    let new = state g.S.Store c.row_by_number.new.conn in
+    IfOk-weaker c.row_by_number.result _ _
+    (λ row given. under (old.now.trees 9) 0 (Int (pos c.args.number) ∷ []) 10 2 given.rows (asked old new h get_demand_text (Int (pos c.args.number) ∷ []) 9 by_number get_demand_terms _ (get_demand_is old.now.schema h) refl given.rows given.shown) row given.among given.none)
+    (c.row_by_number.ensures.row clean)

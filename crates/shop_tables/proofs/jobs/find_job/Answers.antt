@@ -1,4 +1,6 @@
-use Rattle.std.proofs.Common.{arith}
+use Rattle.std.proofs.Common.{arith, ap}
+use Rattle.shop_tables.specs.Found.{AreJobColumns, columns_of}
+use Rattle.shop_tables.proofs.UnderKeys.{job_under}
 use Rattle.sqlite.specs.State.{HasCleanDisk}
 use Rattle.sqlite.specs.Held.{state}
 use Rattle.shop_machine.specs.Content.{job_at}
@@ -18,3 +20,11 @@ returns-in_err-job-clause-leaves g c = leaves_then _ (state g.S.Store c.job_row.
 
 pub returns-clause-leaves : goal.returns-clause-leaves
 returns-clause-leaves g c = leaves_then _ (state g.S.Store c.job_row.new.conn) _ c.job_row.ensures.leaves c.job_of_row.ensures.leaves
+
+pub returns-in_default-clause-stands : goal.returns-in_default-clause-stands
+returns-in_default-clause-stands g c clean h = rw c.in_default.is at (c.in_ok-row.ensures.stands clean h)
+
+pub returns-clause-stands : goal.returns-clause-stands
+returns-clause-stands g c clean h =
+    let early : HasCleanDisk (state g.S.Store c.job_row.new.conn) = let l = c.job_of_row.ensures.leaves.survives.clean in omega (arith, l) in
+    job_under ((state g.S.Store c.args.conn.now).now.trees 6) c.args.number c.in-Some.row c.in_ok-job.job (rw c.in-Some.is at (c.in_ok-row.ensures.stands early h)) c.in_ok-job.ensures.exact

@@ -1,10 +1,12 @@
-use Rattle.std.proofs.Common.{pos, [], ◌∷◌}
+use Rattle.std.proofs.Common.{pos, [], ◌∷◌, refl}
 use Rattle.sqlite.specs.Held.{state}
 use Rattle.sqlite_value.specs.declared.value.Value.TheVariants.{Int}
 use Rattle.shop_machine.specs.Content.{job_at}
 use Rattle.shop_tables.specs.Rows.{job_columns, IsOwnJob}
-use Rattle.shop_tables.proofs.Texts.{get_job_text, get_job_selects}
-use Rattle.shop_tables.proofs.Reading.{row_given}
+use Rattle.shop_tables.proofs.Texts.{by_number, get_job_text, get_job_terms, get_job_is, get_job_selects}
+use Rattle.shop_tables.proofs.Reading.{asked, row_given}
+use Rattle.shop_tables.proofs.UnderKeys.{under}
+use Rattle.std.proofs.lemmas.Result.{IfOk-weaker}
 use Rattle.shop_tables.proofs.Finding.{finds_job}
 use Rattle.shop_tables.proofs.jobs.job_row.Goals as goal
 
@@ -17,3 +19,11 @@ returns-clause-row g c clean b was =
 
 pub returns-clause-leaves : goal.returns-clause-leaves
 returns-clause-leaves g c = c.row_by_number.ensures.leaves get_job_selects
+
+pub returns-clause-stands : goal.returns-clause-stands
+returns-clause-stands g c clean h =
+    let old = state g.S.Store c.args.conn.now in
+    let new = state g.S.Store c.row_by_number.new.conn in
+    IfOk-weaker c.row_by_number.result _ _
+    (λ row given. under (old.now.trees 6) 0 (Int (pos c.args.number) ∷ []) 4 2 given.rows (asked old new h get_job_text (Int (pos c.args.number) ∷ []) 6 by_number get_job_terms _ (get_job_is old.now.schema h) refl given.rows given.shown) row given.among given.none)
+    (c.row_by_number.ensures.row clean)

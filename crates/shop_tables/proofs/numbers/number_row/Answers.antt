@@ -9,6 +9,7 @@ use Rattle.shop_tables.specs.Earlier.{earlier_entries, earlier_schema}
 use Rattle.shop_tables.proofs.EarlierRows.{earlier_meta_is}
 use Rattle.shop_tables.proofs.Finding.{finds_number, finds_number_of}
 use Rattle.shop_tables.proofs.Kept.{shown_open}
+use Rattle.shop_tables.proofs.Versions.{given_stands}
 use Rattle.shop_tables.proofs.numbers.number_row.Goals as goal
 
 pub returns-clause-row : goal.returns-clause-row
@@ -35,3 +36,9 @@ returns-clause-earlier g c clean b was n once =
 
 pub returns-clause-leaves : goal.returns-clause-leaves
 returns-clause-leaves g c = c.row_by_text.ensures.leaves get_meta_selects
+
+pub returns-clause-stands : goal.returns-clause-stands
+returns-clause-stands g c clean which =
+    let old = state g.S.Store c.args.conn.now in
+    let new = state g.S.Store c.row_by_text.new.conn in
+    IfOk-weaker c.row_by_text.result _ _ (λ row given. given_stands old new which c.args.word.now row given) (c.row_by_text.ensures.row clean)

@@ -4,9 +4,9 @@ use Rattle.sqlite.specs.Held.{state}
 use Rattle.sqlite.specs.Effect.{Database}
 use Rattle.shop_tables.specs.Adopting.{LeavesBooks}
 use Rattle.shop_tables.specs.Earlier.{HoldsEarlier, Renews, ShowsEarlier}
-use Rattle.shop_tables.specs.Shown.{Holds, StandsIn, Within}
+use Rattle.shop_tables.specs.Shown.{HasShopSchema, Holds, StandsIn, Within}
 use Rattle.shop_tables.proofs.Commits.{stands_in}
-use Rattle.shop_tables.proofs.RenewedTables.{begins, undone_earlier, renewal_commits, renewal_failed, renewal_survives}
+use Rattle.shop_tables.proofs.RenewedTables.{begins, undone_earlier, renewal_commits, renewal_failed, renewal_schema, renewal_survives}
 use Rattle.shop_tables.proofs.Steps.{on_err}
 use Rattle.shop_tables.proofs.renewing.renew_shop.Goals as goal
 
@@ -61,6 +61,16 @@ returns-clause-renewed g c b was =
     let renewed = subst (λ h. (HasCleanDisk (state g.S.Store h) → IsTrue (state g.S.Store h).is_open → ShowsEarlier (state g.S.Store h) b) → Renews (state g.S.Store h) done b) c.transaction-tx.ensures.begun (c.in_ok-renew_tables.ensures.renewed b) (begins g.S.Store c.args.conn.now b was) in
     let late : HasCleanDisk last → HasCleanDisk done = λ clean. let s = c.commit.ensures.survives.clean in omega (arith, s, clean) in
     subst (λ h. Holds (state g.S.Store h) b) ends (renewal_commits g.S.Store c.args.conn.now b was done last late within renewed (λ clean. (c.in_ok-commit.ensures.ok clean).1))
+
+pub returns-clause-schema : goal.returns-clause-schema
+returns-clause-schema g c b was =
+    let ends : c.commit.new.self.0 ≡ c.conn-2-1.given.0 = sym (c.conn-2-1.given.1 (sym (c.renew_tables.ensures.same_reference ∙ c.transaction-tx.ensures.same_reference))) in
+    let done = state g.S.Store c.renew_tables.new.tx.conn.now in
+    let last = state g.S.Store c.commit.new.self.0 in
+    let within = subst (λ h. Within (state g.S.Store h) done) c.transaction-tx.ensures.begun c.renew_tables.ensures.within in
+    let renewed = subst (λ h. (HasCleanDisk (state g.S.Store h) → IsTrue (state g.S.Store h).is_open → ShowsEarlier (state g.S.Store h) b) → Renews (state g.S.Store h) done b) c.transaction-tx.ensures.begun (c.in_ok-renew_tables.ensures.renewed b) (begins g.S.Store c.args.conn.now b was) in
+    let late : HasCleanDisk last → HasCleanDisk done = λ clean. let s = c.commit.ensures.survives.clean in omega (arith, s, clean) in
+    subst (λ h. HasShopSchema (state g.S.Store h)) ends (renewal_schema g.S.Store c.args.conn.now b was done last late within renewed (λ clean. (c.in_ok-commit.ensures.ok clean).1))
 
 pub returns-clause-after : goal.returns-clause-after
 returns-clause-after g c b was =

@@ -10,4 +10,4 @@ pub returns : goal.returns
 returns c material is =
     let read : column (listed_material material) 4 ≡ Text c.in_ok-code.code = rw is at c.in_ok-code.ensures in
     let own : material.code ≡ c.in_ok-code.code = cc in
-    c.read_material.ensures material (code_row material.code) own is
+    c.read_material.ensures.row material (code_row material.code) own is
