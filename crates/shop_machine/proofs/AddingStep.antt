@@ -42,6 +42,7 @@ module _ (texts : Texts) (message : Message) (m : Content) (code : List ℕ) (ki
       let row : Material = record { code = code; kind = kind; limits = rule } in
       let grows : Grows m (after None) = record {
         materials = λ c x found. still_there codes_total codes_same m.materials code row c x is found;
+        parts = λ name p is. (p.state, is);
         demands = λ number h. h;
         acts = omega arith;
       } in

@@ -56,8 +56,8 @@ use Rattle.shop_machine.proofs.Inside.{row_inside}
 use Rattle.shop_machine.proofs.Puts.{pairs_in, pairs_more, map_pairs, in_counted, sum_map, sum_as, sum_none, is_known, sum_over, some_known}
 use Rattle.shop_machine.proofs.AddedUp.{cells_as, cells_left, is_uncut}
 use Rattle.shop_machine.proofs.Moved.{LeavesOthers, no_laid, no_freed}
-use Rattle.shop_machine.proofs.Grown.{IsStock}
-use Rattle.shop_machine.proofs.PartStep.{IsPartStep, step_stock, step_fits, untouched, made_after, less_apart}
+use Rattle.shop_machine.proofs.Grown.{IsStock, Grows, on_more}
+use Rattle.shop_machine.proofs.PartStep.{IsPartStep, grows, step_stock, step_fits, untouched, made_after, less_apart}
 use Rattle.shop_machine.proofs.Tallied.{sums_stay, sums_move, held}
 use Rattle.shop_machine.proofs.ReservingStep.{left_as_before}
 use Rattle.shop_machine.proofs.Allowed.{all_true, leaf_counts, none_of}
@@ -167,8 +167,9 @@ module _ (m : Content) (stock : IsStock m) (number : ℕ) (j : Job) (part : Part
         let later : ◌≡◌ {A = ℕ} (if is_waiting ended.state then count_of j.plan.tree d else 0) 0 = ap {B = ℕ} (λ b. if b then count_of j.plan.tree d else 0) no_wait in
         omega (arith, over, before, later)
 
-    job_over : (after : Content) → after.last_act ≡ m.last_act → IsJob after j.act ended
-    job_over after same =
+    job_over : (after : Content) → after.last_act ≡ m.last_act → Grows m after → IsJob after j.act ended
+    job_over after same more =
+        let on = on_more m after more j is_job.on in
         let least = is_job.least in
         let named = is_job.numbered in
         let le = so_far in
@@ -178,6 +179,8 @@ module _ (m : Content) (stock : IsStock m) (number : ℕ) (j : Job) (part : Part
           so_far = omega (arith, le, same);
           plan = is_job.plan;
           kerf = is_job.kerf;
+          on = record { row = on.row; found = on.found; material = on.material; known = on.known; width = on.width; height = on.height; kerf = on.kerf };
+          demands = λ number some. more.demands number (is_job.demands number some);
           waits = λ is. absurd (let no : true ≡ false = sym is ∙ no_wait in cc);
         }
 
@@ -230,7 +233,8 @@ module _ (m : Content) (stock : IsStock m) (number : ℕ) (j : Job) (part : Part
   pub release_stock : IsStock after_release
   release_stock =
       step_stock m stock part state.Standing [] None released release_step with_freed j.plan.tree (no_freed m.demands j.plan.tree) freed_keeps rows recounted None texts message (reply.Release j.act)
-      (job_over m stock number j part material work waits job.Released refl after_release refl)
+      (job_over m stock number j part material work waits job.Released refl after_release refl
+      (grows m stock part state.Standing [] None released release_step with_freed j.plan.tree (no_freed m.demands j.plan.tree) freed_keeps rows recounted None texts message (reply.Release j.act)))
       (λ n other is apart w.
       untouched m stock part state.Standing [] None released release_step with_freed j.plan.tree (no_freed m.demands j.plan.tree) freed_keeps rows recounted None texts message (reply.Release j.act)
       other w (not_other m stock number j part material work waits n other is apart) (λ x i e. i))
@@ -299,7 +303,7 @@ module _ (m : Content) (stock : IsStock m) (number : ℕ) (j : Job) (part : Part
             let one = in_counted (λ (p : Part). is_piece_for d p.state) made (row_part part material.limits j.act r) (map_in (row_part part material.limits j.act) laid r i) piece in
             let count = pieces_made d in
             let few = few_laid d in
-            (waiting m stock number j part material work waits).demands d (omega (arith, one, count, few));
+            (is_job m stock number j part material work waits).demands d (omega (arith, one, count, few));
       }
 
   not_whole : (r : Row) → same_name (record { act = j.act; node = r.node }) part.root ≡ false
@@ -419,7 +423,8 @@ module _ (m : Content) (stock : IsStock m) (number : ℕ) (j : Job) (part : Part
     pub end_stock : IsStock after_end
     end_stock =
         step_stock m stock part (state.Cut j.act) made None over end_step (with_laid laid) j.plan.tree others_left laid_keeps rows recounted told_totals texts message answer
-        (job_over m stock number j part material work waits (ended_state stop) is_over after_end refl)
+        (job_over m stock number j part material work waits (ended_state stop) is_over after_end refl
+        (grows m stock part (state.Cut j.act) made None over end_step (with_laid laid) j.plan.tree others_left laid_keeps rows recounted told_totals texts message answer))
         (λ n other is apart w.
         untouched m stock part (state.Cut j.act) made None over end_step (with_laid laid) j.plan.tree others_left laid_keeps rows recounted told_totals texts message answer
         other w (not_other m stock number j part material work waits n other is apart)
@@ -515,7 +520,7 @@ module _ (m : Content) (stock : IsStock m) where
       ∙ ap (λ b. b && list_all (λ leaf. has_reserved (count_of j.plan.tree leaf.demand) (demand_at m leaf.demand)) (plan_leaves j.plan)) (held m stock row (here m stock number j row material work waits))
       ∙ all_true (λ (leaf : Leaf). has_reserved (count_of j.plan.tree leaf.demand) (demand_at m leaf.demand)) (plan_leaves j.plan)
       (λ leaf i.
-      let there = some_known (demand_at m leaf.demand) (w.demands leaf.demand (leaf_counts j.plan leaf i)) in
+      let there = some_known (demand_at m leaf.demand) (is_job.demands leaf.demand (leaf_counts j.plan leaf i)) in
       has_enough (count_of j.plan.tree leaf.demand) (demand_at m leaf.demand) there.0 there.1
       (enough m stock number j row material work waits leaf.demand there.0 there.1)
       (stock.demands leaf.demand there.0 there.1).counted.few)))

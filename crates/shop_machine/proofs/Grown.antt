@@ -10,10 +10,11 @@ use Rattle.shop_machine.specs.declared.kept_texts.Kept.{Kept}
 use Rattle.shop_machine.specs.declared.imports.ImportRow.{ImportRow}
 use Rattle.shop_machine.specs.declared.records.Material.{Material}
 use Rattle.shop_machine.specs.declared.records.Part.{Part}
+use Rattle.shop_machine.specs.declared.records.State.{State}
 use Rattle.shop_machine.specs.declared.records.Job.{Job}
 use Rattle.shop_machine.specs.declared.records.Demand.{Demand}
-use Rattle.shop_machine.specs.Content.{Content, pair_cmp, material_at, part_at, job_at, demand_at, kept_at}
-use Rattle.shop_machine.specs.Soundness.{IsInRange, IsKnown, IsPlaced, IsWaiting, IsJob, IsDemand, IsCounted, IsSound, Fits}
+use Rattle.shop_machine.specs.Content.{Content, pair_cmp, material_at, part_at, job_at, demand_at, kept_at, in_state}
+use Rattle.shop_machine.specs.Soundness.{IsInRange, IsKnown, IsPlaced, IsOnPart, IsWaiting, IsJob, IsDemand, IsCounted, IsSound, Fits}
 use Rattle.shop_machine.specs.declared.messages.Message.{Message}
 use Rattle.shop_machine.specs.declared.messages.Reply.{Reply}
 use Rattle.shop_machine.specs.Messages.{Texts, pair_of}
@@ -26,9 +27,14 @@ use Rattle.shop_machine.proofs.Puts.{some_known, is_known}
 abbrev pub with_messages : FinMap pair_cmp Kept → FinMap code_cmp ImportRow → Content → Content
 with_messages kept imports content = record content { kept = kept; imports = imports }
 
--- materials and demands that were there are there
+-- a part is there, in some state
+abbrev pub IsStill : Content → Name → Part → Type 0
+IsStill content name part = (s : State) × (part_at content name ≡ Some (in_state s part))
+
+-- materials and demands that were there are there, and parts, in some state
 pub record Grows (old new : Content) : Type 0 where
   pub materials : (code : List ℕ) (material : Material) → material_at old code ≡ Some material → material_at new code ≡ Some material
+  pub parts : (name : Name) (part : Part) → part_at old name ≡ Some part → IsStill new name part
   pub demands : (number : ℕ) → IsSome (demand_at old number) → IsSome (demand_at new number)
   pub acts : old.last_act ≤ new.last_act
 
@@ -59,6 +65,20 @@ module _ (old new : Content) (grows : Grows old new) where
     asked = λ number is. grows.demands number (p.asked number is);
   }
 
+  -- a job is still on its part
+  pub on_more : (job : Job) → IsOnPart old job → IsOnPart new job
+  on_more job on =
+      let still = grows.parts job.part on.row on.found in
+      record {
+        row = in_state still.0 on.row;
+        found = still.1;
+        material = on.material;
+        known = grows.materials on.row.material on.material on.known;
+        width = on.width;
+        height = on.height;
+        kerf = on.kerf;
+      }
+
   -- a waiting job's part is there as it was, and no part is named after the job
   pub record Untouched (job : Job) : Type 0 where
     pub same : part_at new job.part ≡ part_at old job.part
@@ -77,7 +97,6 @@ module _ (old new : Content) (grows : Grows old new) where
     };
     reserved = w.reserved;
     older = w.older;
-    demands = λ number h. grows.demands number (w.demands number h);
     none_yet = u.none_yet;
   }
 
@@ -91,6 +110,8 @@ module _ (old new : Content) (grows : Grows old new) where
         so_far = omega (arith, acts, so_far);
         plan = j.plan;
         kerf = j.kerf;
+        on = on_more job j.on;
+        demands = λ number some. grows.demands number (j.demands number some);
         waits = λ is. let w = j.waits is in waiting_more job (f w) w;
       }
 
@@ -115,7 +136,7 @@ stock_of texts m sound = record { in_range = sound.in_range; materials = sound.m
 pub same_stock : (m : Content) (kept : FinMap pair_cmp Kept) (imports : FinMap code_cmp ImportRow) → IsStock m → IsStock (with_messages kept imports m)
 same_stock m kept imports stock =
     let after : Content = with_messages kept imports m in
-    let grows : Grows m after = record { materials = λ code x is. is; demands = λ number h. h; acts = omega arith } in
+    let grows : Grows m after = record { materials = λ code x is. is; parts = λ name p is. (p.state, is); demands = λ number h. h; acts = omega arith } in
     record {
       in_range = record { acts = stock.in_range.acts; last = stock.in_range.last; last_demand = stock.in_range.last_demand; received = stock.in_range.received; adds_up = stock.in_range.adds_up };
       materials = stock.materials;

@@ -14,6 +14,7 @@ pub mod Tallied
 pub mod PartStep
 pub mod RecountedRows
 -- laid rectangles and cells
+pub mod SharedCells
 pub mod Inside
 pub mod Cells
 -- what a history says of the content

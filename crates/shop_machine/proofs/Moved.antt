@@ -114,6 +114,20 @@ module _ (m : FinMap name_cmp Part) (part : Part) (s : State) (made : List Part)
       by x (inl e) f = h (sym f ∙ ap (λ (x : Part). x.name) e)
       by x (inr i) f = g x i f
 
+  -- a part that was there is there, in some state
+  pub still_moved : (name : Name) (p : Part) → get m name ≡ Some p → (t : State) × (get moved name ≡ Some (in_state t p))
+  still_moved name p is =
+      elim (put_cases (in_state s part ∷ made) m name) [
+        | inl q ↦ by q.0 q.1 q.2 q.3
+        | inr q ↦ (p.state, q.1 ∙ is)
+      ]
+    where
+      by : (x : Part) → IsIn x (in_state s part ∷ made) → x.name ≡ name → get moved name ≡ Some x → (t : State) × (get moved name ≡ Some (in_state t p))
+      by x (inl e) f g =
+          let same : part ≡ p = same_some part p (sym there ∙ ap (λ n. get m n) (ap (λ (y : Part). y.name) (sym e) ∙ f) ∙ is) in
+          (s, g ∙ ap (λ (y : Part). Some y) e ∙ ap (λ (y : Part). Some (in_state s y)) same)
+      by x (inr i) f g = absurd (not_both (get m x.name) p (new x i) (ap (λ n. get m n) f ∙ is))
+
   apart_of : (x : Part) → IsIn x made → x.name ≡ part.name → ⊥
   apart_of x i e = not_both (get m x.name) part (new x i) (ap (λ n. get m n) e ∙ there)
 

@@ -174,7 +174,7 @@ module _ (m : Content) (stock : IsStock m) (order : List ℕ) (lines : List Orde
   none_reserved_yet number later =
       sum_no_rows nat_cmp_total nat_cmp-IsAntisymmetric (λ (job : Job). if is_waiting job.state then count_of job.plan.tree number else 0) m.jobs
       (λ k j is. none_reserved number j (λ waits some.
-      let there = some_known (demand_at m number) (((stock.jobs k j is).waits waits).demands number some) in
+      let there = some_known (demand_at m number) ((stock.jobs k j is).demands number some) in
       not_both (demand_at m number) there.0 (none_later number later) there.1))
 
   none_made_yet : (number : ℕ) → m.last_demand < number → made_in number m ≡ 0
@@ -205,7 +205,7 @@ module _ (m : Content) (stock : IsStock m) (order : List ℕ) (lines : List Orde
         ]
 
     grows : Grows m after
-    grows = record { materials = λ code x is. is; demands = there_after; acts = omega arith }
+    grows = record { materials = λ code x is. is; parts = λ name p is. (p.state, is); demands = there_after; acts = omega arith }
 
     row_new : (number : ℕ) (d : Demand) → IsNew order first lines d → d.number ≡ number → IsDemand after number d
     row_new number d r e =

@@ -27,7 +27,7 @@ use Rattle.shop_machine.specs.Soundness.{IsPlaced, IsWaiting, IsJob, IsDemand, I
 use Rattle.shop_machine.proofs.Basics.{at_in, names_total, same_some}
 use Rattle.shop_machine.proofs.Puts.{Pairwise, all_from, pairs_from, pairs_more, not_both, found_one}
 use Rattle.shop_machine.proofs.AddedUp.{cells_as, cells_left, is_uncut}
-use Rattle.shop_machine.proofs.Moved.{LeavesOthers, IsRecount, row_recount, recount_of, demand_there, found_moved, other_moved, received_moved, adds_up_moved, made_moved}
+use Rattle.shop_machine.proofs.Moved.{LeavesOthers, IsRecount, row_recount, recount_of, demand_there, found_moved, still_moved, other_moved, received_moved, adds_up_moved, made_moved}
 use Rattle.shop_machine.proofs.Grown.{IsStock, Grows, Untouched, placed_more, job_more}
 
 standing_no_piece : (s : State) → is_there s ≡ true → (number : ℕ) → is_piece_for number s ≡ false
@@ -98,7 +98,12 @@ module _ (m : Content) (stock : IsStock m) (row : Part) (s : State) (made : List
   apart = pairs_more (λ (a b : Part). name_cmp a.name b.name ≡ Less) (λ (a b : Part). a.name ≡ b.name → ⊥) (λ a b. less_apart a.name b.name) made step.rising
 
   pub grows : Grows m after
-  grows = record { materials = λ code x is. is; demands = demand_there m.demands recount tree rows recounted none; acts = step.more }
+  grows = record {
+    materials = λ code x is. is;
+    parts = still_moved m.parts row s made step.there step.new apart;
+    demands = demand_there m.demands recount tree rows recounted none;
+    acts = step.more;
+  }
 
   -- a waiting job stays as it is where the part isn't its own, and no new part is named after it
   pub untouched : (j : Job) → IsWaiting m j → (row.state ≡ state.Reserved j.act → ⊥) → ((x : Part) → IsIn x made → x.name.act ≡ j.act → ⊥) → Untouched m after grows j

@@ -39,7 +39,7 @@ use Rattle.shop_machine.proofs.Basics.{in_map, in_append, codes_same, same_some,
 use Rattle.shop_machine.proofs.Puts.{Pairwise, all_from, pairs_from, pairs_more, map_pairs, sum_as, is_known, equal, put_other, sum_parts}
 use Rattle.shop_machine.proofs.Allowed.{none_of, IsSized, sized, flat}
 use Rattle.shop_machine.proofs.AddedUp.{cells_as, cells_left, adds_up, adds_up_so}
-use Rattle.shop_machine.proofs.Grown.{with_messages, IsStock, Grows, placed_more, job_more, none_later, demand_more, no_pairs}
+use Rattle.shop_machine.proofs.Grown.{with_messages, IsStock, IsStill, Grows, placed_more, job_more, none_later, demand_more, no_pairs}
 use Rattle.shop_machine.proofs.Tallied.{own, same_totals, same_sums}
 use Rattle.shop_machine.proofs.Agreeing.{NoFault, nothing, other, no_such}
 
@@ -167,8 +167,11 @@ module _ (m : Content) (stock : IsStock m) (material batch : List ℕ) (w h coun
     other_after name other =
         put_other units m.parts name (λ x i e. other (ap (λ (n : Name). n.act) (sym e) ∙ unit_act x i))
 
+    still_after : (name : Name) (p : Part) → part_at m name ≡ Some p → IsStill after name p
+    still_after name p is = (p.state, other_after name (λ e. let old = stock.in_range.acts name p is in omega (arith, old, e)) ∙ is)
+
     grows : Grows m after
-    grows = record { materials = λ code x is. is; demands = λ number some. some; acts = omega arith }
+    grows = record { materials = λ code x is. is; parts = still_after; demands = λ number some. some; acts = omega arith }
 
     unit_received : (code : List ℕ) (b : Bool) → is_eq (code_cmp material code) ≡ b → (i : ℕ) → cells_as Received code (unit_part material batch size act i) ≡ (if b then w * h else 0)
     unit_received code b e i =

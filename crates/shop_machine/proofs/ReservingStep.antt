@@ -254,9 +254,6 @@ module _ (m : Content) (stock : IsStock m) (name : Name) (text : List ℕ) (row 
     };
     reserved = refl;
     older = older;
-    demands = λ number some.
-        let has = fitting.demands number some in
-        demand_there m.demands with_reserved plan.tree rows recounted (no_reserved m.demands plan.tree) number (is_known (demand_at m number) has.demand has.found);
     none_yet = λ node.
         none_at (part_at after (record { act = act; node = node })) (λ p is. by node p (found_moved m.parts row (state.Reserved act) [] here (λ x i. absurd i) tt (record { act = act; node = node }) p is));
   }
@@ -267,7 +264,18 @@ module _ (m : Content) (stock : IsStock m) (name : Name) (text : List ℕ) (row 
       by node p (inr (inr q)) = not_both (part_at m (record { act = act; node = node })) p (none_later m stock.in_range (record { act = act; node = node }) (omega arith)) q.1
 
   job_after : IsJob after act new_job
-  job_after = record { numbered = refl; least = omega arith; so_far = omega arith; plan = is_plan; kerf = refl; waits = λ is. waiting }
+  job_after = record {
+    numbered = refl;
+    least = omega arith;
+    so_far = omega arith;
+    plan = is_plan;
+    kerf = refl;
+    on = waiting.on;
+    demands = λ number some.
+        let has = fitting.demands number some in
+        demand_there m.demands with_reserved plan.tree rows recounted (no_reserved m.demands plan.tree) number (is_known (demand_at m number) has.demand has.found);
+    waits = λ is. waiting;
+  }
 
   pub reserve_stock : IsStock after
   reserve_stock =

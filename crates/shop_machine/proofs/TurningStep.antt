@@ -25,7 +25,7 @@ use Rattle.shop_machine.specs.Soundness.{IsPlaced, IsWaiting, IsNewPart, Fits, m
 use Rattle.shop_machine.proofs.Basics.{same_some}
 use Rattle.shop_machine.proofs.Puts.{all_from, pairs_from, not_both}
 use Rattle.shop_machine.proofs.AddedUp.{is_uncut}
-use Rattle.shop_machine.proofs.Moved.{found_moved, other_moved, received_moved, adds_up_moved, made_moved}
+use Rattle.shop_machine.proofs.Moved.{found_moved, still_moved, other_moved, received_moved, adds_up_moved, made_moved}
 use Rattle.shop_machine.proofs.Agreeing.{NoFault, other, no_such}
 use Rattle.shop_machine.proofs.Allowed.{none_of, free_stands}
 use Rattle.shop_machine.proofs.Grown.{IsStock, Grows, Untouched, placed_more, job_more, demand_more, no_pairs}
@@ -71,7 +71,7 @@ module _ (m : Content) (stock : IsStock m) (name : Name) (row : Part) (found : p
   none_new x i = absurd i
 
   grows : Grows m after
-  grows = record { materials = λ code x is. is; demands = λ number h. h; acts = omega arith }
+  grows = record { materials = λ code x is. is; parts = still_moved m.parts row s [] there none_new tt; demands = λ number h. h; acts = omega arith }
 
   -- no job waits for a part that stands
   not_reserved : (number : ℕ) → row.state ≡ Reserved number → ⊥

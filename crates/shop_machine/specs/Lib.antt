@@ -18,5 +18,6 @@ pub mod Planning
 pub mod Machine
 pub mod Soundness
 pub mod History
+pub mod Sharing
 pub mod Visits
 pub mod Listing

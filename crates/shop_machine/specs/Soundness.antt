@@ -80,22 +80,23 @@ pub record IsOnPart (content : Content) (job : Job) : Type 0 where
   pub height : job.plan.h ≡ row.size.h
   pub kerf : job.plan.kerf ≡ material.limits.kerf
 
--- A waiting job is on its part, which is reserved for it and is older than it; its pieces' demands are there, and no part
--- is named after it yet.
+-- A waiting job is on its part, which is reserved for it and is older than it; and no part is named after it yet.
 pub record IsWaiting (content : Content) (job : Job) : Type 0 where
   pub on : IsOnPart content job
   pub reserved : on.row.state ≡ Reserved job.act
   pub older : job.part.act < job.act
-  pub demands : (number : ℕ) → 1 ≤ count_of job.plan.tree number → IsSome (demand_at content number)
   pub none_yet : (node : ℕ) → part_at content (record { act = job.act; node = node }) ≡ None
 
--- a job stands under its own number, which is an act's so far, and has a plan
+-- A job stands under its own number, which is an act's so far, and has a plan; in each of its states it is on its part, and
+-- its pieces' demands are there.
 pub record IsJob (content : Content) (number : ℕ) (job : Job) : Type 0 where
   pub numbered : job.act ≡ number
   pub least : 1 ≤ number
   pub so_far : number ≤ content.last_act
   pub plan : IsPlan job.plan
   pub kerf : job.kerf ≡ job.plan.kerf
+  pub on : IsOnPart content job
+  pub demands : (number : ℕ) → 1 ≤ count_of job.plan.tree number → IsSome (demand_at content number)
   pub waits : is_waiting job.state ≡ true → IsWaiting content job
 
 -- how many pieces of a demand are in the plans of waiting jobs

@@ -1,5 +1,9 @@
-ghost use Rattle.std.specs.Prelude.{◌≡◌, ◌≢◌, ◌⊎◌, ℕ, List, Some, None};
+ghost use Rattle.std.specs.Prelude.{◌≡◌, ◌≢◌, ◌≤◌, ◌⊎◌, ◌↔◌, ℕ, List, Some, None};
 ghost use Rattle.cut_measure.specs.Names.{Name};
+ghost use Rattle.cut_tree.specs.declared.lay.Row.{Row};
+ghost use Rattle.cut_tree.specs.Tree.{Tree, IsShaped};
+ghost use Rattle.cut_tree.specs.Cells.{Outcome};
+ghost use Rattle.cut_tree.specs.Laying.{IsLaid};
 ghost use Rattle.shop_machine.specs.declared.changes.Change.{Change};
 ghost use Rattle.shop_machine.specs.declared.messages.Message.{Message};
 ghost use Rattle.shop_machine.specs.declared.messages.Command.TheVariants.{Reserve};
@@ -14,6 +18,7 @@ ghost use Rattle.shop_machine.specs.Reserving.{HasNoPiece};
 ghost use Rattle.shop_machine.specs.Machine.{Reads, refusal_of, Makes, keeping, Step, Answers};
 ghost use Rattle.shop_machine.specs.History.{Entry, Gives, IsAccountOf};
 ghost use Rattle.shop_machine.specs.Soundness.{IsSound, Fits};
+ghost use Rattle.shop_machine.specs.Sharing.{SharesCells};
 
 /// Every history gives a sound content, and has its account: each cell of each received unit has exactly one owner, a
 /// part that isn't cut is the owner of each of its cells, as its row says, the totals are the counts of cells and add up;
@@ -50,4 +55,11 @@ pub fn told_plans_can_be_reserved()
         IsSound texts m → Answers m (Plan part demands step) (told.Plan ceiling dropped tree worth) →
         message.command ≡ Reserve part tree → kept_at m (pair_of message) ≡ None → Step texts m message (told.Refused refusal) next →
         refusal ≢ NoMemory → refusal ≢ StoreFault → (refusal ≡ NumbersSpent) ⊎ ((refusal ≡ BadTree) × HasNoPiece m part tree) }
+{}
+
+/// Rows are laid for a shaped tree exactly where they share the unit's cells out among its nodes: each row with its node's
+/// cells and no others, each cell in a row, the nodes' numbers rising. That each cell has its place inside its row follows.
+pub fn shared_cells_are_laid()
+    ensures { (t : Tree) (w h k : ℕ) (outcome : ℕ → Outcome) (rows : List Row) → IsShaped t w h k → 1 ≤ w → 1 ≤ h →
+        SharesCells t w h k outcome rows ↔ IsLaid t w h k outcome rows }
 {}

@@ -31,7 +31,10 @@ pub use importing::{
 };
 pub use imports::{Form, ImportRow};
 pub use kept_texts::{Kept, KeptMessage, Pair, Text};
-pub use laws::{accepted_changes_fit, histories_have_accounts, told_plans_can_be_reserved};
+pub use laws::{
+    accepted_changes_fit, histories_have_accounts, shared_cells_are_laid,
+    told_plans_can_be_reserved,
+};
 pub use listing::{
     MOST_TOLD, answer_demands, answer_job, answer_parts, are_more, first_told, job_row,
 };
