@@ -1,4 +1,4 @@
-ghost use Rattle.std.specs.Prelude.{◌≡◌, ◌≢◌, ◌++◌, IfOk, None, OnOk, Some, filter_map, option_map};
+ghost use Rattle.std.specs.Prelude.{◌≡◌, ◌≢◌, ◌∷◌, ◌++◌, [], IfOk, OnOk, Some, filter_map};
 ghost use Rattle.shop_machine.specs.Machine.{Answers};
 ghost use Rattle.shop_machine.specs.declared.messages.Query.TheVariants as query;
 ghost use Rattle.shop_machine.specs.declared.messages.Reply.TheVariants.{Refused, Parts, Demands};
@@ -7,6 +7,7 @@ ghost use Rattle.shop_machine.specs.Listing.{are_more, first_told, job_numbers, 
 ghost use Rattle.shop_book.specs.Failures.{CountsFailure};
 ghost use Rattle.shop_book.specs.Kept.{KeepsBook, Says};
 ghost use Rattle.shop_desk.specs.Faults.{CountsReply};
+ghost use Rattle.shop_desk.specs.ListedJobs.{told_row};
 
 use cut_measure::PartName;
 use shop_book::{Book, BookFault};
@@ -14,7 +15,7 @@ use shop_rules::{
     Code, Job, JobList, MOST_TOLD, Part, Refusal, Reply, answer_demands, answer_job, answer_parts,
     are_more, first_told, job_row,
 };
-use std::alloc::Global;
+use std::alloc::{AllocError, Global};
 
 /// All materials.
 pub fn materials<B: Book>(alloc: Global, book: &mut B) -> Reply
@@ -45,12 +46,7 @@ fn known_parts<B: Book>(
 }
 
 /// The standing and reserved parts of a material behind a name.
-pub fn parts<B: Book>(
-    alloc: Global,
-    book: &mut B,
-    material: Code,
-    after: Option<PartName>,
-) -> Reply
+pub fn parts<B: Book>(alloc: Global, book: &mut B, material: Code, after: Option<PartName>) -> Reply
     ensures answer { Says B.Book book.old book.new (λ m. Answers m (query.Parts material after) result) }
     ensures keeps { KeepsBook B.Book (CountsReply result) book.old book.new }
 {
@@ -64,12 +60,7 @@ pub fn parts<B: Book>(
 }
 
 // The open demands behind a number, of a material that is there or of all.
-fn known_demands<B: Book>(
-    alloc: Global,
-    book: &mut B,
-    after: u32,
-    material: Option<Code>,
-) -> Reply
+fn known_demands<B: Book>(alloc: Global, book: &mut B, after: u32, material: Option<Code>) -> Reply
     ensures answer { Says B.Book book.old book.new (λ m. result ≢ Refused NoMemory → result ≢ Refused StoreFault
         → result ≡ Demands (first_told (open_demands m after material)) (are_more (open_demands m after material))) }
     ensures keeps { KeepsBook B.Book (CountsReply result) book.old book.new }
@@ -95,12 +86,7 @@ fn material_demands<B: Book>(alloc: Global, book: &mut B, after: u32, material: 
 }
 
 /// The open demands behind a number, of one material or of all.
-pub fn demands<B: Book>(
-    alloc: Global,
-    book: &mut B,
-    after: u32,
-    material: Option<Code>,
-) -> Reply
+pub fn demands<B: Book>(alloc: Global, book: &mut B, after: u32, material: Option<Code>) -> Reply
     ensures answer { Says B.Book book.old book.new (λ m. Answers m (query.Demands after material) result) }
     ensures keeps { KeepsBook B.Book (CountsReply result) book.old book.new }
 {
@@ -122,24 +108,32 @@ fn job_with_part<B: Book>(
     let Some(job) = book.job(alloc, number)? else {
         return Ok(None);
     };
-    let part = book.part(job.part)?;
-    Ok(part.map(|part| (job, part)))
+    match book.part(job.part)? {
+        Some(part) => Ok(Some((job, part))),
+        None => Ok(None),
+    }
 }
 
+// Puts a job's row behind others, where the job is there with its part.
+fn push_job(rows: &mut JobList, found: Option<(Job, Part)>) -> Result<(), AllocError>
+    ensures { OnOk result (rows.new ≡ rows.old ++ filter_map told_row (found ∷ [])) }
+{
+    match found {
+        Some((job, part)) => rows.push(job_row(&job, &part)),
+        None => Ok(()),
+    }
+}
+
+#[tactic(auto, using(crate::proofs::TakenJobs::row_more))]
 // The rows of jobs, as they are told; none of a job that isn't there with its part.
-fn job_rows<B: Book>(
-    alloc: Global,
-    book: &mut B,
-    numbers: &[u32],
-) -> Result<JobList, BookFault>
+fn job_rows<B: Book>(alloc: Global, book: &mut B, numbers: &[u32]) -> Result<JobList, BookFault>
     ensures rows { Says B.Book book.old book.new (λ m. IfOk result (λ rows. rows ≡ filter_map (job_row_at m) numbers.now)) }
     ensures keeps { KeepsBook B.Book (CountsFailure result) book.old book.new }
 {
     let mut rows = JobList::new(alloc);
     for number in numbers {
-        if let Some((job, part)) = job_with_part(alloc, book, *number)? {
-            rows.push(job_row(&job, &part))?;
-        }
+        let found = job_with_part(alloc, book, *number)?;
+        push_job(&mut rows, found)?;
     }
     Ok(rows)
 }

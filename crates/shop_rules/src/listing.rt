@@ -129,19 +129,19 @@ pub(crate) fn list_query(value: &Value, word: &str) -> Option<Query>
 // A row of a list, as it is told: an object.
 pub(crate) trait Listed {
     // The object.
-    ghost data: { Self → Data };
+    ghost said: { Self → Data };
 
     // Each of its numbers has 64 bits.
     ghost is_wide: { Self → Type 0 };
 
     // Writes it.
     fn write(&self, alloc: Global, writer: &mut Writer) -> Result<(), AllocError>
-        ensures value { OnOk result (AddsValue writer.old writer.new (data self.now)) }
+        ensures value { OnOk result (AddsValue writer.old writer.new (said self.now)) }
         ensures wide { OnOk result (is_wide self.now) };
 }
 
 impl Listed for Material {
-    ghost data = { form.material_data };
+    ghost said = { form.material_data };
 
     ghost is_wide = { told.HasWideLimits };
 
@@ -160,7 +160,7 @@ impl Listed for Material {
 }
 
 impl Listed for Part {
-    ghost data = { form.part_data };
+    ghost said = { form.part_data };
 
     ghost is_wide = { told.HasWidePart };
 
@@ -181,7 +181,7 @@ impl Listed for Part {
 }
 
 impl Listed for Demand {
-    ghost data = { form.open_demand_data };
+    ghost said = { form.open_demand_data };
 
     ghost is_wide = { told.HasWideDemand };
 
@@ -206,7 +206,7 @@ impl Listed for Demand {
 }
 
 impl Listed for JobRow {
-    ghost data = { form.job_row_data };
+    ghost said = { form.job_row_data };
 
     ghost is_wide = { told.HasWideJob };
 
@@ -226,12 +226,8 @@ impl Listed for JobRow {
 }
 
 // Writes a list of rows.
-fn write_rows<T: Listed>(
-    alloc: Global,
-    writer: &mut Writer,
-    rows: &[T],
-) -> Result<(), AllocError>
-    ensures value { OnOk result (AddsValue writer.old writer.new (array (items_of (map T.data rows.now)))) }
+fn write_rows<T: Listed>(alloc: Global, writer: &mut Writer, rows: &[T]) -> Result<(), AllocError>
+    ensures value { OnOk result (AddsValue writer.old writer.new (array (items_of (map T.said rows.now)))) }
     ensures wide { OnOk result (All T.is_wide rows.now) }
 {
     writer.begin_array()?;
@@ -288,7 +284,7 @@ pub(crate) fn tell_behind<T: Listed>(
     rows: &[T],
     more: bool,
 ) -> Result<(), AllocError>
-    ensures value { OnOk result (AddsValue writer.old writer.new (form.behind_told word.now T.data rows.now more)) }
+    ensures value { OnOk result (AddsValue writer.old writer.new (form.behind_told word.now T.said rows.now more)) }
     ensures wide { OnOk result (All T.is_wide rows.now) }
 {
     writer.begin_object()?;
@@ -341,11 +337,7 @@ pub(crate) fn tell_job<'a>(
 }
 
 // Writes the reply to the query for a terminal's last number.
-pub(crate) fn tell_terminal(
-    writer: &mut Writer,
-    last: u64,
-    terminal: u64,
-) -> Result<(), AllocError>
+pub(crate) fn tell_terminal(writer: &mut Writer, last: u64, terminal: u64) -> Result<(), AllocError>
     ensures value { OnOk result (AddsValue writer.old writer.new (reply_data (reply.Terminal last terminal))) }
     ensures wide { OnOk result (HasWideNumbers (reply.Terminal last terminal)) }
 {

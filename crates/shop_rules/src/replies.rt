@@ -221,9 +221,7 @@ fn write_reply(alloc: Global, writer: &mut Writer, reply: &Reply) -> Result<(), 
         Reply::Demands { demands, more } => {
             tell_behind(alloc, writer, "demands", demands.as_slice(), *more)
         }
-        Reply::Jobs { jobs, more } => {
-            tell_behind(alloc, writer, "jobs", jobs.as_slice(), *more)
-        }
+        Reply::Jobs { jobs, more } => { tell_behind(alloc, writer, "jobs", jobs.as_slice(), *more) }
         Reply::Job {
             cuts,
             h,
