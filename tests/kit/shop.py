@@ -62,10 +62,22 @@ def path_of(line):
     """The path of the GET that asks what a line asks, or None where it is posted."""
     value = value_of(line) or {}
     word = value.get("ask")
-    keys = {"totals": "material", "rack": "material", "trace": "part", "demand": "demand"}
-    if word not in keys or sorted(value) != sorted(["ask", keys[word]]):
+    rows = {
+        "totals": ("material",),
+        "rack": ("material",),
+        "trace": ("part",),
+        "demand": ("demand",),
+        "materials": (),
+        "parts": ("material", "after"),
+        "demands": ("after", "material") if "material" in value else ("after",),
+        "jobs": ("after",),
+        "job": ("job",),
+        "terminal": ("terminal",),
+    }
+    keys = rows.get(word)
+    if keys is None or sorted(value) != sorted(("ask", *keys)):
         return None
-    return f"/{word}/{value[keys[word]]}"
+    return "/".join(["", word, *(str(value[key]) for key in keys if value[key] != "")])
 
 
 def request_of(line, reply=None):

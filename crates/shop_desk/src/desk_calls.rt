@@ -17,6 +17,7 @@ ghost use Rattle.shop_desk.specs.Handled.{IsHandled, HasRun};
 
 use crate::decided::{decide, keeping_message};
 use crate::found::{demands_for, material_for};
+use crate::listing::{demands, job, jobs, materials, parts, terminal};
 use crate::racks::RackTaker;
 use cut_measure::PartName;
 use shop_book::{Book, BookFault};
@@ -334,6 +335,12 @@ pub fn ask<B: Book>(alloc: Global, book: &mut B, query: &Query) -> Reply
             demands,
             step,
         } => bound(alloc, book, *material, *w, *h, demands.as_slice(), *step),
+        Query::Materials => materials(alloc, book),
+        Query::Parts { material, after } => parts(alloc, book, *material, *after),
+        Query::Demands { after, material } => demands(alloc, book, *after, *material),
+        Query::Jobs { after } => jobs(alloc, book, *after),
+        Query::Job { job: number } => job(alloc, book, *number),
+        Query::Terminal { terminal: number } => terminal(book, *number),
     }
 }
 

@@ -5,6 +5,7 @@ mod decided;
 mod desk_calls;
 mod found;
 mod importing;
+mod listing;
 mod racks;
 
 pub use desk_calls::{ask, handle, handle_told, run};

@@ -8,7 +8,7 @@ use Rattle.matchit.specs.Router.{RouteOf, route_from}
 use Rattle.matchit.specs.Seek.{first}
 use Rattle.matchit.specs.declared.error.InsertError.{InsertError}
 use Rattle.shop_request.specs.declared.routes.Route.{Route}
-use Rattle.shop_request.specs.declared.routes.Route.TheVariants.{Message, Plan, Bound, Totals, Rack, Trace, Demand, Ticket, Yield}
+use Rattle.shop_request.specs.declared.routes.Route.TheVariants.{Message, Plan, Bound, Totals, Rack, Trace, Demand, Ticket, Yield, Materials, Parts, PartsBehind, Demands, DemandsOf, Jobs, Job, Terminal}
 
 -- the text of each route
 abbrev pub route_text : Route → List ℕ
@@ -21,6 +21,14 @@ route_text Trace = codes "/trace/{act}/{node}"
 route_text Demand = codes "/demand/{demand}"
 route_text Ticket = codes "/ticket/{job}"
 route_text Yield = codes "/yield/{material}"
+route_text Materials = codes "/materials"
+route_text Parts = codes "/parts/{material}"
+route_text PartsBehind = codes "/parts/{material}/{act}/{node}"
+route_text Demands = codes "/demands/{after}"
+route_text DemandsOf = codes "/demands/{after}/{material}"
+route_text Jobs = codes "/jobs/{after}"
+route_text Job = codes "/job/{job}"
+route_text Terminal = codes "/terminal/{terminal}"
 
 -- the bytes in front of its first parameter
 abbrev pub route_start : Route → List ℕ
@@ -33,6 +41,14 @@ route_start Trace = codes "/trace/"
 route_start Demand = codes "/demand/"
 route_start Ticket = codes "/ticket/"
 route_start Yield = codes "/yield/"
+route_start Materials = codes "/materials"
+route_start Parts = codes "/parts/"
+route_start PartsBehind = codes "/parts/"
+route_start Demands = codes "/demands/"
+route_start DemandsOf = codes "/demands/"
+route_start Jobs = codes "/jobs/"
+route_start Job = codes "/job/"
+route_start Terminal = codes "/terminal/"
 
 -- whether it takes a body
 abbrev pub takes_body : Route → Bool
@@ -45,6 +61,14 @@ takes_body Trace = false
 takes_body Demand = false
 takes_body Ticket = false
 takes_body Yield = false
+takes_body Materials = false
+takes_body Parts = false
+takes_body PartsBehind = false
+takes_body Demands = false
+takes_body DemandsOf = false
+takes_body Jobs = false
+takes_body Job = false
+takes_body Terminal = false
 
 abbrev pub RouteRows : Type 0
 RouteRows = RowsOf (RouteOf Route)
@@ -65,7 +89,8 @@ with_routes (route ∷ more) rows = with_routes more (with_route route rows)
 -- all routes, as `matchit` keeps them
 unfoldable pub all_routes : RouteRows
 all_routes =
-    with_route Yield (with_route Ticket (with_route Demand (with_route Trace (with_route Rack (with_route Totals (with_route Bound (with_route Plan (with_route Message []))))))))
+    with_routes (Message ∷ Plan ∷ Bound ∷ Totals ∷ Rack ∷ Trace ∷ Demand ∷ Ticket ∷ Yield ∷ Materials ∷ Parts ∷ PartsBehind ∷ Demands
+    ∷ DemandsOf ∷ Jobs ∷ Job ∷ Terminal ∷ []) []
 
 -- the target up to its first `?`
 abbrev pub path_of : List ℕ → List ℕ

@@ -25,6 +25,22 @@ pub enum Route {
     Ticket,
     /// GET `/yield/{material}`.
     Yield,
+    /// GET `/materials`.
+    Materials,
+    /// GET `/parts/{material}`.
+    Parts,
+    /// GET `/parts/{material}/{act}/{node}`: behind that name.
+    PartsBehind,
+    /// GET `/demands/{after}`.
+    Demands,
+    /// GET `/demands/{after}/{material}`.
+    DemandsOf,
+    /// GET `/jobs/{after}`.
+    Jobs,
+    /// GET `/job/{job}`.
+    Job,
+    /// GET `/terminal/{terminal}`.
+    Terminal,
 }
 
 impl Route {
@@ -42,6 +58,14 @@ impl Route {
             Route::Demand => "/demand/{demand}",
             Route::Ticket => "/ticket/{job}",
             Route::Yield => "/yield/{material}",
+            Route::Materials => "/materials",
+            Route::Parts => "/parts/{material}",
+            Route::PartsBehind => "/parts/{material}/{act}/{node}",
+            Route::Demands => "/demands/{after}",
+            Route::DemandsOf => "/demands/{after}/{material}",
+            Route::Jobs => "/jobs/{after}",
+            Route::Job => "/job/{job}",
+            Route::Terminal => "/terminal/{terminal}",
         }
     }
 
@@ -59,6 +83,14 @@ impl Route {
             Route::Demand => 8,
             Route::Ticket => 8,
             Route::Yield => 7,
+            Route::Materials => 10,
+            Route::Parts => 7,
+            Route::PartsBehind => 7,
+            Route::Demands => 9,
+            Route::DemandsOf => 9,
+            Route::Jobs => 6,
+            Route::Job => 5,
+            Route::Terminal => 10,
         }
     }
 
@@ -95,7 +127,7 @@ fn add_all(router: &mut Router<Route>, routes: &[Route]) -> Result<(), InsertErr
     add_all(router, more)
 }
 
-const ROUTES: [Route; 9] = [
+const ROUTES: [Route; 17] = [
     Route::Message,
     Route::Plan,
     Route::Bound,
@@ -105,6 +137,14 @@ const ROUTES: [Route; 9] = [
     Route::Demand,
     Route::Ticket,
     Route::Yield,
+    Route::Materials,
+    Route::Parts,
+    Route::PartsBehind,
+    Route::Demands,
+    Route::DemandsOf,
+    Route::Jobs,
+    Route::Job,
+    Route::Terminal,
 ];
 
 #[tactic(auto, unfolding(crate::specs::Routes::all_routes))]

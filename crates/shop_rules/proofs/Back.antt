@@ -35,6 +35,7 @@ use Rattle.shop_rules.specs.Forms.{message_of, sent_head, sent_of, from_one, com
 use Rattle.shop_rules.specs.Told.{HasWideNumbers}
 use Rattle.shop_machine.specs.Refusals.{refusal_number}
 use Rattle.shop_rules.proofs.Racks.{rack_numbers, rack_shallow, rack_json}
+use Rattle.shop_rules.proofs.ListedRows.{materials_numbers, materials_shallow, materials_json, parts_numbers, parts_shallow, parts_json, demands_numbers, demands_shallow, demands_json, jobs_numbers, jobs_shallow, jobs_json, shallow_first_of_two, shallow_first_of_three, shallow_fourth}
 use Rattle.shop_rules.specs.Fields.{kind_text, small, number_at}
 use Rattle.shop_rules.proofs.FieldFacts.{number_there, wide_there, flag_there, code_there, kind_there, name_there, text_there}
 use Rattle.shop_rules.proofs.Cuts.{cuts_there, cuts_numbers, cuts_shallow, cuts_json}
@@ -211,6 +212,12 @@ reply_back (reply.Trace batch h of part root state w x y) made = absurd made
 reply_back (reply.Demand demand line made material order reserved wanted) h = absurd h
 reply_back (reply.Plan ceiling dropped tree worth) h = absurd h
 reply_back (reply.Bound best units) h = absurd h
+reply_back (reply.Materials materials) made = absurd made
+reply_back (reply.Parts material more parts) made = absurd made
+reply_back (reply.Demands demands more) made = absurd made
+reply_back (reply.Jobs jobs more) made = absurd made
+reply_back (reply.Job cuts h job kerf material part state tree w) made = absurd made
+reply_back (reply.Terminal last terminal) made = absurd made
 reply_back (reply.Refused refusal) h = absurd h
 
 -- ---- texts
@@ -357,6 +364,18 @@ reply_read (reply.Plan ceiling dropped tree worth) wide_ones =
     read-compact (reply_data (reply.Plan ceiling dropped tree worth)) (IsNumber-decimal ceiling wide_ones.0, (IsNumber-decimal dropped wide_ones.1, (tt, (tt, (IsNumber-decimal worth wide_ones.2, tt))))) (omega arith) (rw (number_of-decimal ceiling wide_ones.0, number_of-decimal dropped wide_ones.1, number_of-decimal worth wide_ones.2) refl)
 reply_read (reply.Bound best units) wide_ones =
     read-compact (reply_data (reply.Bound best units)) (IsNumber-decimal best wide_ones.0, (tt, (IsNumber-decimal units wide_ones.1, tt))) (omega arith) (rw (number_of-decimal best wide_ones.0, number_of-decimal units wide_ones.1) refl)
+reply_read (reply.Materials materials) wide_ones =
+    read-compact (reply_data (reply.Materials materials)) (materials_numbers materials wide_ones, (tt, tt)) (shallow_first_of_two _ (materials_shallow materials)) (rw (materials_json materials wide_ones) refl)
+reply_read (reply.Parts material more parts) wide_ones =
+    read-compact (reply_data (reply.Parts material more parts)) (tt, (tt, (tt, (parts_numbers parts wide_ones, tt)))) (shallow_fourth _ (parts_shallow parts)) (rw (parts_json parts wide_ones) refl)
+reply_read (reply.Demands demands more) wide_ones =
+    read-compact (reply_data (reply.Demands demands more)) (demands_numbers demands wide_ones, (tt, (tt, tt))) (shallow_first_of_three _ (demands_shallow demands)) (rw (demands_json demands wide_ones) refl)
+reply_read (reply.Jobs jobs more) wide_ones =
+    read-compact (reply_data (reply.Jobs jobs more)) (jobs_numbers jobs wide_ones, (tt, (tt, tt))) (shallow_first_of_three _ (jobs_shallow jobs)) (rw (jobs_json jobs wide_ones) refl)
+reply_read (reply.Job cuts h job kerf material part state tree w) wide_ones =
+    read-compact (reply_data (reply.Job cuts h job kerf material part state tree w)) (IsNumber-decimal cuts wide_ones.0, (IsNumber-decimal h wide_ones.1, (IsNumber-decimal job wide_ones.2, (IsNumber-decimal kerf wide_ones.3, (tt, (tt, (tt, (tt, (tt, (IsNumber-decimal w wide_ones.4, tt)))))))))) (omega arith) (rw (number_of-decimal cuts wide_ones.0, number_of-decimal h wide_ones.1, number_of-decimal job wide_ones.2, number_of-decimal kerf wide_ones.3, number_of-decimal w wide_ones.4) refl)
+reply_read (reply.Terminal last terminal) wide_ones =
+    read-compact (reply_data (reply.Terminal last terminal)) (IsNumber-decimal last wide_ones.0, (tt, (IsNumber-decimal terminal wide_ones.1, tt))) (omega arith) (rw (number_of-decimal last wide_ones.0, number_of-decimal terminal wide_ones.1) refl)
 reply_read (reply.Refused refusal) wide_ones =
     read-compact (reply_data (reply.Refused refusal)) (tt, (IsNumber-decimal (refusal_number refusal) wide_ones, tt)) (omega arith) (rw (number_of-decimal (refusal_number refusal) wide_ones) refl)
 
@@ -378,6 +397,12 @@ made_wide (reply.Trace batch h of part root state w x y) made = absurd made
 made_wide (reply.Demand demand line made material order reserved wanted) h = absurd h
 made_wide (reply.Plan ceiling dropped tree worth) h = absurd h
 made_wide (reply.Bound best units) h = absurd h
+made_wide (reply.Materials materials) made = absurd made
+made_wide (reply.Parts material more parts) made = absurd made
+made_wide (reply.Demands demands more) made = absurd made
+made_wide (reply.Jobs jobs more) made = absurd made
+made_wide (reply.Job cuts h job kerf material part state tree w) made = absurd made
+made_wide (reply.Terminal last terminal) made = absurd made
 made_wide (reply.Refused refusal) h = absurd h
 
 pub told_text_read : (answer : Reply) → HasWideNumbers answer → read (json_texts.of_reply answer) ≡ Some (reply_data answer)

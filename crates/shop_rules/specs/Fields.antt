@@ -5,6 +5,8 @@ use Rattle.cut_measure.specs.declared.sizes.Kind.{Kind}
 use Rattle.cut_measure.specs.declared.sizes.Kind.TheVariants.{Bar, Sheet}
 use Rattle.cut_measure.specs.Codes.{code_of}
 use Rattle.cut_measure.specs.Names.{Name, spelled_name, name_text}
+use Rattle.shop_machine.specs.declared.records.JobState.{JobState}
+use Rattle.shop_machine.specs.declared.records.JobState.TheVariants.{Waiting, Done, Broken, Released}
 use Rattle.shop_machine.specs.declared.records.StateWord.{StateWord}
 use Rattle.shop_machine.specs.declared.records.StateWord.TheVariants as state
 use Rattle.serde_json.specs.Data.{Data, boolean, number, string, unsigned, Items, no_items, item, Members, member}
@@ -39,6 +41,13 @@ code_at key d = option_and_then code_of (text_at key d)
 
 abbrev pub name_at : List ℕ → Data → Option Name
 name_at key d = option_and_then spelled_name (text_at key d)
+
+-- the name of a part that a text spells, and none in an empty text
+abbrev pub behind_of : List ℕ → Option (Option Name)
+behind_of text = if bytes_eq text (codes "") then Some None else option_map Some (spelled_name text)
+
+abbrev pub behind_at : List ℕ → Data → Option (Option Name)
+behind_at key d = option_and_then behind_of (text_at key d)
 
 abbrev pub kind_of : List ℕ → Option Kind
 kind_of text = if bytes_eq text (codes "bar") then Some Bar else (if bytes_eq text (codes "sheet") then Some Sheet else None)
@@ -88,6 +97,12 @@ state_text state.Piece = codes "piece"
 state_text state.Kerf = codes "kerf"
 state_text state.Scrap = codes "scrap"
 state_text state.Returned = codes "returned"
+
+abbrev pub job_state_text : JobState → List ℕ
+job_state_text Waiting = codes "waiting"
+job_state_text Done = codes "done"
+job_state_text Broken = codes "broken"
+job_state_text Released = codes "released"
 
 abbrev pub text_member : List ℕ → List ℕ → Members → Members
 text_member key text more = member key (string text) more

@@ -13,17 +13,23 @@ use Rattle.shop_machine.specs.declared.imports.Form.TheVariants.{Csv, Cgcut}
 use Rattle.shop_machine.specs.declared.messages.Message.{Message}
 use Rattle.shop_files.specs.declared.orders.OrderLine.{OrderLine}
 use Rattle.shop_machine.specs.declared.messages.Query.{Query}
+use Rattle.shop_machine.specs.declared.records.Demand.{Demand}
+use Rattle.shop_machine.specs.declared.records.JobRow.{JobRow}
+use Rattle.shop_machine.specs.declared.records.JobState.{JobState}
+use Rattle.shop_machine.specs.declared.records.Material.{Material}
+use Rattle.shop_machine.specs.declared.records.Part.{Part}
 use Rattle.shop_machine.specs.declared.records.RackRow.{RackRow}
 use Rattle.shop_machine.specs.declared.messages.Query.TheVariants as query
 use Rattle.shop_machine.specs.declared.messages.Reply.{Reply}
 use Rattle.shop_machine.specs.declared.messages.Reply.TheVariants as reply
 use Rattle.shop_machine.specs.Refusals.{refusal_number, refusal_name}
+use Rattle.shop_machine.specs.Columns.{state_of, state_word}
 use Rattle.shop_machine.specs.Messages.{Texts}
 use Rattle.serde_json.specs.Data.{Data, array, boolean, object, number, unsigned, Members, member, no_members, put}
 use Rattle.serde_json.specs.Read.{read}
 use Rattle.serde_json.specs.View.{items_of}
 use Rattle.serde_json.specs.Written.{compact_text}
-use Rattle.shop_rules.specs.Fields.{number_at, wide_at, numbers_at, flag_at, text_at, code_at, name_at, kind_at, word_at, elements_at, all_of, row, kind_text, state_text, text_member, number_member, name_member, flag_member}
+use Rattle.shop_rules.specs.Fields.{number_at, wide_at, numbers_at, flag_at, text_at, code_at, name_at, kind_at, behind_at, has_keys, word_at, elements_at, all_of, row, kind_text, state_text, job_state_text, text_member, number_member, name_member, flag_member}
 
 -- A command has a row of keys that is read, the keys that are printed but `terminal` and `number`, in byte order, and the same
 -- of the reply to it.
@@ -340,19 +346,108 @@ abbrev pub bound_told : (best units : ℕ) → Data
 bound_told best units =
     object (number_member (codes "best") best (text_member (codes "ok") (codes "bound") (number_member (codes "units") units no_members)))
 
+-- ---- lists of what is there, open or waiting
+
+abbrev pub parts_query : Data → Option Query
+parts_query d =
+    option_and_then (λ material. option_map (λ after. query.Parts material after) (behind_at (codes "after") d)) (code_at (codes "material") d)
+
+abbrev pub all_demands : Data → Option Query
+all_demands d = option_map (λ after. query.Demands after None) (number_at (codes "after") d)
+
+abbrev pub demands_of : Data → Option Query
+demands_of d =
+    option_and_then (λ material. option_map (λ after. query.Demands after (Some material)) (number_at (codes "after") d)) (code_at (codes "material") d)
+
+-- of a material, or without that key of all
+abbrev pub demands_query : Data → Option Query
+demands_query d = if has_keys 2 d then all_demands d else row 3 demands_of d
+
+abbrev pub jobs_query : Data → Option Query
+jobs_query d = option_map query.Jobs (number_at (codes "after") d)
+
+abbrev pub job_query : Data → Option Query
+job_query d = option_map query.Job (number_at (codes "job") d)
+
+abbrev pub terminal_query : Data → Option Query
+terminal_query d = option_map query.Terminal (number_at (codes "terminal") d)
+
+-- the rows of a list as a value
+abbrev pub rows_data : {T : Type 0} → (T → Data) → List T → Data
+rows_data said rows = array (items_of (map said rows))
+
+abbrev pub material_data : Material → Data
+material_data m =
+    object (number_member (codes "kerf") m.limits.kerf (text_member (codes "kind") (kind_text m.kind) (text_member (codes "material") m.code
+    (number_member (codes "min_long") m.limits.min_long (number_member (codes "min_short") m.limits.min_short no_members)))))
+
+abbrev pub materials_told : List Material → Data
+materials_told materials =
+    object (member (codes "materials") (rows_data material_data materials) (text_member (codes "ok") (codes "materials") no_members))
+
+-- a part as in a trace, without its place
+abbrev pub part_data : Part → Data
+part_data p =
+    object (text_member (codes "batch") p.batch (number_member (codes "h") p.size.h (number_member (codes "of") (state_of p.state)
+    (name_member (codes "part") p.name (name_member (codes "root") p.root (text_member (codes "state") (state_text (state_word p.state))
+    (number_member (codes "w") p.size.w no_members)))))))
+
+abbrev pub parts_told : List ℕ → Bool → List Part → Data
+parts_told material more parts =
+    object (text_member (codes "material") material (flag_member (codes "more") more (text_member (codes "ok") (codes "parts")
+    (member (codes "parts") (rows_data part_data parts) no_members))))
+
+abbrev pub open_demand_data : Demand → Data
+open_demand_data d =
+    object (number_member (codes "demand") d.number (number_member (codes "h") d.size.h (number_member (codes "line") d.line
+    (number_member (codes "made") d.made (text_member (codes "material") d.material (text_member (codes "order") d.order
+    (number_member (codes "reserved") d.reserved (flag_member (codes "turn") d.may_turn (number_member (codes "w") d.size.w
+    (number_member (codes "wanted") d.wanted (number_member (codes "worth") d.worth no_members)))))))))))
+
+abbrev pub job_row_data : JobRow → Data
+job_row_data j =
+    object (number_member (codes "cuts") j.cuts (number_member (codes "h") j.h (number_member (codes "job") j.job
+    (text_member (codes "material") j.material (name_member (codes "part") j.part (number_member (codes "w") j.w no_members))))))
+
+-- what is told of rows behind a number: the list at its word, and whether others follow
+abbrev pub behind_told : {T : Type 0} → List ℕ → (T → Data) → List T → Bool → Data
+behind_told word said rows more =
+    object (member word (rows_data said rows) (flag_member (codes "more") more (text_member (codes "ok") word no_members)))
+
+abbrev pub job_told : (cuts h job kerf : ℕ) → (material : List ℕ) → Name → JobState → (tree : List ℕ) → (w : ℕ) → Data
+job_told cuts h job kerf material part state tree w =
+    object (number_member (codes "cuts") cuts (number_member (codes "h") h (number_member (codes "job") job (number_member (codes "kerf") kerf
+    (text_member (codes "material") material (text_member (codes "ok") (codes "job") (name_member (codes "part") part
+    (text_member (codes "state") (job_state_text state) (text_member (codes "tree") tree (number_member (codes "w") w no_members))))))))))
+
+abbrev pub terminal_told : (last terminal : ℕ) → Data
+terminal_told last terminal =
+    object (number_member (codes "last") last (text_member (codes "ok") (codes "terminal") (number_member (codes "terminal") terminal no_members)))
+
+-- the rows of lists with other keys than one beside `ask`, by their words
+abbrev pub list_query : List ℕ → Data → Option Query
+list_query word d =
+    if bytes_eq word (codes "materials") then row 1 (λ d. Some query.Materials) d
+    else (if bytes_eq word (codes "parts") then row 3 parts_query d
+    else (if bytes_eq word (codes "demands") then demands_query d else None))
+
 -- the rows with one key beside `ask`, by its word
 abbrev pub short_query : List ℕ → Data → Option Query
 short_query word d =
     if bytes_eq word (codes "totals") then totals_query d
     else (if bytes_eq word (codes "rack") then rack_query d
     else (if bytes_eq word (codes "trace") then trace_query d
-    else (if bytes_eq word (codes "demand") then demand_query d else None)))
+    else (if bytes_eq word (codes "demand") then demand_query d
+    else (if bytes_eq word (codes "jobs") then jobs_query d
+    else (if bytes_eq word (codes "job") then job_query d
+    else (if bytes_eq word (codes "terminal") then terminal_query d else None))))))
 
 -- the rows by the word of `ask`, each with `ask`
 abbrev pub asked_of : List ℕ → Data → Option Query
 asked_of word d =
     if bytes_eq word (codes "plan") then row 4 plan_query d
-    else (if bytes_eq word (codes "bound") then row 6 bound_query d else row 2 (short_query word) d)
+    else (if bytes_eq word (codes "bound") then row 6 bound_query d
+    else option_or (row 2 (short_query word) d) (list_query word d))
 
 abbrev pub query_of : Data → Option Query
 query_of d = option_and_then (λ word. asked_of word d) (word_at (codes "ask") (codes "do") d)
@@ -451,6 +546,12 @@ reply_data (reply.Trace batch h of part root state w x y) = trace_data batch (na
 reply_data (reply.Demand demand line made material order reserved wanted) = demand_told demand line made material order reserved wanted
 reply_data (reply.Plan ceiling dropped tree worth) = plan_told ceiling dropped tree worth
 reply_data (reply.Bound best units) = bound_told best units
+reply_data (reply.Materials materials) = materials_told materials
+reply_data (reply.Parts material more parts) = parts_told material more parts
+reply_data (reply.Demands demands more) = behind_told (codes "demands") open_demand_data demands more
+reply_data (reply.Jobs jobs more) = behind_told (codes "jobs") job_row_data jobs more
+reply_data (reply.Job cuts h job kerf material part state tree w) = job_told cuts h job kerf material part state tree w
+reply_data (reply.Terminal last terminal) = terminal_told last terminal
 reply_data (reply.Refused refusal) =
     object (text_member (codes "name") (refusal_name refusal) (number_member (codes "refused") (refusal_number refusal) no_members))
 

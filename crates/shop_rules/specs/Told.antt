@@ -3,11 +3,31 @@ use Rattle.std.specs.Prelude.{All}
 use Rattle.shop_machine.specs.declared.messages.Reply.{Reply}
 use Rattle.shop_machine.specs.declared.messages.Reply.TheVariants as reply
 use Rattle.shop_machine.specs.declared.records.RackRow.{RackRow}
+use Rattle.shop_machine.specs.declared.records.Material.{Material}
+use Rattle.shop_machine.specs.declared.records.Part.{Part}
+use Rattle.shop_machine.specs.declared.records.Demand.{Demand}
+use Rattle.shop_machine.specs.declared.records.JobRow.{JobRow}
+use Rattle.shop_machine.specs.Columns.{state_of}
 use Rattle.shop_machine.specs.Messages.{IsWide}
 use Rattle.shop_machine.specs.Refusals.{refusal_number}
 
+-- each number of a part on the rack has 64 bits
 abbrev pub HasWideSides : RackRow → Type 0
 HasWideSides row = IsWide row.h × IsWide row.w
+
+-- the same of a row of a list: of a material, a part, an open demand and a waiting job
+abbrev pub HasWideLimits : Material → Type 0
+HasWideLimits m = IsWide m.limits.kerf × IsWide m.limits.min_long × IsWide m.limits.min_short
+
+abbrev pub HasWidePart : Part → Type 0
+HasWidePart p = IsWide p.size.h × IsWide (state_of p.state) × IsWide p.size.w
+
+abbrev pub HasWideDemand : Demand → Type 0
+HasWideDemand d =
+    IsWide d.number × IsWide d.size.h × IsWide d.line × IsWide d.made × IsWide d.reserved × IsWide d.size.w × IsWide d.wanted × IsWide d.worth
+
+abbrev pub HasWideJob : JobRow → Type 0
+HasWideJob j = IsWide j.cuts × IsWide j.h × IsWide j.job × IsWide j.w
 
 -- each number of a reply has 64 bits
 abbrev pub HasWideNumbers : Reply → Type 0
@@ -29,4 +49,10 @@ HasWideNumbers (reply.Demand demand line made material order reserved wanted) =
     IsWide demand × IsWide line × IsWide made × IsWide reserved × IsWide wanted
 HasWideNumbers (reply.Plan ceiling dropped tree worth) = IsWide ceiling × IsWide dropped × IsWide worth
 HasWideNumbers (reply.Bound best units) = IsWide best × IsWide units
+HasWideNumbers (reply.Materials materials) = All HasWideLimits materials
+HasWideNumbers (reply.Parts material more parts) = All HasWidePart parts
+HasWideNumbers (reply.Demands demands more) = All HasWideDemand demands
+HasWideNumbers (reply.Jobs jobs more) = All HasWideJob jobs
+HasWideNumbers (reply.Job cuts h job kerf material part state tree w) = IsWide cuts × IsWide h × IsWide job × IsWide kerf × IsWide w
+HasWideNumbers (reply.Terminal last terminal) = IsWide last × IsWide terminal
 HasWideNumbers (reply.Refused refusal) = IsWide (refusal_number refusal)

@@ -8,6 +8,7 @@ ghost use Rattle.shop_rules.specs.Told.{HasWideNumbers, HasWideSides};
 ghost use Rattle.shop_rules.specs.Tokens.{AddsValue};
 
 use crate::fields::{code_at, has_keys, name_at, number_at, numbers_at, word_at};
+use crate::listing::{job_query, jobs_query, list_query, terminal_query};
 use crate::words::{state_word, wide};
 use crate::writing::{Member, write_object, write_text};
 use cut_measure::PartName;
@@ -305,6 +306,12 @@ fn short_query(value: &Value, word: &str) -> Option<Query>
         trace_query(value)
     } else if word == "demand" {
         demand_query(value)
+    } else if word == "jobs" {
+        jobs_query(value)
+    } else if word == "job" {
+        job_query(value)
+    } else if word == "terminal" {
+        terminal_query(value)
     } else {
         None
     }
@@ -321,7 +328,9 @@ pub(crate) fn asked(alloc: Global, value: &Value) -> Result<Option<Query>, Alloc
         plan_query(alloc, value)
     } else if word == "bound" {
         bound_query(alloc, value)
+    } else if let Some(query) = short_query(value, word) {
+        Ok(Some(query))
     } else {
-        Ok(short_query(value, word))
+        Ok(list_query(value, word))
     }
 }

@@ -19,6 +19,9 @@ use crate::deeds::{Deed, deed_of};
 use crate::ending::{done_made, release_made, tell_ended, tell_release};
 use crate::fields::text_at;
 use crate::importing::{import_made, tell_import};
+use crate::listing::{
+    JobNumbers, tell_behind, tell_job, tell_materials, tell_parts, tell_terminal,
+};
 use crate::ordering::{order_made, tell_order};
 use crate::receiving::{receive_made, tell_receive};
 use crate::reserving::{reserve_made, tell_reserve};
@@ -209,6 +212,47 @@ fn write_reply(alloc: Global, writer: &mut Writer, reply: &Reply) -> Result<(), 
             worth,
         } => tell_plan(writer, *ceiling, wide(*dropped), tree.as_str(), *worth),
         Reply::Bound { best, units } => { tell_bound(writer, *best, *units) }
+        Reply::Materials { materials } => { tell_materials(alloc, writer, materials.as_slice()) }
+        Reply::Parts {
+            material,
+            more,
+            parts,
+        } => tell_parts(alloc, writer, material.as_str(), *more, parts.as_slice()),
+        Reply::Demands { demands, more } => {
+            tell_behind(alloc, writer, "demands", demands.as_slice(), *more)
+        }
+        Reply::Jobs { jobs, more } => { tell_behind(alloc, writer, "jobs", jobs.as_slice(), *more) }
+        Reply::Job {
+            cuts,
+            h,
+            job,
+            kerf,
+            material,
+            part,
+            state,
+            tree,
+            w,
+        } => {
+            let numbers = JobNumbers {
+                cuts: wide(*cuts),
+                h: wide(*h),
+                job: wide(*job),
+                kerf: wide(*kerf),
+                w: wide(*w),
+            };
+            tell_job(
+                alloc,
+                writer,
+                numbers,
+                material.as_str(),
+                part,
+                *state,
+                tree.as_str(),
+            )
+        }
+        Reply::Terminal { last, terminal } => {
+            tell_terminal(writer, wide(*last), wide(*terminal))
+        }
         Reply::Refused(refusal) => tell_refusal(writer, *refusal),
     }
 }

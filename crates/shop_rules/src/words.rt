@@ -1,10 +1,10 @@
 ghost use Rattle.std.specs.Prelude.{◌≡◌};
 ghost use Rattle.cut_measure.specs.Names.{IsName};
 ghost use Rattle.shop_machine.specs.Messages.{IsNumber};
-ghost use Rattle.shop_rules.specs.Fields.{kind_text, state_text};
+ghost use Rattle.shop_rules.specs.Fields.{job_state_text, kind_text, state_text};
 
 use cut_measure::{Kind, PartName};
-use shop_machine::StateWord;
+use shop_machine::{JobState, StateWord};
 
 pub(crate) fn kind_word(kind: Kind) -> &'static str
     ensures { result.now ≡ kind_text kind }
@@ -26,6 +26,17 @@ pub(crate) fn state_word(state: StateWord) -> &'static str
         StateWord::Kerf => "kerf",
         StateWord::Scrap => "scrap",
         StateWord::Returned => "returned",
+    }
+}
+
+pub(crate) fn job_state_word(state: JobState) -> &'static str
+    ensures { result.now ≡ job_state_text state }
+{
+    match state {
+        JobState::Waiting => "waiting",
+        JobState::Done => "done",
+        JobState::Broken => "broken",
+        JobState::Released => "released",
     }
 }
 

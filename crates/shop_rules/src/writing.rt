@@ -94,7 +94,7 @@ pub(crate) fn write_number(writer: &mut Writer, key: &str, n: u64) -> Result<(),
 }
 
 // Writes a key with a flag.
-fn write_flag(writer: &mut Writer, key: &str, flag: bool) -> Result<(), AllocError>
+pub(crate) fn write_flag(writer: &mut Writer, key: &str, flag: bool) -> Result<(), AllocError>
     ensures { OnOk result (Adds writer.old writer.new (token.key key.now ∷ token.boolean flag ∷ [])) }
 {
     writer.key(key)?;

@@ -23,7 +23,7 @@ use Rattle.shop_desk.proofs.Blame.{up_reply}
 use Rattle.shop_desk.proofs.Accounts.{account_same, account_step}
 use Rattle.shop_text.specs.Printing.{CountsRefusal, IsFailure, IsTold}
 use Rattle.shop_request.specs.declared.routes.Route.{Route}
-use Rattle.shop_request.specs.declared.routes.Route.TheVariants.{Message, Plan, Bound, Totals, Rack, Trace, Demand, Ticket, Yield}
+use Rattle.shop_request.specs.declared.routes.Route.TheVariants.{Message, Plan, Bound, Totals, Rack, Trace, Demand, Ticket, Yield, Materials, Parts, PartsBehind, Demands, DemandsOf, Jobs, Job, Terminal}
 use Rattle.shop_request.specs.Requests.{asking}
 use Rattle.shop_wire.specs.AnswerBytes.{Telling, replied, printed}
 use Rattle.shop_wire.specs.Replays.{IsNoMessage, line_message}
@@ -163,6 +163,14 @@ module _ {B : Type 0} (book : Ghosts B) (before after : B) (m : Content) where
     asked_served Rack text reply a b c step blame = record { next = m; step = step; held = held; sound = sound; blame = λ e. inl (blame (told_same reply e)); account = account_same json_texts m m refl }
     asked_served Trace text reply a b c step blame = record { next = m; step = step; held = held; sound = sound; blame = λ e. inl (blame (told_same reply e)); account = account_same json_texts m m refl }
     asked_served Demand text reply a b c step blame = record { next = m; step = step; held = held; sound = sound; blame = λ e. inl (blame (told_same reply e)); account = account_same json_texts m m refl }
+    asked_served Materials text reply a b c step blame = record { next = m; step = step; held = held; sound = sound; blame = λ e. inl (blame (told_same reply e)); account = account_same json_texts m m refl }
+    asked_served Parts text reply a b c step blame = record { next = m; step = step; held = held; sound = sound; blame = λ e. inl (blame (told_same reply e)); account = account_same json_texts m m refl }
+    asked_served PartsBehind text reply a b c step blame = record { next = m; step = step; held = held; sound = sound; blame = λ e. inl (blame (told_same reply e)); account = account_same json_texts m m refl }
+    asked_served Demands text reply a b c step blame = record { next = m; step = step; held = held; sound = sound; blame = λ e. inl (blame (told_same reply e)); account = account_same json_texts m m refl }
+    asked_served DemandsOf text reply a b c step blame = record { next = m; step = step; held = held; sound = sound; blame = λ e. inl (blame (told_same reply e)); account = account_same json_texts m m refl }
+    asked_served Jobs text reply a b c step blame = record { next = m; step = step; held = held; sound = sound; blame = λ e. inl (blame (told_same reply e)); account = account_same json_texts m m refl }
+    asked_served Job text reply a b c step blame = record { next = m; step = step; held = held; sound = sound; blame = λ e. inl (blame (told_same reply e)); account = account_same json_texts m m refl }
+    asked_served Terminal text reply a b c step blame = record { next = m; step = step; held = held; sound = sound; blame = λ e. inl (blame (told_same reply e)); account = account_same json_texts m m refl }
 
     pub ticket_served : (part : List ℕ) (telling : Telling) → PrintsCounted (text_at m Ticket part) telling (book.failed before) (book.failed after) → HasServed book before after m (asking Ticket part) telling
     ticket_served part telling h =

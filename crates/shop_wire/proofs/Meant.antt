@@ -9,10 +9,9 @@ use Rattle.std.proofs.lemmas.Fmt.{decimal_injective, digits_value-decimal}
 use Rattle.std.proofs.lemmas.Slice.Eq.{bytes_eq-Decides}
 use Rattle.std.proofs.lemmas.Str.{IsUtf8-from_is_utf8, is_utf8-from_IsUtf8}
 use Rattle.cut_measure.proofs.Digits.{own}
-use Rattle.cut_measure.specs.declared.ranges.TheConstants.{MOST_NUMBERS}
 use Rattle.shop_machine.specs.declared.refusals.Refusal.{Refusal}
 use Rattle.shop_machine.specs.declared.refusals.Refusal.TheVariants.{NoMemory, StoreFault}
-use Rattle.shop_wire.specs.Serves.{numbered}
+use Rattle.shop_wire.specs.Serves.{ranged}
 use Rattle.shop_wire.specs.Tellings.{IsUnread}
 use Rattle.shop_wire.proofs.Answered.{not_store}
 
@@ -30,36 +29,37 @@ nothing_there refusal o (inr why) other = why.1
 
 -- ---- numbers
 
-pub numbered_some : (text : List ℕ) (n : ℕ) → decimal n ≡ text → 1 ≤ n → n ≤ MOST_NUMBERS → numbered text ≡ Some n
-numbered_some text n is low high =
-    let back : digits_value 10 (decimal n) ≡ n = digits_value-decimal own n (omega (arith, high)) in
-    subst (λ t. numbered t ≡ Some n) is
-    (ap (λ v. if nat_le 1 v && nat_le v MOST_NUMBERS && bytes_eq (decimal v) (decimal n) then Some v else None) back
-    ∙ ap (λ (b : Bool). if b && nat_le n MOST_NUMBERS && bytes_eq (decimal n) (decimal n) then Some n else None) (le-leb 1 n low)
-    ∙ ap (λ (b : Bool). if b && bytes_eq (decimal n) (decimal n) then Some n else None) (le-leb n MOST_NUMBERS high)
-    ∙ ap (λ (b : Bool). if b then Some n else None) ((bytes_eq-Decides (decimal n) (decimal n)).1 refl))
+module _ (least most : ℕ) where
+  pub ranged_some : (text : List ℕ) (n : ℕ) → n < 2 ^ 32 → decimal n ≡ text → least ≤ n → n ≤ most → ranged least most text ≡ Some n
+  ranged_some text n few is low high =
+      let back : digits_value 10 (decimal n) ≡ n = digits_value-decimal own n (omega (arith, few)) in
+      subst (λ t. ranged least most t ≡ Some n) is
+      (ap (λ v. if nat_le least v && nat_le v most && bytes_eq (decimal v) (decimal n) then Some v else None) back
+      ∙ ap (λ (b : Bool). if b && nat_le n most && bytes_eq (decimal n) (decimal n) then Some n else None) (le-leb least n low)
+      ∙ ap (λ (b : Bool). if b && bytes_eq (decimal n) (decimal n) then Some n else None) (le-leb n most high)
+      ∙ ap (λ (b : Bool). if b then Some n else None) ((bytes_eq-Decides (decimal n) (decimal n)).1 refl))
 
-taken : (b : Bool) (v n : ℕ) → (if b then Some v else None) ≡ Some n → (b ≡ true) × (v ≡ n)
-taken true v n e = (refl, cc)
-taken false v n e = absurd (cc e)
+  taken : (b : Bool) (v n : ℕ) → (if b then Some v else None) ≡ Some n → (b ≡ true) × (v ≡ n)
+  taken true v n e = (refl, cc)
+  taken false v n e = absurd (cc e)
 
-numbered_only : (text : List ℕ) (n : ℕ) → numbered text ≡ Some n → (1 ≤ n) × (n ≤ MOST_NUMBERS) × (decimal n ≡ text)
-numbered_only text n e =
-    let v = digits_value 10 text in
-    let p = taken _ v n e in
-    let q = and_parts (nat_le 1 v && nat_le v MOST_NUMBERS) (bytes_eq (decimal v) text) p.0 in
-    let r = and_parts (nat_le 1 v) (nat_le v MOST_NUMBERS) q.0 in
-    subst (λ n. (1 ≤ n) × (n ≤ MOST_NUMBERS) × (decimal n ≡ text)) p.1 (leb-true 1 v r.0, leb-true v MOST_NUMBERS r.1, (bytes_eq-Decides (decimal v) text).0 q.1)
+  ranged_only : (text : List ℕ) (n : ℕ) → ranged least most text ≡ Some n → (least ≤ n) × (n ≤ most) × (decimal n ≡ text)
+  ranged_only text n e =
+      let v = digits_value 10 text in
+      let p = taken _ v n e in
+      let q = and_parts (nat_le least v && nat_le v most) (bytes_eq (decimal v) text) p.0 in
+      let r = and_parts (nat_le least v) (nat_le v most) q.0 in
+      subst (λ n. (least ≤ n) × (n ≤ most) × (decimal n ≡ text)) p.1 (leb-true least v r.0, leb-true v most r.1, (bytes_eq-Decides (decimal v) text).0 q.1)
 
-none_by : (text : List ℕ) (o : Option ℕ) → ((n : ℕ) → 1 ≤ n → n ≤ MOST_NUMBERS → decimal n ≡ text → ⊥) → numbered text ≡ o → None ≡ o
-none_by text None never e = refl
-none_by text (Some n) never e = let p = numbered_only text n e in absurd (never n p.0 p.1 p.2)
+  none_by : (text : List ℕ) (o : Option ℕ) → ((n : ℕ) → least ≤ n → n ≤ most → decimal n ≡ text → ⊥) → ranged least most text ≡ o → None ≡ o
+  none_by text None never e = refl
+  none_by text (Some n) never e = let p = ranged_only text n e in absurd (never n p.0 p.1 p.2)
 
-pub numbered_none : (text : List ℕ) → ((n : ℕ) → 1 ≤ n → n ≤ MOST_NUMBERS → decimal n ≡ text → ⊥) → None ≡ numbered text
-numbered_none text never = none_by text (numbered text) never refl
+  pub ranged_none : (text : List ℕ) → ((n : ℕ) → least ≤ n → n ≤ most → decimal n ≡ text → ⊥) → None ≡ ranged least most text
+  ranged_none text never = none_by text (ranged least most text) never refl
 
 -- a numeral is one number's
-pub one_numeral : (m n : ℕ) → m ≤ MOST_NUMBERS → n < 2 ^ 32 → decimal m ≡ decimal n → m ≡ n
+pub one_numeral : (m n : ℕ) → m < 2 ^ 32 → n < 2 ^ 32 → decimal m ≡ decimal n → m ≡ n
 one_numeral m n small few same = decimal_injective m n (omega (arith, small)) (omega (arith, few)) same
 
 -- ---- texts of a path

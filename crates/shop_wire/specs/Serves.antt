@@ -1,6 +1,7 @@
 -- What a request does to a content, and what is told and written.
 use Rattle.std.specs.Prelude.{◌≡◌, ◌⊎◌, ◌&&◌, ℕ, Bool, true, false, List, [], ◌∷◌, ◌++◌, map, nat_le, bytes_eq, Option, Some, None, Result, Ok, Err, MatchOption, option_map, option_and_then, IfSome, if◌then◌else◌}
 use Rattle.std.specs.Fmt.{decimal}
+use Rattle.std.specs.List.{after_first, before_first}
 use Rattle.std.specs.Str.{is_utf8}
 use Rattle.std.specs.Str.Parse.{digits_value}
 use Rattle.std.specs.Io.KnownBytes.{Appends}
@@ -25,7 +26,7 @@ use Rattle.shop_desk.specs.Handled.{HasAccount}
 use Rattle.shop_text.specs.Tickets.{ticket_of}
 use Rattle.shop_text.specs.Yields.{yield_of}
 use Rattle.shop_request.specs.declared.routes.Route.{Route}
-use Rattle.shop_request.specs.declared.routes.Route.TheVariants.{Message, Plan, Bound, Totals, Rack, Trace, Demand, Ticket, Yield}
+use Rattle.shop_request.specs.declared.routes.Route.TheVariants.{Message, Plan, Bound, Totals, Rack, Trace, Demand, Ticket, Yield, Materials, Parts, PartsBehind, Demands, DemandsOf, Jobs, Job, Terminal}
 use Rattle.shop_request.specs.Routes.{takes_body}
 use Rattle.shop_request.specs.Requests.{Sense, silent, faulty, asking, HasSense}
 use Rattle.shop_wire.specs.Replays.{data_of, line_message, IsNoMessage}
@@ -33,10 +34,22 @@ use Rattle.shop_wire.specs.AnswerBytes.{Telling, replied, printed, bytes_of}
 
 -- ---- what is asked for
 
--- the number from 1 to 2147483647 that a text is, in digits without leading zeros
+-- the number of a range that a text is, in digits without leading zeros
+abbrev pub ranged : (least most : ℕ) → List ℕ → Option ℕ
+ranged least most text =
+    if nat_le least (digits_value 10 text) && nat_le (digits_value 10 text) most && bytes_eq (decimal (digits_value 10 text)) text then Some (digits_value 10 text) else None
+
+-- one from 1 to 2147483647
 abbrev pub numbered : List ℕ → Option ℕ
-numbered text =
-    if nat_le 1 (digits_value 10 text) && nat_le (digits_value 10 text) MOST_NUMBERS && bytes_eq (decimal (digits_value 10 text)) text then Some (digits_value 10 text) else None
+numbered text = ranged 1 MOST_NUMBERS text
+
+-- one behind which numbers are asked for: from 0 to 2147483647
+abbrev pub number_before : List ℕ → Option ℕ
+number_before text = ranged 0 MOST_NUMBERS text
+
+-- a terminal: from 0 to 4294967295
+abbrev pub terminal_of : List ℕ → Option ℕ
+terminal_of text = ranged 0 4294967295 text
 
 -- the code that bytes are
 abbrev pub code_at : List ℕ → Option (List ℕ)
@@ -45,6 +58,23 @@ code_at part = if is_utf8 part then code_of part else None
 -- the part that bytes name
 abbrev pub name_at : List ℕ → Option Name
 name_at part = if is_utf8 part then spelled_name part else None
+
+-- what stands in front of the first slash, and behind it
+abbrev pub in_front : List ℕ → List ℕ
+in_front part = before_first (λ b. b == 47) part
+
+abbrev pub behind_slash : List ℕ → List ℕ
+behind_slash part = after_first (λ b. b == 47) part
+
+-- the parts of a material behind a name: the bytes are both, with a slash between
+abbrev pub parts_asked : List ℕ → Option Query
+parts_asked text =
+    option_and_then (λ code. option_map (λ name. query.Parts code (Some name)) (spelled_name (behind_slash text))) (code_of (in_front text))
+
+-- the open demands behind a number, of a material: the bytes are both, with a slash between
+abbrev pub demands_asked : List ℕ → Option Query
+demands_asked text =
+    option_and_then (λ after. option_map (λ code. query.Demands after (Some code)) (code_of (behind_slash text))) (number_before (in_front text))
 
 abbrev pub is_plan : Route → Bool
 is_plan Plan = true
@@ -70,6 +100,14 @@ path_query Totals part = option_map (λ code. query.Totals code) (code_at part)
 path_query Rack part = option_map (λ code. query.Rack code) (code_at part)
 path_query Trace part = option_map (λ name. query.Trace name) (name_at part)
 path_query Demand part = option_map (λ number. query.Demand number) (numbered part)
+path_query Materials part = Some query.Materials
+path_query Parts part = option_map (λ code. query.Parts code None) (code_at part)
+path_query PartsBehind part = if is_utf8 part then parts_asked part else None
+path_query Demands part = option_map (λ after. query.Demands after None) (number_before part)
+path_query DemandsOf part = if is_utf8 part then demands_asked part else None
+path_query Jobs part = option_map (λ after. query.Jobs after) (number_before part)
+path_query Job part = option_map (λ number. query.Job number) (numbered part)
+path_query Terminal part = option_map (λ terminal. query.Terminal terminal) (terminal_of part)
 path_query _ part = None
 
 -- the query that is asked
@@ -114,6 +152,14 @@ RequestStep old Totals text telling new = IsReplied telling (λ reply. AskStep o
 RequestStep old Rack text telling new = IsReplied telling (λ reply. AskStep old (asked_at Rack text) reply new)
 RequestStep old Trace text telling new = IsReplied telling (λ reply. AskStep old (asked_at Trace text) reply new)
 RequestStep old Demand text telling new = IsReplied telling (λ reply. AskStep old (asked_at Demand text) reply new)
+RequestStep old Materials text telling new = IsReplied telling (λ reply. AskStep old (asked_at Materials text) reply new)
+RequestStep old Parts text telling new = IsReplied telling (λ reply. AskStep old (asked_at Parts text) reply new)
+RequestStep old PartsBehind text telling new = IsReplied telling (λ reply. AskStep old (asked_at PartsBehind text) reply new)
+RequestStep old Demands text telling new = IsReplied telling (λ reply. AskStep old (asked_at Demands text) reply new)
+RequestStep old DemandsOf text telling new = IsReplied telling (λ reply. AskStep old (asked_at DemandsOf text) reply new)
+RequestStep old Jobs text telling new = IsReplied telling (λ reply. AskStep old (asked_at Jobs text) reply new)
+RequestStep old Job text telling new = IsReplied telling (λ reply. AskStep old (asked_at Job text) reply new)
+RequestStep old Terminal text telling new = IsReplied telling (λ reply. AskStep old (asked_at Terminal text) reply new)
 RequestStep old Ticket text telling new = PrintStep old (text_at old Ticket text) telling new
 RequestStep old Yield text telling new = PrintStep old (text_at old Yield text) telling new
 

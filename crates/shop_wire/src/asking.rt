@@ -13,8 +13,9 @@ ghost use Rattle.shop_wire.specs.Serves.{AskStep, HasServed, asked_at, body_quer
 ghost use Rattle.shop_wire.specs.Tellings.{IsRead, IsToldOf, PrintsCounted, telling_of};
 
 use crate::answers::value_in;
+use crate::paths::{demands_at, number_before, number_of, parts_at, terminal_in};
 use crate::telling::Told;
-use cut_measure::{MOST_NUMBERS, read_number};
+use cut_measure::MOST_NUMBERS;
 use shop_book::Book;
 use shop_desk::{ask, handle};
 use shop_request::Route;
@@ -76,11 +77,7 @@ fn query_in(alloc: Global, route: Route, body: &[u8]) -> Result<Query, Refusal>
 fn number_in(part: &[u8]) -> Option<u32>
     ensures { result ≡ numbered part.now }
 {
-    let number = read_number(part)?;
-    if number < 1 || number > MOST_NUMBERS {
-        return None;
-    }
-    Some(number)
+    number_of(part, 1, MOST_NUMBERS)
 }
 
 // The code that a path says.
@@ -112,6 +109,20 @@ fn query_at(route: Route, part: &[u8]) -> Option<Query>
         Route::Rack => code_in(part).map(|material| Query::Rack { material }),
         Route::Trace => name_in(part).map(|part| Query::Trace { part }),
         Route::Demand => number_in(part).map(|demand| Query::Demand { demand }),
+        Route::Materials => Some(Query::Materials),
+        Route::Parts => code_in(part).map(|material| Query::Parts {
+            material,
+            after: None,
+        }),
+        Route::PartsBehind => parts_at(part),
+        Route::Demands => number_before(part).map(|after| Query::Demands {
+            after,
+            material: None,
+        }),
+        Route::DemandsOf => demands_at(part),
+        Route::Jobs => number_before(part).map(|after| Query::Jobs { after }),
+        Route::Job => number_in(part).map(|job| Query::Job { job }),
+        Route::Terminal => terminal_in(part).map(|terminal| Query::Terminal { terminal }),
         _ => None,
     }
 }

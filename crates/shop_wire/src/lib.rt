@@ -6,6 +6,7 @@ mod answers;
 mod asking;
 mod faults;
 mod limits;
+mod paths;
 mod reader;
 mod replays;
 mod serving;

@@ -1,0 +1,21 @@
+-- Rows of jobs that are listed in turn.
+use Rattle.std.proofs.Common.{◌≡◌, ℕ, ◌+◌, ◌<◌, List, [], ◌∷◌, ◌++◌, length, take, get_or, Option, sym, ap, ◌∙◌}
+use Rattle.std.specs.Prelude.{filter_map}
+use Rattle.std.proofs.lemmas.List.{take_more}
+use Rattle.std.proofs.lemmas.List.Elements.{filter_map-append}
+use Rattle.shop_machine.specs.declared.records.Job.{Job}
+use Rattle.shop_machine.specs.declared.records.JobRow.{JobRow}
+use Rattle.shop_machine.specs.declared.records.Part.{Part}
+use Rattle.shop_machine.specs.Content.{Content}
+use Rattle.shop_machine.specs.Listing.{job_row_at, job_with_part}
+use Rattle.shop_desk.specs.ListedJobs.{told_row}
+
+-- one more is listed, where it is there with its part
+pub row_more : (content : Content) (numbers : List ℕ) (i n : ℕ) (rows : List JobRow) (found : Option (Job × Part)) → i < length numbers → n ≡ get_or numbers i n
+    → rows ≡ filter_map (job_row_at content) (take i numbers) → found ≡ job_with_part content n
+    → rows ++ filter_map told_row (found ∷ []) ≡ filter_map (job_row_at content) (take (i + 1) numbers)
+row_more content numbers i n rows found lt is before at =
+    ap (λ rows. rows ++ filter_map told_row (found ∷ [])) before
+    ∙ ap (λ f. filter_map (job_row_at content) (take i numbers) ++ filter_map told_row (f ∷ [])) at
+    ∙ sym (filter_map-append (job_row_at content) (take i numbers) (n ∷ []))
+    ∙ ap (λ l. filter_map (job_row_at content) l) (sym (take_more numbers i n lt ∙ ap (λ x. take i numbers ++ x ∷ []) (sym is)))

@@ -1,0 +1,7 @@
+use Rattle.std.proofs.Common.{◌∙◌}
+use Rattle.shop_machine.specs.Listing.{open_demands}
+use Rattle.shop_desk.proofs.listing.known_demands.Goals as goal
+
+pub returns-in-Ok-clause-answer : goal.returns-in-Ok-clause-answer
+returns-in-Ok-clause-answer g c = λ honest m held n s.
+    c.answer_demands.ensures.answer (open_demands m c.args.after c.args.material) (c.as_slice.ensures ∙ c.in-Ok.ensures.rows honest m held) n
