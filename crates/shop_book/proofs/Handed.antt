@@ -1,6 +1,16 @@
 -- Parts that are found by their names and handed out, in order.
 use Rattle.std.proofs.Common.{◌≡◌, ◌+◌, ◌<◌, ◌≤◌, ℕ, zero, suc, Bool, true, false, List, [], ◌∷◌, ◌++◌, length, take, drop, get_or, refl, sym, ap, subst, ◌∙◌, add-one, arith}
-use Rattle.std.specs.Prelude.{Ok, Option, Some, None, filter_map}
+use Rattle.std.specs.Prelude.{Ok, Option, Some, None, filter, filter_map}
+use Rattle.std.specs.FinMap.{from_sorted, values}
+use Rattle.cut_measure.specs.Names.{Name, name_cmp}
+use Rattle.shop_machine.specs.Content.{is_listed}
+use Rattle.shop_machine.specs.Listing.{is_behind}
+use Rattle.shop_rows.specs.Keys.{part_key}
+use Rattle.shop_rows.specs.Open.{own_key, open_cmp, is_after, parts_named, AreListed}
+use Rattle.shop_rows.specs.Rows.{entries_of, rise}
+use Rattle.shop_rows.specs.declared.open.OpenPart.{OpenPart}
+use Rattle.shop_rows.proofs.Named.{first_named_are, named_are}
+use Rattle.shop_book.proofs.Held.{values-rows}
 use Rattle.std.specs.List.{FoldsTo, cons_option}
 use Rattle.std.specs.Option.{option_to_list}
 use Rattle.std.proofs.lemmas.List.{append-nil, append_assoc, take_all, take-append-drop}
@@ -17,11 +27,12 @@ next_found {X = X} at (b ∷ names) zero a within is = alone (at b) ∙ ap (λ c
     alone : (found : Option X) → cons_option found [] ≡ option_to_list found
     alone None = refl
     alone (Some x) = refl
-next_found {X = X} at (b ∷ names) (suc i) a within is = before (at b)
+next_found {X = X} at (b ∷ names) (suc i) a within is = before (at b) (next_found at names i a (omega arith) is)
   where
-    before : (found : Option X) → cons_option found (filter_map at (take (suc i) names)) ≡ cons_option found (filter_map at (take i names)) ++ option_to_list (at a)
-    before None = next_found at names i a (omega arith) is
-    before (Some x) = ap (λ xs. x ∷ xs) (next_found at names i a (omega arith) is)
+    before : (found : Option X) → filter_map at (take (suc i) names) ≡ filter_map at (take i names) ++ option_to_list (at a)
+        → cons_option found (filter_map at (take (suc i) names)) ≡ cons_option found (filter_map at (take i names)) ++ option_to_list (at a)
+    before None more = more
+    before (Some x) more = ap (λ xs. x ∷ xs) more
 
 -- what is found of the next is among what is found so far
 pub so_far : {A X : Type 0} (at : A → Option X) (names : List A) (i : ℕ) (a : A) → i < length names → a ≡ get_or names i a
@@ -30,7 +41,12 @@ so_far at names i a within is = ap (λ n. filter_map at (take n names)) (add-one
 
 folds_append : {P A : Type 0} (R : P → A → P → Type 0) (xs ys : List A) (p q r : P) → FoldsTo R p xs q → FoldsTo R q ys r → FoldsTo R p (xs ++ ys) r
 folds_append R [] ys p q r e h = subst (λ s. FoldsTo R s ys r) (sym e) h
-folds_append R (x ∷ xs) ys p q r h k = (h.0, h.1.0, folds_append R xs ys h.0 q r h.1.1 k)
+folds_append R (x ∷ xs) ys p q r h k = (h.0, h.1, folds_append R xs ys h.0 q r h.2 k)
+
+-- what one look at a part comes to
+pub one_seen : {V : Type 0} (looks : V → Part → Bool → V → Type 0) (part : Part) (on : Bool) (old new : V) → looks old part on new → HasSeen looks (part ∷ []) on old new
+one_seen looks part true old new look = (new, look, refl)
+one_seen looks part false old new look = ([], part, old, refl, refl, look)
 
 module _ {V A : Type 0} (looks : V → Part → Bool → V → Type 0) (at : A → Option Part) (names : List A) (i : ℕ) (old mid : V) where
   -- what is found of the next is handed out, and the visitor goes on
@@ -48,9 +64,9 @@ module _ {V A : Type 0} (looks : V → Part → Bool → V → Type 0) (at : A �
         parts = filter_map at (take (i + 1) names);
         on = false;
         visitor = (
-          filter_map at (take i names) ++ look.0, look.1.0, look.1.1.0,
-          so_far at names i a within is ∙ ap (λ parts. filter_map at (take i names) ++ parts) look.1.1.1.0 ∙ sym (append_assoc (filter_map at (take i names)) look.0 (look.1.0 ∷ [])),
-          folds_append (λ v part w. looks v part true w) (filter_map at (take i names)) look.0 old mid look.1.1.0 seen look.1.1.1.1.0, look.1.1.1.1.1,
+          filter_map at (take i names) ++ look.0, look.1, look.2,
+          so_far at names i a within is ∙ ap (λ parts. filter_map at (take i names) ++ parts) look.3 ∙ sym (append_assoc (filter_map at (take i names)) look.0 (look.1 ∷ [])),
+          folds_append (λ v part w. looks v part true w) (filter_map at (take i names)) look.0 old mid look.2 seen look.4, look.5,
         );
         answer = refl;
         begins = (filter_map at (drop (i + 1) names), ap (filter_map at) (sym (take-append-drop (i + 1) names)) ∙ filter_map-append at (take (i + 1) names) (drop (i + 1) names), λ h. cc);
@@ -62,7 +78,28 @@ module _ {V A : Type 0} (looks : V → Part → Bool → V → Type 0) (at : A �
       record {
         parts = filter_map at names;
         on = true;
-        visitor = subst (λ xs. HasSeen looks (filter_map at xs) true old mid) (take_all i as all) seen;
+        visitor = subst (λ xs. HasSeen looks (filter_map at xs) true old mid) (take_all i names all) seen;
         answer = refl;
         begins = ([], sym (append-nil (filter_map at names)), λ _. refl);
       }
+
+-- ---- the parts of a list's names
+
+filter_all : {X : Type 0} (xs : List X) → filter (λ x. true) xs ≡ xs
+filter_all [] = refl
+filter_all (x ∷ xs) = ap (λ ys. x ∷ ys) (filter_all xs)
+
+module _ (code : List ℕ) (keys : List OpenPart) (parts : List Part) (up : rise own_key open_cmp keys ≡ true) (rises : rise part_key name_cmp parts ≡ true) (listed : AreListed parts keys) where
+  abbrev content_parts : List Part
+  content_parts = values (from_sorted {R = name_cmp} (entries_of part_key name_cmp parts))
+
+  -- the first of the parts that stand behind a name
+  pub first_named : (after : Option Name) (most : ℕ) → parts_named (take most (filter (is_after code after) keys)) parts ≡ take most (filter (λ part. is_behind after part.name) (filter (is_listed code) content_parts))
+  first_named after most =
+      first_named_are code after keys parts up rises listed most
+      ∙ ap (λ (ps : List Part). take most (filter (λ part. is_behind after part.name) (filter (is_listed code) ps))) (sym (values-rows part_key name_cmp parts rises))
+
+  -- all of them
+  pub all_named : parts_named (filter (is_after code None) keys) parts ≡ filter (is_listed code) content_parts
+  all_named =
+      named_are code None keys parts up rises listed ∙ filter_all (filter (is_listed code) parts) ∙ ap (filter (is_listed code)) (sym (values-rows part_key name_cmp parts rises))

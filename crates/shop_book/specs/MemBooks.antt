@@ -30,5 +30,5 @@ pub record IsConsistent (book : Inside) : Type 0 where
   pub imports : IsTrue (rise import_key code_cmp book.imports.items)
   pub small : IsTrue (all_small book.parts.items)
   pub sums : AreSumsOf book.parts.items book.totals.items
-  pub open : IsTrue (rise own_key open_cmp book.open.parts.items)
-  pub listed : AreListed book.parts.items book.open.parts.items
+  pub keys : IsTrue (rise own_key open_cmp book.lists.parts.items)
+  pub listed : AreListed book.parts.items book.lists.parts.items

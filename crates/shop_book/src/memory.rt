@@ -43,7 +43,7 @@ pub struct MemBook {
     last_act: u32,
     last_demand: u32,
     failures: u64,
-    open: OpenRows,
+    lists: OpenRows,
 }
 
 impl Model for MemBook {
@@ -81,7 +81,7 @@ impl MemBook {
             last_act: 0,
             last_demand: 0,
             failures: 0,
-            open: OpenRows::new(alloc),
+            lists: OpenRows::new(alloc),
         }
     }
 }
@@ -101,7 +101,7 @@ impl MemBook {
         let demands = Vec::from_slice(alloc, &self.demands)?;
         let kept = self.kept.clone()?;
         let imports = self.imports.clone()?;
-        let open = self.open.copy(alloc)?;
+        let lists = self.lists.copy(alloc)?;
         Ok(MemBook {
             materials,
             parts,
@@ -114,7 +114,7 @@ impl MemBook {
             last_act: self.last_act,
             last_demand: self.last_demand,
             failures: self.failures,
-            open,
+            lists,
         })
     }
 }
@@ -143,7 +143,7 @@ fn listed(alloc: Global, parts: &[Part], keys: &[OpenPart]) -> Result<PartList, 
 
 // Hands out a part that was found.
 fn hand<V: PartVisitor>(part: Option<&Part>, visitor: &mut V) -> bool
-    ensures { HasSeen V.looks (option_to_list (option_copied part)) result visitor.old visitor.new }
+    ensures { HasSeen V.looks (option_to_list (option_copied part.entry)) result visitor.old visitor.new }
 {
     match part {
         Some(part) => visitor.part(part),
@@ -228,66 +228,67 @@ fn find_kept(
 fn put_part(
     parts: &mut Vec<Part>,
     totals: &mut Vec<Sums>,
-    open: &mut Vec<OpenPart>,
-    part: Part,
+    keys: &mut Vec<OpenPart>,
+    part: &Part,
 )
     requires parts { IsTrue (rise part_key name_cmp parts.old.items) }
     requires totals { IsTrue (rise sums_key code_cmp totals.old.items) }
     requires small { IsTrue (all_small parts.old.items) }
     requires sums { AreSumsOf parts.old.items totals.old.items }
-    requires open { IsTrue (rise own_key open_cmp open.old.items) }
-    requires listed { AreListed parts.old.items open.old.items }
+    requires keys { IsTrue (rise own_key open_cmp keys.old.items) }
+    requires listed { AreListed parts.old.items keys.old.items }
     requires parts_room { vec_len parts.old < vec_capacity parts.old }
     requires totals_room { vec_len totals.old < vec_capacity totals.old }
-    requires open_room { vec_len open.old < vec_capacity open.old }
-    ensures put { IsPut part_key name_cmp part parts.old.items parts.new.items }
+    requires keys_room { vec_len keys.old < vec_capacity keys.old }
+    ensures put { IsPut part_key name_cmp part.now parts.old.items parts.new.items }
     ensures parts { IsTrue (rise part_key name_cmp parts.new.items) }
     ensures totals { IsTrue (rise sums_key code_cmp totals.new.items) }
     ensures small { IsTrue (all_small parts.new.items) }
     ensures sums { AreSumsOf parts.new.items totals.new.items }
-    ensures open { IsTrue (rise own_key open_cmp open.new.items) }
-    ensures listed { AreListed parts.new.items open.new.items }
+    ensures keys { IsTrue (rise own_key open_cmp keys.new.items) }
+    ensures listed { AreListed parts.new.items keys.new.items }
     ensures parts_len { vec_len parts.new ≤ vec_len parts.old + 1 }
     ensures totals_len { vec_len totals.new ≤ vec_len totals.old + 1 }
-    ensures open_len { vec_len open.new ≤ vec_len open.old + 1 }
+    ensures keys_len { vec_len keys.new ≤ vec_len keys.old + 1 }
     ensures parts_capacity { vec_capacity parts.old ≤ vec_capacity parts.new }
     ensures totals_capacity { vec_capacity totals.old ≤ vec_capacity totals.new }
-    ensures open_capacity { vec_capacity open.old ≤ vec_capacity open.new }
+    ensures keys_capacity { vec_capacity keys.old ≤ vec_capacity keys.new }
 {
     let _len = parts.len();
     let _cells = part.size.cells();
-    let replaced = put(parts, part);
-    list_part(open, replaced, &part);
+    let replaced = put(parts, *part);
+    let before = replaced;
+    list_part(keys, before, part);
     take_replaced(totals, replaced);
-    add_part(totals, &part);
+    add_part(totals, part);
 }
 
 // Puts parts one after another.
 fn put_one_by_one(
     parts: &mut Vec<Part>,
     totals: &mut Vec<Sums>,
-    open: &mut Vec<OpenPart>,
+    keys: &mut Vec<OpenPart>,
     rows: &[Part],
 )
     requires parts { IsTrue (rise part_key name_cmp parts.old.items) }
     requires totals { IsTrue (rise sums_key code_cmp totals.old.items) }
     requires small { IsTrue (all_small parts.old.items) }
     requires sums { AreSumsOf parts.old.items totals.old.items }
-    requires open { IsTrue (rise own_key open_cmp open.old.items) }
-    requires listed { AreListed parts.old.items open.old.items }
+    requires keys { IsTrue (rise own_key open_cmp keys.old.items) }
+    requires listed { AreListed parts.old.items keys.old.items }
     requires parts_room { vec_len parts.old + length rows.now ≤ vec_capacity parts.old }
     requires totals_room { vec_len totals.old + length rows.now ≤ vec_capacity totals.old }
-    requires open_room { vec_len open.old + length rows.now ≤ vec_capacity open.old }
+    requires keys_room { vec_len keys.old + length rows.now ≤ vec_capacity keys.old }
     ensures put { map_of part_key name_cmp parts.new.items ≡ with_parts rows.now (map_of part_key name_cmp parts.old.items) }
     ensures parts { IsTrue (rise part_key name_cmp parts.new.items) }
     ensures totals { IsTrue (rise sums_key code_cmp totals.new.items) }
     ensures small { IsTrue (all_small parts.new.items) }
     ensures sums { AreSumsOf parts.new.items totals.new.items }
-    ensures open { IsTrue (rise own_key open_cmp open.new.items) }
-    ensures listed { AreListed parts.new.items open.new.items }
+    ensures keys { IsTrue (rise own_key open_cmp keys.new.items) }
+    ensures listed { AreListed parts.new.items keys.new.items }
 {
     for part in rows {
-        put_part(parts, totals, open, *part);
+        put_part(parts, totals, keys, part);
     }
 }
 
@@ -296,26 +297,26 @@ fn put_one_by_one(
 fn put_together(
     parts: &mut Vec<Part>,
     totals: &mut Vec<Sums>,
-    open: &mut Vec<OpenPart>,
+    keys: &mut Vec<OpenPart>,
     rows: &[Part],
 ) -> bool
     requires parts { IsTrue (rise part_key name_cmp parts.old.items) }
     requires totals { IsTrue (rise sums_key code_cmp totals.old.items) }
     requires small { IsTrue (all_small parts.old.items) }
     requires sums { AreSumsOf parts.old.items totals.old.items }
-    requires open { IsTrue (rise own_key open_cmp open.old.items) }
-    requires listed { AreListed parts.old.items open.old.items }
+    requires keys { IsTrue (rise own_key open_cmp keys.old.items) }
+    requires listed { AreListed parts.old.items keys.old.items }
     requires parts_room { vec_len parts.old + length rows.now ≤ vec_capacity parts.old }
     requires totals_room { vec_len totals.old + length rows.now ≤ vec_capacity totals.old }
-    requires open_room { vec_len open.old + length rows.now ≤ vec_capacity open.old }
+    requires keys_room { vec_len keys.old + length rows.now ≤ vec_capacity keys.old }
     ensures put { IsTrue result → map_of part_key name_cmp parts.new.items ≡ with_parts rows.now (map_of part_key name_cmp parts.old.items) }
     ensures parts { IsTrue result → IsTrue (rise part_key name_cmp parts.new.items) }
     ensures totals { IsTrue result → IsTrue (rise sums_key code_cmp totals.new.items) }
     ensures small { IsTrue result → IsTrue (all_small parts.new.items) }
     ensures sums { IsTrue result → AreSumsOf parts.new.items totals.new.items }
-    ensures open { IsTrue result → IsTrue (rise own_key open_cmp open.new.items) }
-    ensures listed { IsTrue result → AreListed parts.new.items open.new.items }
-    ensures same { result ≡ false → (parts.new ≡ parts.old) × (totals.new ≡ totals.old) × (open.new ≡ open.old) }
+    ensures keys { IsTrue result → IsTrue (rise own_key open_cmp keys.new.items) }
+    ensures listed { IsTrue result → AreListed parts.new.items keys.new.items }
+    ensures same { result ≡ false → (parts.new ≡ parts.old) × (totals.new ≡ totals.old) × (keys.new ≡ keys.old) }
 {
     let Some(first) = rows.first() else {
         return false;
@@ -330,7 +331,7 @@ fn put_together(
         return false;
     }
     let _ = put(totals, sums);
-    list_all(open, rows);
+    list_all(keys, rows);
     true
 }
 
@@ -338,64 +339,64 @@ fn put_together(
 fn put_parts(
     parts: &mut Vec<Part>,
     totals: &mut Vec<Sums>,
-    open: &mut Vec<OpenPart>,
+    keys: &mut Vec<OpenPart>,
     rows: &[Part],
 )
     requires parts { IsTrue (rise part_key name_cmp parts.old.items) }
     requires totals { IsTrue (rise sums_key code_cmp totals.old.items) }
     requires small { IsTrue (all_small parts.old.items) }
     requires sums { AreSumsOf parts.old.items totals.old.items }
-    requires open { IsTrue (rise own_key open_cmp open.old.items) }
-    requires listed { AreListed parts.old.items open.old.items }
+    requires keys { IsTrue (rise own_key open_cmp keys.old.items) }
+    requires listed { AreListed parts.old.items keys.old.items }
     requires parts_room { vec_len parts.old + length rows.now ≤ vec_capacity parts.old }
     requires totals_room { vec_len totals.old + length rows.now ≤ vec_capacity totals.old }
-    requires open_room { vec_len open.old + length rows.now ≤ vec_capacity open.old }
+    requires keys_room { vec_len keys.old + length rows.now ≤ vec_capacity keys.old }
     ensures put { map_of part_key name_cmp parts.new.items ≡ with_parts rows.now (map_of part_key name_cmp parts.old.items) }
     ensures parts { IsTrue (rise part_key name_cmp parts.new.items) }
     ensures totals { IsTrue (rise sums_key code_cmp totals.new.items) }
     ensures small { IsTrue (all_small parts.new.items) }
     ensures sums { AreSumsOf parts.new.items totals.new.items }
-    ensures open { IsTrue (rise own_key open_cmp open.new.items) }
-    ensures listed { AreListed parts.new.items open.new.items }
+    ensures keys { IsTrue (rise own_key open_cmp keys.new.items) }
+    ensures listed { AreListed parts.new.items keys.new.items }
 {
-    if put_together(parts, totals, open, rows) {
+    if put_together(parts, totals, keys, rows) {
         return;
     }
-    put_one_by_one(parts, totals, open, rows);
+    put_one_by_one(parts, totals, keys, rows);
 }
 
 // Puts a part that moves, if there is one.
 fn put_moved(
     parts: &mut Vec<Part>,
     totals: &mut Vec<Sums>,
-    open: &mut Vec<OpenPart>,
+    keys: &mut Vec<OpenPart>,
     row: Option<Part>,
 )
     requires parts { IsTrue (rise part_key name_cmp parts.old.items) }
     requires totals { IsTrue (rise sums_key code_cmp totals.old.items) }
     requires small { IsTrue (all_small parts.old.items) }
     requires sums { AreSumsOf parts.old.items totals.old.items }
-    requires open { IsTrue (rise own_key open_cmp open.old.items) }
-    requires listed { AreListed parts.old.items open.old.items }
+    requires keys { IsTrue (rise own_key open_cmp keys.old.items) }
+    requires listed { AreListed parts.old.items keys.old.items }
     requires parts_room { vec_len parts.old < vec_capacity parts.old }
     requires totals_room { vec_len totals.old < vec_capacity totals.old }
-    requires open_room { vec_len open.old < vec_capacity open.old }
+    requires keys_room { vec_len keys.old < vec_capacity keys.old }
     ensures put { map_of part_key name_cmp parts.new.items ≡ with_moved row (map_of part_key name_cmp parts.old.items) }
     ensures parts { IsTrue (rise part_key name_cmp parts.new.items) }
     ensures totals { IsTrue (rise sums_key code_cmp totals.new.items) }
     ensures small { IsTrue (all_small parts.new.items) }
     ensures sums { AreSumsOf parts.new.items totals.new.items }
-    ensures open { IsTrue (rise own_key open_cmp open.new.items) }
-    ensures listed { AreListed parts.new.items open.new.items }
+    ensures keys { IsTrue (rise own_key open_cmp keys.new.items) }
+    ensures listed { AreListed parts.new.items keys.new.items }
     ensures parts_len { vec_len parts.new ≤ vec_len parts.old + 1 }
     ensures totals_len { vec_len totals.new ≤ vec_len totals.old + 1 }
-    ensures open_len { vec_len open.new ≤ vec_len open.old + 1 }
+    ensures keys_len { vec_len keys.new ≤ vec_len keys.old + 1 }
     ensures parts_capacity { vec_capacity parts.old ≤ vec_capacity parts.new }
     ensures totals_capacity { vec_capacity totals.old ≤ vec_capacity totals.new }
-    ensures open_capacity { vec_capacity open.old ≤ vec_capacity open.new }
+    ensures keys_capacity { vec_capacity keys.old ≤ vec_capacity keys.new }
 {
     if let Some(row) = row {
-        put_part(parts, totals, open, row);
+        put_part(parts, totals, keys, &row);
     }
 }
 
@@ -404,20 +405,20 @@ fn reserve(
     materials: &mut Vec<Material>,
     parts: &mut Vec<Part>,
     totals: &mut Vec<Sums>,
-    open: &mut Vec<OpenPart>,
+    keys: &mut Vec<OpenPart>,
     count: usize,
 ) -> Result<(), AllocError>
     ensures materials { materials.new.items ≡ materials.old.items }
     ensures parts { parts.new.items ≡ parts.old.items }
     ensures totals { totals.new.items ≡ totals.old.items }
-    ensures open { open.new.items ≡ open.old.items }
+    ensures keys { keys.new.items ≡ keys.old.items }
     ensures room { OnOk result ((vec_len materials.new < vec_capacity materials.new) × (vec_len parts.new + count ≤ vec_capacity parts.new)
-        × (vec_len totals.new + count ≤ vec_capacity totals.new) × (vec_len open.new + count ≤ vec_capacity open.new)) }
+        × (vec_len totals.new + count ≤ vec_capacity totals.new) × (vec_len keys.new + count ≤ vec_capacity keys.new)) }
 {
     materials.reserve(1)?;
     parts.reserve(count)?;
     totals.reserve(count)?;
-    open.reserve(count)?;
+    keys.reserve(count)?;
     Ok(())
 }
 
@@ -650,7 +651,7 @@ impl Book for MemBook {
         ensures memory { IfErr result (λ fault. fault ≡ NoMemory) }
         ensures same { self.new ≡ self.old }
     {
-        let keys = names_behind(&self.open.parts, material, None);
+        let keys = names_behind(&self.lists.parts, material, None);
         let rows = listed(alloc, &self.parts, keys)?;
         Ok(rows)
     }
@@ -664,7 +665,7 @@ impl Book for MemBook {
         ensures sure { IsOk result }
         ensures same { self.new ≡ self.old }
     {
-        let keys = names_behind(&self.open.parts, material, None);
+        let keys = names_behind(&self.lists.parts, material, None);
         let on = visit(&self.parts, keys, visitor);
         Ok(on)
     }
@@ -684,7 +685,7 @@ impl Book for MemBook {
         ensures memory { IfErr result (λ fault. fault ≡ NoMemory) }
         ensures same { self.new ≡ self.old }
     {
-        let keys = names_behind(&self.open.parts, material, after);
+        let keys = names_behind(&self.lists.parts, material, after);
         let rows = listed(alloc, &self.parts, first(keys, most))?;
         Ok(rows)
     }
@@ -738,7 +739,7 @@ impl Book for MemBook {
             &mut self.materials,
             &mut self.parts,
             &mut self.totals,
-            &mut self.open.parts,
+            &mut self.lists.parts,
             rows.len() + 1,
         )?;
         reserve_demands(
@@ -752,13 +753,13 @@ impl Book for MemBook {
         put_moved(
             &mut self.parts,
             &mut self.totals,
-            &mut self.open.parts,
+            &mut self.lists.parts,
             moved,
         );
         put_parts(
             &mut self.parts,
             &mut self.totals,
-            &mut self.open.parts,
+            &mut self.lists.parts,
             rows,
         );
         put_some(&mut self.jobs, job);

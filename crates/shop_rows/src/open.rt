@@ -106,13 +106,13 @@ impl OpenRows {
 }
 
 // Takes the key of a part that another one replaces, where that is of another material.
-fn unlist(open: &mut Vec<OpenPart>, replaced: Option<Part>, part: &Part)
-    requires { IsTrue (rise own_key open_cmp open.old.items) }
-    ensures others { (find : Name → Option PartOf) → ListsParts find open.old.items → find part.now.name ≡ replaced
-        → ListsOthers part.now (finds_with name_cmp part.now.name part.now find) open.new.items }
-    ensures rising { IsTrue (rise own_key open_cmp open.new.items) }
-    ensures len { vec_len open.new ≤ vec_len open.old }
-    ensures capacity { vec_capacity open.new ≡ vec_capacity open.old }
+fn unlist(keys: &mut Vec<OpenPart>, replaced: Option<Part>, part: &Part)
+    requires { IsTrue (rise own_key open_cmp keys.old.items) }
+    ensures others { (find : Name → Option PartOf) → ListsParts find keys.old.items → find part.now.name ≡ replaced
+        → ListsOthers part.now (finds_with name_cmp part.now.name part.now find) keys.new.items }
+    ensures rising { IsTrue (rise own_key open_cmp keys.new.items) }
+    ensures len { vec_len keys.new ≤ vec_len keys.old }
+    ensures capacity { vec_capacity keys.new ≡ vec_capacity keys.old }
 {
     let Some(old) = replaced else {
         return;
@@ -124,74 +124,74 @@ fn unlist(open: &mut Vec<OpenPart>, replaced: Option<Part>, part: &Part)
         material: old.material,
         name: part.name,
     };
-    let _ = take_row(open, key);
+    let _ = take_row(keys, key);
 }
 
 /// Lists a part where it stands, and not where it doesn't, in place of the one that it replaces, if there is one.
-pub fn list_part(open: &mut Vec<OpenPart>, replaced: Option<Part>, part: &Part)
-    requires rising { IsTrue (rise own_key open_cmp open.old.items) }
-    requires room { vec_len open.old < vec_capacity open.old }
-    ensures lists { (find : Name → Option PartOf) → ListsParts find open.old.items → find part.now.name ≡ replaced
-        → ListsParts (finds_with name_cmp part.now.name part.now find) open.new.items }
-    ensures rising { IsTrue (rise own_key open_cmp open.new.items) }
-    ensures len { vec_len open.new ≤ vec_len open.old + 1 }
-    ensures capacity { vec_capacity open.old ≤ vec_capacity open.new }
+pub fn list_part(keys: &mut Vec<OpenPart>, replaced: Option<Part>, part: &Part)
+    requires rising { IsTrue (rise own_key open_cmp keys.old.items) }
+    requires room { vec_len keys.old < vec_capacity keys.old }
+    ensures lists { (find : Name → Option PartOf) → ListsParts find keys.old.items → find part.now.name ≡ replaced
+        → ListsParts (finds_with name_cmp part.now.name part.now find) keys.new.items }
+    ensures rising { IsTrue (rise own_key open_cmp keys.new.items) }
+    ensures len { vec_len keys.new ≤ vec_len keys.old + 1 }
+    ensures capacity { vec_capacity keys.old ≤ vec_capacity keys.new }
 {
-    unlist(open, replaced, part);
+    unlist(keys, replaced, part);
     let stands = part.is_listed(&part.material);
-    settle(open, OpenPart::of(part), stands);
+    settle(keys, OpenPart::of(part), stands);
 }
 
 // Lists a part where it stands, and not where it doesn't, in place of one of the same material, if there is one.
-fn list_in_place(open: &mut Vec<OpenPart>, part: &Part)
-    requires rising { IsTrue (rise own_key open_cmp open.old.items) }
-    requires room { vec_len open.old < vec_capacity open.old }
-    ensures lists { (find : Name → Option PartOf) → ListsParts find open.old.items → KeepsMaterial find part.now
-        → ListsParts (finds_with name_cmp part.now.name part.now find) open.new.items }
-    ensures rising { IsTrue (rise own_key open_cmp open.new.items) }
-    ensures len { vec_len open.new ≤ vec_len open.old + 1 }
-    ensures capacity { vec_capacity open.old ≤ vec_capacity open.new }
+fn list_in_place(keys: &mut Vec<OpenPart>, part: &Part)
+    requires rising { IsTrue (rise own_key open_cmp keys.old.items) }
+    requires room { vec_len keys.old < vec_capacity keys.old }
+    ensures lists { (find : Name → Option PartOf) → ListsParts find keys.old.items → KeepsMaterial find part.now
+        → ListsParts (finds_with name_cmp part.now.name part.now find) keys.new.items }
+    ensures rising { IsTrue (rise own_key open_cmp keys.new.items) }
+    ensures len { vec_len keys.new ≤ vec_len keys.old + 1 }
+    ensures capacity { vec_capacity keys.old ≤ vec_capacity keys.new }
 {
     let stands = part.is_listed(&part.material);
-    settle(open, OpenPart::of(part), stands);
+    settle(keys, OpenPart::of(part), stands);
 }
 
 /// Lists parts one after another, each where it stands, in place of one of the same material, if there is one.
-pub fn list_all(open: &mut Vec<OpenPart>, parts: &[Part])
-    requires rising { IsTrue (rise own_key open_cmp open.old.items) }
-    requires room { vec_len open.old + length parts.now ≤ vec_capacity open.old }
-    ensures lists { (find : Name → Option PartOf) → ListsParts find open.old.items → KeepMaterials find parts.now
-        → ListsParts (finds_with_all parts.now find) open.new.items }
-    ensures rising { IsTrue (rise own_key open_cmp open.new.items) }
+pub fn list_all(keys: &mut Vec<OpenPart>, parts: &[Part])
+    requires rising { IsTrue (rise own_key open_cmp keys.old.items) }
+    requires room { vec_len keys.old + length parts.now ≤ vec_capacity keys.old }
+    ensures lists { (find : Name → Option PartOf) → ListsParts find keys.old.items → KeepMaterials find parts.now
+        → ListsParts (finds_with_all parts.now find) keys.new.items }
+    ensures rising { IsTrue (rise own_key open_cmp keys.new.items) }
 {
     for part in parts {
-        list_in_place(open, part);
+        list_in_place(keys, part);
     }
 }
 
 // The keys from those of a material that are behind a name on.
-fn from_name(open: &[OpenPart], material: Code, after: Option<PartName>) -> &[OpenPart]
-    requires { IsTrue (rise own_key open_cmp open.now) }
-    ensures keys { result.now ≡ filter (λ key. not (is_passed material after key)) open.now }
+fn from_name(keys: &[OpenPart], material: Code, after: Option<PartName>) -> &[OpenPart]
+    requires { IsTrue (rise own_key open_cmp keys.now) }
+    ensures keys { result.now ≡ filter (λ key. not (is_passed material after key)) keys.now }
     ensures rising { IsTrue (rise own_key open_cmp result.now) }
 {
-    let from = open.partition_point(|key| key.is_passed(material, after));
-    &open[from..]
+    let from = keys.partition_point(|key| key.is_passed(material, after));
+    &keys[from..]
 }
 
 // The keys up to those of a material.
-fn upto_material(open: &[OpenPart], material: Code) -> &[OpenPart]
-    requires { IsTrue (rise own_key open_cmp open.now) }
-    ensures { result.now ≡ filter (is_upto material) open.now }
+fn upto_material(keys: &[OpenPart], material: Code) -> &[OpenPart]
+    requires { IsTrue (rise own_key open_cmp keys.now) }
+    ensures { result.now ≡ filter (is_upto material) keys.now }
 {
-    let len = open.partition_point(|key| key.is_upto(material));
-    &open[..len]
+    let len = keys.partition_point(|key| key.is_upto(material));
+    &keys[..len]
 }
 
 /// The keys of the standing parts of a material, those behind a name or all.
-pub fn names_behind(open: &[OpenPart], material: Code, after: Option<PartName>) -> &[OpenPart]
-    requires { IsTrue (rise own_key open_cmp open.now) }
-    ensures { result.now ≡ filter (is_after material after) open.now }
+pub fn names_behind(keys: &[OpenPart], material: Code, after: Option<PartName>) -> &[OpenPart]
+    requires { IsTrue (rise own_key open_cmp keys.now) }
+    ensures { result.now ≡ filter (is_after material after) keys.now }
 {
-    upto_material(from_name(open, material, after), material)
+    upto_material(from_name(keys, material, after), material)
 }

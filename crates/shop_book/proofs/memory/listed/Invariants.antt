@@ -1,7 +1,6 @@
 use Rattle.std.proofs.Common.{◌≡◌, take}
-use Rattle.std.specs.Prelude.{filter}
-use Rattle.shop_machine.specs.Content.{is_listed}
+use Rattle.shop_rows.specs.Open.{parts_named}
 use Rattle.shop_book.proofs.memory.listed.Given as goal
 
-abbrev pub invariant-loop-part : goal.invariant-loop-part
-invariant-loop-part l = l.rows ≡ filter (is_listed l.material) (take l.part-index l.parts)
+abbrev pub invariant-loop-key : goal.invariant-loop-key
+invariant-loop-key l = l.rows ≡ parts_named (take l.key-index l.keys) l.parts

@@ -21,8 +21,11 @@ loop-part-preserved c =
       totals = c.put_part.ensures.totals;
       small = c.put_part.ensures.small;
       sums = c.put_part.ensures.sums;
+      keys = c.put_part.ensures.keys;
+      listed = c.put_part.ensures.listed;
       parts_room = omega arith;
       totals_room = omega arith;
+      keys_room = omega arith;
       rest = ap (with_parts (drop (at + 1) rows))
           (put_is_insert name_cmp names_total part.name part (entries_of part_key name_cmp c.loop-part.parts.items) (entries_of part_key name_cmp c.put_part.new.parts.items) c.loop-part.invariant.parts c.put_part.ensures.put)
           ∙ ap (λ (ps : List Part). with_parts ps (map_of part_key name_cmp c.loop-part.parts.items)) (sym next) ∙ c.loop-part.invariant.rest;
@@ -39,4 +42,6 @@ returns c =
       totals = c.loop-part.invariant.totals;
       small = c.loop-part.invariant.small;
       sums = c.loop-part.invariant.sums;
+      keys = c.loop-part.invariant.keys;
+      listed = c.loop-part.invariant.listed;
     }

@@ -1,4 +1,4 @@
-use Rattle.std.proofs.Common.{◌≡◌, ◌+◌, List, refl, sym, ap, ◌∙◌, arith}
+use Rattle.std.proofs.Common.{◌≡◌, ℕ, ◌+◌, List, get_or, refl, sym, ap, ◌∙◌, arith}
 use Rattle.cut_measure.specs.Names.{name_cmp}
 use Rattle.shop_machine.specs.Content.{cells_in}
 use Rattle.shop_rows.specs.declared.sums.Sums.{Sums}
@@ -8,6 +8,12 @@ use Rattle.shop_rows.specs.Keys.{part_key, names_total}
 use Rattle.shop_book.proofs.Held.{map_after, parts_after}
 use Rattle.shop_rows.proofs.Summed.{added_all, cells_bounded}
 use Rattle.shop_book.proofs.Replaced.{cells-inserted, small-inserted}
+use Rattle.std.specs.Prelude.{All, IfSome, Option, Some, None}
+use Rattle.cut_measure.specs.Names.{Name}
+use Rattle.shop_machine.specs.declared.records.Part.{Part}
+use Rattle.shop_rows.specs.Open.{finds_with_all}
+use Rattle.shop_rows.specs.Rows.{row_at}
+use Rattle.shop_rows.proofs.Listed.{found_put_each, keep_one, lists_same}
 use Rattle.shop_book.proofs.memory.put_together.Goals as goal
 
 pub with_all-requires : goal.with_all-requires
@@ -40,3 +46,19 @@ returns-clause-sums c = λ _ column code.
     (c.in-Some-with_all.ensures.sums column ∙ ap (λ n. n + cells_in column own rows) before) in
     let run = c.put_run.ensures.run c.if-not-put_run.false in
     omega (arith, adds, c.requires.sums column code, cells-inserted column code c.args.parts.now.items rows run.0, ap (cells_in column code) run.1)
+
+pub returns-clause-listed : goal.returns-clause-listed
+returns-clause-listed c = λ _.
+    let rows = c.args.rows.now in
+    let old = c.args.parts.now.items in
+    let new = c.put_run.new.rows.items in
+    let before = λ (name : Name). row_at part_key name_cmp name old in
+    let absent = c.put_run.ensures.new c.if-not-put_run.false in
+    let own : All (λ (part : Part). part.material ≡ c.sums_of-before.result.code) rows = c.in-Some-with_all.ensures.own refl in
+    lists_same (finds_with_all rows before) (λ name. row_at part_key name_cmp name new) c.list_all.new.keys.items (found_put_each rows old new (c.put_run.ensures.put c.if-not-put_run.false))
+    (c.list_all.ensures.lists before c.requires.listed
+    (keep_one c.sums_of-before.result.code rows before (λ k d lt. none_of c.sums_of-before.result.code (row_at part_key name_cmp (get_or rows k d).name old) (absent k d lt)) own))
+  where
+    none_of : (code : List ℕ) (found : Option Part) → found ≡ None → IfSome found (λ part. part.material ≡ code)
+    none_of code None is = tt
+    none_of code (Some part) is = cc

@@ -10,7 +10,7 @@ use Rattle.shop_rows.proofs.open.from_name.Goals as goal
 
 pub returns-clause-keys : goal.returns-clause-keys
 returns-clause-keys c =
-    let keys = c.args.open.now in
+    let keys = c.args.keys.now in
     let test = is_passed c.args.material c.args.after in
     let i = c.partition_point-from.result in
     let point =
@@ -22,4 +22,4 @@ returns-clause-keys c =
 pub returns-clause-rising : goal.returns-clause-rising
 returns-clause-rising c =
     subst (λ (keys : List OpenPart). IsTrue (rise own_key open_cmp keys)) (sym (returns-clause-keys c))
-    (rise-filter open_cmp (λ key. not (is_passed c.args.material c.args.after key)) c.args.open.now c.requires)
+    (rise-filter open_cmp (λ key. not (is_passed c.args.material c.args.after key)) c.args.keys.now c.requires)

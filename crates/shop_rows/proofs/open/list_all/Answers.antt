@@ -15,7 +15,7 @@ loop-part-preserved c =
       rising = c.list_in_place.ensures.rising;
       room = omega arith;
       lists = λ find lists keep.
-          subst (λ (f : Name → Option Part). ListsParts f c.list_in_place.new.open.items)
+          subst (λ (f : Name → Option Part). ListsParts f c.list_in_place.new.keys.items)
           (sym (ap (λ n. finds_with_all (take n parts) find) (add-one i) ∙ finds_more parts i part find c.loop-part-test.true c.part-item.is))
           (c.list_in_place.ensures.lists (finds_with_all (take i parts) find) (c.loop-part.invariant.lists find lists keep) (keep_at parts i part find c.loop-part-test.true c.part-item.is keep));
     }
@@ -23,4 +23,4 @@ loop-part-preserved c =
 pub returns-clause-lists : goal.returns-clause-lists
 returns-clause-lists c = λ find lists keep.
     let parts = c.args.parts.now in
-    subst (λ ps. ListsParts (finds_with_all ps find) c.loop-part.open.items) (take_all c.loop-part.part-index parts c.loop-part-test.false) (c.loop-part.invariant.lists find lists keep)
+    subst (λ ps. ListsParts (finds_with_all ps find) c.loop-part.keys.items) (take_all c.loop-part.part-index parts c.loop-part-test.false) (c.loop-part.invariant.lists find lists keep)

@@ -9,7 +9,7 @@ use Rattle.shop_rows.proofs.open.list_all.Given as goal
 abbrev pub invariant-loop-part : goal.invariant-loop-part
 invariant-loop-part l =
     record {
-      rising : IsTrue (rise own_key open_cmp l.open.items);
-      room : vec_len l.open + (length l.parts - l.part-index) ≤ vec_capacity l.open;
-      lists : (find : Name → Option Part) → ListsParts find l.fn.open.items → KeepMaterials find l.parts → ListsParts (finds_with_all (take l.part-index l.parts) find) l.open.items;
+      rising : IsTrue (rise own_key open_cmp l.keys.items);
+      room : vec_len l.keys + (length l.parts - l.part-index) ≤ vec_capacity l.keys;
+      lists : (find : Name → Option Part) → ListsParts find l.fn.keys.items → KeepMaterials find l.parts → ListsParts (finds_with_all (take l.part-index l.parts) find) l.keys.items;
     }

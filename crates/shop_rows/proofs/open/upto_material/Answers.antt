@@ -6,7 +6,7 @@ use Rattle.shop_rows.proofs.open.upto_material.Goals as goal
 
 pub returns : goal.returns
 returns c =
-    let keys = c.args.open.now in
+    let keys = c.args.keys.now in
     let test = is_upto c.args.material in
     let point =
     IsPartitionPoint-from_clause test _ _ c.partition_point-len.ensures.partitioned

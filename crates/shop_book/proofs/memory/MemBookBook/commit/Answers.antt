@@ -29,6 +29,8 @@ invariant_of-self-2 c =
       imports = c.put_some-3.ensures.rising;
       small = c.put_parts.ensures.small;
       sums = c.put_parts.ensures.sums;
+      keys = c.put_parts.ensures.keys;
+      listed = c.put_parts.ensures.listed;
     }
 
 pub returns-clause-ok : goal.returns-clause-ok

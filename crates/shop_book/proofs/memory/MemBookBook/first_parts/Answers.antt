@@ -1,0 +1,18 @@
+use Rattle.std.proofs.Common.{◌≡◌, ap, take, ◌∙◌}
+use Rattle.std.specs.Prelude.{filter}
+use Rattle.shop_machine.specs.Listing.{parts_behind}
+use Rattle.shop_rows.specs.Open.{is_after, parts_named}
+use Rattle.shop_book.proofs.Handed.{first_named}
+use Rattle.shop_book.proofs.memory.MemBookBook.first_parts.Goals as goal
+
+pub returns-clause-rows : goal.returns-clause-rows
+returns-clause-rows c =
+    let code = c.args.material in
+    let after = c.args.after in
+    let most = c.args.most in
+    let book = c.self.inside in
+    let keys : c.first.result.now ≡ take most (filter (is_after code after) book.lists.parts.items) =
+    c.first.ensures ∙ ap (take most) (c.names_behind-keys.ensures ∙ ap (filter (is_after code after)) c.deref.ensures.value) in
+    c.in_ok-rows.ensures ∙ (λ i. parts_named (keys i) (c.deref-2.ensures.value i))
+    ∙ first_named code book.lists.parts.items book.parts.items c.self.invariant.keys c.self.invariant.parts c.self.invariant.listed after most
+    ∙ ap (λ book. take most (parts_behind book.content code after)) c.self.view_is
