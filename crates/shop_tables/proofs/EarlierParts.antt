@@ -1,5 +1,5 @@
 -- The parts that a visitor was handed of tables of version 1.
-use Rattle.std.proofs.Common.{◌≡◌, ℕ, Bool, List, [], Result, IfOk}
+use Rattle.std.proofs.Common.{◌≡◌, Bool, [], Result, IfOk}
 use Rattle.std.specs.FinMap.{values}
 use Rattle.sqlite_trees.specs.declared.store.Store.{Ghosts}
 use Rattle.sqlite.specs.Held.{Held, state}

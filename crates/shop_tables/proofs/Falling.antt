@@ -1,5 +1,5 @@
 -- The row with the greatest number, which a query by falling numbers shows first.
-use Rattle.std.proofs.Common.{◌≡◌, ◌⊎◌, ◌≤◌, ℕ, pos, Bool, true, false, List, [], ◌∷◌, map, drop, filter, take, inl, inr, refl, sym, ap, subst, ◌∙◌, arith, IsPermutation, IsSorted}
+use Rattle.std.proofs.Common.{◌≡◌, ◌⊎◌, ◌≤◌, ℕ, pos, Bool, false, List, [], ◌∷◌, map, drop, filter, take, inl, inr, refl, sym, ap, subst, ◌∙◌, arith, IsPermutation, IsSorted}
 use Rattle.std.specs.List.{AllByRecursion, list_all}
 use Rattle.std.specs.declared.cmp.Ordering.{Ordering}
 use Rattle.std.specs.Ordering.{is_lt, nat_cmp}

@@ -1,8 +1,7 @@
 -- What the queries that list the first parts of a material give of the books.
 use Rattle.std.proofs.Common.{◌≡◌, ℕ, pos, Bool, true, false, cond, ◌&&◌, ◌||◌, nat_le, nat_lt, List, [], ◌∷◌, map, filter, take, Option, Some, None, refl, sym, ap, ◌∙◌, arith}
-use Rattle.std.specs.List.{list_all}
 use Rattle.std.specs.Ordering.{is_ge, is_gt, is_lt, nat_cmp, ordering_then}
-use Rattle.std.specs.FinMap.{entries, values}
+use Rattle.std.specs.FinMap.{values}
 use Rattle.std.proofs.lemmas.Bool.Decides.{nat_tests}
 use Rattle.std.proofs.lemmas.List.{take-map}
 use Rattle.sqlite_value.specs.declared.keys.Collation.TheVariants.{Binary}
@@ -17,7 +16,7 @@ use Rattle.sqlite.specs.Program.{IsProgramAnswer}
 use Rattle.sqlite.specs.State.{State, Shown}
 use Rattle.sqlite.specs.Term.{Term, eval, holds}
 use Rattle.sqlite.proofs.Callers.{reads_as}
-use Rattle.cut_measure.specs.Names.{Name, name_cmp}
+use Rattle.cut_measure.specs.Names.{Name}
 use Rattle.shop_machine.specs.Content.{is_listed, parts_of}
 use Rattle.shop_machine.specs.Listing.{is_behind, parts_behind}
 use Rattle.shop_machine.specs.declared.records.Part.{Part}
@@ -28,9 +27,8 @@ use Rattle.shop_tables.proofs.Finding.{name_same, name_total}
 use Rattle.shop_tables.proofs.Firsts.{first_answer, of_values}
 use Rattle.shop_tables.proofs.Keys.{and_true, equal, told}
 use Rattle.shop_tables.proofs.Listed.{by_output, either_state, listed, listed_later, part_out, ranked, shown_later, stands_of, two, whole}
-use Rattle.shop_tables.proofs.ListTexts.{first_of, first_parts_is, first_parts_text, parts_behind_is, parts_behind_tests, parts_behind_text}
+use Rattle.shop_tables.proofs.ListTexts.{first_parts_is, first_parts_text, parts_behind_is, parts_behind_tests, parts_behind_text}
 use Rattle.shop_tables.proofs.Ordered.{filter_true, in_order}
-use Rattle.shop_tables.proofs.Terms.{from_table}
 use Rattle.shop_tables.proofs.Texts.{parts_of_order, parts_of_terms, parts_of_tests, shop, shop_is}
 
 -- ---- a name behind another one

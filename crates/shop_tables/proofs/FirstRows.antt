@@ -1,8 +1,8 @@
 -- What the queries that list rows give of the books.
-use Rattle.std.proofs.Common.{◌≡◌, ℕ, pos, Bool, true, false, ◌&&◌, ◌==◌, nat_lt, List, [], ◌∷◌, ◌++◌, map, drop, filter, take, Option, Some, None, Result, IfOk, Vec, refl, sym, ap, ◌∙◌, arith}
+use Rattle.std.proofs.Common.{◌≡◌, ℕ, pos, Bool, true, false, ◌&&◌, ◌==◌, nat_lt, List, [], ◌∷◌, ◌++◌, map, drop, filter, take, Some, None, Result, IfOk, Vec, refl, sym, ap, ◌∙◌, arith}
 use Rattle.std.specs.List.{list_all}
 use Rattle.std.specs.declared.alloc.Global.{Global}
-use Rattle.std.specs.Ordering.{is_eq, is_gt, is_lt, nat_cmp, ordering_then}
+use Rattle.std.specs.Ordering.{is_gt, is_lt, nat_cmp, ordering_then}
 use Rattle.std.specs.declared.cmp.Ordering.TheVariants.{Equal}
 use Rattle.std.specs.Cmp.{nat_cmp_total}
 use Rattle.std.specs.FinMap.{nat_cmp-IsAntisymmetric, values}
@@ -11,7 +11,7 @@ use Rattle.std.proofs.lemmas.List.{take-map}
 use Rattle.std.proofs.lemmas.Result.{IfOk-weaker}
 use Rattle.sqlite_value.specs.declared.keys.Collation.TheVariants.{Binary}
 use Rattle.sqlite_value.specs.declared.value.Value.{Value}
-use Rattle.sqlite_value.specs.declared.value.Value.TheVariants.{Int, Null, Text}
+use Rattle.sqlite_value.specs.declared.value.Value.TheVariants.{Int, Text}
 use Rattle.sqlite_value.specs.Order.{Row, column, value_cmp}
 use Rattle.sqlite_value.proofs.OrderLemmas.{then-Equal}
 use Rattle.sqlite_sql.specs.declared.ops.BinaryOp.TheVariants.{Compare}
@@ -25,7 +25,6 @@ use Rattle.sqlite.specs.Term.{Term, col, eval, holds}
 use Rattle.sqlite.specs.Schema.{Schema}
 use Rattle.sqlite.specs.State.{State, HasCleanDisk, Shown}
 use Rattle.sqlite.proofs.Callers.{reads_as}
-use Rattle.cut_measure.specs.Codes.{code_cmp}
 use Rattle.shop_machine.specs.Columns.{is_waiting}
 use Rattle.shop_machine.specs.Listing.{is_asked_for, is_open, materials_of, open_demands, waiting_jobs}
 use Rattle.shop_machine.specs.declared.records.Demand.{Demand}
@@ -35,13 +34,13 @@ use Rattle.shop_machine.specs.declared.records.JobState.TheVariants as stands
 use Rattle.shop_machine.specs.declared.records.Material.{Material}
 use Rattle.shop_tables.specs.Listing.{code_row}
 use Rattle.shop_tables.specs.ListedRows.{listed_demand, listed_material, number_row}
-use Rattle.shop_tables.specs.Rows.{demand_columns, demand_row, job_columns, job_row, job_state_number, material_columns, material_row}
+use Rattle.shop_tables.specs.Rows.{demand_columns, demand_row, job_row, job_state_number, material_columns, material_row}
 use Rattle.shop_tables.specs.Selecting.{is_select}
 use Rattle.shop_tables.specs.Shown.{Books, Holds, Leaves, Shows}
 use Rattle.shop_tables.proofs.Finding.{code_same, code_total}
 use Rattle.shop_tables.proofs.Firsts.{first_answer, of_values}
 use Rattle.shop_tables.proofs.Kept.{shown_open}
-use Rattle.shop_tables.proofs.Keys.{and_true, equal, equal-Int, equal-Text, same_number, told}
+use Rattle.shop_tables.proofs.Keys.{and_true, equal-Int, equal-Text, same_number, told}
 use Rattle.shop_tables.proofs.Listed.{ranked}
 use Rattle.shop_tables.proofs.Lists.{map-map}
 use Rattle.shop_tables.proofs.ListTexts.{all_materials_text, all_materials_terms, all_materials_is, by_rowid, first_of, open_demands_text, open_demands_terms, open_demands_tests, open_demands_is, open_demands_of_text, open_demands_of_tests, open_demands_of_is, waiting_jobs_text, waiting_jobs_terms, waiting_jobs_tests, waiting_jobs_is}

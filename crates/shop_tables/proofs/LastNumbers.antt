@@ -1,7 +1,7 @@
 -- The greatest number under which a message of a terminal is kept.
-use Rattle.std.proofs.Common.{◌≡◌, ◌⊎◌, ◌≤◌, ◌&&◌, ◌==◌, ℕ, pos, Bool, true, false, cond, List, [], ◌∷◌, map, drop, filter, take, Option, Some, None, IsSome, is_some, inl, inr, refl, sym, ap, subst, ◌∙◌, arith}
+use Rattle.std.proofs.Common.{◌≡◌, ◌⊎◌, ◌≤◌, ◌&&◌, ◌==◌, ℕ, pos, Bool, true, false, cond, List, [], ◌∷◌, drop, filter, Option, Some, None, IsSome, is_some, inl, inr, refl, sym, ap, subst, ◌∙◌, arith}
 use Rattle.std.specs.List.{AllByRecursion}
-use Rattle.std.specs.Ordering.{eq_by_cmp, is_eq, nat_cmp}
+use Rattle.std.specs.Ordering.{eq_by_cmp}
 use Rattle.std.specs.FinMap.{entries, get}
 use Rattle.std.specs.Option.{option_to_list}
 use Rattle.sqlite_value.specs.declared.value.Value.TheVariants.{Int}

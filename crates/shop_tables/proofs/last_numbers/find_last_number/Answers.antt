@@ -1,6 +1,5 @@
-use Rattle.std.proofs.Common.{◌≡◌, pos, sym, subst, ◌∙◌, ap}
+use Rattle.std.proofs.Common.{sym, subst, ◌∙◌, ap}
 use Rattle.std.proofs.lemmas.Result.{IfOk-weaker}
-use Rattle.sqlite_value.specs.declared.value.Value.TheVariants.{Int}
 use Rattle.sqlite_value.specs.Order.{Row, column}
 use Rattle.shop_machine.specs.Listing.{IsLastNumber}
 use Rattle.shop_tables.proofs.Reading.{one_number}

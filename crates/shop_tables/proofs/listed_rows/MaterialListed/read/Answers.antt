@@ -1,7 +1,6 @@
 use Rattle.std.proofs.Common.{◌≡◌}
 use Rattle.sqlite_value.specs.declared.value.Value.TheVariants.{Text}
 use Rattle.sqlite_value.specs.Order.{column}
-use Rattle.shop_machine.specs.declared.records.Material.{Material}
 use Rattle.shop_tables.specs.Listing.{code_row}
 use Rattle.shop_tables.specs.ListedRows.{listed_material}
 use Rattle.shop_tables.proofs.listed_rows.MaterialListed.read.Goals as goal
