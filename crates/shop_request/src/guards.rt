@@ -104,12 +104,11 @@ impl Guard {
         let [first, rest @ ..] = headers else {
             return false;
         };
-        if is_name(first.name.of(buf), mark_name(mark))
-            && self.is_strange(mark, first.value.of(buf))
-        {
-            return true;
+        let others = self.has_strange(mark, buf, rest);
+        if !is_name(first.name.of(buf), mark_name(mark)) {
+            return others;
         }
-        self.has_strange(mark, buf, rest)
+        self.is_strange(mark, first.value.of(buf)) || others
     }
 
     // Whether fields tell a strange request.

@@ -1,5 +1,5 @@
 -- The program's command line, in the words of `clap`: its commands, and what they ask for.
-use Rattle.std.specs.Prelude.{◌≡◌, ◌≤◌, ℕ, List, ◌∷◌, [], Option, Some, None, codes, false, true, pos, ⊤, option_map}
+use Rattle.std.specs.Prelude.{◌≡◌, ◌≤◌, ℕ, List, ◌∷◌, [], Option, Some, None, codes, false, true, pos, ⊤, option_map, is_some, ◌||◌, Bool}
 use Rattle.std.specs.Str.Parse.{IsNumeral, digits_value, without_leading_plus}
 use Rattle.clap.specs.Words.{App, Row, Rule, Text, app_of, new_app, new_rule, rule_of, with_rule, with_subcommand, first_of, one_of}
 use Rattle.clap.specs.declared.builder.arg.Arg.{Arg}
@@ -184,13 +184,14 @@ IsImportAs rows told =
     IsCode (first_of (codes "order") rows) told.order × HasNumber (codes "terminal") rows 1 MOST_PAIR told.terminal
     × HasNumber (codes "number") rows 0 MOST_PAIR told.number
 
--- none of these options is there
-abbrev pub IsBare : List Row → Type 0
-IsBare rows = (first_of (codes "order") rows ≡ None) × (first_of (codes "terminal") rows ≡ None) × (first_of (codes "number") rows ≡ None)
+-- one of these options is there
+abbrev pub names_message : List Row → Bool
+names_message rows =
+    is_some (first_of (codes "order") rows) || is_some (first_of (codes "terminal") rows) || is_some (first_of (codes "number") rows)
 
 -- the options come together, or not at all
 abbrev pub IsOrdersAsked : List Row → Request → Type 0
-IsOrdersAsked rows (Orders file None) = (first_of (codes "FILE") rows ≡ Some file.now) × IsBare rows
+IsOrdersAsked rows (Orders file None) = (first_of (codes "FILE") rows ≡ Some file.now) × (names_message rows ≡ false)
 IsOrdersAsked rows (Orders file (Some told)) = (first_of (codes "FILE") rows ≡ Some file.now) × IsImportAs rows told
 IsOrdersAsked rows _ = ⊥
 

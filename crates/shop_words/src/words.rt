@@ -1,5 +1,5 @@
-ghost use Rattle.std.specs.Prelude.{◌≡◌, ◌≤◌, ◌↔◌, ℕ, [], IsTrue, IfOk, IfErr, MatchOption, map, string_bytes};
-ghost use Rattle.clap.specs.Words.{app_of, rows_of, found_of, subcommand_of, subcommand_rows_of};
+ghost use Rattle.std.specs.Prelude.{◌≡◌, ◌≤◌, ℕ, [], is_some, IfOk, IfErr, MatchOption, map, string_bytes};
+ghost use Rattle.clap.specs.Words.{app_of, first_of, rows_of, found_of, subcommand_of, subcommand_rows_of};
 ghost use Rattle.clap.specs.Kinds.{HasKind};
 ghost use Rattle.clap.specs.Faults.{fault_of};
 ghost use Rattle.shop_words.specs.CommandLine as line;
@@ -483,20 +483,25 @@ fn import_as(orders: &ArgMatches<'_>) -> Option<ImportAs>
     })
 }
 
-// Whether none of the three options is there.
-fn is_bare(orders: &ArgMatches<'_>) -> bool
-    ensures { IsTrue result ↔ line.IsBare (rows_of (found_of orders.now)) }
+// Whether there is an option of this name.
+fn has_option(matches: &ArgMatches<'_>, name: &str) -> bool
+    ensures { result ≡ is_some (first_of name.now (rows_of (found_of matches.now))) }
 {
-    orders.get_str("order").is_none()
-        && orders.get_str("terminal").is_none()
-        && orders.get_str("number").is_none()
+    matches.get_str(name).is_some()
+}
+
+// Whether one of the three options is there.
+fn names_message(orders: &ArgMatches<'_>) -> bool
+    ensures { result ≡ line.names_message (rows_of (found_of orders.now)) }
+{
+    has_option(orders, "order") || has_option(orders, "terminal") || has_option(orders, "number")
 }
 
 fn orders_request<'a>(orders: &ArgMatches<'a>) -> Option<Request<'a>>
     ensures { MatchOption result ((request : Request) → line.IsOrdersAsked (rows_of (found_of orders.now)) request → ⊥) (line.IsOrdersAsked (rows_of (found_of orders.now))) }
 {
     let file = orders.get_str("FILE")?;
-    if is_bare(orders) {
+    if !names_message(orders) {
         return Some(Request::Orders { file, told: None });
     }
     let told = import_as(orders)?;
