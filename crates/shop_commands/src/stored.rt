@@ -191,7 +191,7 @@ fn accepted<R: Net<Listener = TcpListener, Stream = TcpStream> + Clock, B: Book>
     book: &mut B,
 ) -> Result<(), Fault>
     ensures ok { OnOk result (HasServed site.now B.Book book.old book.new limit) }
-    ensures err { IfErr result (IsUnaccepted site.now B.Book book.old book.new limit) }
+    ensures err { IfErr result (IsUnaccepted B.Book site.now book.old book.new limit) }
 {
     match serve_on(rt, alloc, listener, limit, site, book) {
         Ok(()) => Ok(()),
@@ -211,8 +211,8 @@ fn serve_book<R: Net<Listener = TcpListener, Stream = TcpStream> + Clock, B: Boo
     book: &mut B,
 ) -> Result<(), Fault>
     requires { length entries.now ≤ MOST_ENTRIES }
-    ensures ok { OnOk result (IsBookServed site.now B.Book book.old book.new entries.now port limit (W.held sink.old) (W.held sink.new)) }
-    ensures err { IfErr result (λ f. IsBookUnserved site.now B.Book book.old book.new entries.now port limit f (W.held sink.old) (W.held sink.new) (W.failed sink.old) (W.failed sink.new)) }
+    ensures ok { OnOk result (IsBookServed B.Book site.now book.old book.new entries.now port limit (W.held sink.old) (W.held sink.new)) }
+    ensures err { IfErr result (λ f. IsBookUnserved B.Book site.now book.old book.new entries.now port limit f (W.held sink.old) (W.held sink.new) (W.failed sink.old) (W.failed sink.new)) }
 {
     added(alloc, book, entries)?;
     let listener = announced(rt, alloc, port, sink)?;

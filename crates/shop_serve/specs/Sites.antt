@@ -1,5 +1,5 @@
 -- What a site answers by itself: to requests of other sites, and for its page.
-use Rattle.std.specs.Prelude.{◌≡◌, ℕ, List, [], ◌∷◌, ◌++◌, length, Option, Some, None, true, false, codes, decimal}
+use Rattle.std.specs.Prelude.{◌≡◌, ℕ, List, [], ◌∷◌, ◌++◌, length, Option, Some, None, Bool, true, false, codes, decimal}
 use Rattle.shop_request.specs.declared.faults.Fault.TheVariants as faults
 use Rattle.shop_request.specs.declared.guards.Ruling.{Ruling}
 use Rattle.shop_request.specs.declared.guards.Ruling.TheVariants.{Routed, Forbidden, Page, OnlyGet}
@@ -24,6 +24,11 @@ page_fields = codes "\r\nContent-Security-Policy: default-src 'none'; script-src
 
 abbrev pub page_bytes : List ℕ → List ℕ
 page_bytes page = page_start ++ decimal (length page) ++ page_fields ++ page
+
+-- whether a request goes to its route
+abbrev pub is_routed : Ruling → Bool
+is_routed Routed = true
+is_routed _ = false
 
 -- what a site answers by itself
 abbrev pub own_bytes : Site → Ruling → List ℕ

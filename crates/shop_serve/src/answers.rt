@@ -4,12 +4,12 @@ ghost use Rattle.shop_request.specs.declared.guards.Ruling.TheVariants as ruling
 ghost use Rattle.shop_request.specs.declared.faults.Fault.TheVariants as faults;
 ghost use Rattle.shop_wire.specs.AnswerBytes.{answer_bytes, fault_answer};
 ghost use Rattle.shop_wire.specs.Serves.{IsServed};
-ghost use Rattle.shop_serve.specs.Serving.{HasServed, HasServedRouted, IsAnswered};
-ghost use Rattle.shop_serve.specs.Sites.{forbidden_bytes, own_bytes, page_bytes};
+ghost use Rattle.shop_serve.specs.Serving.{HasServed, IsAnswered};
+ghost use Rattle.shop_serve.specs.Sites.{is_routed, own_bytes, page_bytes, page_fields, page_start};
 
 use crate::sites::Site;
 use shop_book::Book;
-use shop_request::{Routes, Ruling};
+use shop_request::Ruling;
 use shop_text::{Counted, Failed, Sink};
 use shop_wire::serve_with;
 use std::alloc::{AllocError, Global};
@@ -56,13 +56,14 @@ impl Sink for Answer {
 // Serves the bytes that came at their route, and gives the whole answer.
 fn routed_answer<B: Book>(
     alloc: Global,
-    routes: &Routes,
+    site: &Site,
     came: &[u8],
     book: &mut B,
 ) -> Option<Vec<u8>>
-    requires { 0 < length came.now }
+    requires some { 0 < length came.now }
+    requires goes { HasRuling site.now.guard.port site.now.guard.has_page came.now ruling.Routed }
     ensures told { IfSome result (λ answer. IsServed B.Book book.old book.new (Some came.now) (Some []) (Some answer.items) []) }
-    ensures step { HasServedRouted B.Book book.old book.new came.now }
+    ensures step { HasServed site.now B.Book book.old book.new 1 }
     ensures honest { B.is_honest book.new → B.is_honest book.old }
 {
     let mut source = Counted::new(came);
@@ -70,7 +71,7 @@ fn routed_answer<B: Book>(
         bytes: Vec::new(alloc),
         failures: 0,
     };
-    match serve_with(alloc, routes, &mut source, &mut sink, book) {
+    match serve_with(alloc, &site.routes, &mut source, &mut sink, book) {
         Ok(()) => Some(sink.bytes),
         Err(_) => None,
     }
@@ -78,6 +79,7 @@ fn routed_answer<B: Book>(
 
 // The text that a page's answer has before and behind its length.
 fn page_head(alloc: Global, length: usize) -> Result<String, AllocError>
+    ensures { IfOk result (λ text. string_bytes text ≡ page_start ++ decimal length ++ page_fields) }
 {
     format!(in alloc; "{PAGE_START}{length}{PAGE_FIELDS}")
 }
@@ -90,6 +92,13 @@ fn page_answer(alloc: Global, page: &[u8]) -> Result<Vec<u8>, AllocError>
     let mut bytes = Vec::from_slice(alloc, head.as_bytes())?;
     bytes.extend_from_slice(page)?;
     Ok(bytes)
+}
+
+// Whether a request goes to its route.
+fn is_routed(ruling: Ruling) -> bool
+    ensures { result ≡ is_routed ruling }
+{
+    matches!(ruling, Ruling::Routed)
 }
 
 // What the site answers by itself.
@@ -118,8 +127,8 @@ pub(crate) fn answer_of<B: Book>(
     ensures honest { B.is_honest book.new → B.is_honest book.old }
 {
     let ruling = site.guard.rule(came);
-    if ruling == Ruling::Routed {
-        return routed_answer(alloc, &site.routes, came, book);
+    if is_routed(ruling) {
+        return routed_answer(alloc, site, came, book);
     }
     match own_answer(alloc, site, ruling) {
         Ok(answer) => Some(answer),

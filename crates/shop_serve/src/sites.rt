@@ -1,4 +1,4 @@
-ghost use Rattle.std.specs.Prelude.{◌≡◌, ◌×◌, IfOk, IfSome, IfNone, MatchOption, true, false};
+ghost use Rattle.std.specs.Prelude.{◌≡◌, IfOk, option_map};
 
 use shop_request::{Guard, Routes};
 use std::alloc::{AllocError, Global};
@@ -17,7 +17,7 @@ impl Site {
     /// The site of a port, with a page of these bytes, or without one. The only error is want of memory.
     pub fn new(alloc: Global, port: u32, page: Option<Vec<u8>>) -> Result<Site, AllocError>
         ensures port { IfOk result (λ site. site.guard.port ≡ port) }
-        ensures page { IfOk result (λ site. HasPage site page) }
+        ensures page { IfOk result (λ site. HasPage site (option_map (λ p. p.items) page)) }
     {
         let routes = Routes::new(alloc)?;
         match page {
