@@ -3,6 +3,7 @@
 
 mod faults;
 mod files;
+mod orders;
 mod performing;
 mod plans;
 mod replays;
