@@ -4,3 +4,4 @@ pub mod Orders
 pub mod Plans
 pub mod Stored
 pub mod Performs
+pub mod Limits

@@ -3,10 +3,12 @@
 
 mod faults;
 mod files;
+mod limits;
 mod orders;
 mod performing;
 mod plans;
 mod replays;
 mod stored;
 
+pub use limits::limits_have_numbers;
 pub use performing::perform;

@@ -1,0 +1,51 @@
+-- The number of each limit, said once: definitions cite the constants of the code, and these are their numbers.
+use Rattle.std.specs.Prelude.{◌≡◌}
+use Rattle.cut_measure.specs.declared.ranges.TheConstants.{MOST_WIDTH, MOST_HEIGHT, MOST_KERF, MOST_NUMBERS, MOST_COUNT, MOST_WORTH, LONGEST_CODE}
+use Rattle.cut_tree.specs.declared.token.TheConstants.{MOST_CUTS}
+use Rattle.cut_table.specs.declared.bar.TheConstants.{LONGEST_BAR}
+use Rattle.cut_table.specs.declared.sheet.TheConstants.{MOST_STEPS}
+use Rattle.cut_plan.specs.declared.faults.TheConstants.{MOST_WANTS}
+use Rattle.shop_files.specs.declared.limits.TheConstants.{LONGEST_TEXT, MOST_PIECES, MOST_LINES, MOST_ENTRIES}
+use Rattle.shop_machine.specs.declared.receiving.TheConstants.{MOST_RECEIVED, MOST_UNITS}
+use Rattle.shop_book.specs.declared.books.TheConstants.{MOST_FAILURES}
+use Rattle.shop_request.specs.Heads.{most_head, most_fields, most_body}
+use Rattle.shop_wire.specs.declared.limits.TheConstants.{MOST_READS, LONGEST_LINE, MOST_HELD}
+
+-- sides of a unit or a piece, a kerf, in tenths of a millimetre, and a code's characters
+pub record AreMeasures : Type 0 where
+  pub width : MOST_WIDTH ≡ 200000
+  pub height : MOST_HEIGHT ≡ 60000
+  pub kerf : MOST_KERF ≡ 200
+  pub code : LONGEST_CODE ≡ 16
+
+-- cuts of a tree, wants of a plan or a bound, a bar for the planner, and steps of a sheet's side
+pub record ArePlans : Type 0 where
+  pub cuts : MOST_CUTS ≡ 255
+  pub wants : MOST_WANTS ≡ 40
+  pub bar : LONGEST_BAR ≡ 150000
+  pub steps : MOST_STEPS ≡ 500
+
+-- bytes of a problem, order or shop text, pieces of a problem, lines of an order, entries of a shop
+pub record AreFiles : Type 0 where
+  pub text : LONGEST_TEXT ≡ 65536
+  pub pieces : MOST_PIECES ≡ 200
+  pub lines : MOST_LINES ≡ 200
+  pub entries : MOST_ENTRIES ≡ 1000
+
+-- acts and demands, units of a receipt, cells received of a material, count and worth of a line, and counted failures
+pub record AreCounts : Type 0 where
+  pub numbers : MOST_NUMBERS ≡ 2147483647
+  pub units : MOST_UNITS ≡ 100
+  pub received : MOST_RECEIVED ≡ 1000000000000000
+  pub count : MOST_COUNT ≡ 1000000
+  pub worth : MOST_WORTH ≡ 1000000000
+  pub failures : MOST_FAILURES ≡ 18446744073709551615
+
+-- reads of a replay, bytes of a line, bytes of replies that are held; bytes and fields of a head, bytes of a body
+pub record AreStreams : Type 0 where
+  pub reads : MOST_READS ≡ 1000000000
+  pub line : LONGEST_LINE ≡ 131072
+  pub held : MOST_HELD ≡ 65536
+  pub head : most_head ≡ 8192
+  pub fields : most_fields ≡ 64
+  pub body : most_body ≡ 131072
