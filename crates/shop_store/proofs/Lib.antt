@@ -7,3 +7,4 @@ pub mod Adopting
 pub mod Checked
 pub mod EarlierContents
 pub mod Renewals
+pub mod Commits

@@ -2,3 +2,4 @@ pub mod SqlBooks
 pub mod EarlierBooks
 pub mod Takers
 pub mod Checking
+pub mod Crashes

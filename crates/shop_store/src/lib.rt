@@ -7,7 +7,7 @@ mod reopening;
 mod sql;
 mod takers;
 
-pub use reopening::{left_renewals_are_found, reopen_book};
+pub use reopening::{left_commits_are_found, left_renewals_are_found, reopen_book};
 pub use shop_book::{Book, BookFault, MOST_FAILURES, MemBook};
 pub use shop_machine::PartVisitor;
 pub use sql::SqlBook;

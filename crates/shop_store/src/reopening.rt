@@ -1,6 +1,6 @@
 //! A book over files that is closed and opened again.
 
-ghost use Rattle.std.specs.Prelude.{◌≡◌, IfSome, IsTrue};
+ghost use Rattle.std.specs.Prelude.{◌≡◌, ◌⊎◌, IfSome, IsTrue};
 ghost use Rattle.sqlite.specs.Closing.{IsCopied};
 ghost use Rattle.sqlite.specs.Files.{file_state, image_of, IsOpened, Finds};
 ghost use Rattle.sqlite.specs.Held.{Held, AreDatabases};
@@ -12,8 +12,9 @@ ghost use Rattle.sqlite_trees.specs.Tree.{Trees};
 ghost use Rattle.sqlite_wal.specs.Reads.{AreClean};
 ghost use Rattle.sqlite_wal.specs.Recovery.{Image};
 ghost use Rattle.shop_machine.specs.Content.{Content};
+ghost use Rattle.shop_store.specs.Crashes.{IsFoundAfter};
 ghost use Rattle.shop_store.specs.EarlierBooks.{IsSettledEarlierAt, IsSettledEitherAt};
-ghost use Rattle.shop_tables.specs.Held.{HoldsContent, StandsFor};
+ghost use Rattle.shop_tables.specs.Held.{HoldsContent, IsSettledAt, LeavesOnly, StandsFor};
 
 use crate::SqlBook;
 use sqlite::{Connection, FileStore, Files, Options};
@@ -63,4 +64,18 @@ pub fn left_renewals_are_found<D: Disk>()
         → (left : Image) → (store.state it).may_leave left → (files : FilesOf D) → image_of D.Disk files ≡ left
         → (new : Held (StoreOf D D.Disk)) → IsOpened new → Finds files new
         → ∥ IsSettledEitherAt (file_state new) m ∥₁ }
+{}
+
+/// What a crash in a commit leaves is found again. A connection that is settled at a content leaves that content alone, and
+/// so does one of which `after`, `held_after` or `renewed_after` of an adopt or `lasts` of a commit says it. A commit on it
+/// of a change to the next content came to any exit (its clause `crash`): a connection that opened on files with what a crash
+/// then leaves is settled at the content before or at the next, and after an `Ok` (its clause `lasts`) at the next. So a book
+/// that is adopted from it holds that content.
+pub fn left_commits_are_found<D: Disk>()
+    ensures settled { (at : Held (StoreOf D D.Disk)) (m : Content) → IsTrue (file_state at).is_open → IsSettledAt (file_state at) m → LeavesOnly (file_state at) m }
+    ensures either { (old last new : Held (StoreOf D D.Disk)) (m next : Content) → HasCleanDisk (file_state old) → LeavesOnly (file_state old) m
+        → ((db : Trees) → (file_state last).may_leave db → (file_state old).may_leave db ⊎ StandsFor db next) → IsFoundAfter last new
+        → ∥ (IsSettledAt (file_state new) m ⊎ IsSettledAt (file_state new) next) ∥₁ }
+    ensures only { (last new : Held (StoreOf D D.Disk)) (next : Content) → HasCleanDisk (file_state last) → LeavesOnly (file_state last) next → IsFoundAfter last new
+        → ∥ IsSettledAt (file_state new) next ∥₁ }
 {}

@@ -1,14 +1,15 @@
-ghost use Rattle.std.specs.Prelude.{◌≡◌, ◌≢◌, ◌+◌, ◌≤◌, false, Err, IfOk, IfErr, OnOk, OnErr, unwrap_or};
+ghost use Rattle.std.specs.Prelude.{◌≡◌, ◌≢◌, ◌+◌, ◌≤◌, false, true, Err, IfOk, IfErr, IsTrue, OnOk, OnErr, unwrap_or};
 ghost use Rattle.std.specs.FinMap.{get};
 ghost use Rattle.sqlite.specs.Held.{state};
 ghost use Rattle.sqlite.specs.State.{HasCleanDisk, Survives};
 ghost use Rattle.sqlite.specs.Steps.{over_memory};
 ghost use Rattle.shop_machine.specs.Content.{Content, no_totals as nothing, parts_of, fresh};
-ghost use Rattle.shop_tables.specs.Adopting.{IsVacant};
+ghost use Rattle.shop_tables.specs.Adopting.{HasVersion, IsVacant, names_are_free};
+ghost use Rattle.shop_tables.specs.Earlier.{earlier_schema};
 ghost use Rattle.shop_tables.specs.Held.{HoldsContent, IsSettledAt, LeavesOnly, StandsFor};
 ghost use Rattle.shop_tables.specs.Layout.{no_schema, IsShop};
 ghost use Rattle.shop_tables.specs.Changing.{HasSums};
-ghost use Rattle.shop_tables.specs.Shown.{Books, Holds, IsSettled, Leaves, Says};
+ghost use Rattle.shop_tables.specs.Shown.{Books, HasShopSchema, Holds, IsSettled, Leaves, Says};
 ghost use Rattle.shop_store.specs.EarlierBooks.{HoldsEarlierContent, IsSettledEarlierAt};
 ghost use Rattle.shop_book.specs.Failures.{CountsFailure};
 ghost use Rattle.shop_store.specs.SqlBooks.{adopt_fault, book_fault, told as as_told, EitherWay};
@@ -145,6 +146,7 @@ fn renew<S: Alter>(alloc: Global, conn: &mut Connection<S>) -> Result<(), BookFa
     ensures as_before { (m : Content) → HoldsEarlierContent (state S.Store conn.old) m → OnErr result (HoldsEarlierContent (state S.Store conn.new) m) }
     ensures crash { (m : Content) → HoldsEarlierContent (state S.Store conn.old) m → Survives (state S.Store conn.old) (state S.Store conn.new) (λ db. StandsFor db m) }
     ensures after { (m : Content) → HoldsEarlierContent (state S.Store conn.old) m → OnOk result (LeavesOnly (state S.Store conn.new) m) }
+    ensures schema { (m : Content) → HoldsEarlierContent (state S.Store conn.old) m → OnOk result (HasShopSchema (state S.Store conn.new)) }
     ensures unwritten { result ≡ Err WrongVersion → Leaves (state S.Store conn.old) (state S.Store conn.new) }
     ensures neither { result ≡ Err WrongVersion → HasCleanDisk (state S.Store conn.new) → (m : Content) → HoldsEarlierContent (state S.Store conn.old) m → ⊥ }
 {
@@ -201,6 +203,14 @@ impl<S: Alter> SqlBook<S> {
         ensures renewed_crash { (m : Content) → IsSettledEarlierAt (state S.Store conn) m → EitherWay (λ book. book.conn) (λ after. Survives (state S.Store conn) (state S.Store after) (λ db. StandsFor db m)) result }
         ensures renewed_after { (m : Content) → IsSettledEarlierAt (state S.Store conn) m → IfOk result (λ book. LeavesOnly (state S.Store book.conn) m) }
         ensures not_earlier { IfErr result (λ back. back.0 ≡ WrongVersion → HasCleanDisk (state S.Store back.1) → (m : Content) → IsSettledEarlierAt (state S.Store conn) m → ⊥) }
+        ensures schema { conn.schema ≡ no_schema → IfOk result (λ book. HasShopSchema (state S.Store book.conn)) }
+        ensures renewed_schema { (m : Content) → IsSettledEarlierAt (state S.Store conn) m → IfOk result (λ book. HasShopSchema (state S.Store book.conn)) }
+        ensures held_after { (m : Content) → IsSettledAt (state S.Store conn) m → IsTrue (state S.Store conn).is_open → EitherWay (λ book. book.conn) (λ after. LeavesOnly (state S.Store after) m) result }
+        ensures version { IsShop conn.schema → IfOk result (λ book. HasCleanDisk (state S.Store book.conn) → HasVersion (state S.Store conn) 2) }
+        ensures earlier_version { conn.schema ≡ earlier_schema → IfOk result (λ book. HasCleanDisk (state S.Store book.conn) → HasVersion (state S.Store conn) 1) }
+        ensures read_only { IsShop conn.schema → EitherWay (λ book. book.conn) (λ after. Leaves (state S.Store conn) (state S.Store after)) result }
+        ensures earlier_read_only { conn.schema ≡ earlier_schema → (¬ HasVersion (state S.Store conn) 1) → EitherWay (λ book. book.conn) (λ after. HasCleanDisk (state S.Store after) → Leaves (state S.Store conn) (state S.Store after)) result }
+        ensures free { names_are_free conn.schema ≡ true → IfErr result (λ back. back.0 ≢ WrongVersion) }
     {
         match adopt_tables(&mut conn) {
             Ok(Adopted::Made) => Ok(SqlBook::over(alloc, conn)),
@@ -242,6 +252,7 @@ impl<S: Alter> SqlBook<S> {
         ensures as_before { (m : Content) → HoldsEarlierContent (state S.Store conn) m → IfErr result (λ back. HoldsEarlierContent (state S.Store back.1) m) }
         ensures crash { (m : Content) → HoldsEarlierContent (state S.Store conn) m → EitherWay (λ book. book.conn) (λ after. Survives (state S.Store conn) (state S.Store after) (λ db. StandsFor db m)) result }
         ensures after { (m : Content) → HoldsEarlierContent (state S.Store conn) m → IfOk result (λ book. LeavesOnly (state S.Store book.conn) m) }
+        ensures schema { (m : Content) → HoldsEarlierContent (state S.Store conn) m → IfOk result (λ book. HasShopSchema (state S.Store book.conn)) }
         ensures unwritten { IfErr result (λ back. back.0 ≡ WrongVersion → Leaves (state S.Store conn) (state S.Store back.1)) }
         ensures neither { IfErr result (λ back. back.0 ≡ WrongVersion → HasCleanDisk (state S.Store back.1) → (m : Content) → HoldsEarlierContent (state S.Store conn) m → ⊥) }
     {

@@ -30,6 +30,11 @@ returns-in-Ok-clause-after g c m was =
     let w = stays_earlier_content (state g.S.Store c.args.conn.now) (state g.S.Store c.have_earlier_sums.new.conn) m c.have_earlier_sums.ensures.leaves was in
     λ clean db left. record { totals = w.totals; sums = w.sums; stands = c.in-Ok.ensures.after (books m w.totals) w.holds clean db left }
 
+pub returns-in-Ok-clause-schema : goal.returns-in-Ok-clause-schema
+returns-in-Ok-clause-schema g c m was =
+    let w = stays_earlier_content (state g.S.Store c.args.conn.now) (state g.S.Store c.have_earlier_sums.new.conn) m c.have_earlier_sums.ensures.leaves was in
+    c.in-Ok.ensures.schema (books m w.totals) w.holds
+
 pub returns-in-Err-renew_shop-clause-as_before : goal.returns-in-Err-renew_shop-clause-as_before
 returns-in-Err-renew_shop-clause-as_before g c m was =
     let w = stays_earlier_content (state g.S.Store c.args.conn.now) (state g.S.Store c.have_earlier_sums.new.conn) m c.have_earlier_sums.ensures.leaves was in

@@ -4,6 +4,10 @@ use Rattle.sqlite.specs.State.{Survives}
 use Rattle.sqlite.specs.Held.{state}
 use Rattle.shop_machine.specs.Content.{fresh}
 use Rattle.shop_tables.specs.Held.{books, HoldsContent, LeavesOnly, StandsFor}
+use Rattle.shop_tables.specs.Shown.{HasShopSchema, Leaves}
+use Rattle.shop_tables.proofs.Taken.{earlier_taken, taken}
+use Rattle.shop_store.proofs.Commits.{still_leaves}
+use Rattle.sqlite.specs.State.{HasCleanDisk}
 use Rattle.shop_tables.proofs.Reading.{leaves_then}
 use Rattle.shop_store.proofs.Adopting.{holds_fresh, survives_fresh, leaves_fresh, holds_settled, wrong_version}
 use Rattle.shop_store.proofs.Checked.{either_way, if_back, if_book}
@@ -168,3 +172,86 @@ returns-in-Err-clause-renewed_crash g c m was = leaves_survives (state g.S.Store
 
 pub returns-in-Err-clause-not_earlier : goal.returns-in-Err-clause-not_earlier
 returns-in-Err-clause-not_earlier g c is clean m was = c.in-Err.ensures.one_neither (ap Err (wrong_version _ (sym c.fault_of_adopt.ensures ∙ is))) clean (books m was.totals) was.settled
+
+-- ---- whether it is of a version, and what is left
+
+pub returns-in-Ok-Made-clause-schema : goal.returns-in-Ok-Made-clause-schema
+returns-in-Ok-Made-clause-schema g c has = subst (λ h. HasShopSchema (state g.S.Store h)) (sym c.over.ensures.conn) (c.in-Ok-Made.ensures.schema has)
+
+pub returns-in-Ok-Made-clause-held_after : goal.returns-in-Ok-Made-clause-held_after
+returns-in-Ok-Made-clause-held_after g c m was up = absurd (c.in-Ok-Made.ensures.made (ap Ok c.in-Ok-Made.field-0-is) (books m was.totals) was.settled)
+
+pub returns-in-Ok-Made-clause-renewed_schema : goal.returns-in-Ok-Made-clause-renewed_schema
+returns-in-Ok-Made-clause-renewed_schema g c m was = absurd (let e = c.in-Ok-Made.ensures.one_only was.settled.shows.schema in let f = c.in-Ok-Made.field-0-is in cc)
+
+pub returns-in-Ok-Made-clause-version : goal.returns-in-Ok-Made-clause-version
+returns-in-Ok-Made-clause-version g c it clean = c.in-Ok-Made.ensures.named it (subst (λ h. HasCleanDisk (state g.S.Store h)) c.over.ensures.conn clean)
+
+pub returns-in-Ok-Made-clause-earlier_version : goal.returns-in-Ok-Made-clause-earlier_version
+returns-in-Ok-Made-clause-earlier_version g c it clean = c.in-Ok-Made.ensures.one_named it (subst (λ h. HasCleanDisk (state g.S.Store h)) c.over.ensures.conn clean)
+
+pub returns-in-Ok-Made-clause-read_only : goal.returns-in-Ok-Made-clause-read_only
+returns-in-Ok-Made-clause-read_only g c it = subst (λ h. Leaves (state g.S.Store c.args.conn) (state g.S.Store h)) (sym c.over.ensures.conn) (c.in-Ok-Made.ensures.taken (taken c.args.conn.schema it))
+
+pub returns-in-Ok-Made-clause-earlier_read_only : goal.returns-in-Ok-Made-clause-earlier_read_only
+returns-in-Ok-Made-clause-earlier_read_only g c it none clean = subst (λ h. Leaves (state g.S.Store c.args.conn) (state g.S.Store h)) (sym c.over.ensures.conn) (c.in-Ok-Made.ensures.taken (earlier_taken c.args.conn.schema it))
+
+pub returns-in-Ok-Found-clause-schema : goal.returns-in-Ok-Found-clause-schema
+returns-in-Ok-Found-clause-schema g c has = absurd ((c.in-Ok-Found.ensures.found (ap Ok c.in-Ok-Found.field-0-is)).0 has)
+
+pub returns-in-Ok-Found-clause-held_after : goal.returns-in-Ok-Found-clause-held_after
+returns-in-Ok-Found-clause-held_after g c m was up = either_way (λ book. book.conn) _ (λ h leaves. still_leaves g.S.Store g.met.S.Store.settled c.args.conn h m up was (survives_then (state g.S.Store c.args.conn) (state g.S.Store c.adopt_tables.new.conn) (state g.S.Store h) (λ _. ⊥) (λ _. ⊥) (λ _. ⊥) (λ _ db none. none) (λ _ db none. none) (c.in-Ok-Found.ensures.still was.settled.shows.schema) leaves.survives)) c.checked.result c.checked.ensures.leaves
+
+pub returns-in-Ok-Found-clause-renewed_schema : goal.returns-in-Ok-Found-clause-renewed_schema
+returns-in-Ok-Found-clause-renewed_schema g c m was = absurd (let e = c.in-Ok-Found.ensures.one_only was.settled.shows.schema in let f = c.in-Ok-Found.field-0-is in cc)
+
+pub returns-in-Ok-Found-clause-version : goal.returns-in-Ok-Found-clause-version
+returns-in-Ok-Found-clause-version g c it = if_book (λ book. book.conn) _ (λ book leaves none clean. c.in-Ok-Found.ensures.named it (let l = leaves.survives.clean in omega (arith, l, clean))) c.checked.result c.checked.ensures.leaves c.checked.ensures.failures
+
+pub returns-in-Ok-Found-clause-earlier_version : goal.returns-in-Ok-Found-clause-earlier_version
+returns-in-Ok-Found-clause-earlier_version g c it = if_book (λ book. book.conn) _ (λ book leaves none clean. c.in-Ok-Found.ensures.one_named it (let l = leaves.survives.clean in omega (arith, l, clean))) c.checked.result c.checked.ensures.leaves c.checked.ensures.failures
+
+pub returns-in-Ok-Found-clause-read_only : goal.returns-in-Ok-Found-clause-read_only
+returns-in-Ok-Found-clause-read_only g c it = either_way (λ book. book.conn) _ (λ h leaves. leaves_then _ _ _ (c.in-Ok-Found.ensures.taken (taken c.args.conn.schema it)) leaves) c.checked.result c.checked.ensures.leaves
+
+pub returns-in-Ok-Found-clause-earlier_read_only : goal.returns-in-Ok-Found-clause-earlier_read_only
+returns-in-Ok-Found-clause-earlier_read_only g c it none = either_way (λ book. book.conn) _ (λ h leaves clean. leaves_then _ _ _ (c.in-Ok-Found.ensures.taken (earlier_taken c.args.conn.schema it)) leaves) c.checked.result c.checked.ensures.leaves
+
+pub returns-in-Ok-Found-clause-free : goal.returns-in-Ok-Found-clause-free
+returns-in-Ok-Found-clause-free g c free = absurd (let e = (c.in-Ok-Found.ensures.free free).0 in let f = c.in-Ok-Found.field-0-is in cc)
+
+pub returns-in-Ok-Earlier-clause-schema : goal.returns-in-Ok-Earlier-clause-schema
+returns-in-Ok-Earlier-clause-schema g c has = absurd ((c.in-Ok-Earlier.ensures.one (ap Ok c.in-Ok-Earlier.field-0-is)).0 has)
+
+pub returns-in-Ok-Earlier-clause-held_after : goal.returns-in-Ok-Earlier-clause-held_after
+returns-in-Ok-Earlier-clause-held_after g c m was up = absurd ((c.in-Ok-Earlier.ensures.one (ap Ok c.in-Ok-Earlier.field-0-is)).1 was.settled.shows.schema)
+
+pub returns-in-Ok-Earlier-clause-renewed_schema : goal.returns-in-Ok-Earlier-clause-renewed_schema
+returns-in-Ok-Earlier-clause-renewed_schema g c m was = c.renewed.ensures.schema m (settled_earlier (state g.S.Store c.args.conn) (state g.S.Store c.adopt_tables.new.conn) m (c.in-Ok-Earlier.ensures.one (ap Ok c.in-Ok-Earlier.field-0-is)).2 was)
+
+pub returns-in-Ok-Earlier-clause-version : goal.returns-in-Ok-Earlier-clause-version
+returns-in-Ok-Earlier-clause-version g c it = absurd ((c.in-Ok-Earlier.ensures.one (ap Ok c.in-Ok-Earlier.field-0-is)).1 it)
+
+pub returns-in-Ok-Earlier-clause-earlier_version : goal.returns-in-Ok-Earlier-clause-earlier_version
+returns-in-Ok-Earlier-clause-earlier_version g c it = if_book (λ book. book.conn) _ (λ book early none clean. c.in-Ok-Earlier.ensures.one_named it (early clean)) c.renewed.result c.renewed.ensures.earlier c.renewed.ensures.failures
+
+pub returns-in-Ok-Earlier-clause-read_only : goal.returns-in-Ok-Earlier-clause-read_only
+returns-in-Ok-Earlier-clause-read_only g c it = absurd ((c.in-Ok-Earlier.ensures.one (ap Ok c.in-Ok-Earlier.field-0-is)).1 it)
+
+pub returns-in-Ok-Earlier-clause-earlier_read_only : goal.returns-in-Ok-Earlier-clause-earlier_read_only
+returns-in-Ok-Earlier-clause-earlier_read_only g c it none = either_way (λ book. book.conn) _ (λ h early clean. absurd (none (c.in-Ok-Earlier.ensures.one_named it (early clean)))) c.renewed.result c.renewed.ensures.earlier
+
+pub returns-in-Ok-Earlier-clause-free : goal.returns-in-Ok-Earlier-clause-free
+returns-in-Ok-Earlier-clause-free g c free = absurd (let e = (c.in-Ok-Earlier.ensures.free free).0 in let f = c.in-Ok-Earlier.field-0-is in cc)
+
+pub returns-in-Err-clause-held_after : goal.returns-in-Err-clause-held_after
+returns-in-Err-clause-held_after g c m was up = still_leaves g.S.Store g.met.S.Store.settled c.args.conn c.adopt_tables.new.conn m up was (c.in-Err.ensures.still was.settled.shows.schema)
+
+pub returns-in-Err-clause-read_only : goal.returns-in-Err-clause-read_only
+returns-in-Err-clause-read_only g c it = c.in-Err.ensures.taken (taken c.args.conn.schema it)
+
+pub returns-in-Err-clause-earlier_read_only : goal.returns-in-Err-clause-earlier_read_only
+returns-in-Err-clause-earlier_read_only g c it none clean = c.in-Err.ensures.taken (earlier_taken c.args.conn.schema it)
+
+pub returns-in-Err-clause-free : goal.returns-in-Err-clause-free
+returns-in-Err-clause-free g c free is = (c.in-Err.ensures.free free).1 (ap Err (wrong_version _ (sym c.fault_of_adopt.ensures ∙ is)))

@@ -2,6 +2,7 @@ use Rattle.std.proofs.Common.{Err, ap, sym, subst}
 use Rattle.sqlite.specs.Held.{state}
 use Rattle.sqlite.specs.State.{Survives}
 use Rattle.shop_tables.specs.Held.{HoldsContent, LeavesOnly, StandsFor}
+use Rattle.shop_tables.specs.Shown.{HasShopSchema}
 use Rattle.shop_store.proofs.sql.SqlBook.renewed.Goals as goal
 
 pub returns-in-Ok-clause-renewed : goal.returns-in-Ok-clause-renewed
@@ -15,3 +16,6 @@ returns-in-Ok-clause-after g c m was = subst (λ h. LeavesOnly (state g.S.Store 
 
 pub returns-in-Err-clause-neither : goal.returns-in-Err-clause-neither
 returns-in-Err-clause-neither g c is clean m was = c.in-Err.ensures.neither (ap Err is) clean m was
+
+pub returns-in-Ok-clause-schema : goal.returns-in-Ok-clause-schema
+returns-in-Ok-clause-schema g c m was = subst (λ h. HasShopSchema (state g.S.Store h)) (sym c.over.ensures.conn) (c.in-Ok.ensures.schema m was)
