@@ -13,7 +13,7 @@ use Rattle.shop_machine.specs.declared.messages.Message.{Message}
 use Rattle.shop_machine.specs.declared.refusals.Refusal.{Refusal}
 use Rattle.shop_machine.specs.declared.refusals.Refusal.TheVariants.{NoMemory, StoreFault, NumberReused}
 use Rattle.shop_machine.specs.declared.messages.Reply.{Reply}
-use Rattle.shop_machine.specs.declared.messages.Reply.TheVariants.{AddMaterial, Receive, AddOrder, Reserve, Done, Break, Release, Scrap, GiveBack, Import, Totals, Rack, Trace, Demand, Plan, Bound, Refused}
+use Rattle.shop_machine.specs.declared.messages.Reply.TheVariants.{AddMaterial, Receive, AddOrder, Reserve, Done, Break, Release, Scrap, GiveBack, Import, Totals, Rack, Trace, Demand, Plan, Bound, Materials, Parts, Demands, Jobs, Job, Terminal, Refused}
 use Rattle.shop_machine.specs.Messages.{Texts, IsMessage, IsMade, refusal_in, is_accepted, pair_of}
 use Rattle.shop_machine.specs.Readings.{Reading}
 use Rattle.shop_machine.specs.Content.{Content, kept_at, changed}
@@ -87,6 +87,12 @@ module _ (texts : Texts) where
   none_made (Demand demand line made' material order reserved wanted) made = absurd made
   none_made (Plan ceiling dropped tree worth) made = absurd made
   none_made (Bound best units) made = absurd made
+  none_made (Materials materials) made' = absurd made'
+  none_made (Parts material more parts) made' = absurd made'
+  none_made (Demands demands more) made' = absurd made'
+  none_made (Jobs jobs more) made' = absurd made'
+  none_made (Job cuts h job kerf material part state tree w) made' = absurd made'
+  none_made (Terminal last terminal) made' = absurd made'
   none_made (Refused refusal) made = absurd made
 
   -- the kept reply to the kept message

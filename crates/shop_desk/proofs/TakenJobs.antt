@@ -11,11 +11,12 @@ use Rattle.shop_machine.specs.Listing.{job_row_at, job_with_part}
 use Rattle.shop_desk.specs.ListedJobs.{told_row}
 
 -- one more is listed, where it is there with its part
-pub row_more : (content : Content) (numbers : List ℕ) (i n : ℕ) (rows : List JobRow) (found : Option (Job × Part)) → i < length numbers → n ≡ get_or numbers i n
-    → rows ≡ filter_map (job_row_at content) (take i numbers) → found ≡ job_with_part content n
+pub row_more : (content : Content) (numbers : List ℕ) (i : ℕ) (rows : List JobRow) (found : Option (Job × Part)) → i < length numbers
+    → rows ≡ filter_map (job_row_at content) (take i numbers) → found ≡ job_with_part content (get_or numbers i 0)
     → rows ++ filter_map told_row (found ∷ []) ≡ filter_map (job_row_at content) (take (i + 1) numbers)
-row_more content numbers i n rows found lt is before at =
+row_more content numbers i rows found lt before at =
+    let n = get_or numbers i 0 in
     ap (λ rows. rows ++ filter_map told_row (found ∷ [])) before
     ∙ ap (λ f. filter_map (job_row_at content) (take i numbers) ++ filter_map told_row (f ∷ [])) at
     ∙ sym (filter_map-append (job_row_at content) (take i numbers) (n ∷ []))
-    ∙ ap (λ l. filter_map (job_row_at content) l) (sym (take_more numbers i n lt ∙ ap (λ x. take i numbers ++ x ∷ []) (sym is)))
+    ∙ ap (filter_map (job_row_at content)) (sym (take_more numbers i 0 lt))

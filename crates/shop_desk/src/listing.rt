@@ -124,7 +124,6 @@ fn push_job(rows: &mut JobList, found: Option<(Job, Part)>) -> Result<(), AllocE
     }
 }
 
-#[tactic(auto, using(crate::proofs::TakenJobs::row_more))]
 // The rows of jobs, as they are told; none of a job that isn't there with its part.
 fn job_rows<B: Book>(alloc: Global, book: &mut B, numbers: &[u32]) -> Result<JobList, BookFault>
     ensures rows { Says B.Book book.old book.new (λ m. IfOk result (λ rows. rows ≡ filter_map (job_row_at m) numbers.now)) }
