@@ -6,6 +6,7 @@ ghost use Rattle.sqlite.specs.Held.{state};
 ghost use Rattle.sqlite_catalog.specs.Change.{is_used};
 ghost use Rattle.shop_tables.specs.Adopting.{HasVersion, IsVacant, LeavesBooks, is_table, names_are_free, names_are_tables};
 ghost use Rattle.shop_tables.specs.Earlier.{HoldsEarlier, IsSettledEarlier, SaysEarlier, earlier_schema, names_are_earlier};
+ghost use Rattle.shop_tables.specs.Faults.{adopt_fault_of, fault_of};
 ghost use Rattle.shop_tables.specs.Layout.{no_schema, IsShop};
 ghost use Rattle.shop_tables.specs.Shown.{Books, HasShopSchema, Holds, IsSettled, Leaves, Says, StandsIn, fresh_books};
 ghost use Rattle.shop_tables.specs.declared.adopting.Adopted.TheVariants.{Made, Found, Earlier};
@@ -15,7 +16,7 @@ use crate::TableFault;
 use crate::laying::lay_tables;
 use crate::numbers::number_row;
 use crate::strange::has_number;
-use sqlite::{Alter, Connection, Error, ErrorCode};
+use sqlite::{Alter, Connection, Error};
 use sqlite_schema::schema::Schema;
 
 /// How a connection was taken over.
@@ -134,17 +135,15 @@ fn has_version<S: Alter>(conn: &mut Connection<S>, wanted: u32) -> Result<bool, 
 }
 
 fn fault_of_store(error: Error) -> AdoptFault
-    ensures { result ≢ WrongVersion }
+    ensures never { result ≢ WrongVersion }
+    ensures is { result ≡ adopt_fault_of (fault_of error) }
 {
-    if error == Error::SqliteFailure(ErrorCode::OutOfMemory) {
-        AdoptFault::NoMemory
-    } else {
-        AdoptFault::Store
-    }
+    fault_of_tables(TableFault::from(error))
 }
 
 fn fault_of_tables(fault: TableFault) -> AdoptFault
-    ensures { result ≢ WrongVersion }
+    ensures never { result ≢ WrongVersion }
+    ensures is { result ≡ adopt_fault_of fault }
 {
     match fault {
         TableFault::NoMemory => AdoptFault::NoMemory,
