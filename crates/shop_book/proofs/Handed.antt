@@ -1,6 +1,6 @@
 -- Parts that are found by their names and handed out, in order.
 use Rattle.std.proofs.Common.{◌≡◌, ◌+◌, ◌<◌, ◌≤◌, ℕ, zero, suc, Bool, true, false, List, [], ◌∷◌, ◌++◌, length, take, drop, get_or, refl, sym, ap, subst, ◌∙◌, add-one, arith}
-use Rattle.std.specs.Prelude.{Ok, Option, Some, None, filter, filter_map}
+use Rattle.std.specs.Prelude.{Ok, Option, cond, Some, None, filter, filter_map}
 use Rattle.std.specs.FinMap.{from_sorted, values}
 use Rattle.cut_measure.specs.Names.{Name, name_cmp}
 use Rattle.shop_machine.specs.Content.{is_listed}
@@ -14,7 +14,7 @@ use Rattle.shop_book.proofs.Held.{values-rows}
 use Rattle.std.specs.List.{FoldsTo, cons_option}
 use Rattle.std.specs.Option.{option_to_list}
 use Rattle.std.proofs.lemmas.List.{append-nil, append_assoc, take_all, take-append-drop}
-use Rattle.std.proofs.lemmas.List.Elements.{filter_map-append}
+use Rattle.std.proofs.lemmas.List.Elements.{filter-append, filter_map-append}
 use Rattle.shop_machine.specs.declared.records.Part.{Part}
 use Rattle.shop_machine.specs.Visits.{HasSeen, IsVisit}
 use Rattle.shop_book.specs.declared.books.BookFault.{BookFault}
@@ -103,3 +103,27 @@ module _ (code : List ℕ) (keys : List OpenPart) (parts : List Part) (up : rise
   pub all_named : parts_named (filter (is_after code None) keys) parts ≡ filter (is_listed code) content_parts
   all_named =
       named_are code None keys parts up rises listed ∙ filter_all (filter (is_listed code) parts) ∙ ap (filter (is_listed code)) (sym (values-rows part_key name_cmp parts rises))
+
+-- ---- the first rows that pass
+
+pub take_front : {X : Type 0} (n : ℕ) (xs ys : List X) → n ≡ length xs → take n (xs ++ ys) ≡ xs
+take_front zero [] ys e = refl
+take_front zero (x ∷ xs) ys e = absurd (omega arith)
+take_front (suc n) [] ys e = absurd (omega arith)
+take_front (suc n) (x ∷ xs) ys e = ap (λ zs. x ∷ zs) (take_front n xs ys (omega arith))
+
+-- what passes of what is found so far, and of the rest
+pub passed_rest : {A X : Type 0} (at : A → Option X) (test : X → Bool) (names : List A) (i : ℕ)
+    → filter test (filter_map at names) ≡ filter test (filter_map at (take i names)) ++ filter test (filter_map at (drop i names))
+passed_rest at test names i =
+    ap (λ ns. filter test (filter_map at ns)) (sym (take-append-drop i names)) ∙ ap (filter test) (filter_map-append at (take i names) (drop i names))
+    ∙ filter-append test (filter_map at (take i names)) (filter_map at (drop i names))
+
+pub passed_more : {A X : Type 0} (at : A → Option X) (test : X → Bool) (names : List A) (i : ℕ) (a : A) → i < length names → a ≡ get_or names i a
+    → filter test (filter_map at (take (i + 1) names)) ≡ filter test (filter_map at (take i names)) ++ filter test (option_to_list (at a))
+passed_more at test names i a within is = ap (filter test) (so_far at names i a within is) ∙ filter-append test (filter_map at (take i names)) (option_to_list (at a))
+
+-- at most one passes
+pub one_passes : {X : Type 0} (test : X → Bool) (found : Option X) → length (filter test (option_to_list found)) ≤ 1
+one_passes test None = omega arith
+one_passes test (Some x) = elim (test x) as (λ b. length (cond b (x ∷ []) []) ≤ 1) [ true ↦ omega arith | false ↦ omega arith ]

@@ -5,8 +5,9 @@ use Rattle.std.specs.FinMap.{is_sorted}
 use Rattle.cut_measure.specs.Codes.{code_cmp}
 use Rattle.cut_measure.specs.Names.{name_cmp}
 use Rattle.shop_machine.specs.Content.{pair_cmp}
-use Rattle.shop_rows.specs.Rows.{rise}
-use Rattle.shop_rows.specs.Open.{own_key, open_cmp, AreListed}
+use Rattle.shop_machine.specs.Listing.{is_open}
+use Rattle.shop_rows.specs.Rows.{rise, row_at}
+use Rattle.shop_rows.specs.Open.{own_key, open_cmp, waits, AreListed, ListsNumbers}
 use Rattle.shop_rows.specs.Sums.{sums_key, AreSumsOf, all_small}
 use Rattle.shop_book.specs.Memory.{MemoryBook, order_key, content_of_rows}
 use Rattle.shop_rows.specs.Keys.{material_key, part_key, job_key, demand_key, import_key}
@@ -18,7 +19,8 @@ book_of book = record {
   failures = book.failures;
 }
 
--- the rows rise by their keys, the sums are those of the parts, and the list has the names of those that stand
+-- the rows rise by their keys, the sums are those of the parts, and the lists have the keys of the parts that stand, the
+-- jobs that wait and the demands that are open
 pub record IsConsistent (book : Inside) : Type 0 where
   pub materials : IsTrue (rise material_key code_cmp book.materials.items)
   pub parts : IsTrue (rise part_key name_cmp book.parts.items)
@@ -32,3 +34,7 @@ pub record IsConsistent (book : Inside) : Type 0 where
   pub sums : AreSumsOf book.parts.items book.totals.items
   pub keys : IsTrue (rise own_key open_cmp book.lists.parts.items)
   pub listed : AreListed book.parts.items book.lists.parts.items
+  pub job_keys : IsTrue (rise own_key nat_cmp book.lists.jobs.items)
+  pub waiting : ListsNumbers waits (λ number. row_at job_key nat_cmp number book.jobs.items) book.lists.jobs.items
+  pub demand_keys : IsTrue (rise own_key nat_cmp book.lists.demands.items)
+  pub open_demands : ListsNumbers is_open (λ number. row_at demand_key nat_cmp number book.demands.items) book.lists.demands.items

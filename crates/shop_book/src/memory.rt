@@ -1,17 +1,18 @@
-ghost use Rattle.std.specs.Prelude.{◌≡◌, ◌≢◌, ◌+◌, ◌++◌, ◌<◌, ◌≤◌, ◌^◌, ⊤, false, IfOk, IfErr, IfSome, IsOk, OnOk, OnErr, IsTrue, List, ℕ, ◌-◌, length, option_copied, take, vec_len, vec_capacity};
+ghost use Rattle.std.specs.Prelude.{◌≡◌, ◌≢◌, ◌⊎◌, ◌+◌, ◌++◌, ◌<◌, ◌≤◌, ◌^◌, ⊤, false, IfOk, IfErr, IfSome, IsOk, IsSome, OnOk, OnErr, IsTrue, List, ℕ, ◌-◌, filter, length, map, option_copied, take, vec_len, vec_capacity};
 ghost use Rattle.std.specs.Option.{option_to_list};
 ghost use Rattle.cut_measure.specs.Codes.{code_cmp};
 ghost use Rattle.cut_measure.specs.Names.{name_cmp};
 ghost use Rattle.std.specs.Ordering.{nat_cmp};
 ghost use Rattle.shop_machine.specs.Content.{Content, material_at, part_at, job_at, has_order, demand_at, kept_at, import_at, totals_of, parts_of as listed_parts, changed, with_parts, with_moved, with_material, with_job, with_order, with_demands, pair_cmp};
-ghost use Rattle.shop_machine.specs.Listing.{parts_behind};
+ghost use Rattle.shop_machine.specs.Listing.{IsLastNumber, is_asked_for, is_open, materials_of, open_demands, parts_behind, waiting_jobs};
+ghost use Rattle.shop_machine.specs.declared.records.Job.{Job as JobOf};
 ghost use Rattle.shop_machine.specs.Soundness.{IsInRange};
-ghost use Rattle.shop_rows.specs.Keys.{material_key, part_key, job_key, import_key};
+ghost use Rattle.shop_rows.specs.Keys.{material_key, part_key, job_key, demand_key, import_key};
 ghost use Rattle.std.specs.FinMap.{find as find_entry};
-ghost use Rattle.shop_rows.specs.Rows.{rise, row_at, map_of, IsPut};
+ghost use Rattle.shop_rows.specs.Rows.{rise, row_at, map_of, ArePut, IsPut};
 ghost use Rattle.shop_machine.specs.Visits.{HasSeen, IsVisit};
 ghost use Rattle.shop_book.specs.declared.books.BookFault.{BookFault as Fault};
-ghost use Rattle.shop_rows.specs.Open.{own_key, open_cmp, parts_named, AreListed};
+ghost use Rattle.shop_rows.specs.Open.{own_key, open_cmp, demands_named, parts_named, waits, AreListed, ListsNumbers};
 ghost use Rattle.shop_rows.specs.Sums.{sums_key, AreSumsOf, all_small};
 
 use crate::books::{Book, BookFault};
@@ -19,13 +20,15 @@ use crate::order_codes::{OrderCode, put_and_keep};
 use cut_measure::{Code, PartName};
 use shop_machine::{
     Change, Demand, DemandList, ImportRow, Job, Kept, Material, MaterialList, NumberList, Pair,
-    Part, PartList, PartVisitor, Totals,
+    Part, PartList, PartVisitor, RowList, Totals,
 };
 use shop_rows::{
-    OpenPart, OpenRows, Sums, add_part, at, find, list_all, list_part, names_behind, put, put_all,
-    put_run, put_some, sums_of, take_replaced, totals_in, with_all,
+    OpenPart, OpenRows, Sums, add_part, at, find, list_all, list_demands, list_job, list_part,
+    names_behind, numbers_behind, put, put_all, put_run, put_some, sums_of, take_replaced,
+    totals_in, with_all,
 };
 use std::alloc::{AllocError, Global};
+use std::cmp::Ordering;
 use std::collections::{BTreeMap, BTreeSet};
 use std::marker::Model;
 
@@ -96,11 +99,11 @@ impl MemBook {
         let materials = Vec::from_slice(alloc, &self.materials)?;
         let parts = Vec::from_slice(alloc, &self.parts)?;
         let totals = Vec::from_slice(alloc, &self.totals)?;
-        let jobs = self.jobs.clone()?;
-        let orders = self.orders.clone()?;
+        let jobs = copy_jobs(&self.jobs)?;
+        let orders = copy_orders(&self.orders)?;
         let demands = Vec::from_slice(alloc, &self.demands)?;
-        let kept = self.kept.clone()?;
-        let imports = self.imports.clone()?;
+        let kept = copy_kept(&self.kept)?;
+        let imports = copy_imports(&self.imports)?;
         let lists = self.lists.copy(alloc)?;
         Ok(MemBook {
             materials,
@@ -117,6 +120,34 @@ impl MemBook {
             lists,
         })
     }
+}
+
+fn copy_jobs(jobs: &Vec<Job>) -> Result<Vec<Job>, AllocError>
+    ensures { IfOk result (λ copy. copy.items ≡ jobs.now.items) }
+{
+    let copy = jobs.clone()?;
+    Ok(copy)
+}
+
+fn copy_orders(orders: &BTreeSet<OrderCode>) -> Result<BTreeSet<OrderCode>, AllocError>
+    ensures { IfOk result (λ copy. copy.keys ≡ orders.now.keys) }
+{
+    let copy = orders.clone()?;
+    Ok(copy)
+}
+
+fn copy_kept(kept: &BTreeMap<Pair, Kept>) -> Result<BTreeMap<Pair, Kept>, AllocError>
+    ensures { IfOk result (λ copy. copy.entries ≡ kept.now.entries) }
+{
+    let copy = kept.clone()?;
+    Ok(copy)
+}
+
+fn copy_imports(imports: &Vec<ImportRow>) -> Result<Vec<ImportRow>, AllocError>
+    ensures { IfOk result (λ copy. copy.items ≡ imports.now.items) }
+{
+    let copy = imports.clone()?;
+    Ok(copy)
 }
 
 // Appends a part that was found.
@@ -162,6 +193,65 @@ fn visit<V: PartVisitor>(parts: &[Part], keys: &[OpenPart], visitor: &mut V) -> 
         }
     }
     true
+}
+
+// The same rows.
+fn copied<R: Copy + Drop>(alloc: Global, rows: &[R]) -> Result<RowList<R>, AllocError>
+    ensures { IfOk result (λ list. list ≡ rows.now) }
+{
+    let mut list = RowList::new(alloc);
+    for row in rows {
+        list.push(*row)?;
+    }
+    Ok(list)
+}
+
+// Whether a material is asked for.
+fn is_asked_for(asked: &Option<Code>, code: Code) -> bool
+    ensures { result ≡ is_asked_for asked.now code }
+{
+    match asked {
+        Some(asked) => matches!(code.order(asked), Ordering::Equal),
+        None => true,
+    }
+}
+
+// Appends a demand that was found, where its material is asked for.
+fn push_asked(
+    rows: &mut DemandList,
+    found: Option<Demand>,
+    asked: &Option<Code>,
+) -> Result<(), AllocError>
+    ensures { OnOk result (rows.new ≡ rows.old ++ filter (λ demand. is_asked_for asked.now demand.material) (option_to_list found)) }
+{
+    let Some(demand) = found else {
+        return Ok(());
+    };
+    if !is_asked_for(asked, demand.material) {
+        return Ok(());
+    }
+    rows.push(demand)
+}
+
+// The first demands of these numbers whose material is asked for.
+fn first_asked(
+    alloc: Global,
+    demands: &[Demand],
+    keys: &[u32],
+    asked: &Option<Code>,
+    most: usize,
+) -> Result<DemandList, AllocError>
+    requires { IsTrue (rise demand_key nat_cmp demands.now) }
+    ensures { IfOk result (λ rows. rows ≡ take most (filter (λ demand. is_asked_for asked.now demand.material) (demands_named keys.now demands.now))) }
+{
+    let mut rows = DemandList::new(alloc);
+    for key in keys {
+        if most <= rows.as_slice().len() {
+            return Ok(rows);
+        }
+        push_asked(&mut rows, find(demands, *key), asked)?;
+    }
+    Ok(rows)
 }
 
 // At most so many, from the first on.
@@ -422,6 +512,40 @@ fn reserve(
     Ok(())
 }
 
+// Puts a job, if there is one, and keeps the list of waiting jobs.
+fn put_job(jobs: &mut Vec<Job>, keys: &mut Vec<u32>, job: Option<Job>)
+    requires jobs { IsTrue (rise job_key nat_cmp jobs.old.items) }
+    requires room { vec_len jobs.old < vec_capacity jobs.old }
+    requires keys { IsTrue (rise own_key nat_cmp keys.old.items) }
+    requires keys_room { vec_len keys.old < vec_capacity keys.old }
+    requires listed { ListsNumbers waits (λ number. row_at job_key nat_cmp number jobs.old.items) keys.old.items }
+    ensures put { ArePut job_key nat_cmp (option_to_list job) jobs.old.items jobs.new.items }
+    ensures rising { IsTrue (rise job_key nat_cmp jobs.new.items) }
+    ensures keys { IsTrue (rise own_key nat_cmp keys.new.items) }
+    ensures listed { ListsNumbers waits (λ number. row_at job_key nat_cmp number jobs.new.items) keys.new.items }
+{
+    if let Some(job) = job {
+        list_job(keys, &job);
+        let _ = put(jobs, job);
+    }
+}
+
+// Puts demands, as one after another, and keeps the list of open demands.
+fn put_demands(demands: &mut Vec<Demand>, keys: &mut Vec<u32>, rows: &[Demand])
+    requires demands { IsTrue (rise demand_key nat_cmp demands.old.items) }
+    requires room { vec_len demands.old + length rows.now ≤ vec_capacity demands.old }
+    requires keys { IsTrue (rise own_key nat_cmp keys.old.items) }
+    requires keys_room { vec_len keys.old + length rows.now ≤ vec_capacity keys.old }
+    requires listed { ListsNumbers is_open (λ number. row_at demand_key nat_cmp number demands.old.items) keys.old.items }
+    ensures put { ArePut demand_key nat_cmp rows.now demands.old.items demands.new.items }
+    ensures rising { IsTrue (rise demand_key nat_cmp demands.new.items) }
+    ensures keys { IsTrue (rise own_key nat_cmp keys.new.items) }
+    ensures listed { ListsNumbers is_open (λ number. row_at demand_key nat_cmp number demands.new.items) keys.new.items }
+{
+    list_demands(keys, rows);
+    put_all(demands, rows);
+}
+
 // Makes room for a job, demands and an import.
 fn reserve_demands(
     jobs: &mut Vec<Job>,
@@ -437,6 +561,21 @@ fn reserve_demands(
     jobs.reserve(1)?;
     demands.reserve(count)?;
     imports.reserve(1)?;
+    Ok(())
+}
+
+// Makes room in the lists for a job's number and so many of demands.
+fn reserve_numbers(
+    jobs: &mut Vec<u32>,
+    demands: &mut Vec<u32>,
+    count: usize,
+) -> Result<(), AllocError>
+    ensures jobs { jobs.new.items ≡ jobs.old.items }
+    ensures demands { demands.new.items ≡ demands.old.items }
+    ensures room { OnOk result ((vec_len jobs.new < vec_capacity jobs.new) × (vec_len demands.new + count ≤ vec_capacity demands.new)) }
+{
+    jobs.reserve(1)?;
+    demands.reserve(count)?;
     Ok(())
 }
 
@@ -670,8 +809,13 @@ impl Book for MemBook {
         Ok(on)
     }
 
-    fn materials(&mut self, _alloc: Global) -> Result<MaterialList, BookFault> {
-        Err(BookFault::NoMemory)
+    fn materials(&mut self, alloc: Global) -> Result<MaterialList, BookFault>
+        ensures rows { IfOk result (λ rows. rows ≡ materials_of self.old.content) }
+        ensures memory { IfErr result (λ fault. fault ≡ NoMemory) }
+        ensures same { self.new ≡ self.old }
+    {
+        let rows = copied(alloc, &self.materials)?;
+        Ok(rows)
     }
 
     fn first_parts(
@@ -692,21 +836,28 @@ impl Book for MemBook {
 
     fn first_demands(
         &mut self,
-        _alloc: Global,
-        _after: u32,
-        _material: Option<Code>,
-        _most: usize,
-    ) -> Result<DemandList, BookFault> {
-        Err(BookFault::NoMemory)
+        alloc: Global,
+        after: u32,
+        material: Option<Code>,
+        most: usize,
+    ) -> Result<DemandList, BookFault>
+        ensures rows { IfOk result (λ rows. rows ≡ take most (open_demands self.old.content after material)) }
+        ensures memory { IfErr result (λ fault. fault ≡ NoMemory) }
+        ensures same { self.new ≡ self.old }
+    {
+        let keys = numbers_behind(&self.lists.demands, after);
+        let rows = first_asked(alloc, &self.demands, keys, &material, most)?;
+        Ok(rows)
     }
 
-    fn first_jobs(
-        &mut self,
-        _alloc: Global,
-        _after: u32,
-        _most: usize,
-    ) -> Result<NumberList, BookFault> {
-        Err(BookFault::NoMemory)
+    fn first_jobs(&mut self, alloc: Global, after: u32, most: usize) -> Result<NumberList, BookFault>
+        ensures rows { IfOk result (λ numbers. numbers ≡ take most (map (λ (job : JobOf). job.act) (waiting_jobs self.old.content after))) }
+        ensures memory { IfErr result (λ fault. fault ≡ NoMemory) }
+        ensures same { self.new ≡ self.old }
+    {
+        let keys = numbers_behind(&self.lists.jobs, after);
+        let rows = copied(alloc, first(keys, most))?;
+        Ok(rows)
     }
 
     fn last_number(&mut self, _terminal: u32) -> Result<u32, BookFault> {
@@ -748,6 +899,11 @@ impl Book for MemBook {
             &mut self.imports,
             wanted.len(),
         )?;
+        reserve_numbers(
+            &mut self.lists.jobs,
+            &mut self.lists.demands,
+            wanted.len(),
+        )?;
         put_and_keep(&mut self.orders, &mut self.kept, order, kept)?;
         put_some(&mut self.materials, material);
         put_moved(
@@ -762,8 +918,8 @@ impl Book for MemBook {
             &mut self.lists.parts,
             rows,
         );
-        put_some(&mut self.jobs, job);
-        put_all(&mut self.demands, wanted);
+        put_job(&mut self.jobs, &mut self.lists.jobs, job);
+        put_demands(&mut self.demands, &mut self.lists.demands, wanted);
         put_some(&mut self.imports, import);
         self.last_act = act.unwrap_or(self.last_act);
         self.last_demand = demand.unwrap_or(self.last_demand);

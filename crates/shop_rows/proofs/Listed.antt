@@ -1,10 +1,12 @@
 -- Lists of keys: which they have, their runs, and the rows that they name.
 use Rattle.std.proofs.Common.{◌≡◌, inl, inr, ℕ, zero, suc, ◌<◌, ◌≤◌, Bool, true, false, List, [], ◌∷◌, length, take, drop, get_or, refl, sym, ap, subst, ◌∙◌, arith, true≢false}
-use Rattle.std.specs.Prelude.{All, IfSome, Option, Some, None, cond, not, filter, ◌&&◌}
+use Rattle.std.proofs.lemmas.Bool.{le-leb, leb-true, leb-false, ltb-true, ltb-false}
+use Rattle.std.proofs.Common.{leb, ltb}
+use Rattle.std.specs.Prelude.{nat_lt, All, IfSome, Option, Some, None, cond, not, filter, ◌&&◌}
 use Rattle.std.specs.declared.cmp.Ordering.{Ordering}
 use Rattle.std.specs.declared.cmp.Ordering.TheVariants.{Less, Equal, Greater}
-use Rattle.std.specs.Ordering.{eq_by_cmp, is_eq, is_gt, is_lt, ordering_then}
-use Rattle.std.specs.Cmp.{IsTotalOrder, alike_right, eq_by_cmp_equiv, tied_itself}
+use Rattle.std.specs.Ordering.{eq_by_cmp, is_eq, is_gt, is_lt, nat_cmp, ordering_then}
+use Rattle.std.specs.Cmp.{IsTotalOrder, alike_right, eq_by_cmp_equiv, ranked, tied_itself}
 use Rattle.std.specs.Cmp.Lexicographic.{nat_list_cmp_total}
 use Rattle.std.specs.FinMap.{IsAntisymmetric, find, is_sorted, put}
 use Rattle.std.specs.FinMap.Entries.{find-put, is_sorted-where_key, where_key}
@@ -18,7 +20,7 @@ use Rattle.shop_machine.specs.Content.{is_listed}
 use Rattle.shop_machine.specs.Listing.{is_behind}
 use Rattle.shop_machine.specs.Same.{same_code}
 use Rattle.shop_rows.specs.Keys.{part_key, names_total, names_exact}
-use Rattle.shop_rows.specs.Open.{own_key, open_cmp, open_total, open_exact, open_key, has, is_found, finds_with, finds_with_all, ListsParts, ListsOthers, KeepsMaterial, KeepMaterials, passed_at, is_passed, is_upto, is_after}
+use Rattle.shop_rows.specs.Open.{own_key, open_cmp, open_total, open_exact, open_key, has, is_found, finds_with, finds_with_all, ListsNumbers, ListsParts, ListsOthers, KeepsMaterial, KeepMaterials, passed_at, is_passed, is_upto, is_after}
 use Rattle.shop_rows.specs.Rows.{entries_of, put_each, rise, row_at, ArePut, IsPut, IsSettled}
 use Rattle.shop_rows.specs.declared.open.OpenPart.{OpenPart}
 use Rattle.shop_rows.proofs.Places.{rising_at, tested, met}
@@ -107,21 +109,18 @@ found_own part find_part = ap (λ r. cond (is_eq r) (Some part) (find_part part.
 
 -- ---- parts that are put one after another
 
-same_find : (find_part other : Name → Option Part) → ((name : Name) → find_part name ≡ other name) → find_part ≡ other
-same_find find_part other same = λ i name. same name i
-
 pub lists_same : (find_part other : Name → Option Part) (keys : List OpenPart) → ((name : Name) → find_part name ≡ other name) → ListsParts find_part keys → ListsParts other keys
 lists_same find_part other keys same lists key = lists key ∙ ap (is_found (is_listed key.material)) (same key.name)
 
--- the part among those so far
-pub finds_more : (parts : List Part) (i : ℕ) (part : Part) (find_part : Name → Option Part) → i < length parts → part ≡ get_or parts i part
-    → finds_with_all (take (suc i) parts) find_part ≡ finds_with name_cmp part.name part (finds_with_all (take i parts) find_part)
-finds_more [] i part find_part within is = absurd (omega arith)
-finds_more (p ∷ parts) zero part find_part within is = ap (λ (q : Part). finds_with name_cmp q.name q find_part) (sym is)
-finds_more (p ∷ parts) (suc i) part find_part within is = finds_more parts i part (finds_with name_cmp p.name p find_part) (omega arith) is
+-- the row among those so far
+pub finds_more : {X K : Type 0} (key_of : X → K) (cmp : K → K → Ordering) (rows : List X) (i : ℕ) (row : X) (find_row : K → Option X) → i < length rows → row ≡ get_or rows i row
+    → finds_with_all key_of cmp (take (suc i) rows) find_row ≡ finds_with cmp (key_of row) row (finds_with_all key_of cmp (take i rows) find_row)
+finds_more key_of cmp [] i row find_row within is = absurd (omega arith)
+finds_more key_of cmp (r ∷ rows) zero row find_row within is = ap (λ q. finds_with cmp (key_of q) q find_row) (sym is)
+finds_more key_of cmp (r ∷ rows) (suc i) row find_row within is = finds_more key_of cmp rows i row (finds_with cmp (key_of r) r find_row) (omega arith) is
 
 pub keep_at : (parts : List Part) (i : ℕ) (part : Part) (find_part : Name → Option Part) → i < length parts → part ≡ get_or parts i part → KeepMaterials find_part parts
-    → KeepsMaterial (finds_with_all (take i parts) find_part) part
+    → KeepsMaterial (finds_with_all part_key name_cmp (take i parts) find_part) part
 keep_at [] i part find_part within is keep = absurd (omega arith)
 keep_at (p ∷ parts) zero part find_part within is keep = subst (KeepsMaterial find_part) (sym is) keep.0
 keep_at (p ∷ parts) (suc i) part find_part within is keep = keep_at parts i part (finds_with name_cmp p.name p find_part) (omega arith) is keep.1
@@ -147,15 +146,25 @@ pub found_put : (part : Part) (old new : List Part) → IsPut part_key name_cmp 
 found_put part old new is_put name = sym (ap (find name_cmp name) is_put ∙ find-put name_cmp names_total name part.name part (entries_of part_key name_cmp old))
 
 -- and so is each of those that are put one after another
-pub found_put_each : (parts old new : List Part) → ArePut part_key name_cmp parts old new → (name : Name)
-    → finds_with_all parts (λ n. row_at part_key name_cmp n old) name ≡ row_at part_key name_cmp name new
-found_put_each parts old new are_put name = in_turn parts (entries_of part_key name_cmp old) ∙ sym (ap (find name_cmp name) are_put)
+pub found_put_each : {X K : Type 0} (key_of : X → K) (cmp : K → K → Ordering) → IsTotalOrder cmp → (rows old new : List X) → ArePut key_of cmp rows old new → (key : K)
+    → finds_with_all key_of cmp rows (λ q. row_at key_of cmp q old) key ≡ row_at key_of cmp key new
+found_put_each {X} {K} key_of cmp o rows old new are_put key = in_turn rows (entries_of key_of cmp old) ∙ sym (ap (find cmp key) are_put)
   where
-    in_turn : (ps : List Part) (es : List (Name × Part)) → finds_with_all ps (λ n. find name_cmp n es) name ≡ find name_cmp name (put_each part_key name_cmp ps es)
+    in_turn : (xs : List X) (es : List (K × X)) → finds_with_all key_of cmp xs (λ q. find cmp q es) key ≡ find cmp key (put_each key_of cmp xs es)
     in_turn [] es = refl
-    in_turn (p ∷ ps) es =
-        ap (λ f. finds_with_all ps f name) (same_find (finds_with name_cmp p.name p (λ n. find name_cmp n es)) (λ n. find name_cmp n (put name_cmp p.name p es)) (λ n. sym (find-put name_cmp names_total n p.name p es)))
-        ∙ in_turn ps (put name_cmp p.name p es)
+    in_turn (x ∷ xs) es = ap (λ f. finds_with_all key_of cmp xs f key) (λ i q. sym (find-put cmp o q (key_of x) x es) i) ∙ in_turn xs (put cmp (key_of x) x es)
+
+-- ---- numbers
+
+pub numbers_same : {X : Type 0} (test : X → Bool) (find_row other : ℕ → Option X) (keys : List ℕ) → ((number : ℕ) → find_row number ≡ other number) → ListsNumbers test find_row keys → ListsNumbers test other keys
+numbers_same test find_row other keys same lists number = lists number ∙ ap (is_found test) (same number)
+
+-- a row's own number is in the list, or is not
+pub numbers_settled : {X : Type 0} (test : X → Bool) (find_row : ℕ → Option X) (number : ℕ) (row : X) (keys new : List ℕ) → ListsNumbers test find_row keys → IsSettled own_key nat_cmp number (test row) keys new
+    → ListsNumbers test (finds_with nat_cmp number row find_row) new
+numbers_settled test find_row number row keys new lists settled other =
+    settled other
+    ∙ elim (eq_by_cmp nat_cmp other number) as (λ b. cond b (test row) (has nat_cmp other keys) ≡ is_found test (cond b (Some row) (find_row other))) [ true ↦ refl | false ↦ lists other ]
 
 -- ---- runs
 
@@ -189,7 +198,7 @@ module _ {X : Type 0} (p : X → Bool) where
       ]
 
 module _ {K : Type 0} (cmp : K → K → Ordering) where
-  entries_filter : (p : K → Bool) (keys : List K) → entries_of own_key cmp (filter p keys) ≡ where_key cmp p (entries_of own_key cmp keys)
+  pub entries_filter : (p : K → Bool) (keys : List K) → entries_of own_key cmp (filter p keys) ≡ where_key cmp p (entries_of own_key cmp keys)
   entries_filter p [] = refl
   entries_filter p (k ∷ keys) =
       elim (p k) as (λ b. entries_of own_key cmp (cond b (k ∷ filter p keys) (filter p keys)) ≡ cond b ((k, k) ∷ where_key cmp p (entries_of own_key cmp keys)) (where_key cmp p (entries_of own_key cmp keys))) [
@@ -266,3 +275,22 @@ module _ (code : List ℕ) (after : Option Name) where
       filter_same p q same [] = refl
       filter_same p q same (x ∷ xs) =
           ap (λ b. cond b (x ∷ filter p xs) (filter p xs)) (same x) ∙ ap (λ ys. cond (q x) (x ∷ ys) ys) (filter_same p q same xs)
+
+-- ---- runs of numbers
+
+pub upto_number : (after a b : ℕ) → nat_cmp a b ≡ Less → leb b after ≡ true → leb a after ≡ true
+upto_number after a b lt passes = let less : a < b = ranked a b Less (sym lt) in let most = leb-true b after passes in le-leb a after (omega arith)
+
+pub behind_number : (after : ℕ) (keys : List ℕ) → filter (λ n. not (leb n after)) keys ≡ filter (nat_lt after) keys
+behind_number after [] = refl
+behind_number after (k ∷ keys) =
+    (λ i. cond (turned k i) (k ∷ behind_number after keys i) (behind_number after keys i))
+  where
+    above : (n : ℕ) (a b : Bool) → leb n after ≡ a → ltb after n ≡ b → not a ≡ b
+    above n true true e f = absurd (let most = leb-true n after e in let more = ltb-true after n f in omega arith)
+    above n true false e f = refl
+    above n false true e f = refl
+    above n false false e f = absurd (let more = leb-false n after e in let most = ltb-false after n f in omega arith)
+
+    turned : (n : ℕ) → not (leb n after) ≡ ltb after n
+    turned n = above n (leb n after) (ltb after n) refl refl

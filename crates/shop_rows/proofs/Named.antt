@@ -1,14 +1,14 @@
 -- Lists of keys that are those of the rows that pass a test, and the rows found by them.
 use Rattle.std.proofs.Common.{◌≡◌, ℕ, zero, suc, Bool, true, false, List, [], ◌∷◌, take, map, refl, sym, ap, subst, ◌∙◌, true≢false}
 use Rattle.std.specs.List.{cons_option}
-use Rattle.std.specs.Prelude.{Option, Some, None, T, cond, is_some, filter, filter_map, ◌&&◌}
+use Rattle.std.specs.Prelude.{Option, Some, None, T, cond, is_some, filter, filter_map, nat_lt, ◌&&◌}
 use Rattle.std.specs.declared.cmp.Ordering.{Ordering}
 use Rattle.std.specs.declared.cmp.Ordering.TheVariants.{Less, Equal, Greater}
-use Rattle.std.specs.Ordering.{eq_by_cmp, is_eq, is_lt, ordering_reverse, ordering_then}
-use Rattle.std.specs.Cmp.{IsTotalOrder, alike_right, tied_itself}
+use Rattle.std.specs.Ordering.{eq_by_cmp, is_eq, nat_cmp, ordering_reverse, ordering_then}
+use Rattle.std.specs.Cmp.{IsTotalOrder, nat_cmp_total, tied_itself}
 use Rattle.std.specs.Cmp.Lexicographic.{nat_list_cmp_total}
-use Rattle.std.specs.FinMap.{IsAntisymmetric, find}
-use Rattle.std.specs.FinMap.Entries.{below_all}
+use Rattle.std.specs.FinMap.{IsAntisymmetric, find, nat_cmp-IsAntisymmetric}
+use Rattle.std.specs.FinMap.Entries.{below_all, find-where_key}
 use Rattle.cut_measure.specs.Codes.{code_cmp}
 use Rattle.cut_measure.specs.Names.{Name, name_cmp}
 use Rattle.shop_machine.specs.declared.records.Part.{Part}
@@ -17,11 +17,11 @@ use Rattle.shop_machine.specs.Listing.{is_behind}
 use Rattle.shop_machine.specs.Same.{same_code}
 use Rattle.shop_machine.proofs.Sums.{first, second, less, none_below}
 use Rattle.shop_rows.specs.Keys.{part_key, names_total, names_exact}
-use Rattle.shop_rows.specs.Open.{own_key, open_cmp, has, is_found, ListsParts, is_after, parts_named}
+use Rattle.shop_rows.specs.Open.{own_key, open_cmp, has, is_found, ListsNumbers, ListsParts, is_after, parts_named}
 use Rattle.shop_rows.specs.Rows.{entries_of, rise, row_at}
 use Rattle.shop_rows.specs.declared.open.OpenPart.{OpenPart}
-use Rattle.shop_rows.proofs.Places.{lesser, pair_of, tested, met}
-use Rattle.shop_rows.proofs.Listed.{tie, code_turned, filter_filter}
+use Rattle.shop_rows.proofs.Places.{lesser, pair_of, tested}
+use Rattle.shop_rows.proofs.Listed.{tie, code_turned, entries_filter, filter_filter, rise-filter}
 
 -- what is below all keys is none of them
 missed : {K X : Type 0} (cmp : K → K → Ordering) (q : K) (es : List (K × X)) → T (below_all cmp q es) → find cmp q es ≡ None
@@ -143,6 +143,34 @@ found_all at (a ∷ names) (x ∷ xs) e =
     let one : at a ≡ Some x = cc in
     let more : map at names ≡ map (λ y. Some y) xs = cc in
     ap (λ r. cons_option r (filter_map at names)) one ∙ ap (λ ys. x ∷ ys) (found_all at names xs more)
+
+-- ---- numbers behind another
+
+-- the numbers behind another are those of the rows behind it that pass
+module _ {X : Type 0} (key_of : X → ℕ) (test : X → Bool) (after : ℕ) (keys : List ℕ) (rows : List X) (up : rise own_key nat_cmp keys ≡ true) (rises : rise key_of nat_cmp rows ≡ true)
+    (lists : ListsNumbers test (λ number. row_at key_of nat_cmp number rows) keys) where
+  abbrev passes : X → Bool
+  passes row = nat_lt after (key_of row) && test row
+
+  has_number : (number : ℕ) → has nat_cmp number (filter (nat_lt after) keys) ≡ (nat_lt after number && has nat_cmp number keys)
+  has_number number =
+      ap is_some (ap (find nat_cmp number) (entries_filter nat_cmp (nat_lt after) keys)
+      ∙ find-where_key nat_cmp (nat_lt after) number (λ x t. ap (nat_lt after) (sym (nat_cmp-IsAntisymmetric number x t))) (entries_of own_key nat_cmp keys))
+      ∙ elim (nat_lt after number) as (λ b. is_some (cond b (row_at own_key nat_cmp number keys) None) ≡ (b && has nat_cmp number keys)) [ true ↦ refl | false ↦ refl ]
+
+  pub numbers_are : filter (nat_lt after) keys ≡ map key_of (filter passes rows)
+  numbers_are =
+      same_keys key_of nat_cmp nat_cmp_total nat_cmp-IsAntisymmetric passes (filter (nat_lt after) keys) rows (tested _ (rise-filter nat_cmp (nat_lt after) keys up)) (tested _ rises)
+      (λ number. has_number number ∙ ap (λ b. nat_lt after number && b) (lists number) ∙ by_found number (row_at key_of nat_cmp number rows) refl)
+    where
+      by_found : (number : ℕ) (found : Option X) → row_at key_of nat_cmp number rows ≡ found → (nat_lt after number && is_found test found) ≡ is_found passes found
+      by_found number None e = elim (nat_lt after number) as (λ b. (b && false) ≡ false) [ true ↦ refl | false ↦ refl ]
+      by_found number (Some row) e = ap (λ n. nat_lt after n && test row) (sym (row_key key_of nat_cmp nat_cmp_total nat_cmp-IsAntisymmetric number rows row e))
+
+  pub numbered_are : filter_map (λ number. row_at key_of nat_cmp number rows) (filter (nat_lt after) keys) ≡ filter passes rows
+  numbered_are =
+      ap (filter_map (λ number. row_at key_of nat_cmp number rows)) numbers_are
+      ∙ found_all (λ number. row_at key_of nat_cmp number rows) (map key_of (filter passes rows)) (filter passes rows) (found_each key_of nat_cmp nat_cmp_total nat_cmp-IsAntisymmetric passes rows (tested _ rises))
 
 -- ---- the names of a run
 

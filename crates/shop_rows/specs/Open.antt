@@ -1,9 +1,10 @@
--- The keys of what is open, in lists beside the rows: the standing parts, by material and then name.
+-- The keys of what is open, in lists beside the rows: the standing parts by material and then name, the waiting jobs and
+-- the open demands by number.
 use Rattle.std.specs.Prelude.{◌≡◌, ⊤, ℕ, ◌&&◌, List, [], ◌∷◌, Bool, true, false, cond, filter_map, not, IfSome, Option, Some, None}
 use Rattle.std.proofs.Common.{ap}
 use Rattle.std.specs.declared.cmp.Ordering.{Ordering}
 use Rattle.std.specs.declared.cmp.Ordering.TheVariants.{Less, Equal, Greater}
-use Rattle.std.specs.Ordering.{eq_by_cmp, is_gt, ordering_then}
+use Rattle.std.specs.Ordering.{eq_by_cmp, is_gt, nat_cmp, ordering_then}
 use Rattle.std.specs.Cmp.{IsTotalOrder, on_total, then_total}
 use Rattle.std.specs.Cmp.Lexicographic.{nat_list_cmp_total}
 use Rattle.std.specs.FinMap.{IsAntisymmetric, slice_cmp-IsAntisymmetric, nat_cmp-IsAntisymmetric}
@@ -11,10 +12,13 @@ use Rattle.std.proofs.lemmas.Map.Lookups.{exact_pairs}
 use Rattle.cut_measure.specs.Codes.{code_cmp}
 use Rattle.cut_measure.specs.Names.{Name, name_cmp}
 use Rattle.shop_machine.specs.declared.records.Part.{Part}
+use Rattle.shop_machine.specs.declared.records.Job.{Job}
+use Rattle.shop_machine.specs.declared.records.Demand.{Demand}
+use Rattle.shop_machine.specs.Columns.{is_waiting}
 use Rattle.shop_machine.specs.Content.{is_listed}
 use Rattle.shop_machine.specs.Listing.{is_behind}
 use Rattle.shop_machine.specs.Same.{same_code}
-use Rattle.shop_rows.specs.Keys.{part_key, names_total, names_exact}
+use Rattle.shop_rows.specs.Keys.{demand_key, part_key, names_total, names_exact}
 use Rattle.shop_rows.specs.Rows.{has_row, row_at}
 use Rattle.shop_rows.specs.declared.open.OpenPart.{OpenPart}
 
@@ -48,9 +52,22 @@ is_found test (Some row) = test row
 abbrev pub finds_with : {X K : Type 0} → (K → K → Ordering) → K → X → (K → Option X) → K → Option X
 finds_with cmp own row find key = cond (eq_by_cmp cmp key own) (Some row) (find key)
 
+-- and with these put one after another
+abbrev pub finds_with_all : {X K : Type 0} → (X → K) → (K → K → Ordering) → List X → (K → Option X) → K → Option X
+finds_with_all key_of cmp [] find = find
+finds_with_all key_of cmp (row ∷ rows) find = finds_with_all key_of cmp rows (finds_with cmp (key_of row) row find)
+
 -- The list has the names of the parts that stand, of each material those of its own, and no other.
 abbrev pub ListsParts : (Name → Option Part) → List OpenPart → Type 0
 ListsParts find keys = (key : OpenPart) → has open_cmp key keys ≡ is_found (is_listed key.material) (find key.name)
+
+-- the list has the numbers of the rows that pass a test, and no other
+abbrev pub ListsNumbers : {X : Type 0} → (X → Bool) → (ℕ → Option X) → List ℕ → Type 0
+ListsNumbers test find keys = (number : ℕ) → has nat_cmp number keys ≡ is_found test (find number)
+
+-- whether a job waits
+abbrev pub waits : Job → Bool
+waits job = is_waiting job.state
 
 -- the key of a part
 abbrev pub open_key : Part → OpenPart
@@ -84,16 +101,15 @@ is_after code after key = same_code key.material code && is_behind after key.nam
 abbrev pub parts_named : List OpenPart → List Part → List Part
 parts_named keys parts = filter_map (λ key. row_at part_key name_cmp key.name parts) keys
 
+-- the demands of these numbers, where they are found
+abbrev pub demands_named : List ℕ → List Demand → List Demand
+demands_named keys demands = filter_map (λ key. row_at demand_key nat_cmp key demands) keys
+
 -- ---- parts that are put one after another
 
 -- the list has the names of the rows' standing parts
 abbrev pub AreListed : List Part → List OpenPart → Type 0
 AreListed parts keys = ListsParts (λ name. row_at part_key name_cmp name parts) keys
-
--- what finds parts by their names, with these put one after another
-abbrev pub finds_with_all : List Part → (Name → Option Part) → Name → Option Part
-finds_with_all [] find = find
-finds_with_all (part ∷ parts) find = finds_with_all parts (finds_with name_cmp part.name part find)
 
 -- a part that it takes the place of is of the same material
 abbrev pub KeepsMaterial : (Name → Option Part) → Part → Type 0

@@ -130,3 +130,29 @@ impl Row for ImportRow {
 
     ghost exact = { slice_cmp-IsAntisymmetric nat_cmp-IsAntisymmetric };
 }
+
+/// A number of a list is its own row.
+impl Row for u32 {
+    ghost use Rattle.std.specs.Ordering.{nat_cmp};
+    ghost use Rattle.std.specs.Cmp.{nat_cmp_total};
+    ghost use Rattle.std.specs.FinMap.{nat_cmp-IsAntisymmetric};
+    ghost use Rattle.shop_rows.specs.Open.{own_key};
+
+    type Key = u32;
+
+    ghost key_of = { own_key };
+
+    ghost cmp = { nat_cmp };
+
+    fn compare(&self, key: u32) -> Ordering {
+        self.cmp(&key)
+    }
+
+    fn key(&self) -> u32 {
+        *self
+    }
+
+    ghost total = { nat_cmp_total };
+
+    ghost exact = { nat_cmp-IsAntisymmetric };
+}

@@ -1,12 +1,17 @@
-ghost use Rattle.std.specs.Prelude.{◌≡◌, ◌+◌, ◌<◌, ◌≤◌, List, ℕ, Option, IsTrue, filter, length, not, vec_len, vec_capacity};
+ghost use Rattle.std.specs.Prelude.{◌≡◌, ◌+◌, ◌<◌, ◌≤◌, List, ℕ, Option, IsTrue, filter, length, nat_lt, not, vec_len, vec_capacity};
 ghost use Rattle.cut_measure.specs.Names.{Name, name_cmp};
 ghost use Rattle.shop_machine.specs.declared.records.Part.{Part as PartOf};
+ghost use Rattle.shop_machine.specs.declared.records.Job.{Job as JobOf};
+ghost use Rattle.shop_machine.specs.declared.records.Demand.{Demand as DemandOf};
+ghost use Rattle.shop_machine.specs.Listing.{is_open};
+ghost use Rattle.std.specs.Ordering.{nat_cmp};
+ghost use Rattle.shop_rows.specs.Keys.{demand_key, part_key};
 ghost use Rattle.shop_rows.specs.Rows.{rise};
-ghost use Rattle.shop_rows.specs.Open.{own_key, open_cmp, finds_with, finds_with_all, ListsParts, ListsOthers, KeepsMaterial, KeepMaterials, is_passed, is_upto, is_after};
+ghost use Rattle.shop_rows.specs.Open.{own_key, open_cmp, finds_with, finds_with_all, ListsNumbers, ListsParts, ListsOthers, waits, KeepsMaterial, KeepMaterials, is_passed, is_upto, is_after};
 
 use crate::rows::{Row, settle, take_row};
 use cut_measure::{Code, PartName};
-use shop_machine::Part;
+use shop_machine::{Demand, Job, Part};
 use std::alloc::{AllocError, Global};
 use std::cmp::Ordering;
 
@@ -82,6 +87,10 @@ impl OpenPart {
 pub struct OpenRows {
     /// The parts that stand, by material and then name.
     pub parts: Vec<OpenPart>,
+    /// The waiting jobs, by number.
+    pub jobs: Vec<u32>,
+    /// The demands of which more pieces are wanted than made, by number.
+    pub demands: Vec<u32>,
 }
 
 impl OpenRows {
@@ -90,18 +99,30 @@ impl OpenRows {
     /// Nothing is open.
     pub fn new(alloc: Global) -> OpenRows
         ensures parts { result.parts.items ≡ [] }
+        ensures jobs { result.jobs.items ≡ [] }
+        ensures demands { result.demands.items ≡ [] }
     {
         OpenRows {
             parts: Vec::new(alloc),
+            jobs: Vec::new(alloc),
+            demands: Vec::new(alloc),
         }
     }
 
     /// The same lists.
     pub fn copy(&self, alloc: Global) -> Result<OpenRows, AllocError>
         ensures parts { IfOk result (λ copy. copy.parts.items ≡ self.now.parts.items) }
+        ensures jobs { IfOk result (λ copy. copy.jobs.items ≡ self.now.jobs.items) }
+        ensures demands { IfOk result (λ copy. copy.demands.items ≡ self.now.demands.items) }
     {
         let parts = Vec::from_slice(alloc, &self.parts)?;
-        Ok(OpenRows { parts })
+        let jobs = Vec::from_slice(alloc, &self.jobs)?;
+        let demands = Vec::from_slice(alloc, &self.demands)?;
+        Ok(OpenRows {
+            parts,
+            jobs,
+            demands,
+        })
     }
 }
 
@@ -161,7 +182,7 @@ pub fn list_all(keys: &mut Vec<OpenPart>, parts: &[Part])
     requires rising { IsTrue (rise own_key open_cmp keys.old.items) }
     requires room { vec_len keys.old + length parts.now ≤ vec_capacity keys.old }
     ensures lists { (find : Name → Option PartOf) → ListsParts find keys.old.items → KeepMaterials find parts.now
-        → ListsParts (finds_with_all parts.now find) keys.new.items }
+        → ListsParts (finds_with_all part_key name_cmp parts.now find) keys.new.items }
     ensures rising { IsTrue (rise own_key open_cmp keys.new.items) }
 {
     for part in parts {
@@ -194,4 +215,50 @@ pub fn names_behind(keys: &[OpenPart], material: Code, after: Option<PartName>) 
     ensures { result.now ≡ filter (is_after material after) keys.now }
 {
     upto_material(from_name(keys, material, after), material)
+}
+
+/// Lists a job where it waits, and not where it doesn't.
+pub fn list_job(keys: &mut Vec<u32>, job: &Job)
+    requires rising { IsTrue (rise own_key nat_cmp keys.old.items) }
+    requires room { vec_len keys.old < vec_capacity keys.old }
+    ensures lists { (find : ℕ → Option JobOf) → ListsNumbers waits find keys.old.items → ListsNumbers waits (finds_with nat_cmp job.now.act job.now find) keys.new.items }
+    ensures rising { IsTrue (rise own_key nat_cmp keys.new.items) }
+{
+    settle(keys, job.act, job.state.is_waiting());
+}
+
+// Lists a demand where it is open, and not where it isn't.
+fn list_demand(keys: &mut Vec<u32>, demand: &Demand)
+    requires rising { IsTrue (rise own_key nat_cmp keys.old.items) }
+    requires room { vec_len keys.old < vec_capacity keys.old }
+    ensures lists { (find : ℕ → Option DemandOf) → ListsNumbers is_open find keys.old.items
+        → ListsNumbers is_open (finds_with nat_cmp demand.now.number demand.now find) keys.new.items }
+    ensures rising { IsTrue (rise own_key nat_cmp keys.new.items) }
+    ensures len { vec_len keys.new ≤ vec_len keys.old + 1 }
+    ensures capacity { vec_capacity keys.old ≤ vec_capacity keys.new }
+{
+    let more = demand.made < demand.wanted;
+    settle(keys, demand.number, more);
+}
+
+/// Lists demands one after another, each where it is open, and not where it isn't.
+pub fn list_demands(keys: &mut Vec<u32>, demands: &[Demand])
+    requires rising { IsTrue (rise own_key nat_cmp keys.old.items) }
+    requires room { vec_len keys.old + length demands.now ≤ vec_capacity keys.old }
+    ensures lists { (find : ℕ → Option DemandOf) → ListsNumbers is_open find keys.old.items
+        → ListsNumbers is_open (finds_with_all demand_key nat_cmp demands.now find) keys.new.items }
+    ensures rising { IsTrue (rise own_key nat_cmp keys.new.items) }
+{
+    for demand in demands {
+        list_demand(keys, demand);
+    }
+}
+
+/// The numbers of a list that are greater than this one.
+pub fn numbers_behind(keys: &[u32], after: u32) -> &[u32]
+    requires { IsTrue (rise own_key nat_cmp keys.now) }
+    ensures { result.now ≡ filter (nat_lt after) keys.now }
+{
+    let from = keys.partition_point(|key| *key <= after);
+    &keys[from..]
 }

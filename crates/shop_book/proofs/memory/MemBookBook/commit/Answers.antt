@@ -22,15 +22,19 @@ invariant_of-self-2 c =
       materials = c.put_some.ensures.rising;
       parts = c.put_parts.ensures.parts;
       totals = c.put_parts.ensures.totals;
-      jobs = c.put_some-2.ensures.rising;
+      jobs = c.put_job.ensures.rising;
       orders = orders_rise c.args.change.order c.self.inside.orders.keys c.put_and_keep.new.orders.keys c.in_ok-put_and_keep.ensures.orders c.self.invariant.orders;
-      demands = c.put_all.ensures.rising;
+      demands = c.put_demands.ensures.rising;
       kept = kept_sorted c.args.change.kept c.self.inside.kept.entries c.put_and_keep.new.kept.entries c.self.invariant.kept c.in_ok-put_and_keep.ensures.kept;
-      imports = c.put_some-3.ensures.rising;
+      imports = c.put_some-2.ensures.rising;
       small = c.put_parts.ensures.small;
       sums = c.put_parts.ensures.sums;
       keys = c.put_parts.ensures.keys;
       listed = c.put_parts.ensures.listed;
+      job_keys = c.put_job.ensures.keys;
+      waiting = c.put_job.ensures.listed;
+      demand_keys = c.put_demands.ensures.keys;
+      open_demands = c.put_demands.ensures.listed;
     }
 
 pub returns-clause-ok : goal.returns-clause-ok
@@ -45,21 +49,21 @@ returns-clause-ok c =
     c.put_parts.ensures.put ∙ ap (λ (rows : List Part). with_parts rows (map_of part_key name_cmp c.put_moved.new.parts.items)) c.as_slice-rows.ensures
     ∙ ap (with_parts change.parts) c.put_moved.ensures.put
     ∙ ap (λ (rows : List Part). with_parts change.parts (with_moved change.moved (map_of part_key name_cmp rows))) c.reserve.ensures.parts in
-    let jobs : map_of job_key nat_cmp c.put_some-2.new.rows.items ≡ with_job change.job (map_of job_key nat_cmp old.jobs.items) =
-    map_after job_key nat_cmp nat_cmp_total (option_to_list change.job) old.jobs.items c.reserve_demands.new.jobs.items c.put_some-2.new.rows.items
-    c.self.invariant.jobs c.reserve_demands.ensures.jobs c.put_some-2.ensures.put
+    let jobs : map_of job_key nat_cmp c.put_job.new.jobs.items ≡ with_job change.job (map_of job_key nat_cmp old.jobs.items) =
+    map_after job_key nat_cmp nat_cmp_total (option_to_list change.job) old.jobs.items c.reserve_demands.new.jobs.items c.put_job.new.jobs.items
+    c.self.invariant.jobs c.reserve_demands.ensures.jobs c.put_job.ensures.put
     ∙ job_after change.job (map_of job_key nat_cmp old.jobs.items) in
     let orders : orders_in c.put_and_keep.new.orders.keys ≡ with_order change.order (orders_in old.orders.keys) =
     order_after change.order old.orders.keys c.put_and_keep.new.orders.keys c.in_ok-put_and_keep.ensures.orders in
-    let demands : map_of demand_key nat_cmp c.put_all.new.rows.items ≡ with_demands change.demands (map_of demand_key nat_cmp old.demands.items) =
-    map_after demand_key nat_cmp nat_cmp_total change.demands old.demands.items c.reserve_demands.new.demands.items c.put_all.new.rows.items c.self.invariant.demands c.reserve_demands.ensures.demands
-    (c.put_all.ensures.put ∙ ap (λ (rows : List Demand). put_each demand_key nat_cmp rows (entries_of demand_key nat_cmp c.reserve_demands.new.demands.items)) c.as_slice-wanted.ensures)
+    let demands : map_of demand_key nat_cmp c.put_demands.new.demands.items ≡ with_demands change.demands (map_of demand_key nat_cmp old.demands.items) =
+    map_after demand_key nat_cmp nat_cmp_total change.demands old.demands.items c.reserve_demands.new.demands.items c.put_demands.new.demands.items c.self.invariant.demands c.reserve_demands.ensures.demands
+    (c.put_demands.ensures.put ∙ ap (λ (rows : List Demand). put_each demand_key nat_cmp rows (entries_of demand_key nat_cmp c.reserve_demands.new.demands.items)) c.as_slice-wanted.ensures)
     ∙ demands_after change.demands (map_of demand_key nat_cmp old.demands.items) in
     let kept : from_sorted {R = pair_cmp} c.put_and_keep.new.kept.entries ≡ with_kept change.kept (from_sorted old.kept.entries) =
     kept_after change.kept old.kept.entries c.put_and_keep.new.kept.entries c.self.invariant.kept c.in_ok-put_and_keep.ensures.kept in
-    let imports : map_of import_key code_cmp c.put_some-3.new.rows.items ≡ with_import change.import (map_of import_key code_cmp old.imports.items) =
-    map_after import_key code_cmp nat_list_cmp_total (option_to_list change.import) old.imports.items c.reserve_demands.new.imports.items c.put_some-3.new.rows.items
-    c.self.invariant.imports c.reserve_demands.ensures.imports c.put_some-3.ensures.put
+    let imports : map_of import_key code_cmp c.put_some-2.new.rows.items ≡ with_import change.import (map_of import_key code_cmp old.imports.items) =
+    map_after import_key code_cmp nat_list_cmp_total (option_to_list change.import) old.imports.items c.reserve_demands.new.imports.items c.put_some-2.new.rows.items
+    c.self.invariant.imports c.reserve_demands.ensures.imports c.put_some-2.ensures.put
     ∙ import_after change.import (map_of import_key code_cmp old.imports.items) in
     let act : c.unwrap_or-self-inside.result ≡ with_number change.act old.last_act = c.unwrap_or-self-inside.ensures ∙ number_after change.act old.last_act in
     let demand : c.unwrap_or-self-inside-2.result ≡ with_number change.demand old.last_demand =

@@ -1,0 +1,61 @@
+use Rattle.std.proofs.Common.{rules, ◌≡◌, ℕ, List, sym, subst, ◌∙◌}
+use Rattle.std.specs.Ordering.{nat_cmp}
+use Rattle.shop_machine.specs.Listing.{is_open}
+use Rattle.shop_machine.specs.declared.records.Part.{Part}
+use Rattle.shop_machine.specs.declared.records.Job.{Job}
+use Rattle.shop_machine.specs.declared.records.Demand.{Demand}
+use Rattle.shop_rows.specs.Keys.{job_key, demand_key}
+use Rattle.shop_rows.specs.Open.{waits, AreListed, ListsNumbers}
+use Rattle.shop_rows.specs.Rows.{rise, row_at}
+use Rattle.std.specs.Prelude.{IsTrue}
+use Rattle.cut_measure.specs.Codes.{code_cmp}
+use Rattle.shop_book.specs.Memory.{order_key}
+use Rattle.shop_book.specs.Memory.{content_of_rows}
+use Rattle.shop_book.proofs.memory.MemBook.copy.Goals as goal
+
+pub invariant_of-result : goal.invariant_of-result
+invariant_of-result c =
+    let book = c.self.inside in
+    let lists = c.in_ok-lists.lists in
+    let parts : c.in_ok-parts.parts.items ≡ book.parts.items = search rules in
+    let jobs : c.in_ok-jobs.jobs.items ≡ book.jobs.items = c.in_ok-jobs.ensures in
+    let demands : c.in_ok-demands.demands.items ≡ book.demands.items = search rules in
+    record {
+      materials = search rules;
+      parts = search rules;
+      totals = search rules;
+      jobs = subst (λ (js : List Job). IsTrue (rise job_key nat_cmp js)) (sym jobs) c.self.invariant.jobs;
+      orders = subst (λ (codes : List (List ℕ)). IsTrue (rise order_key code_cmp codes)) (sym c.in_ok-orders.ensures) c.self.invariant.orders;
+      demands = search rules;
+      kept = search rules;
+      imports = search rules;
+      small = search rules;
+      sums = search rules;
+      keys = search rules;
+      listed =
+          subst (λ (ps : List Part). AreListed ps lists.parts.items) (sym parts) (λ key. subst (λ ks. AreListed book.parts.items ks) (sym c.in_ok-lists.ensures.parts) c.self.invariant.listed key);
+      job_keys = search rules;
+      waiting =
+          subst (λ (js : List Job). ListsNumbers waits (λ number. row_at job_key nat_cmp number js) lists.jobs.items) (sym jobs)
+          (λ number. subst (λ (ks : List ℕ). ListsNumbers waits (λ n. row_at job_key nat_cmp n book.jobs.items) ks) (sym c.in_ok-lists.ensures.jobs) c.self.invariant.waiting number);
+      demand_keys = search rules;
+      open_demands =
+          subst (λ (ds : List Demand). ListsNumbers is_open (λ number. row_at demand_key nat_cmp number ds) lists.demands.items) (sym demands)
+          (λ number. subst (λ (ks : List ℕ). ListsNumbers is_open (λ n. row_at demand_key nat_cmp n book.demands.items) ks) (sym c.in_ok-lists.ensures.demands) c.self.invariant.open_demands number);
+    }
+
+pub returns : goal.returns
+returns c =
+    let book = c.self.inside in
+    let materials : c.in_ok-materials.materials.items ≡ book.materials.items = search rules in
+    let parts : c.in_ok-parts.parts.items ≡ book.parts.items = search rules in
+    let jobs : c.in_ok-jobs.jobs.items ≡ book.jobs.items = c.in_ok-jobs.ensures in
+    let orders : c.in_ok-orders.orders.keys ≡ book.orders.keys = c.in_ok-orders.ensures in
+    let demands : c.in_ok-demands.demands.items ≡ book.demands.items = search rules in
+    let kept : c.in_ok-kept.kept.entries ≡ book.kept.entries = c.in_ok-kept.ensures in
+    let imports : c.in_ok-imports.imports.items ≡ book.imports.items = c.in_ok-imports.ensures in
+    (λ i.
+    record {
+      content = content_of_rows (materials i) (parts i) (jobs i) (orders i) (demands i) (kept i) (imports i) book.last_act book.last_demand;
+      failures = book.failures;
+    }) ∙ c.self.view_is
