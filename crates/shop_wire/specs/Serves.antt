@@ -1,5 +1,5 @@
 -- What a request does to a content, and what is told and written.
-use Rattle.std.specs.Prelude.{◌≡◌, ◌⊎◌, ◌&&◌, ℕ, Bool, true, false, List, [], ◌∷◌, ◌++◌, map, nat_le, bytes_eq, Option, Some, None, Result, Ok, Err, MatchOption, option_map, option_and_then, IfSome, if◌then◌else◌}
+use Rattle.std.specs.Prelude.{◌≡◌, ◌⊎◌, ◌&&◌, ◌==◌, ℕ, Bool, true, false, List, [], ◌∷◌, ◌++◌, map, nat_le, bytes_eq, Option, Some, None, Result, Ok, Err, MatchOption, option_map, option_and_then, IfSome, if◌then◌else◌}
 use Rattle.std.specs.Fmt.{decimal}
 use Rattle.std.specs.List.{after_first, before_first}
 use Rattle.std.specs.Str.{is_utf8}
