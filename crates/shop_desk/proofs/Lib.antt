@@ -4,3 +4,4 @@ pub mod Deciding
 pub mod Blame
 pub mod Accounts
 pub mod TakenParts
+pub mod Refusals
