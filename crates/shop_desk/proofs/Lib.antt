@@ -5,3 +5,4 @@ pub mod Blame
 pub mod Accounts
 pub mod TakenParts
 pub mod TakenJobs
+pub mod Refusals

@@ -1,5 +1,5 @@
 -- What handling a message does to a book, and to what a crash may leave of it.
-use Rattle.std.specs.Prelude.{◌≡◌, ◌⊎◌, List, [], ◌∷◌, MatchOption}
+use Rattle.std.specs.Prelude.{◌≡◌, ◌⊎◌, List, [], ◌∷◌, MatchOption, IfSome}
 use Rattle.shop_machine.specs.declared.messages.Message.{Message}
 use Rattle.shop_machine.specs.declared.messages.Reply.{Reply}
 use Rattle.shop_machine.specs.Messages.{Texts, refusal_in, pair_of}
@@ -8,6 +8,7 @@ use Rattle.shop_machine.specs.Machine.{StepNew, Step, Run}
 use Rattle.shop_machine.specs.History.{Entry, messages_of, Gives, IsAccountOf, history_after}
 use Rattle.shop_machine.specs.Soundness.{IsSound}
 use Rattle.shop_book.specs.declared.books.Book.{Ghosts}
+use Rattle.shop_book.specs.Kept.{Says}
 use Rattle.shop_desk.specs.Faults.{TellOfFailures}
 
 module _ (texts : Texts) {Left : Type 0} (stands : Left → Content → Type 0) where
@@ -39,6 +40,16 @@ module _ (texts : Texts) {Left : Type 0} (stands : Left → Content → Type 0) 
       (next : Content) × Step texts old message answer next × Leads (LeftBy before old message answer next) next messages answers new after
   Leads before old [] (answer ∷ answers) new after = ⊥
   Leads before old (message ∷ messages) [] new after = ⊥
+
+-- a refusal leaves each content that an honest book held, whether a history gives it or not
+abbrev pub RefusalKeeps : {B : Type 0} → Ghosts B → B → B → Reply → Type 0
+RefusalKeeps book before after answer = Says book before after (λ m. IfSome (refusal_in answer) (λ refusal. book.holds after m))
+
+-- replies in turn led from one book to the next, and so it is after each of them
+abbrev pub RefusalsKeep : {B : Type 0} → Ghosts B → B → List Reply → B → Type 0
+RefusalsKeep book before [] after = after ≡ before
+RefusalsKeep {B} book before (answer ∷ answers) after =
+    (mid : B) × (book.is_honest after → book.is_honest mid) × RefusalKeeps book before mid answer × RefusalsKeep book mid answers after
 
 -- Where a history gives old, one whose messages are those of that history with each new message once gives next, and this is
 -- its account.

@@ -13,7 +13,7 @@ ghost use Rattle.shop_rules.specs.Forms.{json_texts};
 ghost use Rattle.shop_book.specs.Failures.{CountsFailure};
 ghost use Rattle.shop_book.specs.Kept.{KeepsBook, Says};
 ghost use Rattle.shop_desk.specs.Faults.{CountsReply, CountsOrContradicts, CountsUp, StoreFailed};
-ghost use Rattle.shop_desk.specs.Handled.{IsHandled, HasRun};
+ghost use Rattle.shop_desk.specs.Handled.{IsHandled, HasRun, RefusalKeeps, RefusalsKeep};
 
 use crate::decided::{decide, keeping_message};
 use crate::found::{demands_for, material_for};
@@ -60,6 +60,7 @@ fn handle_new<B: Book>(
     ensures step { text ≡ json_texts.of_message message.now → IsMessage message.now → B.is_honest book.new → (m : Content) → B.holds book.old m
         → IsSound json_texts m → kept_at m (pair_of message.now) ≡ None
         → IsHandled json_texts B.stands (B.may_leave book.old) (B.may_leave book.new) (B.holds book.new) m message.now result.0 }
+    ensures refused { RefusalKeeps B.Book book.old book.new result.0 }
     ensures told { IfSome result.1 (λ text. text ≡ json_texts.of_reply result.0) }
     ensures honest { B.is_honest book.new → B.is_honest book.old }
     ensures failures { CountsOrContradicts result.0 (B.failed book.old) (B.failed book.new) }
@@ -97,6 +98,7 @@ fn handle_new<B: Book>(
 pub fn handle_told<B: Book>(alloc: Global, book: &mut B, message: &Message) -> (Reply, Option<Text>)
     ensures step { B.is_honest book.new → (m : Content) → B.holds book.old m → IsSound json_texts m
         → IsHandled json_texts B.stands (B.may_leave book.old) (B.may_leave book.new) (B.holds book.new) m message.now result.0 }
+    ensures refused { RefusalKeeps B.Book book.old book.new result.0 }
     ensures told { IfSome result.1 (λ text. text ≡ json_texts.of_reply result.0) }
     ensures message { IsMessage message.now }
     ensures honest { B.is_honest book.new → B.is_honest book.old }
@@ -118,6 +120,7 @@ pub fn handle_told<B: Book>(alloc: Global, book: &mut B, message: &Message) -> (
 pub fn handle<B: Book>(alloc: Global, book: &mut B, message: &Message) -> Reply
     ensures step { B.is_honest book.new → (m : Content) → B.holds book.old m → IsSound json_texts m
         → IsHandled json_texts B.stands (B.may_leave book.old) (B.may_leave book.new) (B.holds book.new) m message.now result }
+    ensures refused { RefusalKeeps B.Book book.old book.new result }
     ensures message { IsMessage message.now }
     ensures honest { B.is_honest book.new → B.is_honest book.old }
     ensures failures { CountsOrContradicts result (B.failed book.old) (B.failed book.new) }
@@ -352,6 +355,7 @@ pub fn run<B: Book>(
     messages: &[Message],
 ) -> Result<Vec<Reply>, AllocError>
     ensures run { Says B.Book book.old book.new (λ m. IsSound json_texts m → IfOk result (λ replies. HasRun json_texts B.Book book.old book.new m messages.now replies.items)) }
+    ensures refused { IfOk result (λ replies. RefusalsKeep B.Book book.old replies.items book.new) }
     ensures err { OnErr result (book.new ≡ book.old) }
     ensures honest { B.is_honest book.new → B.is_honest book.old }
     ensures failures { CountsUp (B.failed book.old) (B.failed book.new) }

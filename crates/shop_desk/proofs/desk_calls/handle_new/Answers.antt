@@ -1,6 +1,6 @@
-use Rattle.std.specs.Prelude.{Some}
+use Rattle.std.specs.Prelude.{Some, IfSome}
 use Rattle.std.proofs.Common.{◌≡◌, refl, sym, ap, subst, inl, ◌∙◌}
-use Rattle.shop_machine.specs.Messages.{pair_of}
+use Rattle.shop_machine.specs.Messages.{pair_of, refusal_in}
 use Rattle.shop_machine.specs.Content.{changed}
 use Rattle.shop_machine.specs.Machine.{keeping}
 use Rattle.shop_machine.specs.Soundness.{Fits}
@@ -10,6 +10,7 @@ use Rattle.shop_machine.specs.declared.messages.Reply.TheVariants.{Refused}
 use Rattle.shop_desk.specs.Faults.{CountsReply}
 use Rattle.shop_desk.specs.Handled.{IsHandled}
 use Rattle.shop_desk.proofs.Steps.{decided, faulted, committed, failed, counts_made, counted_made, is_fault, fits_committed, row_committed, blamed, commit_blamed}
+use Rattle.shop_desk.proofs.Refusals.{none_refused}
 use Rattle.shop_desk.proofs.desk_calls.handle_new.Goals as goal
 
 pub returns-in-Err-clause-step : goal.returns-in-Err-clause-step
@@ -80,3 +81,9 @@ returns-in-Err-commit-clause-store_fault g c =
     let decided = g.B.Book.failed c.decide.new.book in
     commit_blamed (Unit {0}) first decided (g.B.Book.failed c.commit.new.self) c.in-Err-commit.fault c.from.result (counted_made first decided c.in-Ok.change c.in-Ok.ensures.keeps.failures)
     c.in-Err-commit.ensures.failures c.from.ensures is
+
+pub returns-in-Ok-commit-clause-refused : goal.returns-in-Ok-commit-clause-refused
+returns-in-Ok-commit-clause-refused g c =
+    λ honest m held.
+    subst (λ answer. IfSome (refusal_in answer) (λ refusal. g.B.Book.holds c.commit.new.self m)) (sym c.in-Ok-keeping_message.ensures.reply)
+    (none_refused c.in-Ok.change.reply _ c.in-Ok.ensures.told)

@@ -7,8 +7,9 @@ use Rattle.shop_machine.proofs.Runs.{AreMessages, AreMessages-push, gives_after}
 use Rattle.shop_machine.proofs.Owners.{account_of}
 use Rattle.shop_rules.specs.Forms.{json_texts}
 use Rattle.shop_desk.specs.Faults.{TellOfFailures}
-use Rattle.shop_desk.specs.Handled.{Leads}
+use Rattle.shop_desk.specs.Handled.{Leads, RefusalsKeep}
 use Rattle.shop_desk.proofs.Blame.{up_same, up_answer, up_more, tell_more, tell_one}
+use Rattle.shop_desk.proofs.Refusals.{refusals_more}
 use Rattle.shop_desk.proofs.Steps.{leads_more, leads_runs}
 use Rattle.shop_desk.proofs.desk_calls.run.Goals as goal
 
@@ -22,6 +23,7 @@ loop-message-init g c =
       honest = λ honest. honest;
       up = up_same failed failed refl;
       are = tt;
+      refused = subst (λ (rs : List Reply). RefusalsKeep g.B.Book c.args.book.now rs c.args.book.now) (sym c.in_ok-replies.ensures.items) refl;
       so_far = λ honest m held sound. (
         m,
         subst (λ (rs : List Reply). Leads json_texts g.B.Book.stands start m [] rs m start) (sym c.in_ok-replies.ensures.items) (refl, λ left it. it),
@@ -53,6 +55,9 @@ loop-message-preserved g c =
       honest = λ honest. c.loop-message.invariant.honest (c.handle-reply.ensures.honest honest);
       up = up_more first middle last c.loop-message.invariant.up up;
       are = subst AreMessages (sym taken) (AreMessages-push (take at messages) message c.loop-message.invariant.are c.handle-reply.ensures.message);
+      refused = subst (λ (rs : List Reply). RefusalsKeep g.B.Book c.args.book.now rs c.handle-reply.new.book) (sym c.in-Ok.ensures.items)
+          (refusals_more g.B.Book c.args.book.now c.loop-message.book c.handle-reply.new.book c.loop-message.replies.items c.handle-reply.result
+          c.loop-message.invariant.refused c.handle-reply.ensures.honest c.handle-reply.ensures.refused);
       so_far = λ honest m held sound.
           let was = c.loop-message.invariant.so_far (c.handle-reply.ensures.honest honest) m held sound in
           let handled = c.handle-reply.ensures.step honest was.0 was.2 was.3 in

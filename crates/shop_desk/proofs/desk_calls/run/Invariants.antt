@@ -4,7 +4,7 @@ use Rattle.shop_machine.specs.Soundness.{IsSound}
 use Rattle.shop_machine.proofs.Runs.{AreMessages}
 use Rattle.shop_rules.specs.Forms.{json_texts}
 use Rattle.shop_desk.specs.Faults.{CountsUp, TellOfFailures}
-use Rattle.shop_desk.specs.Handled.{Leads}
+use Rattle.shop_desk.specs.Handled.{Leads, RefusalsKeep}
 use Rattle.shop_desk.proofs.desk_calls.run.Given as goal
 
 abbrev pub invariant-loop-message : goal.invariant-loop-message
@@ -15,6 +15,7 @@ invariant-loop-message g l =
       honest : g.B.Book.is_honest l.book → g.B.Book.is_honest l.fn.book;
       up : CountsUp (g.B.Book.failed l.fn.book) (g.B.Book.failed l.book);
       are : AreMessages (take l.message-index l.messages);
+      refused : RefusalsKeep g.B.Book l.fn.book l.replies.items l.book;
       so_far : g.B.Book.is_honest l.book → (m : Content) → g.B.Book.holds l.fn.book m → IsSound json_texts m → (at : Content)
           × Leads json_texts g.B.Book.stands (g.B.Book.may_leave l.fn.book) m (take l.message-index l.messages) l.replies.items at (g.B.Book.may_leave l.book)
           × g.B.Book.holds l.book at × IsSound json_texts at
