@@ -393,12 +393,7 @@ fn last_kept(kept: &BTreeMap<Pair, Kept>, terminal: u32) -> u32
 }
 
 // Puts a part, and keeps the sums and the list of standing parts.
-fn put_part(
-    parts: &mut Vec<Part>,
-    totals: &mut Vec<Sums>,
-    keys: &mut Vec<OpenPart>,
-    part: &Part,
-)
+fn put_part(parts: &mut Vec<Part>, totals: &mut Vec<Sums>, keys: &mut Vec<OpenPart>, part: &Part)
     requires parts { IsTrue (rise part_key name_cmp parts.old.items) }
     requires totals { IsTrue (rise sums_key code_cmp totals.old.items) }
     requires small { IsTrue (all_small parts.old.items) }
@@ -504,12 +499,7 @@ fn put_together(
 }
 
 // Puts parts, as one after another.
-fn put_parts(
-    parts: &mut Vec<Part>,
-    totals: &mut Vec<Sums>,
-    keys: &mut Vec<OpenPart>,
-    rows: &[Part],
-)
+fn put_parts(parts: &mut Vec<Part>, totals: &mut Vec<Sums>, keys: &mut Vec<OpenPart>, rows: &[Part])
     requires parts { IsTrue (rise part_key name_cmp parts.old.items) }
     requires totals { IsTrue (rise sums_key code_cmp totals.old.items) }
     requires small { IsTrue (all_small parts.old.items) }
@@ -928,7 +918,12 @@ impl Book for MemBook {
         Ok(rows)
     }
 
-    fn first_jobs(&mut self, alloc: Global, after: u32, most: usize) -> Result<NumberList, BookFault>
+    fn first_jobs(
+        &mut self,
+        alloc: Global,
+        after: u32,
+        most: usize,
+    ) -> Result<NumberList, BookFault>
         ensures rows { IfOk result (λ numbers. numbers ≡ take most (map (λ (job : JobOf). job.act) (waiting_jobs self.old.content after))) }
         ensures memory { IfErr result (λ fault. fault ≡ NoMemory) }
         ensures same { self.new ≡ self.old }
@@ -981,11 +976,7 @@ impl Book for MemBook {
             &mut self.imports,
             wanted.len(),
         )?;
-        reserve_numbers(
-            &mut self.lists.jobs,
-            &mut self.lists.demands,
-            wanted.len(),
-        )?;
+        reserve_numbers(&mut self.lists.jobs, &mut self.lists.demands, wanted.len())?;
         put_and_keep(&mut self.orders, &mut self.kept, order, kept)?;
         put_some(&mut self.materials, material);
         put_moved(
