@@ -64,9 +64,12 @@ module _ {V A : Type 0} (looks : V → Part → Bool → V → Type 0) (at : A �
         parts = filter_map at (take (i + 1) names);
         on = false;
         visitor = (
-          filter_map at (take i names) ++ look.0, look.1, look.2,
+          filter_map at (take i names) ++ look.0,
+          look.1,
+          look.2,
           so_far at names i a within is ∙ ap (λ parts. filter_map at (take i names) ++ parts) look.3 ∙ sym (append_assoc (filter_map at (take i names)) look.0 (look.1 ∷ [])),
-          folds_append (λ v part w. looks v part true w) (filter_map at (take i names)) look.0 old mid look.2 seen look.4, look.5,
+          folds_append (λ v part w. looks v part true w) (filter_map at (take i names)) look.0 old mid look.2 seen look.4,
+          look.5,
         );
         answer = refl;
         begins = (filter_map at (drop (i + 1) names), ap (filter_map at) (sym (take-append-drop (i + 1) names)) ∙ filter_map-append at (take (i + 1) names) (drop (i + 1) names), λ h. cc);

@@ -3,3 +3,5 @@ pub mod Orders
 pub mod Replaced
 pub mod Held
 pub mod Handed
+-- the last number of a terminal
+pub mod Lasts

@@ -196,7 +196,12 @@ pub trait Book {
         ensures keeps { Keeps is_honest holds may_leave failed (CountsFailure result) self.old self.new };
 
     /// The numbers of the first waiting jobs with greater numbers, rising: at most so many.
-    fn first_jobs(&mut self, alloc: Global, after: u32, most: usize) -> Result<NumberList, BookFault>
+    fn first_jobs(
+        &mut self,
+        alloc: Global,
+        after: u32,
+        most: usize,
+    ) -> Result<NumberList, BookFault>
         ensures rows { is_honest self.new → (m : Content) → holds self.old m → IfOk result (λ numbers. numbers ≡ take most (map (λ (job : JobOf). job.act) (waiting_jobs m after))) }
         ensures keeps { Keeps is_honest holds may_leave failed (CountsFailure result) self.old self.new };
 

@@ -1,11 +1,12 @@
-ghost use Rattle.std.specs.Prelude.{◌≡◌, ◌≢◌, ◌⊎◌, ◌+◌, ◌++◌, ◌<◌, ◌≤◌, ◌^◌, ⊤, false, IfOk, IfErr, IfSome, IsOk, IsSome, OnOk, OnErr, IsTrue, List, ℕ, ◌-◌, filter, length, map, option_copied, take, vec_len, vec_capacity};
+ghost use Rattle.std.specs.Prelude.{◌≡◌, ◌≢◌, ◌⊎◌, ◌+◌, ◌++◌, ◌<◌, ◌≤◌, ◌^◌, ⊤, false, IfOk, IfErr, IfNone, IfSome, IsOk, IsSome, OnOk, OnErr, IsTrue, List, ℕ, ◌-◌, filter, length, map, option_copied, take, vec_len, vec_capacity};
 ghost use Rattle.std.specs.Option.{option_to_list};
 ghost use Rattle.cut_measure.specs.Codes.{code_cmp};
 ghost use Rattle.cut_measure.specs.Names.{name_cmp};
-ghost use Rattle.std.specs.Ordering.{nat_cmp};
+ghost use Rattle.std.specs.Ordering.{is_lt, nat_cmp};
 ghost use Rattle.shop_machine.specs.Content.{Content, material_at, part_at, job_at, has_order, demand_at, kept_at, import_at, totals_of, parts_of as listed_parts, changed, with_parts, with_moved, with_material, with_job, with_order, with_demands, pair_cmp};
 ghost use Rattle.shop_machine.specs.Listing.{IsLastNumber, is_asked_for, is_open, materials_of, open_demands, parts_behind, waiting_jobs};
 ghost use Rattle.shop_machine.specs.declared.records.Job.{Job as JobOf};
+ghost use Rattle.shop_machine.specs.declared.kept_texts.Pair.{Pair as PairOf};
 ghost use Rattle.shop_machine.specs.Soundness.{IsInRange};
 ghost use Rattle.shop_rows.specs.Keys.{material_key, part_key, job_key, demand_key, import_key};
 ghost use Rattle.std.specs.FinMap.{find as find_entry};
@@ -314,13 +315,85 @@ fn find_kept(
     }
 }
 
+// The same number, which 32 bits hold.
+fn in_bits(number: u32) -> u32
+    ensures same { result ≡ number }
+    ensures fits { number < 2 ^ 32 }
+{
+    number
+}
+
+// The same pair, of a terminal that 32 bits hold.
+fn read_pair(pair: &Pair) -> Pair
+    ensures same { result ≡ pair.now }
+    ensures fits { result.terminal < 2 ^ 32 }
+{
+    let terminal = in_bits(pair.terminal);
+    Pair {
+        terminal,
+        number: pair.number,
+    }
+}
+
+// The greatest of all pairs under which messages are kept.
+fn last_of_all(kept: &BTreeMap<Pair, Kept>) -> Option<Pair>
+    ensures none { IfNone result ((pair : PairOf) → find_entry pair_cmp pair kept.now.entries ≡ None) }
+    ensures kept { IfSome result (λ last. IsSome (find_entry pair_cmp last kept.now.entries)) }
+    ensures greatest { IfSome result (λ last. (pair : PairOf) → IsSome (find_entry pair_cmp pair kept.now.entries) → is_lt (pair_cmp last pair) ≡ false) }
+    ensures fits { IfSome result (λ last. last.terminal < 2 ^ 32) }
+{
+    match kept.last_key_value() {
+        Some((pair, _)) => Some(read_pair(pair)),
+        None => None,
+    }
+}
+
+// The greatest pair of the terminals below this one.
+fn last_below(kept: &BTreeMap<Pair, Kept>, terminal: u32) -> Option<Pair>
+    ensures none { IfNone result ((pair : PairOf) → pair.terminal < terminal → find_entry pair_cmp pair kept.now.entries ≡ None) }
+    ensures kept { IfSome result (λ last. IsSome (find_entry pair_cmp last kept.now.entries)) }
+    ensures greatest { IfSome result (λ last. (pair : PairOf) → pair.terminal < terminal → IsSome (find_entry pair_cmp pair kept.now.entries) → is_lt (pair_cmp last pair) ≡ false) }
+    ensures below { IfSome result (λ last. last.terminal < terminal) }
+{
+    let end = Pair {
+        terminal,
+        number: 0,
+    };
+    match kept.range(..end).next_back() {
+        Some((pair, _)) => Some(*pair),
+        None => None,
+    }
+}
+
+// The greatest pair of the terminals up to this one.
+fn last_upto(kept: &BTreeMap<Pair, Kept>, terminal: u32) -> Option<Pair>
+    ensures none { IfNone result ((pair : PairOf) → pair.terminal ≤ terminal → find_entry pair_cmp pair kept.now.entries ≡ None) }
+    ensures kept { IfSome result (λ last. IsSome (find_entry pair_cmp last kept.now.entries)) }
+    ensures greatest { IfSome result (λ last. (pair : PairOf) → pair.terminal ≤ terminal → IsSome (find_entry pair_cmp pair kept.now.entries) → is_lt (pair_cmp last pair) ≡ false) }
+    ensures upto { IfSome result (λ last. last.terminal ≤ terminal) }
+{
+    match terminal.checked_add(1) {
+        Some(next) => last_below(kept, next),
+        None => last_of_all(kept),
+    }
+}
+
+// The greatest number under which a message of a terminal is kept, 0 where none is.
+fn last_kept(kept: &BTreeMap<Pair, Kept>, terminal: u32) -> u32
+    ensures greatest { (number : ℕ) → IsSome (find_entry pair_cmp (record { terminal = terminal; number = number }) kept.now.entries) → number ≤ result }
+    ensures kept { (result ≡ 0) ⊎ IsSome (find_entry pair_cmp (record { terminal = terminal; number = result }) kept.now.entries) }
+{
+    let Some(last) = last_upto(kept, terminal) else {
+        return 0;
+    };
+    if last.terminal != terminal {
+        return 0;
+    }
+    last.number
+}
+
 // Puts a part, and keeps the sums and the list of standing parts.
-fn put_part(
-    parts: &mut Vec<Part>,
-    totals: &mut Vec<Sums>,
-    keys: &mut Vec<OpenPart>,
-    part: &Part,
-)
+fn put_part(parts: &mut Vec<Part>, totals: &mut Vec<Sums>, keys: &mut Vec<OpenPart>, part: &Part)
     requires parts { IsTrue (rise part_key name_cmp parts.old.items) }
     requires totals { IsTrue (rise sums_key code_cmp totals.old.items) }
     requires small { IsTrue (all_small parts.old.items) }
@@ -426,12 +499,7 @@ fn put_together(
 }
 
 // Puts parts, as one after another.
-fn put_parts(
-    parts: &mut Vec<Part>,
-    totals: &mut Vec<Sums>,
-    keys: &mut Vec<OpenPart>,
-    rows: &[Part],
-)
+fn put_parts(parts: &mut Vec<Part>, totals: &mut Vec<Sums>, keys: &mut Vec<OpenPart>, rows: &[Part])
     requires parts { IsTrue (rise part_key name_cmp parts.old.items) }
     requires totals { IsTrue (rise sums_key code_cmp totals.old.items) }
     requires small { IsTrue (all_small parts.old.items) }
@@ -850,7 +918,12 @@ impl Book for MemBook {
         Ok(rows)
     }
 
-    fn first_jobs(&mut self, alloc: Global, after: u32, most: usize) -> Result<NumberList, BookFault>
+    fn first_jobs(
+        &mut self,
+        alloc: Global,
+        after: u32,
+        most: usize,
+    ) -> Result<NumberList, BookFault>
         ensures rows { IfOk result (λ numbers. numbers ≡ take most (map (λ (job : JobOf). job.act) (waiting_jobs self.old.content after))) }
         ensures memory { IfErr result (λ fault. fault ≡ NoMemory) }
         ensures same { self.new ≡ self.old }
@@ -860,8 +933,12 @@ impl Book for MemBook {
         Ok(rows)
     }
 
-    fn last_number(&mut self, _terminal: u32) -> Result<u32, BookFault> {
-        Err(BookFault::NoMemory)
+    fn last_number(&mut self, terminal: u32) -> Result<u32, BookFault>
+        ensures number { IfOk result (λ last. IsLastNumber self.old.content terminal last) }
+        ensures sure { IsOk result }
+        ensures same { self.new ≡ self.old }
+    {
+        Ok(last_kept(&self.kept, terminal))
     }
 
     fn commit(&mut self, change: Change) -> Result<(), BookFault>
@@ -899,11 +976,7 @@ impl Book for MemBook {
             &mut self.imports,
             wanted.len(),
         )?;
-        reserve_numbers(
-            &mut self.lists.jobs,
-            &mut self.lists.demands,
-            wanted.len(),
-        )?;
+        reserve_numbers(&mut self.lists.jobs, &mut self.lists.demands, wanted.len())?;
         put_and_keep(&mut self.orders, &mut self.kept, order, kept)?;
         put_some(&mut self.materials, material);
         put_moved(

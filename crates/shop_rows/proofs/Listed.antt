@@ -20,7 +20,7 @@ use Rattle.shop_machine.specs.Content.{is_listed}
 use Rattle.shop_machine.specs.Listing.{is_behind}
 use Rattle.shop_machine.specs.Same.{same_code}
 use Rattle.shop_rows.specs.Keys.{part_key, names_total, names_exact}
-use Rattle.shop_rows.specs.Open.{own_key, open_cmp, open_total, open_exact, open_key, has, is_found, finds_with, finds_with_all, ListsNumbers, ListsParts, ListsOthers, KeepsMaterial, KeepMaterials, passed_at, is_passed, is_upto, is_after}
+use Rattle.shop_rows.specs.Open.{own_key, open_cmp, open_exact, open_key, has, is_found, finds_with, finds_with_all, ListsNumbers, ListsParts, ListsOthers, KeepsMaterial, KeepMaterials, passed_at, is_passed, is_upto, is_after}
 use Rattle.shop_rows.specs.Rows.{entries_of, put_each, rise, row_at, ArePut, IsPut, IsSettled}
 use Rattle.shop_rows.specs.declared.open.OpenPart.{OpenPart}
 use Rattle.shop_rows.proofs.Places.{rising_at, tested, met}
@@ -129,9 +129,10 @@ keep_at (p ∷ parts) (suc i) part find_part within is keep = keep_at parts i pa
 pub keep_one : (code : List ℕ) (parts : List Part) (find_part : Name → Option Part) → All (λ part. IfSome (find_part part.name) (λ old. old.material ≡ code)) parts → All (λ part. part.material ≡ code) parts
     → KeepMaterials find_part parts
 keep_one code [] find_part before own = tt
-keep_one code (p ∷ parts) find_part before own =
-    (by_found (find_part p.name) (before 0 p (omega arith)),
-    keep_one code parts (finds_with name_cmp p.name p find_part) (λ k d lt. later (get_or parts k d) (before (suc k) d (omega arith))) (λ k d lt. own (suc k) d (omega arith)))
+keep_one code (p ∷ parts) find_part before own = (
+  by_found (find_part p.name) (before 0 p (omega arith)),
+  keep_one code parts (finds_with name_cmp p.name p find_part) (λ k d lt. later (get_or parts k d) (before (suc k) d (omega arith))) (λ k d lt. own (suc k) d (omega arith)),
+)
   where
     by_found : (found : Option Part) → IfSome found (λ old. old.material ≡ code) → IfSome found (λ old. old.material ≡ p.material)
     by_found None h = h

@@ -1,5 +1,5 @@
 -- Lists of keys that are those of the rows that pass a test, and the rows found by them.
-use Rattle.std.proofs.Common.{◌≡◌, ℕ, zero, suc, Bool, true, false, List, [], ◌∷◌, take, map, refl, sym, ap, subst, ◌∙◌, true≢false}
+use Rattle.std.proofs.Common.{◌≡◌, ℕ, zero, suc, Bool, true, false, List, [], ◌∷◌, take, map, refl, sym, ap, ◌∙◌, true≢false}
 use Rattle.std.specs.List.{cons_option}
 use Rattle.std.specs.Prelude.{Option, Some, None, T, cond, is_some, filter, filter_map, nat_lt, ◌&&◌}
 use Rattle.std.specs.declared.cmp.Ordering.{Ordering}
@@ -185,6 +185,7 @@ module _ (code : List ℕ) (after : Option Name) where
       both : (p q : Bool) → (p && q) ≡ true → p ≡ true
       both true q e = refl
       both false q e = e
+
       by_code : (r : Ordering) → r ≡ Equal → ordering_then r (name_cmp a.name b.name) ≡ Less → name_cmp a.name b.name ≡ Less
       by_code Less is e = absurd (true≢false (sym (ap is_eq is)))
       by_code Equal is e = e

@@ -159,8 +159,8 @@ pub fn list_part(keys: &mut Vec<OpenPart>, replaced: Option<Part>, part: &Part)
     ensures capacity { vec_capacity keys.old ≤ vec_capacity keys.new }
 {
     unlist(keys, replaced, part);
-    let stands = part.is_listed(&part.material);
-    settle(keys, OpenPart::of(part), stands);
+    let is_there = part.is_listed(&part.material);
+    settle(keys, OpenPart::of(part), is_there);
 }
 
 // Lists a part where it stands, and not where it doesn't, in place of one of the same material, if there is one.

@@ -33,7 +33,8 @@ loop-key-preserved c =
     let more : length c.push_asked.new.rows ≡ length c.loop-key.rows + length (filter test (option_to_list (at key))) =
     ap length pushed ∙ length-append c.loop-key.rows (filter test (option_to_list (at key))) in
     let one = one_passes test (at key) in
-    let same : length c.as_slice.result.now ≡ length c.loop-key.rows = ap length c.as_slice.ensures in
-    (pushed ∙ ap (λ rows. rows ++ filter test (option_to_list (at key))) c.loop-key.invariant.0
-    ∙ sym (passed_more at test keys i key c.loop-key-test.true (get_or_default keys i 0 key c.loop-key-test.true)),
-    omega (arith, more, one, same, c.if-most-as_slice.false))
+    let same : length c.as_slice.result.now ≡ length c.loop-key.rows = ap length c.as_slice.ensures in (
+      pushed ∙ ap (λ rows. rows ++ filter test (option_to_list (at key))) c.loop-key.invariant.0
+          ∙ sym (passed_more at test keys i key c.loop-key-test.true (get_or_default keys i 0 key c.loop-key-test.true)),
+      omega (arith, more, one, same, c.if-most-as_slice.false),
+    )

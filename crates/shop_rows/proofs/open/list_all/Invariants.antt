@@ -1,4 +1,4 @@
-use Rattle.std.proofs.Common.{◌≡◌, ◌+◌, ◌-◌, ◌≤◌, Option, length, take, vec_len, vec_capacity}
+use Rattle.std.proofs.Common.{◌+◌, ◌-◌, ◌≤◌, Option, length, take, vec_len, vec_capacity}
 use Rattle.std.specs.Prelude.{IsTrue}
 use Rattle.cut_measure.specs.Names.{Name, name_cmp}
 use Rattle.shop_rows.specs.Keys.{part_key}

@@ -12,4 +12,4 @@ returns-clause-lists c = λ find lists is.
     let part = c.args.part.now in
     listed part (finds_with name_cmp part.name part find) c.unlist.new.keys.items c.settle.new.rows.items (c.unlist.ensures.others find lists is) (found_own part find)
     (subst (λ (key : OpenPart). IsSettled own_key open_cmp key (is_listed part.material part) c.unlist.new.keys.items c.settle.new.rows.items) c.of.ensures
-    (subst (λ (b : Bool). IsSettled own_key open_cmp c.of.result b c.unlist.new.keys.items c.settle.new.rows.items) c.is_listed-stands.ensures c.settle.ensures.settled))
+    (subst (λ (b : Bool). IsSettled own_key open_cmp c.of.result b c.unlist.new.keys.items c.settle.new.rows.items) c.is_listed-is_there.ensures c.settle.ensures.settled))

@@ -1,4 +1,4 @@
-use Rattle.std.proofs.Common.{sym, ◌∙◌}
+use Rattle.std.proofs.Common.{◌∙◌}
 use Rattle.shop_rows.specs.Open.{own_key, open_cmp, open_total}
 use Rattle.shop_rows.proofs.Listed.{unlisted_none, unlisted_same, unlisted_taken}
 use Rattle.shop_rows.proofs.Places.{settled_taken}

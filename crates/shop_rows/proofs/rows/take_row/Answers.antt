@@ -28,11 +28,11 @@ returns-in-Err-clause-taken g c =
     taken_missed g.R.Row.key_of g.R.Row.cmp g.met.R.Row.total g.met.R.Row.exact c.args.rows.now.items (tested _ c.requires) c.in-Err.field-0 c.args.key
     (subst (λ (xs : List g.row.R.Denot). c.in-Err.field-0 ≤ length xs) c.deref.ensures.value c.in-Err.ensures.range)
     (subst (λ (xs : List g.row.R.Denot). IsNonDecreasingBy (λ y. ordering_index (g.R.Row.cmp (g.R.Row.key_of y) c.args.key)) xs
-        → IsPartitionPoint (λ y. g.R.Row.cmp (g.R.Row.key_of y) c.args.key ≡ Less) (λ y. g.R.Row.cmp (g.R.Row.key_of y) c.args.key ≡ Greater) xs c.in-Err.field-0) c.deref.ensures.value c.in-Err.ensures.position)
+    → IsPartitionPoint (λ y. g.R.Row.cmp (g.R.Row.key_of y) c.args.key ≡ Less) (λ y. g.R.Row.cmp (g.R.Row.key_of y) c.args.key ≡ Greater) xs c.in-Err.field-0) c.deref.ensures.value c.in-Err.ensures.position)
 
 pub returns-in-Err-clause-row : goal.returns-in-Err-clause-row
 returns-in-Err-clause-row g c =
     sym (row_missed g.R.Row.key_of g.R.Row.cmp g.met.R.Row.total g.met.R.Row.exact c.args.rows.now.items (tested _ c.requires) c.in-Err.field-0 c.args.key
     (subst (λ (xs : List g.row.R.Denot). c.in-Err.field-0 ≤ length xs) c.deref.ensures.value c.in-Err.ensures.range)
     (subst (λ (xs : List g.row.R.Denot). IsNonDecreasingBy (λ y. ordering_index (g.R.Row.cmp (g.R.Row.key_of y) c.args.key)) xs
-        → IsPartitionPoint (λ y. g.R.Row.cmp (g.R.Row.key_of y) c.args.key ≡ Less) (λ y. g.R.Row.cmp (g.R.Row.key_of y) c.args.key ≡ Greater) xs c.in-Err.field-0) c.deref.ensures.value c.in-Err.ensures.position))
+    → IsPartitionPoint (λ y. g.R.Row.cmp (g.R.Row.key_of y) c.args.key ≡ Less) (λ y. g.R.Row.cmp (g.R.Row.key_of y) c.args.key ≡ Greater) xs c.in-Err.field-0) c.deref.ensures.value c.in-Err.ensures.position))
