@@ -1,5 +1,4 @@
-ghost use Rattle.std.specs.Prelude.{◌≡◌, ◌==◌, ◌⊎◌, IfOk, IfErr, OnOk, length, string_bytes, decimal};
-ghost use Rattle.std.specs.List.{before_first};
+ghost use Rattle.std.specs.Prelude.{◌≡◌, ◌⊎◌, IfOk, IfErr, OnOk, length, string_bytes, decimal};
 ghost use Rattle.std.specs.Io.KnownBytes.{Appends};
 ghost use Rattle.shop_files.specs.declared.orders.OrdersFault.{OrdersFault as OrdersFaultOf};
 ghost use Rattle.shop_commands.specs.declared.faults.Fault.TheVariants as fault;
@@ -16,21 +15,19 @@ use std::alloc::{AllocError, Global};
 use std::fs::Files;
 use std::str;
 
-// A text up to its first line feed.
-fn first_line(text: &[u8]) -> &[u8]
-    ensures { result.now ≡ before_first (λ b. b == 10) text.now }
-{
-    match text.iter().position(|byte| *byte == b'\n') {
-        Some(at) => &text[..at],
-        None => text,
-    }
-}
-
 // Whether the first line of a text has a byte.
 fn first_line_has(text: &[u8], wanted: u8) -> bool
     ensures { result ≡ spec.first_line_has wanted text.now }
 {
-    first_line(text).iter().any(|byte| *byte == wanted)
+    for byte in text {
+        if *byte == b'\n' {
+            return false;
+        }
+        if *byte == wanted {
+            return true;
+        }
+    }
+    false
 }
 
 // Whether the first line has semicolons, and no comma.

@@ -91,28 +91,28 @@ fn work<
     rt: &R,
     stores: &O,
     alloc: Global,
-    request: &Request<'_>,
+    request: Request<'_>,
     source: &mut S,
     sink: &mut W,
 ) -> Result<(), Fault>
-    requires { HasKerf request.now }
-    ensures ok { OnOk result (IsDone B.Book (O.gives stores.now) request.now (S.left source.old) (W.held sink.old) (W.held sink.new)) }
-    ensures err { IfErr result (λ f. IsStopped B.Book (O.gives stores.now) request.now f (S.left source.old) (W.held sink.old) (W.held sink.new) (W.failed sink.old) (W.failed sink.new)) }
+    requires { HasKerf request }
+    ensures ok { OnOk result (IsDone B.Book (O.gives stores.now) request.entry (S.left source.old) (W.held sink.old) (W.held sink.new)) }
+    ensures err { IfErr result (λ f. IsStopped B.Book (O.gives stores.now) request.entry f (S.left source.old) (W.held sink.old) (W.held sink.new) (W.failed sink.old) (W.failed sink.new)) }
     ensures reads { S.reads source.new ≤ S.reads source.old + most_reads }
 {
     match request {
         Request::Replay => answer_lines(alloc, source, sink),
-        Request::Plan { file, kerf, step } => plan(rt, alloc, file, *kerf, *step, sink),
-        Request::Orders { file, told } => orders(rt, alloc, file, *told, sink),
+        Request::Plan { file, kerf, step } => plan(rt, alloc, file, kerf, step, sink),
+        Request::Orders { file, told } => orders(rt, alloc, file, told, sink),
         Request::Serve {
             port,
             store,
             shop,
             limit,
             page,
-        } => serve(rt, stores, alloc, *port, store, shop, *limit, *page, sink),
-        Request::Ticket { store, job } => print_ticket(stores, alloc, store, *job, sink),
-        Request::Yield { store, material } => print_yield(stores, alloc, store, *material, sink),
+        } => serve(rt, stores, alloc, port, store, shop, limit, page, sink),
+        Request::Ticket { store, job } => print_ticket(stores, alloc, store, job, sink),
+        Request::Yield { store, material } => print_yield(stores, alloc, store, material, sink),
     }
 }
 
@@ -205,7 +205,7 @@ pub fn perform<
 {
     match request_of(alloc, words) {
         Ok(Some(request)) => {
-            let outcome = work(rt, stores, alloc, &request, source, sink);
+            let outcome = work(rt, stores, alloc, request, source, sink);
             conclude(alloc, outcome, errors)
         }
         Ok(None) => {

@@ -103,7 +103,7 @@ fn shop_entries<R: Files>(
 
 // The page of a file, where there is one.
 fn page_in<R: Files>(rt: &R, alloc: Global, path: Option<&str>) -> Result<Option<Vec<u8>>, Fault>
-    ensures ok { IfOk result (λ page. IsPageRead (option_map (λ p. p.now) path.entry) (option_map (λ b. b.items) page)) }
+    ensures ok { IfOk result (λ page. IsPageRead (option_map (λ p. p.now) path) (option_map (λ b. b.items) page)) }
     ensures err { IfErr result IsPageUnread }
 {
     match path {
@@ -122,7 +122,7 @@ fn site_of<R: Files>(
     port: u32,
     page: Option<&str>,
 ) -> Result<Site, Fault>
-    ensures ok { IfOk result (λ site. IsSite port (option_map (λ p. p.now) page.entry) site) }
+    ensures ok { IfOk result (λ site. IsSite port (option_map (λ p. p.now) page) site) }
     ensures err { IfErr result IsPageUnread }
 {
     let page = page_in(rt, alloc, page)?;
@@ -239,8 +239,8 @@ pub fn serve<
     page: Option<&str>,
     sink: &mut W,
 ) -> Result<(), Fault>
-    ensures ok { OnOk result (IsServeDone B.Book (O.gives stores.now store.now) port limit (option_map (λ p. p.now) page.entry) (W.held sink.old) (W.held sink.new)) }
-    ensures err { IfErr result (λ f. IsServeStopped B.Book (O.gives stores.now store.now) port limit (option_map (λ p. p.now) page.entry) f (W.held sink.old) (W.held sink.new) (W.failed sink.old) (W.failed sink.new)) }
+    ensures ok { OnOk result (IsServeDone B.Book (O.gives stores.now store.now) port limit (option_map (λ p. p.now) page) (W.held sink.old) (W.held sink.new)) }
+    ensures err { IfErr result (λ f. IsServeStopped B.Book (O.gives stores.now store.now) port limit (option_map (λ p. p.now) page) f (W.held sink.old) (W.held sink.new) (W.failed sink.old) (W.failed sink.new)) }
 {
     let entries = shop_entries(rt, alloc, shop)?;
     let site = site_of(rt, alloc, port, page)?;
