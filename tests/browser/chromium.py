@@ -54,8 +54,8 @@ class Browser:
         os.close(down)
         os.close(up)
         self.buffer, self.last, self.session = b"", 0, None
-        # What the console told as a fault, the requests that left the page, and the answers' addresses with their status.
-        self.faults, self.requests, self.answers, self.on_paused = [], [], [], None
+        # What the console told as a fault, and the requests that left the page.
+        self.faults, self.requests, self.on_paused = [], [], None
 
     def __enter__(self):
         target = self.call("Target.createTarget", url="about:blank")["targetId"]
@@ -120,8 +120,6 @@ class Browser:
             self.faults.append(str([it.get("value") or it.get("description") for it in params["args"]]))
         elif method == "Network.requestWillBeSent":
             self.requests.append(params["request"]["url"])
-        elif method == "Network.responseReceived":
-            self.answers.append((params["response"]["url"], params["response"]["status"]))
         elif method == "Fetch.requestPaused" and self.on_paused:
             self.on_paused(params)
 
@@ -142,13 +140,13 @@ class Browser:
     def until(self, text, seconds=SECONDS):
         """Waits until an expression holds. (A node is an empty object where it is told by value, so it is made a truth.)"""
         end = time.monotonic() + seconds
-        while time.monotonic() < end and not self.faults:
+        while time.monotonic() < end:
             with suppress(RuntimeError):
                 if self.value(f"!!({text})"):
                     return
             time.sleep(0.05)
         self.shot("failed")
-        raise Failed(f"\n  it never came: {text}\n  told: {self.told()}\n  faults: {self.faults[:2]}")
+        raise Failed(f"\n  it never came: {text}\n  told: {self.told()}\n  faults: {self.faults}")
 
     def told(self):
         with suppress(RuntimeError):

@@ -1,12 +1,9 @@
 """What people do at the terminal's page, as clicks and keys of a real browser."""
 
-import http.server
 import json
 import os
 import re
-import threading
 import time
-from contextlib import contextmanager
 
 from browser.chromium import Browser
 
@@ -50,26 +47,6 @@ def exchange(shop, path, message=None):
     method = "GET" if message is None else "POST"
     head = f"{method} {path} HTTP/1.1\r\nHost: 127.0.0.1:{shop.port}\r\nContent-Length: {len(body)}\r\n\r\n"
     return json.loads(shop.exchange(head.encode() + body).partition(b"\r\n\r\n")[2])
-
-
-@contextmanager
-def other_site(page):
-    """The port of a server of this machine that answers each GET with this page: another origin."""
-
-    class Answer(http.server.BaseHTTPRequestHandler):
-        def do_GET(self):
-            self.send_response(200)
-            self.send_header("Content-Type", "text/html")
-            self.end_headers()
-            self.wfile.write(page.encode())
-
-        def log_message(self, *_):
-            pass
-
-    with http.server.ThreadingHTTPServer(("127.0.0.1", 0), Answer) as server:
-        threading.Thread(target=server.serve_forever, daemon=True).start()
-        yield server.server_port
-        server.shutdown()
 
 
 class Terminal(Browser):
