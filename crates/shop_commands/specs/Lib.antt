@@ -1,6 +1,5 @@
 pub mod Faults
 pub mod Written
-pub mod Orders
 pub mod Plans
 pub mod Stored
 pub mod Performs

@@ -4,7 +4,6 @@
 mod faults;
 mod files;
 mod limits;
-mod orders;
 mod performing;
 mod plans;
 mod replays;

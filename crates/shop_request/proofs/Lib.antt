@@ -1,7 +1,6 @@
 pub mod Numbers
 pub mod Front
 pub mod Named
-pub mod Guarding
 pub mod Routing
 pub mod Behind
 pub mod Uniqueness

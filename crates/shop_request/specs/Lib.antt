@@ -1,6 +1,5 @@
 pub mod Routes
 pub mod Heads
-pub mod Guards
 pub mod Reading
 pub mod Requests
 pub mod Senses

@@ -3,7 +3,6 @@
 
 mod faults;
 mod fields;
-mod guards;
 mod heads;
 mod judging;
 mod laws;
@@ -13,7 +12,6 @@ mod routes;
 mod wholes;
 
 pub use faults::{Fault, StreamFault};
-pub use guards::{Guard, Ruling};
 pub use laws::one_sense;
 pub use requests::{Inbound, read_request};
 pub use routes::{Route, Routes};
