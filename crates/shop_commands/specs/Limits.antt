@@ -9,7 +9,8 @@ use Rattle.shop_files.specs.declared.limits.TheConstants.{LONGEST_TEXT, MOST_PIE
 use Rattle.shop_machine.specs.declared.receiving.TheConstants.{MOST_RECEIVED, MOST_UNITS}
 use Rattle.shop_book.specs.declared.books.TheConstants.{MOST_FAILURES}
 use Rattle.shop_request.specs.Heads.{most_head, most_fields, most_body}
-use Rattle.shop_wire.specs.declared.limits.TheConstants.{MOST_READS, LONGEST_LINE, MOST_HELD}
+use Rattle.shop_wire.specs.Lines.{longest_line}
+use Rattle.shop_wire.specs.Streams.{most_reads}
 
 -- sides of a unit or a piece, a kerf, in tenths of a millimetre, and a code's characters
 pub record AreMeasures : Type 0 where
@@ -41,11 +42,10 @@ pub record AreCounts : Type 0 where
   pub worth : MOST_WORTH ≡ 1000000000
   pub failures : MOST_FAILURES ≡ 18446744073709551615
 
--- reads of a replay, bytes of a line, bytes of replies that are held; bytes and fields of a head, bytes of a body
-pub record AreStreams : Type 0 where
-  pub reads : MOST_READS ≡ 1000000000
-  pub line : LONGEST_LINE ≡ 131072
-  pub held : MOST_HELD ≡ 65536
+-- reads of a replay and bytes of a line; bytes and fields of a head, bytes of a body
+pub record AreRequests : Type 0 where
+  pub reads : most_reads ≡ 1000000000
+  pub line : longest_line ≡ 131072
   pub head : most_head ≡ 8192
   pub fields : most_fields ≡ 64
   pub body : most_body ≡ 131072

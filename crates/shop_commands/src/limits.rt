@@ -1,4 +1,4 @@
-ghost use Rattle.shop_commands.specs.Limits.{AreMeasures, ArePlans, AreFiles, AreCounts, AreStreams};
+ghost use Rattle.shop_commands.specs.Limits.{AreMeasures, ArePlans, AreFiles, AreCounts, AreRequests};
 
 /// Each limit has its number. Definitions cite the constants of the code, so a changed constant is refused here.
 pub fn limits_have_numbers()
@@ -6,5 +6,5 @@ pub fn limits_have_numbers()
     ensures plans { ArePlans }
     ensures files { AreFiles }
     ensures counts { AreCounts }
-    ensures streams { AreStreams }
+    ensures requests { AreRequests }
 {}
