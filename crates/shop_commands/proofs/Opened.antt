@@ -9,6 +9,7 @@ use Rattle.shop_opening.specs.declared.shops.AddFault.TheVariants as add
 use Rattle.shop_files.specs.declared.shops.MaterialEntry.{MaterialEntry}
 use Rattle.shop_files.specs.Shops.{AreEntries}
 use Rattle.shop_serve.specs.Serving.{IsUnserved}
+use Rattle.shop_serve.specs.declared.sites.Site.{Site}
 use Rattle.shop_serve.specs.declared.faults.ServeFault.{ServeFault}
 use Rattle.shop_serve.specs.declared.faults.ServeFault.TheVariants as serve
 use Rattle.shop_book.specs.declared.books.Book.{Ghosts}
@@ -47,9 +48,9 @@ module _ {B : Type 0} (book : Ghosts B) where
   unadded before after entries add.NoMemory f is unshopped = inl (is, unshopped)
   unadded before after entries (add.Refused e) f is unshopped = inr (e, is, unshopped)
 
-  pub unaccepted : (before after : B) (limit : ℕ) (fault : ServeFault) (f : Fault) → f ≡ serve_fault fault → IsUnserved book before after limit fault → IsUnaccepted book before after limit f
-  unaccepted before after limit serve.NoMemory f is unserved = inl (is, unserved)
-  unaccepted before after limit serve.Port f is unserved = inr (is, unserved)
+  pub unaccepted : (site : Site) (before after : B) (limit : ℕ) (fault : ServeFault) (f : Fault) → f ≡ serve_fault fault → IsUnserved site book before after limit fault → IsUnaccepted book site before after limit f
+  unaccepted site before after limit serve.NoMemory f is unserved = inl (is, unserved)
+  unaccepted site before after limit serve.Port f is unserved = inr (is, unserved)
 
   module _ (gives : B → Type 0) (said : Content → Result (List ℕ) Refusal) (before after : B) (old new : Option (List ℕ)) (given : gives before) where
     pub text_done : (result : Result (Unit {0}) PrintFault) → Says book before after (λ m. IsPrinted (book.failed before) (book.failed after) old new result (said m)) → result ≡ Ok tt

@@ -20,8 +20,10 @@ use Rattle.shop_text.specs.declared.printing.PrintFault.{PrintFault}
 use Rattle.shop_text.specs.declared.printing.PrintFault.TheVariants as print
 use Rattle.shop_wire.specs.declared.faults.ReplayFault.{ReplayFault}
 use Rattle.shop_wire.specs.declared.faults.ReplayFault.TheVariants as replay
+use Rattle.shop_commands.specs.declared.faults.OrderCause.{OrderCause}
+use Rattle.shop_commands.specs.declared.faults.OrderCause.TheVariants as cause
 use Rattle.shop_commands.specs.declared.faults.Fault.{Fault}
-use Rattle.shop_commands.specs.declared.faults.Fault.TheVariants.{File, Text, ShopText, ShopEntry, Entry, Refused, Read, Write, NoMemory, Store, Version, Port}
+use Rattle.shop_commands.specs.declared.faults.Fault.TheVariants.{File, Text, Order, ShopText, ShopEntry, Entry, Refused, Read, Write, NoMemory, Store, Version, Port}
 
 abbrev pub cause_word : TextCause → List ℕ
 cause_word text.Long = codes "Long"
@@ -30,10 +32,26 @@ cause_word text.Number = codes "Number"
 cause_word text.Short = codes "Short"
 cause_word text.NoMemory = codes "NoMemory"
 
+-- what is wrong in an order file, and what to write
+abbrev pub order_sentence : OrderCause → List ℕ
+order_sentence cause.Long = codes "the text is too long; write at most 65536 bytes"
+order_sentence cause.Semicolons = codes "the first line has semicolons; write commas between fields and a point before a tenth"
+order_sentence cause.Header = codes "the first line is another; write line,material,length,width,turn,count,worth"
+order_sentence cause.Fields = codes "the row has not seven fields; write seven with a comma between each two, and a point before a tenth"
+order_sentence cause.Many = codes "the row is one too many; write at most 200 below the first line"
+order_sentence cause.Line = codes "the line is a whole number of 1 to 10 digits, greater than that of the row above; write it as 12"
+order_sentence cause.Material = codes "the material is a code of 1 to 16 of A-Z, 0-9 and -; write it as STEEL-40"
+order_sentence cause.Length = codes "the length is in millimetres; write 1 to 6 digits, and after a point one digit, as 1250.5"
+order_sentence cause.Width = codes "the width is in millimetres; write 1 to 6 digits, and after a point one digit, as 600.5, and 0.1 for a bar"
+order_sentence cause.Turn = codes "the turn says whether the piece may be turned; write yes or no"
+order_sentence cause.Count = codes "the count is the number of pieces, a whole number of 1 to 10 digits; write it as 3"
+order_sentence cause.Worth = codes "the worth is that of one piece, a whole number of 1 to 10 digits; write it as 30"
+
 -- what the line says
 abbrev pub fault_text : Fault → List ℕ
 fault_text File = codes "fault file"
 fault_text (Text fault) = codes "fault text " ++ decimal fault.offset ++ codes " " ++ cause_word fault.cause
+fault_text (Order fault) = codes "fault order row " ++ decimal fault.row ++ codes " field " ++ decimal fault.field ++ codes ": " ++ order_sentence fault.cause
 fault_text ShopText = codes "fault shop text"
 fault_text (ShopEntry entry) = codes "fault shop entry " ++ decimal entry
 fault_text (Entry e) =

@@ -1,5 +1,6 @@
 pub mod Faults
 pub mod Written
+pub mod Orders
 pub mod Plans
 pub mod Stored
 pub mod Performs

@@ -1,11 +1,11 @@
 -- What the program did: what was written, and with which status it ended.
-use Rattle.std.specs.Prelude.{◌≡◌, ◌≢◌, ◌⊎◌, ℕ, List, [], ◌∷◌, ◌++◌, Option, Result, Ok, Err}
+use Rattle.std.specs.Prelude.{◌≡◌, ◌≢◌, ◌⊎◌, ℕ, List, [], ◌∷◌, ◌++◌, Option, Result, Ok, Err, codes, option_map}
 use Rattle.std.specs.Io.KnownBytes.{Appends}
 use Rattle.clap.specs.Kinds.{IsAmong}
 use Rattle.clap.specs.Faults as clap
 use Rattle.clap.specs.Words.{Text, subcommand_of}
 use Rattle.clap.specs.declared.error.kind.ErrorKind.{ErrorKind}
-use Rattle.clap.specs.declared.error.kind.ErrorKind.TheVariants.{DisplayHelp, OutOfMemory}
+use Rattle.clap.specs.declared.error.kind.ErrorKind.TheVariants.{DisplayHelp, DisplayVersion, OutOfMemory}
 use Rattle.shop_book.specs.declared.books.Book.{Ghosts}
 use Rattle.shop_text.specs.Streams.{HasFailed}
 use Rattle.shop_text.specs.Tickets.{ticket_of}
@@ -15,9 +15,11 @@ use Rattle.shop_wire.specs.Replays.{IsReplayedFresh}
 use Rattle.shop_commands.specs.declared.faults.Fault.{Fault}
 use Rattle.shop_commands.specs.declared.faults.Fault.TheVariants.{File, Read, Write, NoMemory}
 use Rattle.shop_words.specs.declared.words.Request.{Request}
-use Rattle.shop_words.specs.declared.words.Request.TheVariants.{Replay, Plan, Serve, Ticket, Yield}
+use Rattle.shop_words.specs.declared.words.Request.TheVariants.{Replay, Plan, Orders, Serve, Ticket, Yield}
+use Rattle.shop_words.specs.declared.words.TheConstants.{VERSION}
 use Rattle.shop_words.specs.CommandLine.{Asks, AsksNothing, shop_app}
 use Rattle.shop_commands.specs.Faults.{fault_text}
+use Rattle.shop_commands.specs.Orders.{IsOrdersDone, IsOrdersStopped}
 use Rattle.shop_commands.specs.Plans.{IsFilePlan, IsFileFault}
 use Rattle.shop_commands.specs.Stored.{IsTextDone, IsTextStopped, IsServeDone, IsServeStopped}
 use Rattle.shop_commands.specs.Written.{AppendsFront, AppendsSome}
@@ -44,6 +46,10 @@ IsPlanStopped kerf step Write old new failed_old failed_new =
     (bytes plan : List ℕ) × IsFilePlan bytes kerf step plan × AppendsFront old new plan × HasFailed failed_old failed_new
 IsPlanStopped kerf step fault old new failed_old failed_new = ((bytes : List ℕ) × IsFileFault bytes kerf step fault) × (new ≡ old)
 
+-- the line of the version
+abbrev pub version_line : List ℕ
+version_line = codes "cutshop " ++ VERSION.now ++ codes "\n"
+
 -- the line of a fault
 abbrev pub fault_line : Fault → List ℕ
 fault_line fault = fault_text fault ++ 10 ∷ []
@@ -63,14 +69,16 @@ module _ {B : Type 0} (book : Ghosts B) (gives : List ℕ → B → Type 0) wher
   abbrev pub IsDone : Request → (left held_old held_new : Option (List ℕ)) → Type 0
   IsDone Replay left old new = IsReplayDone left old new
   IsDone (Plan file kerf step) left old new = IsPlanDone kerf step old new
-  IsDone (Serve port store shop limit) left old new = IsServeDone book (gives store.now) port limit old new
+  IsDone (Serve port store shop limit page) left old new = IsServeDone book (gives store.now) port limit (option_map (λ p. p.now) page) old new
+  IsDone (Orders file told) left old new = IsOrdersDone told old new
   IsDone (Ticket store job) left old new = IsTextDone book (gives store.now) (λ m. ticket_of m job) old new
   IsDone (Yield store material) left old new = IsTextDone book (gives store.now) (λ m. yield_of m material) old new
 
   abbrev pub IsStopped : Request → Fault → (left held_old held_new : Option (List ℕ)) → (failed_old failed_new : ℕ) → Type 0
   IsStopped Replay fault left old new failed_old failed_new = IsReplayStopped fault left old new failed_old failed_new
   IsStopped (Plan file kerf step) fault left old new failed_old failed_new = IsPlanStopped kerf step fault old new failed_old failed_new
-  IsStopped (Serve port store shop limit) fault left old new failed_old failed_new = IsServeStopped book (gives store.now) port limit fault old new failed_old failed_new
+  IsStopped (Serve port store shop limit page) fault left old new failed_old failed_new = IsServeStopped book (gives store.now) port limit (option_map (λ p. p.now) page) fault old new failed_old failed_new
+  IsStopped (Orders file told) fault left old new failed_old failed_new = IsOrdersStopped told fault old new failed_old failed_new
   IsStopped (Ticket store job) fault left old new failed_old failed_new = IsTextStopped book (gives store.now) (λ m. ticket_of m job) fault old new failed_old failed_new
   IsStopped (Yield store material) fault left old new failed_old failed_new =
       IsTextStopped book (gives store.now) (λ m. yield_of m material) fault old new failed_old failed_new
@@ -88,11 +96,19 @@ module _ (out_old out_new err_old err_new : Option (List ℕ)) where
       ((status ≡ 0) × AppendsSome out_old out_new × (err_new ≡ err_old))
       ⊎ ((status ≡ 1) × AppendsSome out_old out_new × TellsFault Write err_old err_new)
 
-  -- What `clap` said of this kind was told: help, or a mistake, with status 2 and nothing as output; or that memory ran out.
+  -- the version was written and nothing was told, with status 0; or that it couldn't be written was told
+  abbrev pub IsVersionTold : ℕ → Type 0
+  IsVersionTold status =
+      ((status ≡ 0) × Appends out_old out_new version_line × (err_new ≡ err_old))
+      ⊎ ((status ≡ 1) × AppendsFront out_old out_new version_line × TellsFault Write err_old err_new)
+
+  -- What `clap` said of this kind was told: help, the version, or a mistake, with status 2 and nothing as output; or that memory
+  -- ran out.
   abbrev pub IsTold : ErrorKind → ℕ → Type 0
   IsTold kind status =
       ((kind ≡ DisplayHelp) × IsHelped status)
-      ⊎ ((kind ≢ DisplayHelp) × (kind ≢ OutOfMemory) × (status ≡ 2) × (out_new ≡ out_old) × AppendsSome err_old err_new)
+      ⊎ ((kind ≡ DisplayVersion) × IsVersionTold status)
+      ⊎ ((kind ≢ DisplayHelp) × (kind ≢ DisplayVersion) × (kind ≢ OutOfMemory) × (status ≡ 2) × (out_new ≡ out_old) × AppendsSome err_old err_new)
       ⊎ ((status ≡ 1) × (out_new ≡ out_old) × TellsFault NoMemory err_old err_new)
 
 -- what `clap` finds wrong with the words

@@ -1,6 +1,6 @@
 -- What the commands on a store do: tickets, yield reports, and serving. A real file tells no bytes, so that a file was read or
 -- a store was opened is said of some bytes and of some book that the store's opener may give.
-use Rattle.std.specs.Prelude.{◌≡◌, ◌<◌, ◌⊎◌, ℕ, List, ◌++◌, codes, Option, Result, Ok, Err, All}
+use Rattle.std.specs.Prelude.{◌≡◌, ◌<◌, ◌≤◌, ◌⊎◌, ⊤, None, Some, length, ℕ, List, ◌++◌, codes, Option, Result, Ok, Err, All}
 use Rattle.std.specs.Fmt.{decimal}
 use Rattle.std.specs.Io.KnownBytes.{Appends}
 use Rattle.shop_files.specs.Shops.{IsShop, IsShopFault}
@@ -9,6 +9,9 @@ use Rattle.shop_files.specs.declared.shops.ShopFault.{ShopFault}
 use Rattle.shop_machine.specs.Content.{Content}
 use Rattle.shop_machine.specs.declared.refusals.Refusal.{Refusal}
 use Rattle.shop_serve.specs.Serving.{HasServed}
+use Rattle.shop_serve.specs.Sites.{HasPage}
+use Rattle.shop_serve.specs.declared.sites.Site.{Site}
+use Rattle.shop_commands.specs.declared.files.TheConstants.{LONGEST_PAGE}
 use Rattle.shop_opening.specs.declared.shops.EntryRefused.{EntryRefused}
 use Rattle.shop_opening.specs.Shops.{HasShop, IsAccepted, IsFirstRefused}
 use Rattle.shop_book.specs.declared.books.Book.{Ghosts}
@@ -29,6 +32,19 @@ IsShopRead entries = (bytes : List ℕ) × IsShop bytes entries
 -- the shop file can't be read, or its bytes have this fault
 abbrev pub IsUnread : Fault → Type 0
 IsUnread fault = ((fault ≡ NoMemory) ⊎ (fault ≡ File)) ⊎ ((bytes : List ℕ) × (f : ShopFault) × IsShopFault bytes f × (fault ≡ shop_fault f))
+
+-- a page is asked for, and these are the bytes of one that isn't too long; or none is
+abbrev pub IsPageRead : (path page : Option (List ℕ)) → Type 0
+IsPageRead None page = page ≡ None
+IsPageRead (Some path) page = (bytes : List ℕ) × (page ≡ Some bytes) × (length bytes ≤ LONGEST_PAGE)
+
+-- the page can't be read, is too long, or memory ran out
+abbrev pub IsPageUnread : Fault → Type 0
+IsPageUnread fault = (fault ≡ NoMemory) ⊎ (fault ≡ File)
+
+-- what is served on a port, with the page of a path
+abbrev pub IsSite : (port : ℕ) (path : Option (List ℕ)) → Site → Type 0
+IsSite port path site = (site.guard.port ≡ port) × ((page : Option (List ℕ)) × IsPageRead path page × HasPage site page)
 
 -- a store can't be opened
 abbrev pub IsUnopened : Fault → Type 0
@@ -65,11 +81,11 @@ module _ {B : Type 0} (book : Ghosts B) where
   IsShopped before after entries = HasShop book before after entries (All IsAccepted)
 
   -- the entries are there, the port was told, and at most so many requests were served
-  pub record IsBookServed (before after : B) (entries : List MaterialEntry) (port count : ℕ) (old new : Option (List ℕ)) : Type 0 where
+  pub record IsBookServed (site : Site) (before after : B) (entries : List MaterialEntry) (port count : ℕ) (old new : Option (List ℕ)) : Type 0 where
     pub mid : B
     pub shop : IsShopped before mid entries
     pub told : Appends old new (listening_line port)
-    pub served : HasServed book mid after count
+    pub served : HasServed site book mid after count
 
   -- memory was wanting, and nothing was done, or an entry was refused
   abbrev pub IsUnadded : B → B → List MaterialEntry → Fault → Type 0
@@ -77,31 +93,34 @@ module _ {B : Type 0} (book : Ghosts B) where
       ((fault ≡ NoMemory) × (after ≡ before)) ⊎ ((e : EntryRefused) × (fault ≡ Entry e) × HasShop book before after entries (λ replies. IsFirstRefused replies e))
 
   -- memory was wanting before the first connection, or no more could be accepted
-  abbrev pub IsUnaccepted : B → B → ℕ → Fault → Type 0
-  IsUnaccepted before after limit fault = ((fault ≡ NoMemory) × (after ≡ before)) ⊎ ((fault ≡ Port) × HasServed book before after limit)
+  abbrev pub IsUnaccepted : Site → B → B → ℕ → Fault → Type 0
+  IsUnaccepted site before after limit fault = ((fault ≡ NoMemory) × (after ≡ before)) ⊎ ((fault ≡ Port) × HasServed site book before after limit)
 
   -- the entries are there, the port was told, and then serving stopped
-  pub record IsBookLeft (before after : B) (entries : List MaterialEntry) (port limit : ℕ) (fault : Fault) (old new : Option (List ℕ)) : Type 0 where
+  pub record IsBookLeft (site : Site) (before after : B) (entries : List MaterialEntry) (port limit : ℕ) (fault : Fault) (old new : Option (List ℕ)) : Type 0 where
     pub mid : B
     pub shop : IsShopped before mid entries
     pub told : Appends old new (listening_line port)
-    pub left : IsUnaccepted mid after limit fault
+    pub left : IsUnaccepted site mid after limit fault
 
   -- the entries aren't all there; or they are, and the port isn't told; or it is, and serving stopped
-  abbrev pub IsBookUnserved : (before after : B) → List MaterialEntry → (port limit : ℕ) → Fault → (held_old held_new : Option (List ℕ)) → (failed_old failed_new : ℕ) → Type 0
-  IsBookUnserved before after entries port limit fault old new failed_old failed_new =
+  abbrev pub IsBookUnserved : Site → (before after : B) → List MaterialEntry → (port limit : ℕ) → Fault → (held_old held_new : Option (List ℕ)) → (failed_old failed_new : ℕ) → Type 0
+  IsBookUnserved site before after entries port limit fault old new failed_old failed_new =
       (IsUnadded before after entries fault × (new ≡ old))
       ⊎ ((IsShopped before after entries × IsUnannounced port fault old new failed_old failed_new)
-      ⊎ IsBookLeft before after entries port limit fault old new)
+      ⊎ IsBookLeft site before after entries port limit fault old new)
 
   -- a shop file's entries were added to the book of a store, which was served
-  abbrev pub IsServeDone : (B → Type 0) → (port limit : ℕ) → (held_old held_new : Option (List ℕ)) → Type 0
-  IsServeDone gives port limit old new =
-      (entries : List MaterialEntry) × IsShopRead entries × (before after : B) × gives before × IsBookServed before after entries port limit old new
+  abbrev pub IsServeDone : (B → Type 0) → (port limit : ℕ) → (page : Option (List ℕ)) → (held_old held_new : Option (List ℕ)) → Type 0
+  IsServeDone gives port limit page old new =
+      (entries : List MaterialEntry) × IsShopRead entries × (site : Site) × IsSite port page site
+      × (before after : B) × gives before × IsBookServed site before after entries port limit old new
 
-  -- the shop file's fault, the store's, or what stopped the serving of its book
-  abbrev pub IsServeStopped : (B → Type 0) → (port limit : ℕ) → Fault → (held_old held_new : Option (List ℕ)) → (failed_old failed_new : ℕ) → Type 0
-  IsServeStopped gives port limit fault old new failed_old failed_new =
+  -- the shop file's fault, the page's, the store's, or what stopped the serving of its book
+  abbrev pub IsServeStopped : (B → Type 0) → (port limit : ℕ) → (page : Option (List ℕ)) → Fault → (held_old held_new : Option (List ℕ)) → (failed_old failed_new : ℕ) → Type 0
+  IsServeStopped gives port limit page fault old new failed_old failed_new =
       (IsUnread fault × (new ≡ old))
+      ⊎ ((((entries : List MaterialEntry) × IsShopRead entries × IsPageUnread fault) × (new ≡ old))
       ⊎ ((IsUnopened fault × (new ≡ old))
-      ⊎ ((entries : List MaterialEntry) × IsShopRead entries × (before after : B) × gives before × IsBookUnserved before after entries port limit fault old new failed_old failed_new))
+      ⊎ ((entries : List MaterialEntry) × IsShopRead entries × (site : Site) × IsSite port page site
+      × (before after : B) × gives before × IsBookUnserved site before after entries port limit fault old new failed_old failed_new)))

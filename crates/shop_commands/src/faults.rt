@@ -13,6 +13,38 @@ use std::alloc::AllocError;
 use std::error::Error;
 use std::fmt;
 
+/// What is wrong in an order file, at its first fault.
+#[derive(Clone, Copy, Debug, PartialEq, Eq)]
+pub enum OrderCause {
+    /// The text is over 65536 bytes long.
+    Long,
+    /// The first line has semicolons, and no comma.
+    Semicolons,
+    /// The first line isn't the header.
+    Header,
+    /// A row has more or fewer than seven fields.
+    Fields,
+    /// There are over 200 rows.
+    Many,
+    /// A field of this name.
+    Line,
+    Material,
+    Length,
+    Width,
+    Turn,
+    Count,
+    Worth,
+}
+
+/// The first fault of an order file: the first bad record, the header being number 0, in it the first bad field from 0, and
+/// what is wrong there.
+#[derive(Clone, Copy, Debug, PartialEq, Eq)]
+pub struct OrderFault {
+    pub row: usize,
+    pub field: usize,
+    pub cause: OrderCause,
+}
+
 /// Why the work stopped.
 #[derive(Clone, Copy, Debug, PartialEq, Eq)]
 pub enum Fault {
@@ -22,6 +54,8 @@ pub enum Fault {
     Text(TextFault),
     /// The shop file's text is no document with a list of materials.
     ShopText,
+    /// The order file's first fault.
+    Order(OrderFault),
     /// The first bad entry of the shop file, from 1.
     ShopEntry(usize),
     /// An entry of the shop file was refused.
@@ -183,6 +217,44 @@ fn cause_word(cause: TextCause) -> &'static str
     }
 }
 
+// What is wrong in an order file, and what to write.
+fn order_sentence(cause: OrderCause) -> &'static str
+    ensures { result.now ≡ spec.order_sentence cause }
+{
+    match cause {
+        OrderCause::Long => "the text is too long; write at most 65536 bytes",
+        OrderCause::Semicolons => {
+            "the first line has semicolons; write commas between fields and a point before a tenth"
+        }
+        OrderCause::Header => {
+            "the first line is another; write line,material,length,width,turn,count,worth"
+        }
+        OrderCause::Fields => {
+            "the row has not seven fields; write seven with a comma between each two, and a point before a tenth"
+        }
+        OrderCause::Many => "the row is one too many; write at most 200 below the first line",
+        OrderCause::Line => {
+            "the line is a whole number of 1 to 10 digits, greater than that of the row above; write it as 12"
+        }
+        OrderCause::Material => {
+            "the material is a code of 1 to 16 of A-Z, 0-9 and -; write it as STEEL-40"
+        }
+        OrderCause::Length => {
+            "the length is in millimetres; write 1 to 6 digits, and after a point one digit, as 1250.5"
+        }
+        OrderCause::Width => {
+            "the width is in millimetres; write 1 to 6 digits, and after a point one digit, as 600.5, and 0.1 for a bar"
+        }
+        OrderCause::Turn => "the turn says whether the piece may be turned; write yes or no",
+        OrderCause::Count => {
+            "the count is the number of pieces, a whole number of 1 to 10 digits; write it as 3"
+        }
+        OrderCause::Worth => {
+            "the worth is that of one piece, a whole number of 1 to 10 digits; write it as 30"
+        }
+    }
+}
+
 impl fmt::Display for Fault {
     ghost use Rattle.std.specs.Prelude.{Some};
     ghost use Rattle.shop_commands.specs.Faults.{fault_text};
@@ -195,6 +267,13 @@ impl fmt::Display for Fault {
             Fault::Text(fault) => {
                 write!(f, "fault text {} {}", fault.offset, cause_word(fault.cause))
             }
+            Fault::Order(fault) => write!(
+                f,
+                "fault order row {} field {}: {}",
+                fault.row,
+                fault.field,
+                order_sentence(fault.cause)
+            ),
             Fault::ShopText => f.write_str("fault shop text"),
             Fault::ShopEntry(entry) => write!(f, "fault shop entry {entry}"),
             Fault::Entry(refused) => {

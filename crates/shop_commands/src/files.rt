@@ -1,7 +1,8 @@
-ghost use Rattle.std.specs.Prelude.{◌≡◌, ◌⊎◌, IfErr, OnOk};
+ghost use Rattle.std.specs.Prelude.{◌≡◌, ◌⊎◌, ◌≤◌, IfOk, IfErr, OnOk, length};
 ghost use Rattle.std.specs.Io.KnownBytes.{Appends};
 ghost use Rattle.shop_text.specs.Streams.{HasFailed};
 ghost use Rattle.shop_commands.specs.declared.faults.Fault.TheVariants as fault;
+ghost use Rattle.shop_commands.specs.declared.files.TheConstants.{LONGEST_PAGE};
 ghost use Rattle.shop_commands.specs.Written.{AppendsFront};
 
 use crate::faults::Fault;
@@ -11,23 +12,52 @@ use std::alloc::Global;
 use std::fs::{File, Files};
 use std::io::{self, Read};
 
-// What a file holds; of a long one the first byte too many is the last.
-fn bytes_of<R: Files>(rt: &R, alloc: Global, path: &str) -> io::Result<Vec<u8>> {
+/// The longest page, in bytes.
+pub(crate) const LONGEST_PAGE: usize = 1_048_576;
+
+// What a file holds; of one with more bytes than these the first too many is the last.
+fn bytes_of<R: Files>(rt: &R, alloc: Global, path: &str, most: usize) -> io::Result<Vec<u8>> {
     let mut bytes = Vec::new(alloc);
     let file = File::open(rt, path)?;
-    let _count = file.take(LONGEST_TEXT as u64 + 1).read_to_end(&mut bytes)?;
+    let _count = file
+        .take((most as u64).saturating_add(1))
+        .read_to_end(&mut bytes)?;
     Ok(bytes)
+}
+
+// What a file holds, up to one byte more than these.
+fn read_up_to<R: Files>(
+    rt: &R,
+    alloc: Global,
+    path: &str,
+    most: usize,
+) -> Result<Vec<u8>, Fault>
+    ensures { IfErr result (λ f. (f ≡ fault.NoMemory) ⊎ (f ≡ fault.File)) }
+{
+    match bytes_of(rt, alloc, path, most) {
+        Ok(bytes) => Ok(bytes),
+        Err(error) if error.kind() == io::ErrorKind::OutOfMemory => Err(Fault::NoMemory),
+        Err(_) => Err(Fault::File),
+    }
 }
 
 /// What a file holds, up to one byte more than the longest text that is read.
 pub fn read_file<R: Files>(rt: &R, alloc: Global, path: &str) -> Result<Vec<u8>, Fault>
     ensures { IfErr result (λ f. (f ≡ fault.NoMemory) ⊎ (f ≡ fault.File)) }
 {
-    match bytes_of(rt, alloc, path) {
-        Ok(bytes) => Ok(bytes),
-        Err(error) if error.kind() == io::ErrorKind::OutOfMemory => Err(Fault::NoMemory),
-        Err(_) => Err(Fault::File),
+    read_up_to(rt, alloc, path, LONGEST_TEXT)
+}
+
+/// The page that a file holds, of at most 1048576 bytes.
+pub fn read_page<R: Files>(rt: &R, alloc: Global, path: &str) -> Result<Vec<u8>, Fault>
+    ensures ok { IfOk result (λ page. length page.items ≤ LONGEST_PAGE) }
+    ensures err { IfErr result (λ f. (f ≡ fault.NoMemory) ⊎ (f ≡ fault.File)) }
+{
+    let page = read_up_to(rt, alloc, path, LONGEST_PAGE)?;
+    if page.len() > LONGEST_PAGE {
+        return Err(Fault::File);
     }
+    Ok(page)
 }
 
 /// Writes a text, if the sink takes it to the last byte.

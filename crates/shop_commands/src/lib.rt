@@ -4,6 +4,7 @@
 mod faults;
 mod files;
 mod limits;
+mod orders;
 mod performing;
 mod plans;
 mod replays;

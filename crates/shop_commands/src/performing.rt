@@ -1,6 +1,7 @@
 ghost use Rattle.std.specs.Prelude.{◌≡◌, ◌+◌, ◌≤◌, IfOk, IfErr, OnOk, map, string_bytes};
 ghost use Rattle.cut_measure.specs.declared.ranges.TheConstants.{MOST_KERF};
 ghost use Rattle.clap.specs.Words.{kind_of};
+ghost use Rattle.clap.specs.declared.error.kind.ErrorKind.TheVariants as kind;
 ghost use Rattle.shop_text.specs.Streams.{HasFailed};
 ghost use Rattle.shop_wire.specs.Streams.{most_reads};
 ghost use Rattle.shop_words.specs.CommandLine.{HasKerf};
@@ -9,6 +10,7 @@ ghost use Rattle.shop_commands.specs.Performs.{Concludes, IsDone, IsHelped, IsPe
 
 use crate::faults::Fault;
 use crate::files::{read_file, write_text};
+use crate::orders::orders;
 use crate::plans::plan_file;
 use crate::replays::replay_fresh;
 use crate::stored::{print_ticket, print_yield, serve};
@@ -17,11 +19,14 @@ use clap::error::ErrorKind;
 use shop_opening::Opens;
 use shop_store::Book;
 use shop_text::{Sink, Source};
-use shop_words::{Request, request_of};
+use shop_words::{Request, VERSION, request_of};
 use std::alloc::{AllocError, Global};
 use std::fs::Files;
 use std::net::{Net, TcpListener, TcpStream};
 use std::time::Clock;
+
+// What is told where words that `clap` takes ask for nothing.
+const NOTHING_ASKED: &str = "error: the words ask for nothing: a code is 1 to 16 of A-Z, 0-9 and -, and --order, --terminal and --number stand together; try '--help'\n";
 
 fn fault_line(alloc: Global, fault: Fault) -> Result<String, AllocError>
     ensures { IfOk result (λ text. string_bytes text ≡ spec.fault_line fault) }
@@ -86,26 +91,28 @@ fn work<
     rt: &R,
     stores: &O,
     alloc: Global,
-    request: Request<'_>,
+    request: &Request<'_>,
     source: &mut S,
     sink: &mut W,
 ) -> Result<(), Fault>
-    requires { HasKerf request }
-    ensures ok { OnOk result (IsDone B.Book (O.gives stores.now) request.entry (S.left source.old) (W.held sink.old) (W.held sink.new)) }
-    ensures err { IfErr result (λ f. IsStopped B.Book (O.gives stores.now) request.entry f (S.left source.old) (W.held sink.old) (W.held sink.new) (W.failed sink.old) (W.failed sink.new)) }
+    requires { HasKerf request.now }
+    ensures ok { OnOk result (IsDone B.Book (O.gives stores.now) request.now (S.left source.old) (W.held sink.old) (W.held sink.new)) }
+    ensures err { IfErr result (λ f. IsStopped B.Book (O.gives stores.now) request.now f (S.left source.old) (W.held sink.old) (W.held sink.new) (W.failed sink.old) (W.failed sink.new)) }
     ensures reads { S.reads source.new ≤ S.reads source.old + most_reads }
 {
     match request {
         Request::Replay => answer_lines(alloc, source, sink),
-        Request::Plan { file, kerf, step } => plan(rt, alloc, file, kerf, step, sink),
+        Request::Plan { file, kerf, step } => plan(rt, alloc, file, *kerf, *step, sink),
+        Request::Orders { file, told } => orders(rt, alloc, file, *told, sink),
         Request::Serve {
             port,
             store,
             shop,
             limit,
-        } => serve(rt, stores, alloc, port, store, shop, limit, sink),
-        Request::Ticket { store, job } => print_ticket(stores, alloc, store, job, sink),
-        Request::Yield { store, material } => print_yield(stores, alloc, store, material, sink),
+            page,
+        } => serve(rt, stores, alloc, *port, store, shop, *limit, *page, sink),
+        Request::Ticket { store, job } => print_ticket(stores, alloc, store, *job, sink),
+        Request::Yield { store, material } => print_yield(stores, alloc, store, *material, sink),
     }
 }
 
@@ -136,6 +143,26 @@ fn help<W: Sink, E: Sink>(alloc: Global, text: &str, sink: &mut W, errors: &mut 
     }
 }
 
+// The line that tells the version.
+fn version_line(alloc: Global) -> Result<String, AllocError>
+    ensures { IfOk result (λ line. string_bytes line ≡ spec.version_line) }
+{
+    format!(in alloc; "cutshop {VERSION}\n")
+}
+
+// Tells the version.
+fn version<W: Sink, E: Sink>(alloc: Global, sink: &mut W, errors: &mut E) -> u8
+    ensures { IsTold (W.held sink.old) (W.held sink.new) (E.held errors.old) (E.held errors.new) kind.DisplayVersion result }
+{
+    let Ok(line) = version_line(alloc) else {
+        return tell(alloc, Fault::NoMemory, errors);
+    };
+    match write_text(sink, line.as_str()) {
+        Ok(()) => 0,
+        Err(unwritten) => tell(alloc, unwritten, errors),
+    }
+}
+
 // Says what `clap` says where the words ask for nothing.
 fn explain<W: Sink, E: Sink>(alloc: Global, error: &Error, sink: &mut W, errors: &mut E) -> u8
     ensures { IsTold (W.held sink.old) (W.held sink.new) (E.held errors.old) (E.held errors.new) (kind_of error.now) result }
@@ -146,6 +173,7 @@ fn explain<W: Sink, E: Sink>(alloc: Global, error: &Error, sink: &mut W, errors:
     match error.kind() {
         ErrorKind::OutOfMemory => tell(alloc, Fault::NoMemory, errors),
         ErrorKind::DisplayHelp => help(alloc, text.as_str(), sink, errors),
+        ErrorKind::DisplayVersion => version(alloc, sink, errors),
         _ => {
             let _ = write_text(errors, text.as_str());
             2
@@ -177,11 +205,11 @@ pub fn perform<
 {
     match request_of(alloc, words) {
         Ok(Some(request)) => {
-            let outcome = work(rt, stores, alloc, request, source, sink);
+            let outcome = work(rt, stores, alloc, &request, source, sink);
             conclude(alloc, outcome, errors)
         }
         Ok(None) => {
-            let _ = write_text(errors, "error: the words ask for nothing; try '--help'\n");
+            let _ = write_text(errors, NOTHING_ASKED);
             2
         }
         Err(error) => explain(alloc, &error, sink, errors),

@@ -1,4 +1,4 @@
-ghost use Rattle.std.specs.Prelude.{◌≡◌, ◌≤◌, IfOk, IfErr, OnOk, length, string_bytes};
+ghost use Rattle.std.specs.Prelude.{◌≡◌, ◌≤◌, IfOk, IfErr, OnOk, length, option_map, string_bytes};
 ghost use Rattle.shop_files.specs.declared.limits.TheConstants.{MOST_ENTRIES};
 ghost use Rattle.shop_text.specs.Tickets.{ticket_of};
 ghost use Rattle.shop_text.specs.Yields.{yield_of};
@@ -6,18 +6,18 @@ ghost use Rattle.shop_machine.specs.Content.{Content};
 ghost use Rattle.shop_commands.specs.declared.faults.Fault.TheVariants as fault;
 ghost use Rattle.shop_commands.specs.Faults.{shop_fault};
 ghost use Rattle.shop_commands.specs.Stored as spec;
-ghost use Rattle.shop_commands.specs.Stored.{IsTextDone, IsTextStopped, IsShopRead, IsUnread, IsUnopened, IsShopped, IsUnadded, IsUnannounced, IsUnaccepted, IsBookServed, IsBookUnserved, IsServeDone, IsServeStopped};
+ghost use Rattle.shop_commands.specs.Stored.{IsTextDone, IsTextStopped, IsShopRead, IsUnread, IsUnopened, IsShopped, IsUnadded, IsUnannounced, IsUnaccepted, IsBookServed, IsBookUnserved, IsPageRead, IsPageUnread, IsServeDone, IsServeStopped, IsSite};
 ghost use Rattle.shop_files.specs.Shops.{IsShop, IsShopFault};
 ghost use Rattle.shop_files.specs.declared.shops.ShopFault.{ShopFault as ShopFaultOf};
 ghost use Rattle.shop_serve.specs.Serving.{HasServed};
 ghost use Rattle.std.specs.Io.KnownBytes.{Appends};
 
 use crate::faults::Fault;
-use crate::files::{read_file, write_text};
+use crate::files::{read_file, read_page, write_text};
 use cut_measure::Code;
 use shop_files::{MaterialEntry, RowList, read_shop};
 use shop_opening::{Opens, add_shop};
-use shop_serve::serve_on;
+use shop_serve::{Site, serve_on};
 use shop_store::Book;
 use shop_text::{Sink, ticket, yield_report};
 use std::alloc::{AllocError, Global};
@@ -101,6 +101,35 @@ fn shop_entries<R: Files>(
     Ok(entries)
 }
 
+// The page of a file, where there is one.
+fn page_in<R: Files>(rt: &R, alloc: Global, path: Option<&str>) -> Result<Option<Vec<u8>>, Fault>
+    ensures ok { IfOk result (λ page. IsPageRead (option_map (λ p. p.now) path.entry) (option_map (λ b. b.items) page)) }
+    ensures err { IfErr result IsPageUnread }
+{
+    match path {
+        Some(path) => {
+            let page = read_page(rt, alloc, path)?;
+            Ok(Some(page))
+        }
+        None => Ok(None),
+    }
+}
+
+// The site of a port, with the page of a file or without one.
+fn site_of<R: Files>(
+    rt: &R,
+    alloc: Global,
+    port: u32,
+    page: Option<&str>,
+) -> Result<Site, Fault>
+    ensures ok { IfOk result (λ site. IsSite port (option_map (λ p. p.now) page.entry) site) }
+    ensures err { IfErr result IsPageUnread }
+{
+    let page = page_in(rt, alloc, page)?;
+    let site = Site::new(alloc, port, page)?;
+    Ok(site)
+}
+
 // Adds the entries to a book.
 fn added<B: Book>(alloc: Global, book: &mut B, entries: &[MaterialEntry]) -> Result<(), Fault>
     requires { length entries.now ≤ MOST_ENTRIES }
@@ -158,12 +187,13 @@ fn accepted<R: Net<Listener = TcpListener, Stream = TcpStream> + Clock, B: Book>
     alloc: Global,
     listener: &TcpListener,
     limit: u32,
+    site: &Site,
     book: &mut B,
 ) -> Result<(), Fault>
-    ensures ok { OnOk result (HasServed B.Book book.old book.new limit) }
-    ensures err { IfErr result (IsUnaccepted B.Book book.old book.new limit) }
+    ensures ok { OnOk result (HasServed site.now B.Book book.old book.new limit) }
+    ensures err { IfErr result (IsUnaccepted B.Book site.now book.old book.new limit) }
 {
-    match serve_on(rt, alloc, listener, limit, book) {
+    match serve_on(rt, alloc, listener, limit, site, book) {
         Ok(()) => Ok(()),
         Err(fault) => Err(Fault::from(fault)),
     }
@@ -175,17 +205,18 @@ fn serve_book<R: Net<Listener = TcpListener, Stream = TcpStream> + Clock, B: Boo
     alloc: Global,
     port: u32,
     limit: u32,
+    site: &Site,
     entries: &[MaterialEntry],
     sink: &mut W,
     book: &mut B,
 ) -> Result<(), Fault>
     requires { length entries.now ≤ MOST_ENTRIES }
-    ensures ok { OnOk result (IsBookServed B.Book book.old book.new entries.now port limit (W.held sink.old) (W.held sink.new)) }
-    ensures err { IfErr result (λ f. IsBookUnserved B.Book book.old book.new entries.now port limit f (W.held sink.old) (W.held sink.new) (W.failed sink.old) (W.failed sink.new)) }
+    ensures ok { OnOk result (IsBookServed B.Book site.now book.old book.new entries.now port limit (W.held sink.old) (W.held sink.new)) }
+    ensures err { IfErr result (λ f. IsBookUnserved B.Book site.now book.old book.new entries.now port limit f (W.held sink.old) (W.held sink.new) (W.failed sink.old) (W.failed sink.new)) }
 {
     added(alloc, book, entries)?;
     let listener = announced(rt, alloc, port, sink)?;
-    match accepted(rt, alloc, &listener, limit, book) {
+    match accepted(rt, alloc, &listener, limit, site, book) {
         Ok(()) => Ok(()),
         Err(fault) => Err(fault),
     }
@@ -205,14 +236,25 @@ pub fn serve<
     store: &str,
     shop: &str,
     limit: u32,
+    page: Option<&str>,
     sink: &mut W,
 ) -> Result<(), Fault>
-    ensures ok { OnOk result (IsServeDone B.Book (O.gives stores.now store.now) port limit (W.held sink.old) (W.held sink.new)) }
-    ensures err { IfErr result (λ f. IsServeStopped B.Book (O.gives stores.now store.now) port limit f (W.held sink.old) (W.held sink.new) (W.failed sink.old) (W.failed sink.new)) }
+    ensures ok { OnOk result (IsServeDone B.Book (O.gives stores.now store.now) port limit (option_map (λ p. p.now) page.entry) (W.held sink.old) (W.held sink.new)) }
+    ensures err { IfErr result (λ f. IsServeStopped B.Book (O.gives stores.now store.now) port limit (option_map (λ p. p.now) page.entry) f (W.held sink.old) (W.held sink.new) (W.failed sink.old) (W.failed sink.new)) }
 {
     let entries = shop_entries(rt, alloc, shop)?;
+    let site = site_of(rt, alloc, port, page)?;
     let mut book = opened(stores, alloc, store)?;
-    let served = serve_book(rt, alloc, port, limit, entries.as_slice(), sink, &mut book);
+    let served = serve_book(
+        rt,
+        alloc,
+        port,
+        limit,
+        &site,
+        entries.as_slice(),
+        sink,
+        &mut book,
+    );
     stores.close(book);
     match served {
         Ok(()) => Ok(()),

@@ -4,5 +4,6 @@ pub mod Named
 pub mod Routing
 pub mod Behind
 pub mod Uniqueness
+pub mod Guarding
 pub mod Counting
 pub mod Settled

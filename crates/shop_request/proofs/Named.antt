@@ -35,7 +35,10 @@ module _ (buf name : List ℕ) {first : HeaderSpan} {rest : List HeaderSpan} (hs
   pub not_named : b ≡ false → (others : Values) → AreValues others (Those rest) → AreValues others (Those hs)
   not_named e others are = subst (AreValues others) (sym (ap Those is ∙ ap choice (first_test ∙ e))) are
 
-  named_first : b ≡ true → Those hs ≡ slice_range buf first.value.start first.value.end ∷ Those rest
+  pub unnamed_first : b ≡ false → Those hs ≡ Those rest
+  unnamed_first e = ap Those is ∙ ap choice (first_test ∙ e)
+
+  pub named_first : b ≡ true → Those hs ≡ slice_range buf first.value.start first.value.end ∷ Those rest
   named_first e = ap Those is ∙ ap choice (first_test ∙ e)
 
   pub named_alone : b ≡ true → (value : List ℕ) → value ≡ slice_range buf first.value.start first.value.end → Those rest ≡ [] → Those hs ≡ value ∷ []

@@ -10,12 +10,12 @@ use Rattle.shop_request.specs.Heads.{front, BeginsWith, HasBadHead, HasLargeHead
 use Rattle.shop_request.specs.Requests.{Sense, HasSense, on_head}
 use Rattle.shop_request.specs.Senses.{IsHeadFault, MayBeEither}
 
-not_bad : (input : List ℕ) (h : RequestHead) → BeginsWith input h → HasBadHead input → ⊥
+pub not_bad : (input : List ℕ) (h : RequestHead) → BeginsWith input h → HasBadHead input → ⊥
 not_bad input h begins (inl never) = never [] h begins.rest (subst (λ l. ReadsRequest l h begins.rest) (sym (append-nil (front input))) begins.reads)
 not_bad input h begins (inr early) =
     early.1 h begins.rest (subst (λ l. ReadsRequest l h begins.rest) (take_all 8192 input (omega (arith, early.0))) begins.reads)
 
-not_large : (input : List ℕ) (h : RequestHead) → BeginsWith input h → HasLargeHead input → ⊥
+pub not_large : (input : List ℕ) (h : RequestHead) → BeginsWith input h → HasLargeHead input → ⊥
 not_large input h begins (inl over) =
     let more : 64 < length h.fields = over.1 [] h begins.rest (subst (λ l. ReadsRequest l h begins.rest) (sym (append-nil (front input))) begins.reads) in
     absurd (omega (arith, more, begins.few))

@@ -1,5 +1,6 @@
 pub mod Routes
 pub mod Heads
+pub mod Guards
 pub mod Reading
 pub mod Requests
 pub mod Senses

@@ -27,8 +27,8 @@ pub(crate) enum Said {
     Large,
 }
 
-// Whether two names are one, capitals aside.
-fn is_name(a: &[u8], b: &[u8]) -> bool
+/// Whether two names are one, capitals aside.
+pub(crate) fn is_name(a: &[u8], b: &[u8]) -> bool
     ensures { (value : List ℕ) → result ≡ is_named b.now (a.now, value) }
 {
     a.eq_ignore_ascii_case(b)

@@ -20,8 +20,8 @@ pub(crate) struct Pleaded<'b> {
     pub(crate) length: usize,
 }
 
-// The target up to its first `?`.
-fn path_in(target: &str) -> &str
+/// The target up to its first `?`.
+pub(crate) fn path_in(target: &str) -> &str
     ensures { result.now ≡ path_of target.now }
 {
     match target.split_once('?') {
@@ -107,8 +107,8 @@ fn judge_parts<'b>(
     at_path(routes, method, path_in(target), said)
 }
 
-// The target of a head.
-fn target_text(target: &[u8]) -> &str
+/// The target of a head.
+pub(crate) fn target_text(target: &[u8]) -> &str
     requires { IsUtf8 target.now }
     ensures { result.now ≡ target.now }
 {

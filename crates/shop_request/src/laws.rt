@@ -1,7 +1,13 @@
+ghost use Rattle.shop_request.specs.Guards.{OneRuling};
 ghost use Rattle.shop_request.specs.Senses.{OneSense};
 
 /// An input has one sense, whatever reads it. Where no whole head can be read of its first 8192 bytes, and over 64 fields
 /// came or those bytes end inside a target, it may be a bad head or a large one.
 pub fn one_sense()
     ensures { OneSense }
+{}
+
+/// What is done with an input by its head is one thing, whatever reads it.
+pub fn one_ruling()
+    ensures { OneRuling }
 {}

@@ -3,6 +3,7 @@
 
 mod faults;
 mod fields;
+mod guards;
 mod heads;
 mod judging;
 mod laws;
@@ -12,7 +13,8 @@ mod routes;
 mod wholes;
 
 pub use faults::{Fault, StreamFault};
-pub use laws::one_sense;
+pub use guards::{Guard, Ruling};
+pub use laws::{one_ruling, one_sense};
 pub use requests::{Inbound, read_request};
 pub use routes::{Route, Routes};
 pub use wholes::is_whole;

@@ -1,63 +1,96 @@
 -- Requests one after another.
-use Rattle.std.proofs.Common.{◌≡◌, ◌∙◌, ℕ, ◌+◌, ◌<◌, ◌≤◌, List, [], ◌∷◌, ◌++◌, inl, inr, length, map, refl, sym, ap, subst, arith}
+use Rattle.std.proofs.Common.{◌≡◌, ◌≢◌, ◌∙◌, ℕ, ◌+◌, ◌<◌, ◌≤◌, List, [], ◌∷◌, ◌++◌, true, false, inl, inr, length, map, refl, sym, ap, subst, arith}
 use Rattle.std.proofs.lemmas.List.{append_assoc, append-nil, length-append}
 use Rattle.std.specs.Prelude.{◌⊎◌, Option, Some}
 use Rattle.shop_desk.specs.Handled.{HasAccount}
 use Rattle.shop_desk.proofs.Accounts.{account_same, account_more}
 use Rattle.shop_machine.specs.Content.{Content}
+use Rattle.shop_request.specs.Guards.{HasRuling}
+use Rattle.shop_request.specs.declared.guards.Ruling.{Ruling}
+use Rattle.shop_request.specs.declared.guards.Ruling.TheVariants.{Routed, Forbidden, Page, OnlyGet}
 use Rattle.shop_rules.specs.Forms.{json_texts}
 use Rattle.shop_book.specs.declared.books.Book.{Ghosts}
 use Rattle.shop_wire.specs.Serves.{exchanged, IsServed}
-use Rattle.shop_serve.specs.Serving.{Turn, InTurn, exchanges, HasServed, Advances}
+use Rattle.shop_serve.specs.declared.sites.Site.{Site}
+use Rattle.shop_serve.specs.Sites.{is_routed, own_bytes}
+use Rattle.shop_serve.specs.Serving.{Turn, Deed, routed, ruled, InTurn, exchange_of, exchanges, HasServed, Advances}
 
-turns-append : (old mid new : Content) (ss ts : List Turn) → InTurn old ss mid → InTurn mid ts new → InTurn old (ss ++ ts) new
-turns-append old mid new [] ts run more = subst (λ (c : Content). InTurn c ts new) run more
-turns-append old mid new (s ∷ ss) ts run more = (run.0, run.1, run.2, turns-append run.0 mid new ss ts run.3 more)
+-- what goes to its route, and what doesn't
+pub is_route : (r : Ruling) → is_routed r ≡ true → r ≡ Routed
+is_route Routed e = refl
+is_route Forbidden e = absurd (cc e)
+is_route Page e = absurd (cc e)
+is_route OnlyGet e = absurd (cc e)
+
+pub no_route : (r : Ruling) → is_routed r ≡ false → r ≢ Routed
+no_route r e is = absurd (cc (sym (ap is_routed is) ∙ e))
+
+turns-append : (site : Site) (old mid new : Content) (ss ts : List Turn) → InTurn site old ss mid → InTurn site mid ts new → InTurn site old (ss ++ ts) new
+turns-append site old mid new [] ts run more = subst (λ (c : Content). InTurn site c ts new) run more
+turns-append site old mid new (s ∷ ss) ts run more = (run.0, run.1, run.2, turns-append site run.0 mid new ss ts run.3 more)
 
 exchanges-append : (ss ts : List Turn) → exchanges (ss ++ ts) ≡ exchanges ss ++ exchanges ts
 exchanges-append [] ts = refl
 exchanges-append (s ∷ ss) ts =
-    ap (λ es. exchanged s.sense s.telling ++ es) (exchanges-append ss ts) ∙ sym (append_assoc (exchanged s.sense s.telling) (exchanges ss) (exchanges ts))
+    ap (λ es. exchange_of s.deed ++ es) (exchanges-append ss ts) ∙ sym (append_assoc (exchange_of s.deed) (exchanges ss) (exchanges ts))
 
-module _ {B : Type 0} (book : Ghosts B) where
+module _ (site : Site) {B : Type 0} (book : Ghosts B) where
   -- none
-  pub none_served : (here : B) (count : ℕ) → HasServed book here here count
+  pub none_served : (here : B) (count : ℕ) → HasServed site book here here count
   none_served here count honest m held sound =
       record { served = []; few = omega arith; next = m; run = refl; held = held; sound = sound; account = account_same json_texts m m refl }
 
   -- nothing was done
-  pub none_done : (before after : B) (count : ℕ) → after ≡ before → HasServed book before after count
-  none_done before after count same = subst (λ b. HasServed book before b count) (sym same) (none_served before count)
+  pub none_done : (before after : B) (count : ℕ) → after ≡ before → HasServed site book before after count
+  none_done before after count same = subst (λ b. HasServed site book before b count) (sym same) (none_served before count)
+
+  -- by its head an input goes to its route
+  abbrev GoesToRoute : List ℕ → Type 0
+  GoesToRoute input = HasRuling site.guard.port site.guard.has_page input Routed
 
   -- one was served
-  served_once : (before after : B) (input : List ℕ) (old new : Option (List ℕ)) (unwritten : List ℕ) → 0 < length input → IsServed book before after (Some input) old new unwritten → HasServed book before after 1
-  served_once before after input old new unwritten some s honest m held sound =
+  served_once : (before after : B) (input : List ℕ) (old new : Option (List ℕ)) (unwritten : List ℕ) → 0 < length input → GoesToRoute input → IsServed book before after (Some input) old new unwritten → HasServed site book before after 1
+  served_once before after input old new unwritten some goes s honest m held sound =
       let telling = s.2.telling in
       let done = s.2.run honest m held sound in
-      let turn : Turn = record { input = input; sense = s.0; telling = telling; answer = s.2.bytes } in
+      let turn : Turn = record { input = input; deed = routed s.0 telling; answer = s.2.bytes } in
       record {
         served = turn ∷ [];
         few = omega arith;
         next = done.next;
-        run = (done.next, record { some = some; sense = s.1; unwritten = unwritten; told = s.2.told }, done.step, refl);
+        run = (done.next, (some, (goes, s.1, (unwritten, s.2.told))), done.step, refl);
         held = done.held;
         sound = done.sound;
         account = subst (λ es. HasAccount json_texts m (map (λ e. e.0) es) (map (λ e. e.1) es) done.next) (sym (append-nil (exchanged s.0 telling))) done.account;
       }
 
-  pub one_served : (before after : B) (input : List ℕ) (left old new : Option (List ℕ)) (unwritten : List ℕ) → left ≡ Some input → 0 < length input → IsServed book before after left old new unwritten
-      → HasServed book before after 1
-  one_served before after input left old new unwritten is some s =
-      served_once before after input old new unwritten some (subst (λ l. IsServed book before after l old new unwritten) is s)
+  pub one_served : (before after : B) (input : List ℕ) (left old new : Option (List ℕ)) (unwritten : List ℕ) → left ≡ Some input → 0 < length input → GoesToRoute input → IsServed book before after left old new unwritten
+      → HasServed site book before after 1
+  one_served before after input left old new unwritten is some goes s =
+      served_once before after input old new unwritten some goes (subst (λ l. IsServed book before after l old new unwritten) is s)
 
   -- one was, or nothing was done
-  pub one_done : (before after : B) (input : List ℕ) (left old new : Option (List ℕ)) (Same : Type 0) → left ≡ Some input → 0 < length input
-      → ((after ≡ before) × Same) ⊎ ((unwritten : List ℕ) × IsServed book before after left old new unwritten) → HasServed book before after 1
-  one_done before after input left old new Same is some (inl same) = none_done before after 1 same.0
-  one_done before after input left old new Same is some (inr s) = one_served before after input left old new s.0 is some s.1
+  pub one_done : (before after : B) (input : List ℕ) (left old new : Option (List ℕ)) (Same : Type 0) → left ≡ Some input → 0 < length input → GoesToRoute input
+      → ((after ≡ before) × Same) ⊎ ((unwritten : List ℕ) × IsServed book before after left old new unwritten) → HasServed site book before after 1
+  one_done before after input left old new Same is some goes (inl same) = none_done before after 1 same.0
+  one_done before after input left old new Same is some goes (inr s) = one_served before after input left old new s.0 is some goes s.1
+
+  -- the site answered one by itself
+  pub one_ruled : (here : B) (input : List ℕ) (r : Ruling) → 0 < length input → HasRuling site.guard.port site.guard.has_page input r → r ≢ Routed → HasServed site book here here 1
+  one_ruled here input r some rules other honest m held sound =
+      let turn : Turn = record { input = input; deed = ruled r; answer = own_bytes site r } in
+      record {
+        served = turn ∷ [];
+        few = omega arith;
+        next = m;
+        run = (m, (some, (rules, other, refl)), refl, refl);
+        held = held;
+        sound = sound;
+        account = account_same json_texts m m refl;
+      }
 
   -- and more
-  pub more_served : (before mid after : B) (n k : ℕ) → (book.is_honest after → book.is_honest mid) → HasServed book before mid n → HasServed book mid after k → HasServed book before after (n + k)
+  pub more_served : (before mid after : B) (n k : ℕ) → (book.is_honest after → book.is_honest mid) → HasServed site book before mid n → HasServed site book mid after k → HasServed site book before after (n + k)
   more_served before mid after n k back run step honest m held sound =
       let first = run (back honest) m held sound in
       let second = step honest first.next first.held first.sound in
@@ -65,7 +98,7 @@ module _ {B : Type 0} (book : Ghosts B) where
         served = first.served ++ second.served;
         few = omega (arith, length-append first.served second.served, first.few, second.few);
         next = second.next;
-        run = turns-append m first.next second.next first.served second.served first.run second.run;
+        run = turns-append site m first.next second.next first.served second.served first.run second.run;
         held = second.held;
         sound = second.sound;
         account = subst (λ es. HasAccount json_texts m (map (λ e. e.0) es) (map (λ e. e.1) es) second.next) (sym (exchanges-append first.served second.served))
@@ -73,7 +106,7 @@ module _ {B : Type 0} (book : Ghosts B) where
       }
 
   -- at most so many is at most more
-  pub few_served : (before after : B) (n k : ℕ) → n ≤ k → HasServed book before after n → HasServed book before after k
+  pub few_served : (before after : B) (n k : ℕ) → n ≤ k → HasServed site book before after n → HasServed site book before after k
   few_served before after n k within run honest m held sound =
       let done = run honest m held sound in
       record {
@@ -86,12 +119,12 @@ module _ {B : Type 0} (book : Ghosts B) where
         account = done.account;
       }
 
-  pub stays : (here : B) (count : ℕ) → Advances book here here count count
+  pub stays : (here : B) (count : ℕ) → Advances site book here here count count
   stays here count = (0, omega arith, none_served here 0)
 
-  pub advances_more : (before mid after : B) (from over to : ℕ) → (book.is_honest after → book.is_honest mid) → Advances book before mid from over → Advances book mid after over to → Advances book before after from to
+  pub advances_more : (before mid after : B) (from over to : ℕ) → (book.is_honest after → book.is_honest mid) → Advances site book before mid from over → Advances site book mid after over to → Advances site book before after from to
   advances_more before mid after from over to back first second =
       (first.0 + second.0, omega (arith, first.1, second.1), more_served before mid after first.0 second.0 back first.2 second.2)
 
-  pub advanced : (before after : B) (to limit : ℕ) → to ≤ limit → Advances book before after 0 to → HasServed book before after limit
+  pub advanced : (before after : B) (to limit : ℕ) → to ≤ limit → Advances site book before after 0 to → HasServed site book before after limit
   advanced before after to limit within run = few_served before after run.0 limit (omega (arith, run.1, within)) run.2

@@ -1,11 +1,14 @@
 -- Connections that were served, one request after another.
-use Rattle.std.specs.Prelude.{◌≡◌, ◌<◌, ◌≤◌, ◌+◌, ℕ, List, [], ◌∷◌, ◌++◌, length, map}
+use Rattle.std.specs.Prelude.{◌≡◌, ◌≢◌, ◌⊎◌, ◌<◌, ◌≤◌, ◌+◌, ℕ, List, [], ◌∷◌, ◌++◌, length, map, Some}
 use Rattle.std.specs.List.{flat_map}
 use Rattle.shop_desk.specs.Handled.{HasAccount}
 use Rattle.shop_machine.specs.Content.{Content}
 use Rattle.shop_machine.specs.Soundness.{IsSound}
 use Rattle.shop_machine.specs.declared.messages.Message.{Message}
 use Rattle.shop_machine.specs.declared.messages.Reply.{Reply}
+use Rattle.shop_request.specs.Guards.{HasRuling}
+use Rattle.shop_request.specs.declared.guards.Ruling.{Ruling}
+use Rattle.shop_request.specs.declared.guards.Ruling.TheVariants.{Routed}
 use Rattle.shop_request.specs.Requests.{Sense, HasSense}
 use Rattle.shop_rules.specs.Forms.{json_texts}
 use Rattle.shop_serve.specs.declared.faults.ServeFault.{ServeFault}
@@ -13,51 +16,79 @@ use Rattle.shop_serve.specs.declared.faults.ServeFault.TheVariants.{NoMemory, Po
 use Rattle.shop_book.specs.declared.books.Book.{Ghosts}
 use Rattle.shop_book.specs.Kept.{Says}
 use Rattle.shop_wire.specs.AnswerBytes.{Telling, bytes_of}
-use Rattle.shop_wire.specs.Serves.{SenseStep, exchanged}
+use Rattle.shop_wire.specs.Serves.{SenseStep, exchanged, IsServed}
+use Rattle.shop_serve.specs.Sites.{own_bytes}
+use Rattle.shop_serve.specs.declared.sites.Site.{Site}
 
--- What was served: the bytes that came of a connection, what they stand for, what was told, and the bytes that were made of it.
+-- What is done with a request: it goes to its route, with this sense, and this is told; or the site answers by itself.
+pub data Deed : Type 0 where
+  routed : Sense → Telling → Deed
+  ruled : Ruling → Deed
+
+-- What was served: the bytes that came of a connection, what was done, and the bytes that were made of it.
 pub record Turn : Type 0 where
   pub input : List ℕ
-  pub sense : Sense
-  pub telling : Telling
+  pub deed : Deed
   pub answer : List ℕ
 
--- Some bytes came, this is what they stand for, and the answer is made but for some last bytes.
-pub record IsTurn (t : Turn) : Type 0 where
-  pub some : 0 < length t.input
-  pub sense : HasSense t.input t.sense
-  pub unwritten : List ℕ
-  pub told : t.answer ++ unwritten ≡ bytes_of t.sense t.telling
+-- By its head the request goes to its route, and the answer is that of its sense but for some last bytes; or it doesn't, and the
+-- answer is the site's own.
+abbrev pub IsDeed : Site → (input answer : List ℕ) → Deed → Type 0
+IsDeed site input answer (routed sense telling) =
+    HasRuling site.guard.port site.guard.has_page input Routed × HasSense input sense
+    × ((unwritten : List ℕ) × (answer ++ unwritten ≡ bytes_of sense telling))
+IsDeed site input answer (ruled r) = HasRuling site.guard.port site.guard.has_page input r × (r ≢ Routed) × (answer ≡ own_bytes site r)
+
+-- some bytes came, and this is what was done with them
+abbrev pub IsTurn : Site → Turn → Type 0
+IsTurn site t = (0 < length t.input) × IsDeed site t.input t.answer t.deed
+
+-- what the site answers by itself does nothing
+abbrev pub DeedStep : Content → Deed → Content → Type 0
+DeedStep old (routed sense telling) new = SenseStep old sense telling new
+DeedStep old (ruled r) new = new ≡ old
 
 -- one after another
-abbrev pub InTurn : Content → List Turn → Content → Type 0
-InTurn old [] new = new ≡ old
-InTurn old (t ∷ ts) new = (mid : Content) × IsTurn t × SenseStep old t.sense t.telling mid × InTurn mid ts new
+abbrev pub InTurn : Site → Content → List Turn → Content → Type 0
+InTurn site old [] new = new ≡ old
+InTurn site old (t ∷ ts) new = (mid : Content) × IsTurn site t × DeedStep old t.deed mid × InTurn site mid ts new
+
+-- the message that was read, with its reply
+abbrev pub exchange_of : Deed → List (Message × Reply)
+exchange_of (routed sense telling) = exchanged sense telling
+exchange_of (ruled r) = []
 
 -- the messages among them, each with its reply
 abbrev pub exchanges : List Turn → List (Message × Reply)
-exchanges = flat_map (λ t. exchanged t.sense t.telling)
+exchanges = flat_map (λ t. exchange_of t.deed)
 
 -- The book held old and holds next, and at most so many requests led from one to the other, each of which came as some bytes.
 -- Where a history gives old, one with each message that was accepted, once, gives next, and this is its account.
-pub record HasServedTurns {B : Type 0} (book : Ghosts B) (after : B) (old : Content) (count : ℕ) : Type 0 where
+pub record HasServedTurns (site : Site) {B : Type 0} (book : Ghosts B) (after : B) (old : Content) (count : ℕ) : Type 0 where
   pub served : List Turn
   pub few : length served ≤ count
   pub next : Content
-  pub run : InTurn old served next
+  pub run : InTurn site old served next
   pub held : book.holds after next
   pub sound : IsSound json_texts next
   pub account : HasAccount json_texts old (map (λ e. e.0) (exchanges served)) (map (λ e. e.1) (exchanges served)) next
 
 -- at most so many requests were served by a book: each sound content that an honest one held led to one that it holds now
-abbrev pub HasServed : {B : Type 0} → Ghosts B → B → B → ℕ → Type 0
-HasServed book before after count = Says book before after (λ m. IsSound json_texts m → HasServedTurns book after m count)
+abbrev pub HasServed : Site → {B : Type 0} → Ghosts B → B → B → ℕ → Type 0
+HasServed site book before after count = Says book before after (λ m. IsSound json_texts m → HasServedTurns site book after m count)
 
 -- a count rose from one number to another, and at most that many requests were served
-abbrev pub Advances : {B : Type 0} → Ghosts B → B → B → ℕ → ℕ → Type 0
-Advances book before after from to = (n : ℕ) × (to ≡ from + n) × HasServed book before after n
+abbrev pub Advances : Site → {B : Type 0} → Ghosts B → B → B → ℕ → ℕ → Type 0
+Advances site book before after from to = (n : ℕ) × (to ≡ from + n) × HasServed site book before after n
 
 -- memory was wanting before the first connection, or at most as many as the limit says were served
-abbrev pub IsUnserved : {B : Type 0} → Ghosts B → B → B → ℕ → ServeFault → Type 0
-IsUnserved book before after limit NoMemory = after ≡ before
-IsUnserved book before after limit Port = HasServed book before after limit
+abbrev pub IsUnserved : Site → {B : Type 0} → Ghosts B → B → B → ℕ → ServeFault → Type 0
+IsUnserved site book before after limit NoMemory = after ≡ before
+IsUnserved site book before after limit Port = HasServed site book before after limit
+
+-- The whole answer to some bytes: by their head they went to their route, and that is the answer to what they stand for; or the
+-- site answered by itself, and the book is the same.
+abbrev pub IsAnswered : Site → {B : Type 0} → Ghosts B → B → B → (came answer : List ℕ) → Type 0
+IsAnswered site book before after came answer =
+    (HasRuling site.guard.port site.guard.has_page came Routed × IsServed book before after (Some came) (Some []) (Some answer) [])
+    ⊎ ((r : Ruling) × HasRuling site.guard.port site.guard.has_page came r × (r ≢ Routed) × (answer ≡ own_bytes site r) × (after ≡ before))

@@ -1,12 +1,30 @@
-ghost use Rattle.std.specs.Prelude.{◌<◌, length, IfSome, Some, []};
+ghost use Rattle.std.specs.Prelude.{◌≡◌, ◌≢◌, ◌⊎◌, ◌<◌, ◌++◌, length, IfOk, IfSome, Some, [], string_bytes, decimal};
+ghost use Rattle.shop_request.specs.Guards.{HasRuling};
+ghost use Rattle.shop_request.specs.declared.guards.Ruling.TheVariants as ruling;
+ghost use Rattle.shop_request.specs.declared.faults.Fault.TheVariants as faults;
+ghost use Rattle.shop_wire.specs.AnswerBytes.{answer_bytes, fault_answer};
 ghost use Rattle.shop_wire.specs.Serves.{IsServed};
-ghost use Rattle.shop_serve.specs.Serving.{HasServed};
+ghost use Rattle.shop_serve.specs.Serving.{HasServed, IsAnswered};
+ghost use Rattle.shop_serve.specs.Sites.{is_routed, own_bytes, page_bytes, page_fields, page_start};
 
+use crate::sites::Site;
 use shop_book::Book;
-use shop_request::Routes;
+use shop_request::Ruling;
 use shop_text::{Counted, Failed, Sink};
 use shop_wire::serve_with;
-use std::alloc::Global;
+use std::alloc::{AllocError, Global};
+
+const FORBIDDEN: &[u8] =
+    b"HTTP/1.1 403 Forbidden\r\nContent-Length: 0\r\nConnection: close\r\n\r\n";
+
+const ONLY_GET: &[u8] =
+    b"HTTP/1.1 405 Method Not Allowed\r\nAllow: GET\r\nContent-Length: 0\r\nConnection: close\r\n\r\n";
+
+const PAGE_START: &str =
+    "HTTP/1.1 200 OK\r\nContent-Type: text/html; charset=utf-8\r\nContent-Length: ";
+
+const PAGE_FIELDS: &str =
+    "\r\nContent-Security-Policy: default-src 'none'; script-src 'unsafe-inline'; style-src 'unsafe-inline'; img-src data:; connect-src 'self'\r\nX-Content-Type-Options: nosniff\r\nCache-Control: no-cache\r\nConnection: close\r\n\r\n";
 
 // An answer, as it is made.
 #[derive(Drop)]
@@ -37,17 +55,12 @@ impl Sink for Answer {
     }
 }
 
-/// Serves the bytes that came, and gives the whole answer. Where memory is wanting there is none, though what was asked for
-/// may be done.
-pub(crate) fn answer_of<B: Book>(
-    alloc: Global,
-    routes: &Routes,
-    came: &[u8],
-    book: &mut B,
-) -> Option<Vec<u8>>
-    requires { 0 < length came.now }
+// Serves the bytes that came at their route, and gives the whole answer.
+fn routed_answer<B: Book>(alloc: Global, site: &Site, came: &[u8], book: &mut B) -> Option<Vec<u8>>
+    requires some { 0 < length came.now }
+    requires goes { HasRuling site.now.guard.port site.now.guard.has_page came.now ruling.Routed }
     ensures told { IfSome result (λ answer. IsServed B.Book book.old book.new (Some came.now) (Some []) (Some answer.items) []) }
-    ensures step { HasServed B.Book book.old book.new 1 }
+    ensures step { HasServed site.now B.Book book.old book.new 1 }
     ensures honest { B.is_honest book.new → B.is_honest book.old }
 {
     let mut source = Counted::new(came);
@@ -55,8 +68,67 @@ pub(crate) fn answer_of<B: Book>(
         bytes: Vec::new(alloc),
         failures: 0,
     };
-    match serve_with(alloc, routes, &mut source, &mut sink, book) {
+    match serve_with(alloc, &site.routes, &mut source, &mut sink, book) {
         Ok(()) => Some(sink.bytes),
+        Err(_) => None,
+    }
+}
+
+// The text that a page's answer has before and behind its length.
+fn page_head(alloc: Global, length: usize) -> Result<String, AllocError>
+    ensures { IfOk result (λ text. string_bytes text ≡ page_start ++ decimal length ++ page_fields) }
+{
+    format!(in alloc; "{PAGE_START}{length}{PAGE_FIELDS}")
+}
+
+// The answer that is the page.
+fn page_answer(alloc: Global, page: &[u8]) -> Result<Vec<u8>, AllocError>
+    ensures { IfOk result (λ answer. answer.items ≡ page_bytes page.now) }
+{
+    let head = page_head(alloc, page.len())?;
+    let mut bytes = Vec::from_slice(alloc, head.as_bytes())?;
+    bytes.extend_from_slice(page)?;
+    Ok(bytes)
+}
+
+// Whether a request goes to its route.
+fn is_routed(ruling: Ruling) -> bool
+    ensures { result ≡ is_routed ruling }
+{
+    matches!(ruling, Ruling::Routed)
+}
+
+// What the site answers by itself.
+fn own_answer(alloc: Global, site: &Site, ruling: Ruling) -> Result<Vec<u8>, AllocError>
+    ensures { IfOk result (λ answer. answer.items ≡ own_bytes site.now ruling) }
+{
+    match ruling {
+        Ruling::Routed => Ok(Vec::new(alloc)),
+        Ruling::Forbidden => Vec::from_slice(alloc, FORBIDDEN),
+        Ruling::OnlyGet => Vec::from_slice(alloc, ONLY_GET),
+        Ruling::Page => page_answer(alloc, &site.page),
+    }
+}
+
+/// Serves the bytes that came, and gives the whole answer. Where memory is wanting there is none, though what was asked for
+/// may be done.
+pub(crate) fn answer_of<B: Book>(
+    alloc: Global,
+    site: &Site,
+    came: &[u8],
+    book: &mut B,
+) -> Option<Vec<u8>>
+    requires { 0 < length came.now }
+    ensures told { IfSome result (λ answer. IsAnswered site.now B.Book book.old book.new came.now answer.items) }
+    ensures step { HasServed site.now B.Book book.old book.new 1 }
+    ensures honest { B.is_honest book.new → B.is_honest book.old }
+{
+    let ruling = site.guard.rule(came);
+    if is_routed(ruling) {
+        return routed_answer(alloc, site, came, book);
+    }
+    match own_answer(alloc, site, ruling) {
+        Ok(answer) => Some(answer),
         Err(_) => None,
     }
 }

@@ -6,7 +6,9 @@ mod answers;
 mod faults;
 mod lines;
 mod serving;
+mod sites;
 mod transfers;
 
 pub use faults::ServeFault;
 pub use serving::serve_on;
+pub use sites::Site;

@@ -2,10 +2,10 @@ ghost use Rattle.std.specs.Prelude.{◌≡◌, ◌≤◌, ◌<◌, length, Some,
 ghost use Rattle.shop_serve.specs.Serving.{Advances};
 
 use crate::answers::answer_of;
+use crate::sites::Site;
 use crate::transfers::{Given, Taken, drop_rest, hand_over, take_bytes};
 use mio::net::TcpStream;
 use shop_book::Book;
-use shop_request::Routes;
 use slab::Slab;
 use std::alloc::Global;
 use std::net::Shutdown;
@@ -54,7 +54,7 @@ fn answer_on(line: &mut Line) -> bool {
 // Serves what came, unless as many were served as were accepted.
 fn serve_came<B: Book>(
     alloc: Global,
-    routes: &Routes,
+    site: &Site,
     came: &[u8],
     accepted: u32,
     served: &mut u32,
@@ -62,7 +62,7 @@ fn serve_came<B: Book>(
 ) -> Option<Vec<u8>>
     requires some { 0 < length came.now }
     requires few { served.old ≤ accepted }
-    ensures run { Advances B.Book book.old book.new served.old served.new }
+    ensures run { Advances site.now B.Book book.old book.new served.old served.new }
     ensures few { served.new ≤ accepted }
     ensures honest { B.is_honest book.new → B.is_honest book.old }
 {
@@ -70,7 +70,7 @@ fn serve_came<B: Book>(
         return None;
     }
     *served += 1;
-    answer_of(alloc, routes, came, book)
+    answer_of(alloc, site, came, book)
 }
 
 // Takes what has come of a request, serves it once it is whole, and hands over the answer. Tells whether the connection is
@@ -78,7 +78,7 @@ fn serve_came<B: Book>(
 #[tactic(auto, using(crate::proofs::Turns::stays))]
 fn attend<B: Book>(
     alloc: Global,
-    routes: &Routes,
+    site: &Site,
     line: &mut Line,
     now: Instant,
     accepted: u32,
@@ -86,19 +86,19 @@ fn attend<B: Book>(
     book: &mut B,
 ) -> bool
     requires few { served.old ≤ accepted }
-    ensures run { Advances B.Book book.old book.new served.old served.new }
+    ensures run { Advances site.now B.Book book.old book.new served.old served.new }
     ensures few { served.new ≤ accepted }
     ensures honest { B.is_honest book.new → B.is_honest book.old }
 {
     if line.answer.is_some() {
         return answer_on(line);
     }
-    match take_bytes(routes, &mut line.stream, &mut line.came) {
+    match take_bytes(&site.routes, &mut line.stream, &mut line.came) {
         Taken::Lost => return false,
         Taken::Waits => return true,
         Taken::Whole => (),
     }
-    let Some(answer) = serve_came(alloc, routes, &line.came, accepted, served, book) else {
+    let Some(answer) = serve_came(alloc, site, &line.came, accepted, served, book) else {
         return false;
     };
     line.answer = Some(answer);
@@ -110,7 +110,7 @@ fn attend<B: Book>(
 #[tactic(auto, using(crate::proofs::Turns::stays))]
 pub(crate) fn attend_at<B: Book>(
     alloc: Global,
-    routes: &Routes,
+    site: &Site,
     lines: &mut Slab<Line>,
     key: usize,
     now: Instant,
@@ -119,14 +119,14 @@ pub(crate) fn attend_at<B: Book>(
     book: &mut B,
 )
     requires few { served.old ≤ accepted }
-    ensures run { Advances B.Book book.old book.new served.old served.new }
+    ensures run { Advances site.now B.Book book.old book.new served.old served.new }
     ensures few { served.new ≤ accepted }
     ensures honest { B.is_honest book.new → B.is_honest book.old }
 {
     let Some(line) = lines.get_mut(key) else {
         return;
     };
-    if !attend(alloc, routes, line, now, accepted, served, book) {
+    if !attend(alloc, site, line, now, accepted, served, book) {
         let _ = lines.try_remove(key);
     }
 }

@@ -4,11 +4,11 @@ ghost use Rattle.shop_serve.specs.declared.faults.ServeFault.TheVariants.{Port};
 
 use crate::faults::ServeFault;
 use crate::lines::{Line, attend_at, close_late, has_room, make_room};
+use crate::sites::Site;
 use mio::net::TcpStream as Stream;
 use mio::unix::SourceFd;
 use mio::{Events, Interest, Poll, Registry, Token};
 use shop_book::Book;
-use shop_request::Routes;
 use slab::Slab;
 use std::alloc::Global;
 use std::io::{self, ErrorKind};
@@ -88,7 +88,7 @@ fn opened(
 #[tactic(auto, using(crate::proofs::Turns::stays))]
 fn receive<B: Book>(
     alloc: Global,
-    routes: &Routes,
+    site: &Site,
     registry: &Registry,
     stream: TcpStream,
     now: Instant,
@@ -98,12 +98,12 @@ fn receive<B: Book>(
     book: &mut B,
 )
     requires few { served.old ≤ accepted }
-    ensures run { Advances B.Book book.old book.new served.old served.new }
+    ensures run { Advances site.now B.Book book.old book.new served.old served.new }
     ensures few { served.new ≤ accepted }
     ensures honest { B.is_honest book.new → B.is_honest book.old }
 {
     if let Some(key) = opened(alloc, registry, stream, now, lines) {
-        attend_at(alloc, routes, lines, key, now, accepted, served, book);
+        attend_at(alloc, site, lines, key, now, accepted, served, book);
     }
 }
 
@@ -135,7 +135,7 @@ fn next_stream(listener: &TcpListener) -> Result<Option<TcpStream>, ServeFault> 
 // where it is `None`.
 fn accept_waiting<B: Book>(
     alloc: Global,
-    routes: &Routes,
+    site: &Site,
     registry: &Registry,
     listener: &TcpListener,
     now: Instant,
@@ -147,7 +147,7 @@ fn accept_waiting<B: Book>(
 ) -> Option<Duration>
     requires few { served.old ≤ accepted.old }
     requires bound { accepted.old ≤ limit }
-    ensures run { Advances B.Book book.old book.new served.old served.new }
+    ensures run { Advances site.now B.Book book.old book.new served.old served.new }
     ensures few { served.new ≤ accepted.new }
     ensures bound { accepted.new ≤ limit }
     ensures honest { B.is_honest book.new → B.is_honest book.old }
@@ -166,7 +166,7 @@ fn accept_waiting<B: Book>(
         };
         *accepted += 1;
         receive(
-            alloc, routes, registry, stream, now, lines, *accepted, served, book,
+            alloc, site, registry, stream, now, lines, *accepted, served, book,
         );
     }
     Some(Duration::ZERO)
@@ -175,7 +175,7 @@ fn accept_waiting<B: Book>(
 // Attends to each connection that is reported.
 fn attend_reported<B: Book>(
     alloc: Global,
-    routes: &Routes,
+    site: &Site,
     events: &Events,
     now: Instant,
     lines: &mut Slab<Line>,
@@ -184,13 +184,13 @@ fn attend_reported<B: Book>(
     book: &mut B,
 )
     requires few { served.old ≤ accepted }
-    ensures run { Advances B.Book book.old book.new served.old served.new }
+    ensures run { Advances site.now B.Book book.old book.new served.old served.new }
     ensures few { served.new ≤ accepted }
     ensures honest { B.is_honest book.new → B.is_honest book.old }
 {
     for event in events.iter() {
         let key = event.token().0;
-        attend_at(alloc, routes, lines, key, now, accepted, served, book);
+        attend_at(alloc, site, lines, key, now, accepted, served, book);
     }
 }
 
@@ -214,7 +214,7 @@ fn waited<R: Clock>(
 // wait, or `None` where none can be accepted for good.
 fn turn<B: Book>(
     alloc: Global,
-    routes: &Routes,
+    site: &Site,
     registry: &Registry,
     listener: &TcpListener,
     events: &Events,
@@ -227,15 +227,15 @@ fn turn<B: Book>(
 ) -> Option<Duration>
     requires few { served.old ≤ accepted.old }
     requires bound { accepted.old ≤ limit }
-    ensures run { Advances B.Book book.old book.new served.old served.new }
+    ensures run { Advances site.now B.Book book.old book.new served.old served.new }
     ensures few { served.new ≤ accepted.new }
     ensures bound { accepted.new ≤ limit }
     ensures honest { B.is_honest book.new → B.is_honest book.old }
 {
-    attend_reported(alloc, routes, events, now, lines, *accepted, served, book);
+    attend_reported(alloc, site, events, now, lines, *accepted, served, book);
     close_late(lines, now);
     accept_waiting(
-        alloc, routes, registry, listener, now, limit, lines, accepted, served, book,
+        alloc, site, registry, listener, now, limit, lines, accepted, served, book,
     )
 }
 
@@ -253,13 +253,13 @@ pub fn serve_on<R: Net + Clock, B: Book>(
     alloc: Global,
     listener: &TcpListener,
     limit: u32,
+    site: &Site,
     book: &mut B,
 ) -> Result<(), ServeFault>
-    ensures ok { OnOk result (HasServed B.Book book.old book.new limit) }
-    ensures err { IfErr result (IsUnserved B.Book book.old book.new limit) }
+    ensures ok { OnOk result (HasServed site.now B.Book book.old book.new limit) }
+    ensures err { IfErr result (IsUnserved site.now B.Book book.old book.new limit) }
     ensures honest { B.is_honest book.new → B.is_honest book.old }
 {
-    let routes = Routes::new(alloc)?;
     let mut events = Events::with_capacity(alloc, MOST_EVENTS)?;
     let mut poll = watched(rt, listener)?;
     let mut lines = Slab::new(alloc);
@@ -276,7 +276,7 @@ pub fn serve_on<R: Net + Clock, B: Book>(
         };
         match turn(
             alloc,
-            &routes,
+            site,
             poll.registry(),
             listener,
             &events,

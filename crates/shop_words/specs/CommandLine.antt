@@ -1,5 +1,5 @@
 -- The program's command line, in the words of `clap`: its commands, and what they ask for.
-use Rattle.std.specs.Prelude.{◌≡◌, ◌≤◌, ℕ, List, ◌∷◌, [], Option, Some, None, codes, false, true, pos, ⊤}
+use Rattle.std.specs.Prelude.{◌≡◌, ◌≤◌, ℕ, List, ◌∷◌, [], Option, Some, None, codes, false, true, pos, ⊤, option_map, is_some, ◌||◌, Bool}
 use Rattle.std.specs.Str.Parse.{IsNumeral, digits_value, without_leading_plus}
 use Rattle.clap.specs.Words.{App, Row, Rule, Text, app_of, new_app, new_rule, rule_of, with_rule, with_subcommand, first_of, one_of}
 use Rattle.clap.specs.declared.builder.arg.Arg.{Arg}
@@ -11,9 +11,10 @@ use Rattle.clap.specs.declared.builder.value_parser.ValueParser.{ValueParser}
 use Rattle.clap.specs.declared.builder.value_parser.ValueParser.TheVariants.{Signed}
 use Rattle.cut_measure.specs.Codes.{code_of}
 use Rattle.cut_measure.specs.declared.ranges.TheConstants.{MOST_KERF, MOST_NUMBERS}
-use Rattle.shop_words.specs.declared.words.TheConstants.{LONGEST_STEP, LAST_PORT, MOST_CONNECTIONS}
+use Rattle.shop_words.specs.declared.words.TheConstants.{LONGEST_STEP, LAST_PORT, MOST_CONNECTIONS, MOST_PAIR}
+use Rattle.shop_words.specs.declared.words.ImportAs.{ImportAs}
 use Rattle.shop_words.specs.declared.words.Request.{Request}
-use Rattle.shop_words.specs.declared.words.Request.TheVariants.{Replay, Plan, Serve, Ticket, Yield}
+use Rattle.shop_words.specs.declared.words.Request.TheVariants.{Replay, Plan, Orders, Serve, Ticket, Yield}
 use Rattle.shop_words.specs.declared.words.Word.{Word}
 use Rattle.shop_words.specs.declared.words.Word.TheVariants as word
 use Rattle.shop_words.specs.declared.words.Argument.{Argument}
@@ -49,6 +50,18 @@ port_rule = number_rule (codes "port") (Signed (pos 1) (pos 65535))
 abbrev pub limit_rule : Rule
 limit_rule = record (option_rule (codes "limit")) { parser = Some (Signed (pos 1) (pos 1000000)); defaults = codes "1000000" ∷ [] }
 
+abbrev pub page_rule : Rule
+page_rule = option_rule (codes "page")
+
+abbrev pub order_rule : Rule
+order_rule = option_rule (codes "order")
+
+abbrev pub terminal_rule : Rule
+terminal_rule = record (option_rule (codes "terminal")) { parser = Some (Signed (pos 1) (pos 4294967295)) }
+
+abbrev pub message_number_rule : Rule
+message_number_rule = record (option_rule (codes "number")) { parser = Some (Signed (pos 0) (pos 4294967295)) }
+
 abbrev pub job_rule : Rule
 job_rule = record (word_rule (codes "JOB")) { parser = Some (Signed (pos 1) (pos 2147483647)) }
 
@@ -65,9 +78,14 @@ plan_app = with_rule (with_rule (with_rule (new_app (codes "plan")) (word_rule (
 abbrev pub replay_app : App
 replay_app = new_app (codes "replay")
 
--- `serve --port N --store FILE --shop FILE [--limit N]`
+-- `orders FILE [--order CODE] [--terminal N] [--number N]`
+abbrev pub orders_app : App
+orders_app = with_rule (with_rule (with_rule (with_rule (new_app (codes "orders")) (word_rule (codes "FILE"))) order_rule) terminal_rule) message_number_rule
+
+-- `serve --port N --store FILE --shop FILE [--limit N] [--page FILE]`
 abbrev pub serve_app : App
-serve_app = with_rule (with_rule (with_rule (with_rule (new_app (codes "serve")) port_rule) store_rule) (path_rule (codes "shop"))) limit_rule
+serve_app =
+    with_rule (with_rule (with_rule (with_rule (with_rule (new_app (codes "serve")) port_rule) store_rule) (path_rule (codes "shop"))) limit_rule) page_rule
 
 -- `ticket --store FILE JOB`
 abbrev pub ticket_app : App
@@ -77,12 +95,15 @@ ticket_app = with_rule (with_rule (new_app (codes "ticket")) store_rule) job_rul
 abbrev pub yield_app : App
 yield_app = with_rule (with_rule (new_app (codes "yield")) store_rule) (word_rule (codes "MATERIAL"))
 
+-- the program without its commands: one is required, and a version is told
+abbrev pub program_app : App
+program_app = on_top (λ s. record s { subcommand_required = true; has_version = true }) (new_app (codes "cutshop"))
+
 -- the commands that need no store
 abbrev pub plain_app : App
-plain_app =
-    with_subcommand (with_subcommand (on_top (λ s. record s { subcommand_required = true }) (new_app (codes "cutshop"))) replay_app.top) plan_app.top
+plain_app = with_subcommand (with_subcommand (with_subcommand program_app replay_app.top) plan_app.top) orders_app.top
 
--- one of the five commands
+-- one of the six commands
 abbrev pub shop_app : App
 shop_app = with_subcommand (with_subcommand (with_subcommand plain_app serve_app.top) ticket_app.top) yield_app.top
 
@@ -96,10 +117,15 @@ abbrev pub argument_rule : Argument → Rule
 argument_rule argument.File = word_rule (codes "FILE")
 argument_rule argument.Kerf = kerf_rule
 argument_rule argument.Step = step_rule
+argument_rule argument.OrderFile = word_rule (codes "FILE")
+argument_rule argument.Order = order_rule
+argument_rule argument.Terminal = terminal_rule
+argument_rule argument.Number = message_number_rule
 argument_rule argument.Port = port_rule
 argument_rule argument.Store = store_rule
 argument_rule argument.Shop = path_rule (codes "shop")
 argument_rule argument.Limit = limit_rule
+argument_rule argument.Page = page_rule
 argument_rule argument.Job = job_rule
 argument_rule argument.Material = word_rule (codes "MATERIAL")
 
@@ -115,6 +141,7 @@ command_app name arguments = added_in_turn with_argument (new_app name) argument
 abbrev pub word_app : Word → App
 word_app word.Replay = replay_app
 word_app word.Plan = plan_app
+word_app word.Orders = orders_app
 word_app word.Serve = serve_app
 word_app word.Ticket = ticket_app
 word_app word.Yield = yield_app
@@ -122,10 +149,6 @@ word_app word.Yield = yield_app
 -- a program with the command of a word more
 abbrev pub with_word : App → Word → App
 with_word app w = with_subcommand app (word_app w).top
-
--- the program without its commands
-abbrev pub program_app : App
-program_app = on_top (λ s. record s { subcommand_required = true }) (new_app (codes "cutshop"))
 
 -- an argument of this rule that isn't global
 abbrev pub IsArg : Rule → Arg → Type 0
@@ -155,10 +178,28 @@ IsPlanAsked rows (Plan file kerf step) =
     (first_of (codes "FILE") rows ≡ Some file.now) × HasNumber (codes "kerf") rows 0 MOST_KERF kerf × HasNumber (codes "step") rows 0 LONGEST_STEP step
 IsPlanAsked rows _ = ⊥
 
+-- the values of the options that make a message of an order file
+abbrev pub IsImportAs : List Row → ImportAs → Type 0
+IsImportAs rows told =
+    IsCode (first_of (codes "order") rows) told.order × HasNumber (codes "terminal") rows 1 MOST_PAIR told.terminal
+    × HasNumber (codes "number") rows 0 MOST_PAIR told.number
+
+-- one of these options is there
+abbrev pub names_message : List Row → Bool
+names_message rows =
+    is_some (first_of (codes "order") rows) || is_some (first_of (codes "terminal") rows) || is_some (first_of (codes "number") rows)
+
+-- the options come together, or not at all
+abbrev pub IsOrdersAsked : List Row → Request → Type 0
+IsOrdersAsked rows (Orders file None) = (first_of (codes "FILE") rows ≡ Some file.now) × (names_message rows ≡ false)
+IsOrdersAsked rows (Orders file (Some told)) = (first_of (codes "FILE") rows ≡ Some file.now) × IsImportAs rows told
+IsOrdersAsked rows _ = ⊥
+
 abbrev pub IsServeAsked : List Row → Request → Type 0
-IsServeAsked rows (Serve port store shop limit) =
+IsServeAsked rows (Serve port store shop limit page) =
     HasNumber (codes "port") rows 1 LAST_PORT port × (first_of (codes "store") rows ≡ Some store.now)
     × (first_of (codes "shop") rows ≡ Some shop.now) × HasNumber (codes "limit") rows 1 MOST_CONNECTIONS limit
+    × (first_of (codes "page") rows ≡ option_map (λ p. p.now) page)
 IsServeAsked rows _ = ⊥
 
 abbrev pub IsTicketAsked : List Row → Request → Type 0
@@ -173,6 +214,7 @@ IsYieldAsked rows _ = ⊥
 abbrev pub word_text : Word → Text
 word_text word.Replay = codes "replay"
 word_text word.Plan = codes "plan"
+word_text word.Orders = codes "orders"
 word_text word.Serve = codes "serve"
 word_text word.Ticket = codes "ticket"
 word_text word.Yield = codes "yield"
@@ -181,6 +223,7 @@ word_text word.Yield = codes "yield"
 abbrev pub IsAsked : Word → List Row → Request → Type 0
 IsAsked word.Replay rows request = request ≡ Replay
 IsAsked word.Plan rows request = IsPlanAsked rows request
+IsAsked word.Orders rows request = IsOrdersAsked rows request
 IsAsked word.Serve rows request = IsServeAsked rows request
 IsAsked word.Ticket rows request = IsTicketAsked rows request
 IsAsked word.Yield rows request = IsYieldAsked rows request

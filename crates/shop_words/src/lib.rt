@@ -3,4 +3,6 @@
 
 mod words;
 
-pub use words::{LAST_PORT, LONGEST_STEP, MOST_CONNECTIONS, Request, request_of};
+pub use words::{
+    ImportAs, LAST_PORT, LONGEST_STEP, MOST_CONNECTIONS, MOST_PAIR, Request, VERSION, request_of,
+};

@@ -1,8 +1,9 @@
-ghost use Rattle.std.specs.Prelude.{◌≡◌, ◌≤◌, ℕ, [], IfOk, IfErr, MatchOption, map, string_bytes};
-ghost use Rattle.clap.specs.Words.{app_of, rows_of, found_of, subcommand_of, subcommand_rows_of};
+ghost use Rattle.std.specs.Prelude.{◌≡◌, ◌≤◌, ℕ, [], is_some, IfOk, IfErr, MatchOption, map, string_bytes};
+ghost use Rattle.clap.specs.Words.{app_of, first_of, rows_of, found_of, subcommand_of, subcommand_rows_of};
 ghost use Rattle.clap.specs.Kinds.{HasKind};
 ghost use Rattle.clap.specs.Faults.{fault_of};
 ghost use Rattle.shop_words.specs.CommandLine as line;
+ghost use Rattle.shop_words.specs.declared.words.ImportAs.{ImportAs};
 ghost use Rattle.shop_words.specs.declared.words.Request.{Request};
 ghost use Rattle.shop_words.specs.declared.words.Word.{Word};
 
@@ -20,6 +21,22 @@ pub const LAST_PORT: u32 = 65535;
 /// The most connections that are served.
 pub const MOST_CONNECTIONS: u32 = 1_000_000;
 
+/// The greatest terminal, and the greatest number of a message.
+pub const MOST_PAIR: u32 = 4_294_967_295;
+
+/// The program's version.
+pub const VERSION: &str = "1.0.0";
+
+/// Which message an order file becomes.
+#[derive(Clone, Copy, Debug)]
+pub struct ImportAs {
+    pub order: Code,
+    /// 1 to 4294967295.
+    pub terminal: u32,
+    /// 0 to 4294967295.
+    pub number: u32,
+}
+
 /// What a command line asks for.
 #[derive(Clone, Copy, Debug)]
 pub enum Request<'a> {
@@ -33,6 +50,11 @@ pub enum Request<'a> {
         /// In tenths of a millimetre: 0 to 200000.
         step: u32,
     },
+    /// Read an order file, and tell how many lines it has, or the message that it becomes.
+    Orders {
+        file: &'a str,
+        told: Option<ImportAs>,
+    },
     /// Serve a store on a port.
     Serve {
         /// 1 to 65535.
@@ -41,6 +63,7 @@ pub enum Request<'a> {
         shop: &'a str,
         /// How many connections: 1 to 1000000.
         limit: u32,
+        page: Option<&'a str>,
     },
     /// Print the ticket of a job of a store.
     Ticket {
@@ -60,6 +83,7 @@ pub enum Request<'a> {
 enum Word {
     Replay,
     Plan,
+    Orders,
     Serve,
     Ticket,
     Yield,
@@ -71,18 +95,24 @@ enum Argument {
     File,
     Kerf,
     Step,
+    OrderFile,
+    Order,
+    Terminal,
+    Number,
     Port,
     Store,
     Shop,
     Limit,
+    Page,
     Job,
     Material,
 }
 
 // The words, in the order in which help lists their commands.
-const WORDS: [Word; 5] = [
+const WORDS: [Word; 6] = [
     Word::Replay,
     Word::Plan,
+    Word::Orders,
     Word::Serve,
     Word::Ticket,
     Word::Yield,
@@ -181,6 +211,52 @@ fn limit_arg<'a>(alloc: Global) -> Arg<'a>
     .default_value("1000000")
 }
 
+fn page_arg<'a>(alloc: Global) -> Arg<'a>
+    ensures { line.IsArg line.page_rule result }
+{
+    option_arg(
+        alloc,
+        "page",
+        "FILE",
+        "The page that browsers get at http://127.0.0.1:N/, at most 1 MiB",
+    )
+}
+
+fn order_arg<'a>(alloc: Global) -> Arg<'a>
+    ensures { line.IsArg line.order_rule result }
+{
+    option_arg(
+        alloc,
+        "order",
+        "CODE",
+        "The order's code in the message: 1 to 16 of A-Z, 0-9 and -; it stands with --terminal and --number",
+    )
+}
+
+fn terminal_arg<'a>(alloc: Global) -> Arg<'a>
+    ensures { line.IsArg line.terminal_rule result }
+{
+    option_arg(
+        alloc,
+        "terminal",
+        "N",
+        "The terminal that sends the message: 1 to 4294967295",
+    )
+    .value_parser(value_parser!(u32).range(1..=4294967295))
+}
+
+fn message_number_arg<'a>(alloc: Global) -> Arg<'a>
+    ensures { line.IsArg line.message_number_rule result }
+{
+    option_arg(
+        alloc,
+        "number",
+        "N",
+        "The message's number, one that the terminal has not used: 0 to 4294967295",
+    )
+    .value_parser(value_parser!(u32).range(0..=4294967295))
+}
+
 fn job_arg<'a>(alloc: Global) -> Arg<'a>
     ensures { line.IsArg line.job_rule result }
 {
@@ -194,13 +270,30 @@ fn arg_of<'a>(alloc: Global, argument: Argument) -> Arg<'a>
     ensures { line.IsArg (line.argument_rule argument) result }
 {
     match argument {
-        Argument::File => word_arg(alloc, "FILE", "The problem file"),
+        Argument::File => word_arg(
+            alloc,
+            "FILE",
+            "The problem file, its sides in tenths of a millimetre",
+        ),
         Argument::Kerf => kerf_arg(alloc),
         Argument::Step => step_arg(alloc),
+        Argument::OrderFile => word_arg(
+            alloc,
+            "FILE",
+            "The order file: CSV, lengths and widths in millimetres",
+        ),
+        Argument::Order => order_arg(alloc),
+        Argument::Terminal => terminal_arg(alloc),
+        Argument::Number => message_number_arg(alloc),
         Argument::Port => port_arg(alloc),
         Argument::Store => store_arg(alloc),
-        Argument::Shop => path_arg(alloc, "shop", "The shop file: its materials"),
+        Argument::Shop => path_arg(
+            alloc,
+            "shop",
+            "The shop file: its materials, lengths in millimetres",
+        ),
         Argument::Limit => limit_arg(alloc),
+        Argument::Page => page_arg(alloc),
         Argument::Job => job_arg(alloc),
         Argument::Material => word_arg(alloc, "MATERIAL", "The material's code"),
     }
@@ -247,6 +340,23 @@ fn plan_command<'a>(alloc: Global) -> Result<Command<'a>, AllocError>
     )
 }
 
+fn orders_command<'a>(alloc: Global) -> Result<Command<'a>, AllocError>
+    ensures { IfOk result (line.IsCommand line.orders_app) }
+{
+    new_command(
+        alloc,
+        "orders",
+        "Reads an order file: tells how many lines it has, or with three options the message that makes the order, to be posted as it is",
+        "Examples:\n  cutshop orders orders.csv\n  cutshop orders orders.csv --order A-1 --terminal 1 --number 7",
+        &[
+            Argument::OrderFile,
+            Argument::Order,
+            Argument::Terminal,
+            Argument::Number,
+        ],
+    )
+}
+
 fn serve_command<'a>(alloc: Global) -> Result<Command<'a>, AllocError>
     ensures { IfOk result (line.IsCommand line.serve_app) }
 {
@@ -260,6 +370,7 @@ fn serve_command<'a>(alloc: Global) -> Result<Command<'a>, AllocError>
             Argument::Store,
             Argument::Shop,
             Argument::Limit,
+            Argument::Page,
         ],
     )
 }
@@ -295,6 +406,7 @@ fn command_for<'a>(alloc: Global, word: Word) -> Result<Command<'a>, AllocError>
     match word {
         Word::Replay => replay_command(alloc),
         Word::Plan => plan_command(alloc),
+        Word::Orders => orders_command(alloc),
         Word::Serve => serve_command(alloc),
         Word::Ticket => ticket_command(alloc),
         Word::Yield => yield_command(alloc),
@@ -324,9 +436,10 @@ fn program<'a>(alloc: Global) -> Command<'a>
     Command::new(alloc, "cutshop")
         .about("The books and the plans of a cutting shop")
         .after_help(
-            "Examples:\n  cutshop replay < lines.txt\n  cutshop plan sheet.txt --kerf 30 --step 10\n  cutshop serve --port 8017 --store shop.db --shop shop.toml\n  cutshop ticket --store shop.db 2\n  cutshop yield --store shop.db STEEL",
+            "Units: messages, replies, problem files, --kerf and --step count tenths of a millimetre; shop files, order files, tickets and reports say millimetres.\n\nExamples:\n  cutshop replay < lines.txt\n  cutshop plan sheet.txt --kerf 30 --step 10\n  cutshop orders orders.csv\n  cutshop serve --port 8017 --store shop.db --shop shop.toml\n  cutshop ticket --store shop.db 2\n  cutshop yield --store shop.db STEEL",
         )
         .subcommand_required(true)
+        .version(VERSION)
 }
 
 // The program's command line.
@@ -360,6 +473,48 @@ fn plan_request<'a>(plan: &ArgMatches<'a>) -> Option<Request<'a>>
     Some(Request::Plan { file, kerf, step })
 }
 
+// The message that the three options ask for.
+fn import_as(orders: &ArgMatches<'_>) -> Option<ImportAs>
+    ensures { MatchOption result ((told : ImportAs) → line.IsImportAs (rows_of (found_of orders.now)) told → ⊥) (line.IsImportAs (rows_of (found_of orders.now))) }
+{
+    let order = Code::read(orders.get_str("order")?)?;
+    let terminal = number_of(orders, "terminal", 1, MOST_PAIR)?;
+    let number = number_of(orders, "number", 0, MOST_PAIR)?;
+    Some(ImportAs {
+        order,
+        terminal,
+        number,
+    })
+}
+
+// Whether there is an option of this name.
+fn has_option(matches: &ArgMatches<'_>, name: &str) -> bool
+    ensures { result ≡ is_some (first_of name.now (rows_of (found_of matches.now))) }
+{
+    matches.get_str(name).is_some()
+}
+
+// Whether one of the three options is there.
+fn names_message(orders: &ArgMatches<'_>) -> bool
+    ensures { result ≡ line.names_message (rows_of (found_of orders.now)) }
+{
+    has_option(orders, "order") || has_option(orders, "terminal") || has_option(orders, "number")
+}
+
+fn orders_request<'a>(orders: &ArgMatches<'a>) -> Option<Request<'a>>
+    ensures { MatchOption result ((request : Request) → line.IsOrdersAsked (rows_of (found_of orders.now)) request → ⊥) (line.IsOrdersAsked (rows_of (found_of orders.now))) }
+{
+    let file = orders.get_str("FILE")?;
+    if !names_message(orders) {
+        return Some(Request::Orders { file, told: None });
+    }
+    let told = import_as(orders)?;
+    Some(Request::Orders {
+        file,
+        told: Some(told),
+    })
+}
+
 fn serve_request<'a>(serve: &ArgMatches<'a>) -> Option<Request<'a>>
     ensures { MatchOption result ((request : Request) → line.IsServeAsked (rows_of (found_of serve.now)) request → ⊥) (line.IsServeAsked (rows_of (found_of serve.now))) }
 {
@@ -367,11 +522,13 @@ fn serve_request<'a>(serve: &ArgMatches<'a>) -> Option<Request<'a>>
     let store = serve.get_str("store")?;
     let shop = serve.get_str("shop")?;
     let limit = number_of(serve, "limit", 1, MOST_CONNECTIONS)?;
+    let page = serve.get_str("page");
     Some(Request::Serve {
         port,
         store,
         shop,
         limit,
+        page,
     })
 }
 
@@ -399,6 +556,8 @@ fn word_of(name: &str) -> Option<Word>
         Some(Word::Replay)
     } else if name == "plan" {
         Some(Word::Plan)
+    } else if name == "orders" {
+        Some(Word::Orders)
     } else if name == "serve" {
         Some(Word::Serve)
     } else if name == "ticket" {
@@ -417,6 +576,7 @@ fn request_in<'a>(word: Word, values: &ArgMatches<'a>) -> Option<Request<'a>>
     match word {
         Word::Replay => Some(Request::Replay),
         Word::Plan => plan_request(values),
+        Word::Orders => orders_request(values),
         Word::Serve => serve_request(values),
         Word::Ticket => ticket_request(values),
         Word::Yield => yield_request(values),

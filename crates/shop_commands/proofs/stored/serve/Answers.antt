@@ -1,4 +1,4 @@
-use Rattle.std.proofs.Common.{◌≡◌, sym, subst, inr}
+use Rattle.std.proofs.Common.{◌≡◌, sym, subst, inl, inr, refl}
 use Rattle.shop_commands.specs.Stored.{IsShopRead, IsBookServed, IsBookUnserved}
 use Rattle.shop_commands.proofs.Opened.{of_ok, of_err}
 use Rattle.shop_commands.proofs.stored.serve.Goals as goal
@@ -8,18 +8,20 @@ returns-in-Ok-clause-ok g c =
     let before = c.in_ok-book.book in
     let after = c.serve_book-served.new.book in
     let entries = c.as_slice.result.now in
+    let site = c.in_ok-site.site in
     let old = g.W.Sink.held c.args.sink.now in
     let new = g.W.Sink.held c.serve_book-served.new.sink in
-    let done = of_ok (IsBookServed g.B.Book before after entries c.args.port c.args.limit old new) c.serve_book-served.result c.in-Ok.is c.serve_book-served.ensures.ok in
-    (entries, subst IsShopRead (sym c.as_slice.ensures) c.in_ok-entries.ensures.ok.0, before, after, c.in_ok-book.ensures.ok, done)
+    let done = of_ok (IsBookServed g.B.Book site before after entries c.args.port c.args.limit old new) c.serve_book-served.result c.in-Ok.is c.serve_book-served.ensures.ok in
+    (entries, subst IsShopRead (sym c.as_slice.ensures) c.in_ok-entries.ensures.ok.0, site, c.in_ok-site.ensures.ok, before, after, c.in_ok-book.ensures.ok, done)
 
 pub returns-clause-err : goal.returns-clause-err
 returns-clause-err g c =
     let before = c.in_ok-book.book in
     let after = c.serve_book-served.new.book in
     let entries = c.as_slice.result.now in
+    let site = c.in_ok-site.site in
     let old = g.W.Sink.held c.args.sink.now in
     let new = g.W.Sink.held c.serve_book-served.new.sink in
-    let stopped = of_err (λ f. IsBookUnserved g.B.Book before after entries c.args.port c.args.limit f old new (g.W.Sink.failed c.args.sink.now) (g.W.Sink.failed c.serve_book-served.new.sink))
+    let stopped = of_err (λ f. IsBookUnserved g.B.Book site before after entries c.args.port c.args.limit f old new (g.W.Sink.failed c.args.sink.now) (g.W.Sink.failed c.serve_book-served.new.sink))
     c.serve_book-served.result c.in-Err.fault c.in-Err.is c.serve_book-served.ensures.err in
-    inr (inr (entries, subst IsShopRead (sym c.as_slice.ensures) c.in_ok-entries.ensures.ok.0, before, after, c.in_ok-book.ensures.ok, stopped))
+    inr (inr (inr (entries, subst IsShopRead (sym c.as_slice.ensures) c.in_ok-entries.ensures.ok.0, site, c.in_ok-site.ensures.ok, before, after, c.in_ok-book.ensures.ok, stopped)))

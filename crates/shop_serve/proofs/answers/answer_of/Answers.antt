@@ -1,11 +1,12 @@
-use Rattle.std.proofs.Common.{ap, Some, []}
-use Rattle.shop_serve.proofs.Turns.{one_served, one_done}
+use Rattle.std.proofs.Common.{◌∙◌, sym, subst, inl, inr, refl}
+use Rattle.shop_request.specs.Guards.{HasRuling}
+use Rattle.shop_serve.proofs.Turns.{is_route, no_route, none_served, one_ruled}
 use Rattle.shop_serve.proofs.answers.answer_of.Goals as goal
 
 pub returns-in-Ok-clause-step : goal.returns-in-Ok-clause-step
 returns-in-Ok-clause-step g c =
-    one_served g.B.Book c.args.book.now c.serve_with.new.book c.args.came.now _ _ _ [] (ap (λ r. Some r.now) c.new-source.ensures.inner) c.requires c.in-Ok.ensures.ok
+    one_ruled c.args.site.now g.B.Book c.args.book.now c.args.came.now c.rule-ruling.result c.requires c.rule-ruling.ensures
+    (no_route c.rule-ruling.result (sym c.is_routed.ensures ∙ c.if-is_routed.false))
 
 pub returns-in-Err-clause-step : goal.returns-in-Err-clause-step
-returns-in-Err-clause-step g c =
-    one_done g.B.Book c.args.book.now c.serve_with.new.book c.args.came.now _ _ _ _ (ap (λ r. Some r.now) c.new-source.ensures.inner) c.requires c.in-Err.ensures.err
+returns-in-Err-clause-step g c = none_served c.args.site.now g.B.Book c.args.book.now 1

@@ -1,6 +1,8 @@
 use Rattle.std.proofs.Common.{◌≡◌, ◌∙◌, List, [], true, ap, map, refl, sym, subst}
 use Rattle.std.specs.Prelude.{MatchOption, string_bytes}
-use Rattle.clap.specs.Words.{HasMatchesOf, Text, app_of, is_simple, subcommand_of, subcommand_rows_of}
+use Rattle.clap.specs.Kinds.{HasKind}
+use Rattle.std.proofs.lemmas.Result.{err_from_is_err_and}
+use Rattle.clap.specs.Words.{App, HasMatchesOf, Text, app_of, is_simple, subcommand_of, subcommand_rows_of}
 use Rattle.clap.specs.Faults.{fault_of, is_simple_and_free}
 use Rattle.clap.specs.declared.builder.command.Command.{Command}
 use Rattle.clap.specs.declared.parser.matches.ArgMatches.{ArgMatches}
@@ -32,3 +34,12 @@ returns-clause-ok c =
     let taken = nothing_wrong command words c.in_ok-command.ensures c.in_ok-matches.ensures.kinds in
     let read = command_read command words c.in_ok-matches.matches c.in_ok-command.ensures c.in_ok-matches.ensures.matches in
     (taken, subst (λ found. MatchOption c.request_read.result (AsksNothing found) (Asks found)) read c.request_read.ensures)
+
+pub returns-in_err-matches-clause-err : goal.returns-in_err-matches-clause-err
+returns-in_err-matches-clause-err c =
+    let command = c.in_ok-command.command in
+    let words = map string_bytes c.args.words.now in
+    let app = c.in_ok-command.ensures in
+    let kinds = c.in_err-matches.ensures.kinds (ap is_simple_and_free app ∙ free) in
+    let p = err_from_is_err_and c.from_residual-in_err-matches.result c.from_residual-in_err-matches.ensures.1 in
+    rw (p.1, p.2) (subst (λ (a : App). HasKind (fault_of a words) c.in_err-matches.field-0.0) app kinds)

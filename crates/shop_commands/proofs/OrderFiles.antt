@@ -1,0 +1,65 @@
+-- What is said of an order file.
+use Rattle.std.proofs.Common.{◌≡◌, ◌≢◌, ◌∙◌, ℕ, suc, ◌+◌, ◌<◌, Bool, true, false, not, List, [], ◌∷◌, length, drop, take, get_or, Option, Result, Ok, Err, inl, inr, refl, sym, ap, subst, arith}
+use Rattle.std.specs.Prelude.{◌||◌, ◌==◌, IfErr, if◌then◌else◌}
+use Rattle.std.specs.List.{list_any, prefix_len}
+use Rattle.std.proofs.Math.Seq.{drop-cons}
+use Rattle.std.proofs.lemmas.Bool.{eq-eqb, ne_eqb}
+use Rattle.shop_text.specs.Streams.{HasFailed}
+use Rattle.shop_words.specs.declared.words.ImportAs.{ImportAs}
+use Rattle.shop_commands.specs.Orders.{first_line_has, IsOrdersLine, IsOrdersStopped}
+use Rattle.shop_commands.specs.Written.{AppendsFront}
+use Rattle.shop_commands.specs.declared.faults.Fault.{Fault}
+use Rattle.shop_commands.specs.declared.faults.Fault.TheVariants.{Write}
+
+-- ---- the first line
+
+module _ (wanted b : ℕ) (rest : List ℕ) where
+  -- how much of the rest stands on the first line
+  more : ℕ
+  more = prefix_len (λ x. not (x == 10)) rest
+
+  among : ℕ → Bool
+  among k = list_any (λ c. c == wanted) (take k (b ∷ rest))
+
+  -- the first byte stands on the first line, or ends it
+  begun : Bool → Bool
+  begun inside = among (if inside then 1 + more else 0)
+
+  ended : (b == 10) ≡ true → first_line_has wanted (b ∷ rest) ≡ false
+  unfolding begun among more
+  ended e = ap begun (ap not e)
+
+  goes_on : (b == 10) ≡ false → first_line_has wanted (b ∷ rest) ≡ ((b == wanted) || first_line_has wanted rest)
+  unfolding begun among more
+  goes_on e = let next : 1 + more ≡ suc more = omega arith in ap begun (ap not e) ∙ ap among next
+
+module _ (wanted : ℕ) (text : List ℕ) (i d : ℕ) (within : i < length text) where
+  from_here : first_line_has wanted (drop i text) ≡ first_line_has wanted (get_or text i d ∷ drop (suc i) text)
+  from_here = ap (first_line_has wanted) (drop-cons text i d within)
+
+  -- the line ends here
+  pub ends_here : get_or text i d ≡ 10 → first_line_has wanted (drop i text) ≡ false
+  ends_here is = from_here ∙ ended wanted (get_or text i d) (drop (suc i) text) (eq-eqb (get_or text i d) 10 is)
+
+  -- the byte stands here
+  pub stands_here : get_or text i d ≢ 10 → get_or text i d ≡ wanted → first_line_has wanted (drop i text) ≡ true
+  stands_here other is =
+      from_here ∙ goes_on wanted (get_or text i d) (drop (suc i) text) (ne_eqb (get_or text i d) 10 other)
+      ∙ ap (λ t. t || first_line_has wanted (drop (suc i) text)) (eq-eqb (get_or text i d) wanted is)
+
+  -- another byte stands here
+  pub passed : get_or text i d ≢ 10 → get_or text i d ≢ wanted → first_line_has wanted (drop (i + 1) text) ≡ first_line_has wanted (drop i text)
+  passed other is =
+      let next : i + 1 ≡ suc i = omega arith in
+      ap (λ k. first_line_has wanted (drop k text)) next
+      ∙ sym (from_here ∙ goes_on wanted (get_or text i d) (drop (suc i) text) (ne_eqb (get_or text i d) 10 other)
+      ∙ ap (λ t. t || first_line_has wanted (drop (suc i) text)) (ne_eqb (get_or text i d) wanted is))
+
+-- ---- a line that isn't written to its end
+
+pub unwritten : {X : Type 0} (told : Option ImportAs) (bytes line : List ℕ) (old new : Option (List ℕ)) (failed_old failed_new : ℕ)
+    → IsOrdersLine told bytes line → AppendsFront old new line
+    → (result : Result X Fault) → IfErr result (λ fault. (fault ≡ Write) × HasFailed failed_old failed_new)
+    → IfErr result (λ fault. IsOrdersStopped told fault old new failed_old failed_new)
+unwritten told bytes line old new failed_old failed_new made front (Ok x) is = tt
+unwritten told bytes line old new failed_old failed_new made front (Err fault) is = inr (inr (bytes, line, made, is.0, front, is.1))

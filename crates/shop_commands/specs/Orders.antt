@@ -1,0 +1,96 @@
+-- Order files that are read by the program.
+use Rattle.std.specs.Prelude.{◌≡◌, ◌⊎◌, ℕ, zero, suc, ◌==◌, ◌&&◌, not, Bool, List, [], ◌∷◌, ◌++◌, length, nat_lt, nat_le, Option, Some, None, codes, if◌then◌else◌}
+use Rattle.std.specs.Fmt.{decimal}
+use Rattle.std.specs.List.{before_first, list_any}
+use Rattle.std.specs.Io.KnownBytes.{Appends}
+use Rattle.shop_files.specs.Orders.{IsOrders, HasOrdersFault}
+use Rattle.shop_files.specs.declared.limits.TheConstants.{LONGEST_TEXT, MOST_LINES}
+use Rattle.shop_files.specs.declared.orders.OrderLine.{OrderLine}
+use Rattle.shop_files.specs.declared.orders.OrdersFault.{OrdersFault}
+use Rattle.shop_files.specs.declared.orders.OrdersFault.TheVariants as orders
+use Rattle.shop_machine.specs.declared.imports.Form.TheVariants.{Csv}
+use Rattle.shop_machine.specs.declared.messages.Command.TheVariants.{Import}
+use Rattle.shop_rules.specs.Forms.{json_texts}
+use Rattle.shop_text.specs.Streams.{HasFailed}
+use Rattle.shop_words.specs.declared.words.ImportAs.{ImportAs}
+use Rattle.shop_commands.specs.declared.faults.Fault.{Fault}
+use Rattle.shop_commands.specs.declared.faults.Fault.TheVariants.{File, Order, NoMemory, Write}
+use Rattle.shop_commands.specs.declared.faults.OrderCause.{OrderCause}
+use Rattle.shop_commands.specs.declared.faults.OrderCause.TheVariants as cause
+use Rattle.shop_commands.specs.Written.{AppendsFront}
+
+-- ---- what is wrong at the first fault
+
+-- the text up to its first line feed has that byte
+abbrev pub first_line_has : ℕ → List ℕ → Bool
+first_line_has byte text = list_any (λ b. b == byte) (before_first (λ b. b == 10) text)
+
+-- semicolons stand where commas should
+abbrev pub has_semicolons : List ℕ → Bool
+has_semicolons text = first_line_has 59 text && not (first_line_has 44 text)
+
+abbrev pub header_cause : List ℕ → OrderCause
+header_cause text =
+    if nat_lt LONGEST_TEXT (length text) then cause.Long
+    else if has_semicolons text then cause.Semicolons
+    else cause.Header
+
+-- what is wrong in a field, by its place from 0
+abbrev pub field_cause : ℕ → OrderCause
+field_cause field =
+    if field == 0 then cause.Line else if field == 1 then cause.Material else if field == 2 then cause.Length
+    else if field == 3 then cause.Width else if field == 4 then cause.Turn else if field == 5 then cause.Count
+    else if field == 6 then cause.Worth else cause.Fields
+
+-- the header is row 0
+abbrev pub cause_of : List ℕ → (row field : ℕ) → OrderCause
+cause_of text row field =
+    if row == 0 then header_cause text
+    else if nat_lt MOST_LINES row then cause.Many
+    else field_cause field
+
+-- what stops the work at a fault of a text
+abbrev pub fault_in : List ℕ → OrdersFault → Fault
+fault_in text (orders.At row field) = Order (record { row = row; field = field; cause = cause_of text row field })
+fault_in text orders.NoMemory = NoMemory
+
+-- ---- what is told
+
+-- a text spells so many lines
+abbrev pub HasLines : List ℕ → ℕ → Type 0
+HasLines text count = (lines : List OrderLine) × IsOrders text lines × (count ≡ length lines)
+
+-- a text has this first fault, or memory ran out
+abbrev pub IsUnordered : List ℕ → Fault → Type 0
+IsUnordered text fault = (f : OrdersFault) × HasOrdersFault text f × (fault ≡ fault_in text f)
+
+abbrev pub count_line : ℕ → List ℕ
+count_line count = decimal count ++ codes " lines\n"
+
+-- the message that makes an order of a text, as the shop reads it
+abbrev pub import_line : ImportAs → List ℕ → List ℕ
+import_line told text =
+    json_texts.of_message (record { terminal = told.terminal; number = told.number; command = Import told.order Csv text }) ++ 10 ∷ []
+
+abbrev pub orders_line : Option ImportAs → List ℕ → (count : ℕ) → List ℕ
+orders_line None text count = count_line count
+orders_line (Some told) text count = import_line told text
+
+-- the line that is told of an order file's bytes
+abbrev pub IsOrdersLine : Option ImportAs → List ℕ → List ℕ → Type 0
+IsOrdersLine told text line = (count : ℕ) × HasLines text count × (line ≡ orders_line told text count)
+
+-- the bytes have this first fault; or memory ran out, or the bytes, whose lines are good, are no text
+abbrev pub IsOrdersFault : List ℕ → Fault → Type 0
+IsOrdersFault text fault = IsUnordered text fault ⊎ (((count : ℕ) × HasLines text count) × ((fault ≡ NoMemory) ⊎ (fault ≡ File)))
+
+-- the line of a file's bytes was written
+abbrev pub IsOrdersDone : Option ImportAs → (held_old held_new : Option (List ℕ)) → Type 0
+IsOrdersDone told old new = (bytes line : List ℕ) × IsOrdersLine told bytes line × Appends old new line
+
+-- the file can't be read, or its bytes have a fault, and nothing was written; or a write failed, and a first part was
+abbrev pub IsOrdersStopped : Option ImportAs → Fault → (held_old held_new : Option (List ℕ)) → (failed_old failed_new : ℕ) → Type 0
+IsOrdersStopped told fault old new failed_old failed_new =
+    (((fault ≡ NoMemory) ⊎ (fault ≡ File)) × (new ≡ old))
+    ⊎ ((((bytes : List ℕ) × IsOrdersFault bytes fault) × (new ≡ old))
+    ⊎ ((bytes line : List ℕ) × IsOrdersLine told bytes line × (fault ≡ Write) × AppendsFront old new line × HasFailed failed_old failed_new))

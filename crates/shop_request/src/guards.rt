@@ -1,0 +1,189 @@
+ghost use Rattle.std.specs.Prelude.{◌≡◌, length, map, All, IfOk, string_bytes};
+ghost use Rattle.std.specs.List.{list_any};
+ghost use Rattle.httparse.specs.Spans.{IsHeaderWithin, header_bytes};
+ghost use Rattle.shop_request.specs.Guards.{HasRuling, local_name, local_number, has_good_fields, is_strange, is_strange_as, mark_name, of_page, origin_of, ruled_parts};
+ghost use Rattle.shop_request.specs.Heads.{values_of};
+
+use crate::fields::{has_hosts, is_name, is_there, said_length, values_named};
+use crate::heads::{MOST_FIELDS, Parsed, front_of, parse_front};
+use crate::judging::{path_in, target_text};
+use httparse::spans::{EMPTY_HEADER_SPAN, HeaderSpan};
+use std::alloc::{AllocError, Global};
+
+/// What is done with a request, by its head alone.
+#[derive(Clone, Copy, Debug, PartialEq, Eq)]
+pub enum Ruling {
+    /// It goes to its route, or its head is bad.
+    Routed,
+    /// A browser sent it for a page of another site.
+    Forbidden,
+    /// It asks for the page.
+    Page,
+    /// It is for the page, which is only read.
+    OnlyGet,
+}
+
+// The fields that tell a strange request.
+#[derive(Clone, Copy, Debug, PartialEq, Eq)]
+pub(crate) enum Mark {
+    Site,
+    Origin,
+    Host,
+}
+
+/// What tells a strange request: the port that is served, and whether a page is.
+#[derive(Drop)]
+pub struct Guard {
+    port: u32,
+    has_page: bool,
+    number: String,
+    name: String,
+    number_origin: String,
+    name_origin: String,
+    ghost number_is: { string_bytes number ≡ local_number port },
+    ghost name_is: { string_bytes name ≡ local_name port },
+    ghost number_origin_is: { string_bytes number_origin ≡ origin_of (local_number port) },
+    ghost name_origin_is: { string_bytes name_origin ≡ origin_of (local_name port) },
+}
+
+fn mark_name(mark: Mark) -> &'static [u8]
+    ensures { result.now ≡ mark_name mark }
+{
+    match mark {
+        Mark::Site => b"sec-fetch-site".as_slice(),
+        Mark::Origin => b"origin".as_slice(),
+        Mark::Host => b"host".as_slice(),
+    }
+}
+
+impl Guard {
+    /// A guard of a port, with a page or without one. The only error is want of memory.
+    pub fn new(alloc: Global, port: u32, has_page: bool) -> Result<Guard, AllocError>
+        ensures { IfOk result (λ guard. (guard.port ≡ port) × (guard.has_page ≡ has_page)) }
+    {
+        let number = format!(in alloc; "127.0.0.1:{port}")?;
+        let name = format!(in alloc; "localhost:{port}")?;
+        let number_origin = format!(in alloc; "http://127.0.0.1:{port}")?;
+        let name_origin = format!(in alloc; "http://localhost:{port}")?;
+        Ok(Guard {
+            port,
+            has_page,
+            number,
+            name,
+            number_origin,
+            name_origin,
+        })
+    }
+
+    // Whether a value of such a field is another than a browser sends for a page of this server.
+    fn is_strange(&self, mark: Mark, value: &[u8]) -> bool
+        ensures { result ≡ is_strange_as self.now.port mark value.now }
+    {
+        match mark {
+            Mark::Site => value != b"same-origin".as_slice() && value != b"none".as_slice(),
+            Mark::Origin => {
+                value != self.number_origin.as_bytes() && value != self.name_origin.as_bytes()
+            }
+            Mark::Host => {
+                value != b"127.0.0.1".as_slice()
+                    && value != b"localhost".as_slice()
+                    && value != self.number.as_bytes()
+                    && value != self.name.as_bytes()
+            }
+        }
+    }
+
+    // Whether some field of this name has a strange value.
+    fn has_strange(&self, mark: Mark, buf: &[u8], headers: &[HeaderSpan]) -> bool
+        requires { All (IsHeaderWithin (length buf.now)) headers.now }
+        ensures { result ≡ list_any (is_strange_as self.now.port mark) (values_of (mark_name mark) (map (header_bytes buf.now) headers.now)) }
+    {
+        let [first, rest @ ..] = headers else {
+            return false;
+        };
+        let others = self.has_strange(mark, buf, rest);
+        if !is_name(first.name.of(buf), mark_name(mark)) {
+            return others;
+        }
+        self.is_strange(mark, first.value.of(buf)) || others
+    }
+
+    // Whether fields tell a strange request.
+    fn tells_strange(&self, buf: &[u8], headers: &[HeaderSpan]) -> bool
+        requires { All (IsHeaderWithin (length buf.now)) headers.now }
+        ensures { result ≡ is_strange self.now.port self.now.has_page (map (header_bytes buf.now) headers.now) }
+    {
+        self.has_strange(Mark::Site, buf, headers)
+            || self.has_strange(Mark::Origin, buf, headers)
+            || self.has_page && self.has_strange(Mark::Host, buf, headers)
+    }
+
+    // What is done by the parts of a head.
+    fn rule_parts(
+        &self,
+        buf: &[u8],
+        headers: &[HeaderSpan],
+        method: &[u8],
+        target: &str,
+        minor: u8,
+    ) -> Ruling
+        requires { All (IsHeaderWithin (length buf.now)) headers.now }
+        ensures { result ≡ ruled_parts self.now.port self.now.has_page method.now target.now minor (map (header_bytes buf.now) headers.now) }
+    {
+        if !has_good_fields(minor, buf, headers) {
+            return Ruling::Routed;
+        }
+        if self.tells_strange(buf, headers) {
+            return Ruling::Forbidden;
+        }
+        if self.has_page && path_in(target) == "/" {
+            return of_page(method);
+        }
+        Ruling::Routed
+    }
+
+    /// What is done with the request that these bytes begin with, by its head alone.
+    pub fn rule(&self, came: &[u8]) -> Ruling
+        ensures { HasRuling self.now.port self.now.has_page came.now result }
+    {
+        let mut headers = [EMPTY_HEADER_SPAN; MOST_FIELDS];
+        let head = front_of(came);
+        let spans = match parse_front(head, &mut headers) {
+            Parsed::Whole(spans) => spans,
+            Parsed::Unfinished => return Ruling::Routed,
+            Parsed::Refused(_) => return Ruling::Routed,
+        };
+        self.rule_parts(
+            head,
+            &headers[..spans.headers],
+            spans.method.of(head),
+            target_text(spans.path.of(head)),
+            spans.version,
+        )
+    }
+}
+
+// What is done with a request for the page by a method.
+fn of_page(method: &[u8]) -> Ruling
+    ensures { result ≡ of_page method.now }
+{
+    if method == b"GET".as_slice() {
+        Ruling::Page
+    } else {
+        Ruling::OnlyGet
+    }
+}
+
+// Whether the hosts, the codings and the lengths that fields say are good.
+fn has_good_fields(minor: u8, buf: &[u8], headers: &[HeaderSpan]) -> bool
+    requires { All (IsHeaderWithin (length buf.now)) headers.now }
+    ensures { result ≡ has_good_fields minor (map (header_bytes buf.now) headers.now) }
+{
+    if !has_hosts(minor, values_named(buf, headers, b"host")) {
+        return false;
+    }
+    if is_there(values_named(buf, headers, b"transfer-encoding")) {
+        return false;
+    }
+    said_length(values_named(buf, headers, b"content-length")).is_ok()
+}

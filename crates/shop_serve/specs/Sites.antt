@@ -1,0 +1,38 @@
+-- What a site answers by itself: to requests of other sites, and for its page.
+use Rattle.std.specs.Prelude.{◌≡◌, ℕ, List, [], ◌∷◌, ◌++◌, length, Option, Some, None, Bool, true, false, codes, decimal}
+use Rattle.shop_request.specs.declared.faults.Fault.TheVariants as faults
+use Rattle.shop_request.specs.declared.guards.Ruling.{Ruling}
+use Rattle.shop_request.specs.declared.guards.Ruling.TheVariants.{Routed, Forbidden, Page, OnlyGet}
+use Rattle.shop_serve.specs.declared.sites.Site.{Site}
+use Rattle.shop_wire.specs.AnswerBytes.{answer_bytes, fault_answer, head_line_end}
+
+-- its page has these bytes, or it has none
+abbrev pub HasPage : Site → Option (List ℕ) → Type 0
+HasPage site (Some bytes) = (site.guard.has_page ≡ true) × (site.page.items ≡ bytes)
+HasPage site None = site.guard.has_page ≡ false
+
+-- the answer to a request that a browser sent for a page of another site
+abbrev pub forbidden_bytes : List ℕ
+forbidden_bytes = codes "HTTP/1.1 403 Forbidden\r\nContent-Length: 0\r\nConnection: close\r\n\r\n"
+
+-- what stands in a page's answer before and behind its length
+abbrev pub page_start : List ℕ
+page_start = codes "HTTP/1.1 200 OK\r\nContent-Type: text/html; charset=utf-8\r\nContent-Length: "
+
+abbrev pub page_fields : List ℕ
+page_fields = codes "\r\nContent-Security-Policy: default-src 'none'; script-src 'unsafe-inline'; style-src 'unsafe-inline'; img-src data:; connect-src 'self'\r\nX-Content-Type-Options: nosniff\r\nCache-Control: no-cache\r\nConnection: close\r\n\r\n"
+
+abbrev pub page_bytes : List ℕ → List ℕ
+page_bytes page = page_start ++ decimal (length page) ++ page_fields ++ page
+
+-- whether a request goes to its route
+abbrev pub is_routed : Ruling → Bool
+is_routed Routed = true
+is_routed _ = false
+
+-- what a site answers by itself
+abbrev pub own_bytes : Site → Ruling → List ℕ
+own_bytes site Routed = []
+own_bytes site Forbidden = forbidden_bytes
+own_bytes site Page = page_bytes site.page.items
+own_bytes site OnlyGet = answer_bytes (fault_answer faults.OnlyGet)

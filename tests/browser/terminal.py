@@ -1,0 +1,163 @@
+"""What people do at the terminal's page, as clicks and keys of a real browser."""
+
+import http.server
+import json
+import os
+import re
+import threading
+import time
+from contextlib import contextmanager
+
+from browser.chromium import Browser
+
+TOP = os.path.join(os.path.dirname(os.path.abspath(__file__)), "..", "..")
+PAGE = os.path.join(TOP, "page", "terminal.html")
+
+# A bar and a sheet of a workshop's sizes: lengths in tenths of a millimetre.
+SHOP_FILE = """
+[[material]]
+code = "STEEL"
+kind = "bar"
+kerf = "2.5"
+min_long = "300.0"
+min_short = "0.1"
+
+[[material]]
+code = "GLASS"
+kind = "sheet"
+kerf = "3.0"
+min_long = "300.0"
+min_short = "100.0"
+"""
+
+WIDTHS = (1280, 400)
+
+
+def by_id(name):
+    return f"document.getElementById({json.dumps(name)})"
+
+
+def open_shop(trial, shop_file=SHOP_FILE, store="shop.db"):
+    """A shop that serves the page."""
+    shop = trial.shop(store, shop_file=trial.write("shop.toml", shop_file), words=("--page", PAGE))
+    trial.holds(shop.is_open, "the shop doesn't open")
+    return shop
+
+
+def exchange(shop, path, message=None):
+    """What a shop answers to a GET, or to a message of another terminal. (A shop with a page looks at the host's name.)"""
+    body = b"" if message is None else json.dumps(message).encode()
+    method = "GET" if message is None else "POST"
+    head = f"{method} {path} HTTP/1.1\r\nHost: 127.0.0.1:{shop.port}\r\nContent-Length: {len(body)}\r\n\r\n"
+    return json.loads(shop.exchange(head.encode() + body).partition(b"\r\n\r\n")[2])
+
+
+@contextmanager
+def other_site(page):
+    """The port of a server of this machine that answers each GET with this page: another origin."""
+
+    class Answer(http.server.BaseHTTPRequestHandler):
+        def do_GET(self):
+            self.send_response(200)
+            self.send_header("Content-Type", "text/html")
+            self.end_headers()
+            self.wfile.write(page.encode())
+
+        def log_message(self, *_):
+            pass
+
+    with http.server.ThreadingHTTPServer(("127.0.0.1", 0), Answer) as server:
+        threading.Thread(target=server.serve_forever, daemon=True).start()
+        yield server.server_port
+        server.shutdown()
+
+
+class Terminal(Browser):
+    """A browser with the page of a shop, as one terminal."""
+
+    def __init__(self, trial, shop):
+        super().__init__()
+        self.trial, self.shop = trial, shop
+        self.address = f"http://127.0.0.1:{shop.port}/"
+
+    def begin(self, number):
+        """Opens the page and chooses the terminal's number, by keys."""
+        self.go(self.address)
+        self.until(f"{by_id('terminalDialog')}.open && {by_id('terminalWords')}.textContent")
+        self.type(by_id("terminalNumber"), str(number))
+        self.key("Enter")
+        self.until(f"!{by_id('terminalDialog')}.open")
+
+    def ask(self, path):
+        """What the shop answers to a GET, asked beside the page."""
+        return exchange(self.shop, path)
+
+    def view(self, name):
+        self.click(f"document.querySelector('nav [data-view={name}]')")
+        self.until(f"!{by_id(name)}.hidden")
+
+    def material(self, view, code):
+        find = f"[...document.querySelectorAll('#{view} .materials button')].find(it => it.textContent.startsWith('{code}'))"
+        self.click(find)
+        self.until(f"{find}.getAttribute('aria-pressed') === 'true' && shop.partsOf === '{code}'")
+
+    def says(self, words):
+        """Waits until the notice has these words."""
+        self.until(f"{by_id('lastNotice')}.textContent.includes({json.dumps(words)})")
+
+    def text(self, name):
+        return self.value(f"{by_id(name)}.textContent")
+
+    def confirm(self):
+        self.until(f"{by_id('confirm')}.open")
+        self.click(by_id("confirmYes"))
+
+    def receive(self, code, batch, length, width, units):
+        self.view("stock")
+        self.choose(by_id("receiveMaterial"), code)
+        self.type(by_id("receiveBatch"), batch)
+        self.type(by_id("receiveW"), length)
+        if width:
+            self.type(by_id("receiveH"), width)
+        self.type(by_id("receiveCount"), str(units))
+        self.key("Enter")
+
+    def order_file(self, code, name, content):
+        """Picks a file for an order; it isn't sent."""
+        self.view("orders")
+        self.type(by_id("fileCode"), code)
+        self.pick(by_id("csvFile"), self.trial.write(name, content))
+        self.until(f"{by_id('csvPreview')}.querySelector('table')")
+
+    def propose(self, code):
+        """Has a plan proposed for the part that the page chose."""
+        self.view("tocut")
+        self.material("tocut", code)
+        self.until(f"shop.open.has('{code}') && {by_id('cutFrom')}.querySelector('input')")
+        self.click(by_id("propose"))
+        self.until("!toCut.planning && chosenPlan() && document.querySelector('#planPicture svg[role=img]')", 120)
+
+    def reserve(self):
+        """Reserves the plan that is shown, goes to the saw, and gives the job's number."""
+        self.click(by_id("reserve"))
+        self.says(": job ")
+        job = int(re.search(r": job (\d+),", self.told())[1])
+        self.click("[...document.querySelectorAll('#lastNotice button')].find(it => it.textContent === 'To the saw')")
+        self.until(f"atSaw.told && atSaw.told.job === {job} && document.querySelector('#jobPicture svg')")
+        return job
+
+    def cut_mark(self, cut):
+        """The number of a cut in the picture, where it found room, else its strip."""
+        return f"[...document.querySelectorAll('#jobPicture [data-cut=\"{cut}\"]')].at(-1)"
+
+    def at_widths(self, name):
+        """Leaves a picture at each width; nothing is to be scrolled sideways."""
+        for width in WIDTHS:
+            self.size(width)
+            time.sleep(0.2)
+            self.shot(f"{width}-{name}")
+            self.trial.holds(
+                self.value("document.documentElement.scrollWidth <= innerWidth"), f"{name} is wider than {width} pixels"
+            )
+        self.size(WIDTHS[0])
+        time.sleep(0.2)

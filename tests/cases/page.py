@@ -1,0 +1,455 @@
+"""The terminal's page, in a real browser where one is installed."""
+
+import json
+import re
+
+from browser.terminal import PAGE, SHOP_FILE, Terminal, by_id, exchange, open_shop, other_site
+from kit import tables
+from kit.case import case
+from kit.shop import answer
+
+# As a German spreadsheet writes it: semicolons, decimal commas, a quoted field, lines that end in CR LF.
+GERMAN = (
+    "line;material;length;width;turn;count;worth\r\n"
+    "1;GLASS;400,5;300,0;nein;3;12015\r\n"
+    "2;GLASS;250;{bad};ja;4;5000\r\n"
+    "5;STEEL;1.200,5;0,1;nein;6;12005\r\n"
+    '6;STEEL;"800";0,1;nein;3;8000\r\n'
+)
+DEMANDS = [
+    (1, "A-1", 1, "GLASS", 4005, 3000, 0, 12015, 3),
+    (2, "A-1", 2, "GLASS", 2500, 2000, 1, 5000, 4),
+    (3, "A-1", 5, "STEEL", 12005, 1, 0, 12005, 6),
+    (4, "A-1", 6, "STEEL", 8000, 1, 0, 8000, 3),
+]
+
+
+def stock(terminal):
+    """Three sheets and five bars."""
+    terminal.receive("GLASS", "g-1", "1200", "800,0", 3)
+    terminal.says("3 units received, 1/0 to 1/2")
+    terminal.receive("STEEL", "s-1", "6000", None, 5)
+    terminal.says("5 units received, 2/0 to 2/4")
+
+
+def order(terminal):
+    """The German file."""
+    terminal.order_file("a-1", "good.csv", GERMAN.format(bad="200,00").encode("cp1252"))
+    terminal.click(by_id("sendCsv"))
+    terminal.says("4 lines ordered, demands from 1 on")
+
+
+def is_quiet(terminal):
+    """No error in the console, no breach of the page's policy, nothing asked of another machine."""
+    terminal.trial.equal([it for it in terminal.faults if "ERR_CONNECTION" not in it], [])
+    abroad = [it for it in terminal.requests if not it.startswith((terminal.address, "data:", "about:"))]
+    terminal.trial.equal(abroad, [])
+
+
+@case(
+    "the page stands alone",
+    "`page/terminal.html` is under 150 KB, names no other address, and builds nothing out of data but by `textContent` and "
+    "attributes.",
+)
+def alone(trial):
+    with open(PAGE, encoding="utf-8") as file:
+        text = file.read()
+    trial.holds(len(text.encode()) < 150000, "the page is over 150 KB")
+    addresses = set(re.findall(r"https?://[^\s\"'`]+", text))
+    trial.equal(addresses, {"http://www.w3.org/2000/svg"})
+    trial.equal(re.findall(r"innerHTML|outerHTML|insertAdjacentHTML|document\.write|eval\(|srcdoc|\son\w+=\"", text), [])
+
+
+@case(
+    "the page is served",
+    "`GET /` of a shop with `--page` is answered with the file's bytes and its policy; another method is refused 405.",
+)
+def served(trial):
+    shop = open_shop(trial)
+    with open(PAGE, "rb") as file:
+        page = file.read()
+    fields = [
+        "HTTP/1.1 200 OK",
+        "Content-Type: text/html; charset=utf-8",
+        f"Content-Length: {len(page)}",
+        "Content-Security-Policy: default-src 'none'; script-src 'unsafe-inline'; style-src 'unsafe-inline'; "
+        "img-src data:; connect-src 'self'",
+        "X-Content-Type-Options: nosniff",
+        "Cache-Control: no-cache",
+        "Connection: close",
+    ]
+    host = f"Host: 127.0.0.1:{shop.port}\r\n"
+    head, _, body = shop.exchange(f"GET / HTTP/1.1\r\n{host}\r\n".encode()).partition(b"\r\n\r\n")
+    first, *rest = head.decode().split("\r\n")
+    trial.equal((first, sorted(rest)), (fields[0], sorted(fields[1:])))
+    trial.holds(body == page, "other bytes than the file's")
+    got = shop.exchange(f"POST / HTTP/1.1\r\n{host}Content-Length: 0\r\n\r\n".encode())
+    trial.equal(got, answer(405, allow="GET"))
+
+
+@case(
+    "a day at the page",
+    "In a browser: sheets and bars are received, an order comes by a German CSV whose bad field is told at its row, plans are "
+    "proposed and reserved, a ticket is printed on one sheet, a job is broken off by clicked cuts, another done; the tables "
+    "and the page agree.",
+)
+def day(trial):
+    shop = open_shop(trial)
+    with Terminal(trial, shop) as it:
+        it.begin(7)
+        stock(it)
+        it.order_file("a-1", "bad.csv", GERMAN.format(bad="20,55").encode("utf-8-sig"))
+        it.until("document.querySelector('#csvPreview .badfield')")
+        bad = (
+            "[...document.querySelectorAll('#csvPreview .badfield')].map(e => [e.parentNode.rowIndex, e.cellIndex, "
+            "e.textContent, e.parentNode.nextSibling.textContent])"
+        )
+        wanted = "width “20,55”: write millimetres with at most one decimal, like 1250.5"
+        trial.equal(it.value(bad), [[2, 4, "✗ 20,55", wanted]])
+        trial.holds(it.value(f"{by_id('sendCsv')}.disabled"), "a bad file can be sent")
+        order(it)
+        sheet = cut_sheet(it)
+        bar = cut_bar(it)
+        is_quiet(it)
+        shown = it.value("[...shop.totals].map(([code, row]) => [code, row.pieces, row.kerf, row.scrap, row.rack, row.stock])")
+    shop.kill()
+    found = tables.rows(shop.store)
+    trial.equal([row[:8] + row[8:9] for row in found["demands"]], DEMANDS)
+    states = {row[0]: row[4] for row in found["jobs"]}
+    trial.equal(states, {sheet["job"]: 2, bar["job"]: 1})
+    trial.equal({row[0]: row[3] for row in found["jobs"]}, {it["job"]: it["tree"] for it in (sheet, bar)})
+    trial.equal([row[1] for row in found["kept"] if row[0] == 7], list(range(1, 8)))
+    totals = {row[0]: row for row in found["totals2"]}
+    trial.equal(sorted(shown), sorted([row[0], row[4], row[5], row[6], row[3], row[2]] for row in totals.values()))
+    lost = next(row for row in found["parts"] if row[:2] == (sheet["job"], sheet["lost"]))
+    trial.equal(lost[10], 5, "the lost cut's rectangle is scrap")
+    made = sum(row[10] for row in found["demands"] if row[3] == "STEEL")
+    trial.equal(made, sum(row[10] == 3 for row in found["parts"] if row[0] == bar["job"]))
+
+
+def cut_sheet(it):
+    """A sheet is planned, reserved, printed and broken off: the deepest cut went wrong, those above it were made."""
+    it.propose("GLASS")
+    steps = it.value("toCut.tried.map(plan => plan.step)")
+    it.trial.holds(25 in steps and len(steps) > 2, f"steps {steps}: 2.5 mm is the least, and others are tried beside it")
+    worths = it.value("toCut.tried.map(plan => [-plan.worth, plan.root.cuts])")
+    it.trial.equal(worths, sorted(worths), "the best first")
+    drawn = it.value(
+        "[...document.querySelectorAll('#planPicture rect.piece')].filter(r => r.querySelector('title'))"
+        ".map(r => +r.getAttribute('width') / +r.getAttribute('height'))"
+    )
+    sides = (4005 / 3000, 1.25, 0.8)
+    it.trial.holds(drawn and all(min(abs(got - side) for side in sides) < 0.01 for got in drawn), f"not to scale: {drawn}")
+    job = it.reserve()
+    told = it.ask(f"/job/{job}")
+    it.trial.equal(it.value("document.querySelectorAll('#cutList li').length"), told["cuts"])
+    it.trial.equal(it.sheets("ticket"), 1, "the ticket is printed on one sheet")
+    deep, above, node = it.value(
+        "(() => { const cuts = cutsOf(atSaw.told.root), deep = cuts.reduce((a, c) => c.above.length > a.above.length ? c : a);"
+        " return [deep.cut, deep.above, deep.node]; })()"
+    )
+    it.click(by_id("startBreak"))
+    it.click(it.cut_mark(above[-1]))
+    it.trial.equal(it.value(f"[...ticks.of({job})].sort((a, b) => a - b)"), above, "a made cut takes all above it")
+    it.click("document.querySelector('[name=breakMode][value=lost]')")
+    it.click(f"document.querySelectorAll('#cutList button')[{deep}]")
+    it.trial.equal(it.value("atSaw.lost"), deep)
+    said = it.text("breakWords").partition("Then: ")[2].rstrip(".")
+    it.click(by_id("sendBreak"))
+    it.says(f"Break off job {job}: {said}")
+    it.until("atSaw.told.state === 'broken'")
+    it.trial.equal(it.ask("/jobs/0")["jobs"], [])
+    return {**told, "lost": node}
+
+
+def cut_bar(it):
+    """A bar is planned, reserved and done."""
+    it.propose("STEEL")
+    it.trial.holds("100.0\u00a0%of the ceiling" in it.text("planFigures"), "a bar's plan is its ceiling")
+    job = it.reserve()
+    told = it.ask(f"/job/{job}")
+    it.click(by_id("done"))
+    it.confirm()
+    it.says(f"Job {job} done: pieces")
+    it.until("atSaw.told.state === 'done'")
+    it.view("yield")
+    it.until("shop.totals.size === 2")
+    return told
+
+
+@case(
+    "the page at two widths",
+    "Each view at 1280 and at 400 pixels shows what it has without scrolling sideways; the pictures are left to be looked at.",
+)
+def widths(trial):
+    with Terminal(trial, open_shop(trial)) as it:
+        it.go(it.address)
+        it.until(f"{by_id('terminalWords')}.textContent")
+        it.at_widths("terminal")
+        it.begin(7)
+        stock(it)
+        it.order_file("a-1", "bad.csv", GERMAN.format(bad="20,55"))
+        it.at_widths("orders-bad")
+        order(it)
+        it.until(f"{by_id('openOrders')}.querySelector('h3')")
+        it.at_widths("orders")
+        it.propose("GLASS")
+        it.at_widths("to-cut")
+        job = it.reserve()
+        it.at_widths("saw")
+        it.click(by_id("startBreak"))
+        it.click("document.querySelectorAll('#cutList button')[1]")
+        it.click("document.querySelector('[name=breakMode][value=lost]')")
+        it.click("document.querySelectorAll('#cutList button')[2]")
+        it.at_widths("break")
+        it.click(by_id("sendBreak"))
+        it.says(f"Break off job {job}")
+        it.propose("STEEL")
+        it.at_widths("to-cut-bar")
+        it.reserve()
+        it.at_widths("saw-bar")
+        it.click(by_id("done"))
+        it.confirm()
+        it.says("done: pieces")
+        it.until("atSaw.told.state === 'done'")
+        it.at_widths("saw-done")
+        it.view("stock")
+        it.material("stock", "GLASS")
+        remnant = next(row["part"] for row in it.ask("/parts/GLASS")["parts"] if row["part"] != row["root"])
+        it.click(f"document.querySelector('#stockList [data-key=\"t{remnant}\"]')")
+        it.until("document.querySelector('#tracePicture svg')")
+        it.at_widths("stock")
+        it.view("yield")
+        it.click("document.querySelector('#yieldBars [data-key=yGLASS]')")
+        it.until("document.querySelector('#report table')")
+        it.at_widths("yield")
+        trial.equal(it.sheets("report"), 1, "the report is printed on one sheet")
+        is_quiet(it)
+
+
+@case(
+    "orders and stock at the page",
+    "In a browser: an order by hand whose bad field is told at its line, a code that is used refused in words, a problem file, "
+    "how many units are wanted at least, a plan by a step of one's own; a release, a trace, a return and a scrap.",
+)
+def by_hand(trial):
+    shop = open_shop(trial)
+    with Terminal(trial, shop) as it:
+        it.begin(7)
+        stock(it)
+        it.view("orders")
+        it.type(by_id("orderCode"), "b-2")
+        field = "document.querySelector('#orderLines [data-field={}]')"
+        it.choose(field.format("material"), "GLASS")
+        for name, text in (("length", "600"), ("width", "450,5"), ("count", "x")):
+            it.type(field.format(name), text)
+        it.key("Enter")
+        it.until("document.querySelector('#orderLines .fault')")
+        told = it.value("document.querySelector('#orderLines .fault').textContent")
+        trial.equal(told, "count “x”: write a whole number from 1 to 1\u202f000\u202f000")
+        it.type(field.format("count"), "2")
+        it.key("Enter")
+        it.says("Order B-2: 1 line ordered, demands from 1 on")
+        row = it.ask("/demands/0")["demands"][0]
+        trial.equal([row[key] for key in ("w", "h", "wanted", "worth", "turn")], [6000, 4505, 2, 270300, False])
+        it.view("orders")
+        it.type(by_id("fileCode"), "B-2")
+        it.choose(by_id("problemMaterial"), "GLASS")
+        it.pick(by_id("problemFile"), trial.write("sheet.txt", "1\n6000 4000\n1500 1000 4 150\n"))
+        it.click(by_id("sendProblem"))
+        it.says("an order with this code is there already (40 OrderExists)")
+        it.type(by_id("fileCode"), "P-1")
+        it.click(by_id("sendProblem"))
+        it.says("Order P-1 from a file: 1 line ordered, demands from 2 on, unit 3/0 received")
+        it.view("tocut")
+        it.until("toCut.part === '3/0'")
+        it.propose("GLASS")
+        it.type(by_id("step"), "3,3")
+        it.click(by_id("tryStep"))
+        it.until("chosenPlan() && chosenPlan().step === 33")
+        it.click("document.querySelector('#cutFrom [data-key=\"p1/0\"]')")
+        it.click(by_id("askBound"))
+        it.until(f"{by_id('boundWords')}.textContent.includes('takes at least 2 units of 1200.0 × 800.0')")
+        it.click(by_id("propose"))
+        it.until("!toCut.planning && chosenPlan()")
+        job = it.reserve()
+        it.click(by_id("release"))
+        it.confirm()
+        it.says(f"Release job {job}: done")
+        it.view("stock")
+        it.material("stock", "GLASS")
+        it.click("document.querySelector('#stockList [data-key=\"r1/0\"]')")
+        it.until(f"{by_id('confirm')}.open")
+        it.key("Enter")
+        it.until(f"!{by_id('confirm')}.open")
+        trial.equal(it.ask("/trace/1/0")["state"], "standing", "Enter alone returns nothing")
+        it.click("document.querySelector('#stockList [data-key=\"r1/0\"]')")
+        it.confirm()
+        it.says("Return 1/0: done")
+        it.click("document.querySelector('#stockList [data-key=\"s3/0\"]')")
+        it.confirm()
+        it.says("Scrap 3/0: done")
+        it.type(by_id("tracePart"), "1/0")
+        it.key("Enter")
+        it.until(f"{by_id('traceWords')}.textContent.includes('returned to its supplier')")
+        is_quiet(it)
+    shop.kill()
+    states = {row[:2]: row[10] for row in tables.rows(shop.store)["parts"]}
+    trial.equal((states[1, 0], states[1, 1], states[3, 0]), (6, 0, 5))
+
+
+@case(
+    "a page of another origin",
+    "A page of another port, and one of another host's name, that is open in the browser and posts a scrap is answered 403, "
+    "and nothing changes.",
+)
+def stranger(trial):
+    shop = open_shop(trial)
+    body = json.dumps({"do": "scrap", "number": 1, "part": "2/0", "terminal": 9})
+    with Terminal(trial, shop) as it:
+        it.begin(7)
+        stock(it)
+        script = f"fetch('{it.address}message', {{ method: 'POST', mode: 'no-cors', body: {json.dumps(body)} }})"
+        page = f"<!DOCTYPE html><script>{script}.finally(() => document.title = 'sent')</script>"
+        with other_site(page) as port:
+            for host in ("127.0.0.1", "localhost"):
+                it.answers.clear()
+                it.go(f"http://{host}:{port}/")
+                it.until("document.title === 'sent'")
+                trial.holds((f"{it.address}message", 403) in it.answers, f"{host}: {it.answers}")
+                trial.equal((it.ask("/trace/2/0")["state"], it.ask("/terminal/9")["last"]), ("standing", 0))
+    for origin, wanted in (
+        ("http://elsewhere.example", answer(403)),
+        (f"http://localhost:{shop.port}", answer(200, '{"ok":"scrap","part":"2/0"}')),
+    ):
+        head = f"POST /message HTTP/1.1\r\nHost: 127.0.0.1:{shop.port}\r\nOrigin: {origin}\r\n"
+        request = f"{head}Content-Length: {len(body)}\r\n\r\n{body}"
+        trial.equal(shop.exchange(request.encode()), wanted, request)
+
+
+@case(
+    "an answer that the page doesn't hear",
+    "A message whose answer is lost is kept over a reload, sent again under its number, and done once.",
+)
+def unheard(trial):
+    with Terminal(trial, open_shop(trial)) as it:
+        it.begin(7)
+        stock(it)
+        it.on_paused = lambda paused: it.post(
+            "Fetch.failRequest", requestId=paused["requestId"], errorReason="ConnectionReset"
+        )
+        it.call("Fetch.enable", patterns=[{"urlPattern": "*/message", "requestStage": "Response"}])
+        it.receive("STEEL", "s-2", "3000,5", None, 2)
+        it.until(f"{by_id('keptNotice')}.textContent.includes('(number 3)')")
+        it.call("Page.reload")
+        it.until(f"document.readyState === 'complete' && {by_id('keptNotice')}.textContent.includes('without an answer')")
+        trial.equal(it.value("terminal.kept()[0].number"), 3)
+        it.call("Fetch.disable")
+        it.on_paused = None
+        it.says("2 units received, 3/0 to 3/1")
+        trial.equal(it.ask("/totals/STEEL")["received"], 5 * 60000 + 2 * 30005)
+        trial.equal((it.value("terminal.kept().length"), it.ask("/terminal/7")["last"]), (0, 3))
+
+
+@case(
+    "a plan at the page that another terminal took",
+    "Where another terminal reserves the pieces of a proposed plan, the page tells how many of which demand are left before "
+    "the plan is reserved, and in words, with its number, where it is refused.",
+)
+def overdrawn(trial):
+    with Terminal(trial, open_shop(trial)) as it:
+        it.begin(7)
+        stock(it)
+        order(it)
+        it.propose("STEEL")
+        tree, part = it.value("[chosenPlan().tree, chosenPlan().part]")
+        other = next(row["part"] for row in it.ask("/parts/STEEL")["parts"] if row["part"] != part)
+        reply = exchange(it.shop, "/message", {"do": "reserve", "number": 1, "part": other, "terminal": 8, "tree": tree})
+        trial.equal(reply.get("ok"), "reserve", "the other terminal can't reserve")
+        it.value(f"send({{ do: 'reserve', part: '{part}', tree: '{tree}' }}, 'Reserve {part}')")
+        it.says("(63 TooMany)")
+        trial.holds(re.search(r"only \d+ of demand \d+ (is|are) left \(63 TooMany\)", it.told()), it.told())
+        it.until(f"{by_id('planFault')}.textContent.includes('Propose anew')")
+        trial.holds(it.value(f"{by_id('reserve')}.disabled"), "a plan that can't be had can be reserved")
+
+
+@case(
+    "a plan at the page by keys alone",
+    "By digits, Tab, Space and Enter alone the views open, a plan is proposed and reserved, and a cut is ticked off.",
+)
+def keys(trial):
+    with Terminal(trial, open_shop(trial)) as it:
+        it.begin(7)
+        stock(it)
+        order(it)
+        it.value("document.activeElement.blur()")
+        it.key("1")
+        it.until("!document.getElementById('tocut').hidden && toCut.part")
+        for wanted in ("propose", "reserve"):
+            reach(it, f"document.activeElement.id === '{wanted}'")
+            it.key("Enter")
+            if wanted == "propose":
+                it.until("!toCut.planning && chosenPlan()")
+        it.says(": job ")
+        it.key("2")
+        it.until("!document.getElementById('saw').hidden && document.querySelector('#cutList button')")
+        reach(it, "document.activeElement.dataset.key === 'c0'")
+        it.key("Enter")
+        it.until("ticks.of(atSaw.job).has(0) && document.activeElement.dataset.key === 'c0'")
+
+
+def reach(it, found):
+    """Presses Tab until an expression holds."""
+    for _ in range(80):
+        if it.value(found):
+            return
+        it.key("Tab")
+    it.trial.holds(False, f"Tab never came where {found}")
+
+
+@case(
+    "lists of the page behind their first hundred",
+    "With over 100 demands, waiting jobs and parts the page shows what lies behind the first 100 on demand, remnants first, "
+    "and a ticket of over 100 cuts is printed on one sheet.",
+)
+def hundreds(trial):
+    more = "".join(
+        f'\n[[material]]\ncode = "M-{it}"\nkind = "bar"\nkerf = "0.0"\nmin_long = "10.0"\nmin_short = "0.1"\n' for it in range(9)
+    )
+    shop = open_shop(trial, SHOP_FILE + more)
+    with Terminal(trial, shop) as it:
+        said = iter(range(1, 1000))
+        send = lambda **keys: exchange(shop, "/message", {"number": next(said), "terminal": 8, **keys})
+        for batch in ("B-1", "B-2"):
+            send(do="receive", material="STEEL", batch=batch, w=60000, h=1, count=100)
+        send(do="receive", material="GLASS", batch="G-1", w=12000, h=8000, count=1)
+        line = {"material": "STEEL", "w": 1000, "h": 1, "turn": False, "count": 1, "worth": 100}
+        for order_code in ("A-1", "A-2"):
+            send(do="order", order=order_code, lines=[{**line, "line": number} for number in range(1, 121)])
+        small = {"line": 1, "material": "GLASS", "w": 1200, "h": 1000, "turn": True, "count": 70, "worth": 120}
+        send(do="order", order="A-3", lines=[small])
+        for place in range(105):
+            send(do="reserve", part=f"1/{place}" if place < 100 else f"2/{place - 100}", tree=f"x1000 p{place + 1} r")
+        send(do="done", job=4)
+        it.begin(7)
+        it.until(f"{by_id('jobCount')}.textContent === '100+'")
+        it.choose("document.querySelector('#tocut .materials select')", "STEEL")
+        it.until(f"{by_id('wanted')}.textContent.includes('Order A-1')")
+        trial.equal(it.value("document.querySelectorAll('#wanted .row').length"), 100)
+        it.until("document.querySelector('#cutFrom .row .tag').textContent === 'remnant'")
+        it.click("document.querySelector('#wanted [data-key=demandPages]')")
+        it.until("document.querySelectorAll('#wanted .row').length > 190")
+        it.view("saw")
+        it.until("document.querySelectorAll('#jobList button.row').length === 100")
+        it.click("document.querySelector('#jobList [data-key=jobPages]')")
+        it.until("document.querySelectorAll('#jobList button.row').length === 104")
+        it.view("tocut")
+        it.choose("document.querySelector('#tocut .materials select')", "GLASS")
+        it.until(f"shop.partsOf === 'GLASS' && toCut.part && {by_id('wanted')}.textContent.includes('Order A-3')")
+        it.click(by_id("propose"))
+        it.until("!toCut.planning && chosenPlan()")
+        it.reserve()
+        trial.holds(it.value("atSaw.told.root.cuts > 100"), "the ticket has fewer cuts")
+        trial.equal(it.sheets("ticket-of-many-cuts"), 1)
+        it.at_widths("many")
+        is_quiet(it)
