@@ -3,12 +3,14 @@ use Rattle.std.proofs.Common.{◌≡◌, ◌∙◌, ℕ, ◌+◌, ◌<◌, ◌�
 use Rattle.std.proofs.lemmas.List.{append_assoc, append-nil, length-append}
 use Rattle.std.specs.Prelude.{◌⊎◌, Option, Some}
 use Rattle.shop_desk.specs.Handled.{HasAccount}
+use Rattle.shop_desk.specs.Faults.{CountsUp}
 use Rattle.shop_desk.proofs.Accounts.{account_same, account_more}
+use Rattle.shop_desk.proofs.Blame.{up_more, failed_first, failed_last}
 use Rattle.shop_machine.specs.Content.{Content}
 use Rattle.shop_rules.specs.Forms.{json_texts}
 use Rattle.shop_book.specs.declared.books.Book.{Ghosts}
 use Rattle.shop_wire.specs.Serves.{exchanged, IsServed}
-use Rattle.shop_serve.specs.Serving.{Turn, InTurn, exchanges, HasServed, Advances}
+use Rattle.shop_serve.specs.Serving.{Turn, InTurn, exchanges, TellOfFailures, HasServed, Advances}
 
 turns-append : (old mid new : Content) (ss ts : List Turn) → InTurn old ss mid → InTurn mid ts new → InTurn old (ss ++ ts) new
 turns-append old mid new [] ts run more = subst (λ (c : Content). InTurn c ts new) run more
@@ -19,19 +21,26 @@ exchanges-append [] ts = refl
 exchanges-append (s ∷ ss) ts =
     ap (λ es. exchanged s.sense s.telling ++ es) (exchanges-append ss ts) ∙ sym (append_assoc (exchanged s.sense s.telling) (exchanges ss) (exchanges ts))
 
+-- turns, and then more of them
+blame-append : (a b c : ℕ) (ss ts : List Turn) → CountsUp a b → CountsUp b c → TellOfFailures ss a b → TellOfFailures ts b c → TellOfFailures (ss ++ ts) a c
+blame-append a b c [] ts up next first second t i e = failed_last a b c up (second t i e) next
+blame-append a b c (s ∷ ss) ts up next first second t (inl is) e = failed_first a b c (first t (inl is) e) next
+blame-append a b c (s ∷ ss) ts up next first second t (inr i) e = blame-append a b c ss ts up next (λ t i. first t (inr i)) second t i e
+
 module _ {B : Type 0} (book : Ghosts B) where
   -- none
   pub none_served : (here : B) (count : ℕ) → HasServed book here here count
   none_served here count honest m held sound =
-      record { served = []; few = omega arith; next = m; run = refl; held = held; sound = sound; account = account_same json_texts m m refl }
+      record { served = []; few = omega arith; next = m; run = refl; held = held; sound = sound; failures = inl refl; blame = λ t i. absurd i; account = account_same json_texts m m refl }
 
   -- nothing was done
   pub none_done : (before after : B) (count : ℕ) → after ≡ before → HasServed book before after count
   none_done before after count same = subst (λ b. HasServed book before b count) (sym same) (none_served before count)
 
   -- one was served
-  served_once : (before after : B) (input : List ℕ) (old new : Option (List ℕ)) (unwritten : List ℕ) → 0 < length input → IsServed book before after (Some input) old new unwritten → HasServed book before after 1
-  served_once before after input old new unwritten some s honest m held sound =
+  served_once : (before after : B) (input : List ℕ) (old new : Option (List ℕ)) (unwritten : List ℕ) → 0 < length input
+      → CountsUp (book.failed before) (book.failed after) → IsServed book before after (Some input) old new unwritten → HasServed book before after 1
+  served_once before after input old new unwritten some up s honest m held sound =
       let telling = s.2.telling in
       let done = s.2.run honest m held sound in
       let turn : Turn = record { input = input; sense = s.0; telling = telling; answer = s.2.bytes } in
@@ -42,19 +51,21 @@ module _ {B : Type 0} (book : Ghosts B) where
         run = (done.next, record { some = some; sense = s.1; unwritten = unwritten; told = s.2.told }, done.step, refl);
         held = done.held;
         sound = done.sound;
+        failures = up;
+        blame = λ t i e. elim i [ inl is ↦ done.blame (ap (λ (t : Turn). t.telling) (sym is) ∙ e) | inr none ↦ absurd none ];
         account = subst (λ es. HasAccount json_texts m (map (λ e. e.0) es) (map (λ e. e.1) es) done.next) (sym (append-nil (exchanged s.0 telling))) done.account;
       }
 
-  pub one_served : (before after : B) (input : List ℕ) (left old new : Option (List ℕ)) (unwritten : List ℕ) → left ≡ Some input → 0 < length input → IsServed book before after left old new unwritten
-      → HasServed book before after 1
-  one_served before after input left old new unwritten is some s =
-      served_once before after input old new unwritten some (subst (λ l. IsServed book before after l old new unwritten) is s)
+  pub one_served : (before after : B) (input : List ℕ) (left old new : Option (List ℕ)) (unwritten : List ℕ) → left ≡ Some input → 0 < length input
+      → CountsUp (book.failed before) (book.failed after) → IsServed book before after left old new unwritten → HasServed book before after 1
+  one_served before after input left old new unwritten is some up s =
+      served_once before after input old new unwritten some up (subst (λ l. IsServed book before after l old new unwritten) is s)
 
   -- one was, or nothing was done
   pub one_done : (before after : B) (input : List ℕ) (left old new : Option (List ℕ)) (Same : Type 0) → left ≡ Some input → 0 < length input
-      → ((after ≡ before) × Same) ⊎ ((unwritten : List ℕ) × IsServed book before after left old new unwritten) → HasServed book before after 1
-  one_done before after input left old new Same is some (inl same) = none_done before after 1 same.0
-  one_done before after input left old new Same is some (inr s) = one_served before after input left old new s.0 is some s.1
+      → CountsUp (book.failed before) (book.failed after) → ((after ≡ before) × Same) ⊎ ((unwritten : List ℕ) × IsServed book before after left old new unwritten) → HasServed book before after 1
+  one_done before after input left old new Same is some up (inl same) = none_done before after 1 same.0
+  one_done before after input left old new Same is some up (inr s) = one_served before after input left old new s.0 is some up s.1
 
   -- and more
   pub more_served : (before mid after : B) (n k : ℕ) → (book.is_honest after → book.is_honest mid) → HasServed book before mid n → HasServed book mid after k → HasServed book before after (n + k)
@@ -68,6 +79,8 @@ module _ {B : Type 0} (book : Ghosts B) where
         run = turns-append m first.next second.next first.served second.served first.run second.run;
         held = second.held;
         sound = second.sound;
+        failures = up_more (book.failed before) (book.failed mid) (book.failed after) first.failures second.failures;
+        blame = blame-append (book.failed before) (book.failed mid) (book.failed after) first.served second.served first.failures second.failures first.blame second.blame;
         account = subst (λ es. HasAccount json_texts m (map (λ e. e.0) es) (map (λ e. e.1) es) second.next) (sym (exchanges-append first.served second.served))
             (account_more json_texts m first.next second.next (exchanges first.served) (exchanges second.served) first.account second.account);
       }
@@ -83,6 +96,8 @@ module _ {B : Type 0} (book : Ghosts B) where
         run = done.run;
         held = done.held;
         sound = done.sound;
+        failures = done.failures;
+        blame = done.blame;
         account = done.account;
       }
 

@@ -4,8 +4,8 @@ use Rattle.shop_serve.proofs.answers.answer_of.Goals as goal
 
 pub returns-in-Ok-clause-step : goal.returns-in-Ok-clause-step
 returns-in-Ok-clause-step g c =
-    one_served g.B.Book c.args.book.now c.serve_with.new.book c.args.came.now _ _ _ [] (ap (λ r. Some r.now) c.new-source.ensures.inner) c.requires c.in-Ok.ensures.ok
+    one_served g.B.Book c.args.book.now c.serve_with.new.book c.args.came.now _ _ _ [] (ap (λ r. Some r.now) c.new-source.ensures.inner) c.requires c.serve_with.ensures.failures c.in-Ok.ensures.ok
 
 pub returns-in-Err-clause-step : goal.returns-in-Err-clause-step
 returns-in-Err-clause-step g c =
-    one_done g.B.Book c.args.book.now c.serve_with.new.book c.args.came.now _ _ _ _ (ap (λ r. Some r.now) c.new-source.ensures.inner) c.requires c.in-Err.ensures.err
+    one_done g.B.Book c.args.book.now c.serve_with.new.book c.args.came.now _ _ _ _ (ap (λ r. Some r.now) c.new-source.ensures.inner) c.requires c.serve_with.ensures.failures c.in-Err.ensures.err
