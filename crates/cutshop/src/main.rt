@@ -54,7 +54,7 @@ fn perform_over<
     errors: &mut E,
 ) -> u8
     ensures done { IsPerformed ⟦<SqlBook<D> as Book>⟧ (O.gives stores.now) (map string_bytes words.now) (S.left source.old) (W.held sink.old) (W.held sink.new)
-        (W.failed sink.old) (W.failed sink.new) (E.held errors.old) (E.held errors.new) result }
+        (W.failed sink.old) (W.failed sink.new) (E.held errors.old) (E.held errors.new) (E.failed errors.old) (E.failed errors.new) result }
     ensures reads { S.reads source.new ≤ S.reads source.old + most_reads }
 {
     perform(rt, stores, alloc, words, source, sink, errors)

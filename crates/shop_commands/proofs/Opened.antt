@@ -15,8 +15,8 @@ use Rattle.shop_serve.specs.declared.faults.ServeFault.TheVariants as serve
 use Rattle.shop_book.specs.declared.books.Book.{Ghosts}
 use Rattle.shop_book.specs.declared.books.BookFault.{BookFault}
 use Rattle.shop_book.specs.declared.books.BookFault.TheVariants as store
-use Rattle.shop_book.specs.Kept.{Says}
-use Rattle.shop_text.specs.Printing.{IsPrinted}
+use Rattle.shop_book.specs.Kept.{KeepsBook, Says}
+use Rattle.shop_text.specs.Printing.{CountsPrint, IsPrinted}
 use Rattle.shop_text.specs.Streams.{HasFailed}
 use Rattle.shop_text.specs.declared.printing.PrintFault.{PrintFault}
 use Rattle.shop_text.specs.declared.printing.PrintFault.TheVariants as print
@@ -53,23 +53,27 @@ module _ {B : Type 0} (book : Ghosts B) where
   unaccepted site before after limit serve.Port f is unserved = inr (is, unserved)
 
   module _ (gives : B → Type 0) (said : Content → Result (List ℕ) Refusal) (before after : B) (old new : Option (List ℕ)) (given : gives before) where
-    pub text_done : (result : Result (Unit {0}) PrintFault) → Says book before after (λ m. IsPrinted (book.failed before) (book.failed after) old new result (said m)) → result ≡ Ok tt
-        → IsTextDone book gives said old new
-    text_done result printed is = record {
+    pub text_done : (result : Result (Unit {0}) PrintFault) → Says book before after (λ m. IsPrinted (book.failed before) (book.failed after) old new result (said m))
+        → KeepsBook book (CountsPrint result) before after → result ≡ Ok tt → IsTextDone book gives said old new
+    text_done result printed keeps is = record {
       before = before;
       after = after;
       given = given;
       printed = subst (λ r. Says book before after (λ m. IsPrinted (book.failed before) (book.failed after) old new r (said m))) is printed;
+      keeps = subst (λ r. KeepsBook book (CountsPrint r) before after) is keeps;
     }
 
-    stopped : (failed_old failed_new : ℕ) (fault : PrintFault) (f : Fault) → Says book before after (λ m. IsPrinted (book.failed before) (book.failed after) old new (Err fault) (said m)) → f ≡ print_fault fault
+    stopped : (failed_old failed_new : ℕ) (fault : PrintFault) (f : Fault) → Says book before after (λ m. IsPrinted (book.failed before) (book.failed after) old new (Err fault) (said m))
+        → KeepsBook book (CountsPrint (Err fault)) before after → f ≡ print_fault fault
         → ((r : Refusal) → fault ≡ print.Refused r → new ≡ old) → (fault ≡ print.Write → HasFailed failed_old failed_new) → IsTextStopped book gives said f old new failed_old failed_new
-    stopped failed_old failed_new (print.Refused r) f printed is refused failed = inr (inl (r, is, record { before = before; after = after; given = given; printed = printed }, refused r refl))
-    stopped failed_old failed_new print.Write f printed is refused failed = inr (inr (is, record { before = before; after = after; given = given; printed = printed }, failed refl))
+    stopped failed_old failed_new (print.Refused r) f printed keeps is refused failed = inr (inl (r, is, record { before = before; after = after; given = given; printed = printed; keeps = keeps }, refused r refl))
+    stopped failed_old failed_new print.Write f printed keeps is refused failed = inr (inr (is, record { before = before; after = after; given = given; printed = printed; keeps = keeps }, failed refl))
 
     pub text_stopped : (failed_old failed_new : ℕ) (result : Result (Unit {0}) PrintFault) (fault : PrintFault) (f : Fault)
-        → Says book before after (λ m. IsPrinted (book.failed before) (book.failed after) old new result (said m)) → result ≡ Err fault → f ≡ print_fault fault
+        → Says book before after (λ m. IsPrinted (book.failed before) (book.failed after) old new result (said m))
+        → KeepsBook book (CountsPrint result) before after → result ≡ Err fault → f ≡ print_fault fault
         → ((r : Refusal) → result ≡ Err (print.Refused r) → new ≡ old) → (result ≡ Err print.Write → HasFailed failed_old failed_new) → IsTextStopped book gives said f old new failed_old failed_new
-    text_stopped failed_old failed_new result fault f printed result_is is refused failed =
-        stopped failed_old failed_new fault f (subst (λ r. Says book before after (λ m. IsPrinted (book.failed before) (book.failed after) old new r (said m))) result_is printed) is
+    text_stopped failed_old failed_new result fault f printed keeps result_is is refused failed =
+        stopped failed_old failed_new fault f (subst (λ r. Says book before after (λ m. IsPrinted (book.failed before) (book.failed after) old new r (said m))) result_is printed)
+        (subst (λ r. KeepsBook book (CountsPrint r) before after) result_is keeps) is
         (λ r e. refused r (subst (λ g. result ≡ Err g) e result_is)) (λ e. failed (subst (λ g. result ≡ Err g) e result_is))

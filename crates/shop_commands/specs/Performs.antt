@@ -22,7 +22,7 @@ use Rattle.shop_commands.specs.Faults.{fault_text}
 use Rattle.shop_commands.specs.Orders.{IsOrdersDone, IsOrdersStopped}
 use Rattle.shop_commands.specs.Plans.{IsFilePlan, IsFileFault}
 use Rattle.shop_commands.specs.Stored.{IsTextDone, IsTextStopped, IsServeDone, IsServeStopped}
-use Rattle.shop_commands.specs.Written.{AppendsFront, AppendsSome}
+use Rattle.shop_commands.specs.Written.{AppendsFront, AppendsSome, IsWritten}
 
 -- each line of the input has its reply
 abbrev pub IsReplayDone : (left held_old held_new : Option (List ℕ)) → Type 0
@@ -54,14 +54,15 @@ version_line = codes "cutshop " ++ VERSION.now ++ codes "\n"
 abbrev pub fault_line : Fault → List ℕ
 fault_line fault = fault_text fault ++ 10 ∷ []
 
--- the first bytes of the fault's line were written, or where memory for it ran out, of that line
-abbrev pub TellsFault : Fault → Option (List ℕ) → Option (List ℕ) → Type 0
-TellsFault fault old new = AppendsFront old new (fault_line fault) ⊎ AppendsFront old new (fault_line NoMemory)
+-- the fault's line was written, or where memory for it ran out, that line; of either a first part alone where the sink failed
+abbrev pub TellsFault : Fault → (held_old held_new : Option (List ℕ)) → (failed_old failed_new : ℕ) → Type 0
+TellsFault fault old new failed_old failed_new =
+    IsWritten old new failed_old failed_new (fault_line fault) ⊎ IsWritten old new failed_old failed_new (fault_line NoMemory)
 
 -- what was done has status 0 and nothing is told, and what stopped has status 1 and is told
-abbrev pub Concludes : Result (Unit {0}) Fault → (err_old err_new : Option (List ℕ)) → ℕ → Type 0
-Concludes (Ok _) old new status = (status ≡ 0) × (new ≡ old)
-Concludes (Err fault) old new status = (status ≡ 1) × TellsFault fault old new
+abbrev pub Concludes : Result (Unit {0}) Fault → (err_old err_new : Option (List ℕ)) → (failed_old failed_new : ℕ) → ℕ → Type 0
+Concludes (Ok _) old new failed_old failed_new status = (status ≡ 0) × (new ≡ old)
+Concludes (Err fault) old new failed_old failed_new status = (status ≡ 1) × TellsFault fault old new failed_old failed_new
 
 -- ---- over the books that the opener of stores gives for a path
 
@@ -84,23 +85,23 @@ module _ {B : Type 0} (book : Ghosts B) (gives : List ℕ → B → Type 0) wher
       IsTextStopped book (gives store.now) (λ m. yield_of m material) fault old new failed_old failed_new
 
   -- what was asked was done and nothing was told, with status 0; or a fault was told, with status 1
-  abbrev pub IsAnswered : (left out_old out_new : Option (List ℕ)) → (failed_old failed_new : ℕ) → (err_old err_new : Option (List ℕ)) → Request → ℕ → Type 0
-  IsAnswered left out_old out_new failed_old failed_new err_old err_new request status =
+  abbrev pub IsAnswered : (left out_old out_new : Option (List ℕ)) → (failed_old failed_new : ℕ) → (err_old err_new : Option (List ℕ)) → (unsaid_old unsaid_new : ℕ) → Request → ℕ → Type 0
+  IsAnswered left out_old out_new failed_old failed_new err_old err_new unsaid_old unsaid_new request status =
       ((status ≡ 0) × IsDone request left out_old out_new × (err_new ≡ err_old))
-      ⊎ ((status ≡ 1) × ((fault : Fault) × IsStopped request fault left out_old out_new failed_old failed_new × TellsFault fault err_old err_new))
+      ⊎ ((status ≡ 1) × ((fault : Fault) × IsStopped request fault left out_old out_new failed_old failed_new × TellsFault fault err_old err_new unsaid_old unsaid_new))
 
-module _ (out_old out_new err_old err_new : Option (List ℕ)) where
+module _ (out_old out_new err_old err_new : Option (List ℕ)) (unsaid_old unsaid_new : ℕ) where
   -- help was written and nothing was told, with status 0; or that it couldn't be written was told, with status 1
   abbrev pub IsHelped : ℕ → Type 0
   IsHelped status =
       ((status ≡ 0) × AppendsSome out_old out_new × (err_new ≡ err_old))
-      ⊎ ((status ≡ 1) × AppendsSome out_old out_new × TellsFault Write err_old err_new)
+      ⊎ ((status ≡ 1) × AppendsSome out_old out_new × TellsFault Write err_old err_new unsaid_old unsaid_new)
 
   -- the version was written and nothing was told, with status 0; or that it couldn't be written was told
   abbrev pub IsVersionTold : ℕ → Type 0
   IsVersionTold status =
       ((status ≡ 0) × Appends out_old out_new version_line × (err_new ≡ err_old))
-      ⊎ ((status ≡ 1) × AppendsFront out_old out_new version_line × TellsFault Write err_old err_new)
+      ⊎ ((status ≡ 1) × AppendsFront out_old out_new version_line × TellsFault Write err_old err_new unsaid_old unsaid_new)
 
   -- What `clap` said of this kind was told: help, the version, or a mistake, with status 2 and nothing as output; or that memory
   -- ran out.
@@ -109,7 +110,7 @@ module _ (out_old out_new err_old err_new : Option (List ℕ)) where
       ((kind ≡ DisplayHelp) × IsHelped status)
       ⊎ ((kind ≡ DisplayVersion) × IsVersionTold status)
       ⊎ ((kind ≢ DisplayHelp) × (kind ≢ DisplayVersion) × (kind ≢ OutOfMemory) × (status ≡ 2) × (out_new ≡ out_old) × AppendsSome err_old err_new)
-      ⊎ ((status ≡ 1) × (out_new ≡ out_old) × TellsFault NoMemory err_old err_new)
+      ⊎ ((status ≡ 1) × (out_new ≡ out_old) × TellsFault NoMemory err_old err_new unsaid_old unsaid_new)
 
 -- what `clap` finds wrong with the words
 abbrev pub faults_of : List Text → List ErrorKind
@@ -117,9 +118,9 @@ faults_of words = clap.fault_of shop_app words
 
 -- The words ask for something, which was done or stopped by a fault; or `clap` said something to them; or it took them, and they
 -- ask for nothing.
-abbrev pub IsPerformed : {B : Type 0} → Ghosts B → (List ℕ → B → Type 0) → List Text → (left out_old out_new : Option (List ℕ)) → (failed_old failed_new : ℕ) → (err_old err_new : Option (List ℕ)) → ℕ → Type 0
-IsPerformed book gives words left out_old out_new failed_old failed_new err_old err_new status =
+abbrev pub IsPerformed : {B : Type 0} → Ghosts B → (List ℕ → B → Type 0) → List Text → (left out_old out_new : Option (List ℕ)) → (failed_old failed_new : ℕ) → (err_old err_new : Option (List ℕ)) → (unsaid_old unsaid_new : ℕ) → ℕ → Type 0
+IsPerformed book gives words left out_old out_new failed_old failed_new err_old err_new unsaid_old unsaid_new status =
     ((request : Request) × (faults_of words ≡ []) × Asks (subcommand_of shop_app words) request
-    × IsAnswered book gives left out_old out_new failed_old failed_new err_old err_new request status)
-    ⊎ ((kind : ErrorKind) × ((kind ≡ OutOfMemory) ⊎ IsAmong kind (faults_of words)) × IsTold out_old out_new err_old err_new kind status)
+    × IsAnswered book gives left out_old out_new failed_old failed_new err_old err_new unsaid_old unsaid_new request status)
+    ⊎ ((kind : ErrorKind) × ((kind ≡ OutOfMemory) ⊎ IsAmong kind (faults_of words)) × IsTold out_old out_new err_old err_new unsaid_old unsaid_new kind status)
     ⊎ ((faults_of words ≡ []) × AsksNothing (subcommand_of shop_app words) × (status ≡ 2) × (out_new ≡ out_old) × AppendsSome err_old err_new)

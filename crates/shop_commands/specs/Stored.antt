@@ -15,8 +15,8 @@ use Rattle.shop_commands.specs.declared.files.TheConstants.{LONGEST_PAGE}
 use Rattle.shop_opening.specs.declared.shops.EntryRefused.{EntryRefused}
 use Rattle.shop_opening.specs.Shops.{HasShop, IsAccepted, IsFirstRefused}
 use Rattle.shop_book.specs.declared.books.Book.{Ghosts}
-use Rattle.shop_book.specs.Kept.{Says}
-use Rattle.shop_text.specs.Printing.{IsPrinted}
+use Rattle.shop_book.specs.Kept.{KeepsBook, Says}
+use Rattle.shop_text.specs.Printing.{CountsPrint, IsPrinted}
 use Rattle.shop_text.specs.Streams.{HasFailed}
 use Rattle.shop_text.specs.declared.printing.PrintFault.{PrintFault}
 use Rattle.shop_text.specs.declared.printing.PrintFault.TheVariants as print
@@ -59,12 +59,14 @@ IsUnannounced port fault old new failed_old failed_new =
     (((fault ≡ Port) ⊎ (fault ≡ NoMemory)) × (new ≡ old)) ⊎ ((fault ≡ Write) × AppendsFront old new (listening_line port) × HasFailed failed_old failed_new)
 
 module _ {B : Type 0} (book : Ghosts B) where
-  -- A book that the opener gave was printed from: on each content that it held, an honest one, this came of what there is to say.
+  -- A book that the opener gave was printed from: on each content that it held, an honest one, this came of what there is to
+  -- say. It holds what it held, a crash leaves nothing that it couldn't before, and a failure is counted only with 99.
   pub record IsPrintedFrom (gives : B → Type 0) (said : Content → Result (List ℕ) Refusal) (old new : Option (List ℕ)) (result : Result (Unit {0}) PrintFault) : Type 0 where
     pub before : B
     pub after : B
     pub given : gives before
     pub printed : Says book before after (λ m. IsPrinted (book.failed before) (book.failed after) old new result (said m))
+    pub keeps : KeepsBook book (CountsPrint result) before after
 
   abbrev pub IsTextDone : (B → Type 0) → (Content → Result (List ℕ) Refusal) → (held_old held_new : Option (List ℕ)) → Type 0
   IsTextDone gives said old new = IsPrintedFrom gives said old new (Ok tt)
@@ -116,11 +118,13 @@ module _ {B : Type 0} (book : Ghosts B) where
       (entries : List MaterialEntry) × IsShopRead entries × (site : Site) × IsSite port page site
       × (before after : B) × gives before × IsBookServed site before after entries port limit old new
 
-  -- the shop file's fault, the page's, the store's, or what stopped the serving of its book
+  -- the shop file's fault; or its entries were read, and then the page's fault came, or the store's, or what stopped the serving
+  -- of its book
   abbrev pub IsServeStopped : (B → Type 0) → (port limit : ℕ) → (page : Option (List ℕ)) → Fault → (held_old held_new : Option (List ℕ)) → (failed_old failed_new : ℕ) → Type 0
   IsServeStopped gives port limit page fault old new failed_old failed_new =
       (IsUnread fault × (new ≡ old))
-      ⊎ ((((entries : List MaterialEntry) × IsShopRead entries × IsPageUnread fault) × (new ≡ old))
-      ⊎ ((IsUnopened fault × (new ≡ old))
-      ⊎ ((entries : List MaterialEntry) × IsShopRead entries × (site : Site) × IsSite port page site
-      × (before after : B) × gives before × IsBookUnserved site before after entries port limit fault old new failed_old failed_new)))
+      ⊎ ((entries : List MaterialEntry) × IsShopRead entries
+      × ((IsPageUnread fault × (new ≡ old))
+      ⊎ ((site : Site) × IsSite port page site
+      × ((IsUnopened fault × (new ≡ old))
+      ⊎ ((before after : B) × gives before × IsBookUnserved site before after entries port limit fault old new failed_old failed_new)))))

@@ -3,7 +3,7 @@ ghost use Rattle.std.specs.Io.KnownBytes.{Appends};
 ghost use Rattle.shop_text.specs.Streams.{HasFailed};
 ghost use Rattle.shop_commands.specs.declared.faults.Fault.TheVariants as fault;
 ghost use Rattle.shop_commands.specs.declared.files.TheConstants.{LONGEST_PAGE};
-ghost use Rattle.shop_commands.specs.Written.{AppendsFront};
+ghost use Rattle.shop_commands.specs.Written.{AppendsFront, IsWritten};
 
 use crate::faults::Fault;
 use shop_files::LONGEST_TEXT;
@@ -64,6 +64,7 @@ pub fn read_page<R: Files>(rt: &R, alloc: Global, path: &str) -> Result<Vec<u8>,
 pub fn write_text<W: Sink>(sink: &mut W, text: &str) -> Result<(), Fault>
     ensures ok { OnOk result (Appends (W.held sink.old) (W.held sink.new) text.now) }
     ensures front { AppendsFront (W.held sink.old) (W.held sink.new) text.now }
+    ensures written { IsWritten (W.held sink.old) (W.held sink.new) (W.failed sink.old) (W.failed sink.new) text.now }
     ensures err { IfErr result (λ f. (f ≡ fault.Write) × HasFailed (W.failed sink.old) (W.failed sink.new)) }
 {
     match write_all(sink, text.as_bytes()) {

@@ -9,6 +9,9 @@ mod performing;
 mod plans;
 mod replays;
 mod stored;
+mod storeless;
 
+pub use faults::Fault;
 pub use limits::limits_have_numbers;
 pub use performing::perform;
+pub use plans::plan_file;

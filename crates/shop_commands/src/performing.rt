@@ -39,7 +39,7 @@ fn fault_line(alloc: Global, fault: Fault) -> Result<String, AllocError>
 // Writes the line of a fault, and gives the status of a program that stopped.
 fn tell<E: Sink>(alloc: Global, fault: Fault, errors: &mut E) -> u8
     ensures status { result ≡ 1 }
-    ensures told { TellsFault fault (E.held errors.old) (E.held errors.new) }
+    ensures told { TellsFault fault (E.held errors.old) (E.held errors.new) (E.failed errors.old) (E.failed errors.new) }
 {
     let _ = match fault_line(alloc, fault) {
         Ok(line) => write_text(errors, line.as_str()),
@@ -118,7 +118,7 @@ fn work<
 
 // The status of what was done, or of what stopped, which is told.
 fn conclude<E: Sink>(alloc: Global, outcome: Result<(), Fault>, errors: &mut E) -> u8
-    ensures { Concludes outcome (E.held errors.old) (E.held errors.new) result }
+    ensures { Concludes outcome (E.held errors.old) (E.held errors.new) (E.failed errors.old) (E.failed errors.new) result }
 {
     match outcome {
         Ok(()) => 0,
@@ -135,7 +135,7 @@ fn error_text(alloc: Global, error: &Error) -> Result<String, AllocError> {
 
 // Writes help.
 fn help<W: Sink, E: Sink>(alloc: Global, text: &str, sink: &mut W, errors: &mut E) -> u8
-    ensures { IsHelped (W.held sink.old) (W.held sink.new) (E.held errors.old) (E.held errors.new) result }
+    ensures { IsHelped (W.held sink.old) (W.held sink.new) (E.held errors.old) (E.held errors.new) (E.failed errors.old) (E.failed errors.new) result }
 {
     match write_text(sink, text) {
         Ok(()) => 0,
@@ -165,7 +165,7 @@ fn version<W: Sink, E: Sink>(alloc: Global, sink: &mut W, errors: &mut E) -> u8
 
 // Says what `clap` says where the words ask for nothing.
 fn explain<W: Sink, E: Sink>(alloc: Global, error: &Error, sink: &mut W, errors: &mut E) -> u8
-    ensures { IsTold (W.held sink.old) (W.held sink.new) (E.held errors.old) (E.held errors.new) (kind_of error.now) result }
+    ensures { IsTold (W.held sink.old) (W.held sink.new) (E.held errors.old) (E.held errors.new) (E.failed errors.old) (E.failed errors.new) (kind_of error.now) result }
 {
     let Ok(text) = error_text(alloc, error) else {
         return tell(alloc, Fault::NoMemory, errors);
@@ -200,7 +200,7 @@ pub fn perform<
     errors: &mut E,
 ) -> u8
     ensures done { IsPerformed B.Book (O.gives stores.now) (map string_bytes words.now) (S.left source.old) (W.held sink.old) (W.held sink.new) (W.failed sink.old) (W.failed sink.new)
-        (E.held errors.old) (E.held errors.new) result }
+        (E.held errors.old) (E.held errors.new) (E.failed errors.old) (E.failed errors.new) result }
     ensures reads { S.reads source.new ≤ S.reads source.old + most_reads }
 {
     match request_of(alloc, words) {

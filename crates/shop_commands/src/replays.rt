@@ -5,12 +5,12 @@ ghost use Rattle.shop_wire.specs.Replays.{IsReplayedFresh};
 ghost use Rattle.shop_wire.specs.Streams.{most_reads};
 ghost use Rattle.shop_wire.specs.declared.faults.ReplayFault.TheVariants.{Read, Write};
 
-use shop_store::MemBook;
+use crate::storeless::StorelessBook;
 use shop_text::{Sink, Source};
 use shop_wire::{ReplayFault, replay};
 use std::alloc::Global;
 
-/// Replays over a fresh book. Each reply is one write, so that a terminal gets it at once.
+/// Replays over a fresh book, under which no store can fail.
 pub fn replay_fresh<S: Source, W: Sink>(
     alloc: Global,
     source: &mut S,
@@ -23,6 +23,6 @@ pub fn replay_fresh<S: Source, W: Sink>(
     ensures reads { S.reads source.new ≤ S.reads source.old + most_reads }
     ensures write { result ≡ Err Write → HasFailed (W.failed sink.old) (W.failed sink.new) }
 {
-    let mut book = MemBook::new(alloc);
+    let mut book = StorelessBook::new(alloc);
     replay(alloc, source, sink, &mut book)
 }

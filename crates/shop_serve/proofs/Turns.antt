@@ -3,7 +3,9 @@ use Rattle.std.proofs.Common.{◌≡◌, ◌≢◌, ◌∙◌, ℕ, ◌+◌, ◌
 use Rattle.std.proofs.lemmas.List.{append_assoc, append-nil, length-append}
 use Rattle.std.specs.Prelude.{◌⊎◌, Option, Some}
 use Rattle.shop_desk.specs.Handled.{HasAccount}
+use Rattle.shop_desk.specs.Faults.{CountsUp}
 use Rattle.shop_desk.proofs.Accounts.{account_same, account_more}
+use Rattle.shop_desk.proofs.Blame.{up_more, failed_first, failed_last}
 use Rattle.shop_machine.specs.Content.{Content}
 use Rattle.shop_request.specs.Guards.{HasRuling}
 use Rattle.shop_request.specs.declared.guards.Ruling.{Ruling}
@@ -13,7 +15,7 @@ use Rattle.shop_book.specs.declared.books.Book.{Ghosts}
 use Rattle.shop_wire.specs.Serves.{exchanged, IsServed}
 use Rattle.shop_serve.specs.declared.sites.Site.{Site}
 use Rattle.shop_serve.specs.Sites.{is_routed, own_bytes}
-use Rattle.shop_serve.specs.Serving.{Turn, Deed, routed, ruled, InTurn, exchange_of, exchanges, HasServed, Advances}
+use Rattle.shop_serve.specs.Serving.{Turn, Deed, routed, ruled, InTurn, exchange_of, exchanges, TellsFailure, TellOfFailures, HasServed, Advances}
 
 -- what goes to its route, and what doesn't
 pub is_route : (r : Ruling) → is_routed r ≡ true → r ≡ Routed
@@ -34,11 +36,17 @@ exchanges-append [] ts = refl
 exchanges-append (s ∷ ss) ts =
     ap (λ es. exchange_of s.deed ++ es) (exchanges-append ss ts) ∙ sym (append_assoc (exchange_of s.deed) (exchanges ss) (exchanges ts))
 
+-- turns, and then more of them
+blame-append : (a b c : ℕ) (ss ts : List Turn) → CountsUp a b → CountsUp b c → TellOfFailures ss a b → TellOfFailures ts b c → TellOfFailures (ss ++ ts) a c
+blame-append a b c [] ts up next first second t i e = failed_last a b c up (second t i e) next
+blame-append a b c (s ∷ ss) ts up next first second t (inl is) e = failed_first a b c (first t (inl is) e) next
+blame-append a b c (s ∷ ss) ts up next first second t (inr i) e = blame-append a b c ss ts up next (λ t i. first t (inr i)) second t i e
+
 module _ (site : Site) {B : Type 0} (book : Ghosts B) where
   -- none
   pub none_served : (here : B) (count : ℕ) → HasServed site book here here count
   none_served here count honest m held sound =
-      record { served = []; few = omega arith; next = m; run = refl; held = held; sound = sound; account = account_same json_texts m m refl }
+      record { served = []; few = omega arith; next = m; run = refl; held = held; sound = sound; failures = inl refl; blame = λ t i. absurd i; account = account_same json_texts m m refl }
 
   -- nothing was done
   pub none_done : (before after : B) (count : ℕ) → after ≡ before → HasServed site book before after count
@@ -49,8 +57,9 @@ module _ (site : Site) {B : Type 0} (book : Ghosts B) where
   GoesToRoute input = HasRuling site.guard.port site.guard.has_page input Routed
 
   -- one was served
-  served_once : (before after : B) (input : List ℕ) (old new : Option (List ℕ)) (unwritten : List ℕ) → 0 < length input → GoesToRoute input → IsServed book before after (Some input) old new unwritten → HasServed site book before after 1
-  served_once before after input old new unwritten some goes s honest m held sound =
+  served_once : (before after : B) (input : List ℕ) (old new : Option (List ℕ)) (unwritten : List ℕ) → 0 < length input → GoesToRoute input
+      → CountsUp (book.failed before) (book.failed after) → IsServed book before after (Some input) old new unwritten → HasServed site book before after 1
+  served_once before after input old new unwritten some goes up s honest m held sound =
       let telling = s.2.telling in
       let done = s.2.run honest m held sound in
       let turn : Turn = record { input = input; deed = routed s.0 telling; answer = s.2.bytes } in
@@ -61,19 +70,21 @@ module _ (site : Site) {B : Type 0} (book : Ghosts B) where
         run = (done.next, (some, (goes, s.1, (unwritten, s.2.told))), done.step, refl);
         held = done.held;
         sound = done.sound;
+        failures = up;
+        blame = λ t i e. elim i [ inl is ↦ done.blame (subst (λ (t : Turn). TellsFailure t.deed) is e) | inr none ↦ absurd none ];
         account = subst (λ es. HasAccount json_texts m (map (λ e. e.0) es) (map (λ e. e.1) es) done.next) (sym (append-nil (exchanged s.0 telling))) done.account;
       }
 
-  pub one_served : (before after : B) (input : List ℕ) (left old new : Option (List ℕ)) (unwritten : List ℕ) → left ≡ Some input → 0 < length input → GoesToRoute input → IsServed book before after left old new unwritten
-      → HasServed site book before after 1
-  one_served before after input left old new unwritten is some goes s =
-      served_once before after input old new unwritten some goes (subst (λ l. IsServed book before after l old new unwritten) is s)
+  pub one_served : (before after : B) (input : List ℕ) (left old new : Option (List ℕ)) (unwritten : List ℕ) → left ≡ Some input → 0 < length input → GoesToRoute input
+      → CountsUp (book.failed before) (book.failed after) → IsServed book before after left old new unwritten → HasServed site book before after 1
+  one_served before after input left old new unwritten is some goes up s =
+      served_once before after input old new unwritten some goes up (subst (λ l. IsServed book before after l old new unwritten) is s)
 
   -- one was, or nothing was done
   pub one_done : (before after : B) (input : List ℕ) (left old new : Option (List ℕ)) (Same : Type 0) → left ≡ Some input → 0 < length input → GoesToRoute input
-      → ((after ≡ before) × Same) ⊎ ((unwritten : List ℕ) × IsServed book before after left old new unwritten) → HasServed site book before after 1
-  one_done before after input left old new Same is some goes (inl same) = none_done before after 1 same.0
-  one_done before after input left old new Same is some goes (inr s) = one_served before after input left old new s.0 is some goes s.1
+      → CountsUp (book.failed before) (book.failed after) → ((after ≡ before) × Same) ⊎ ((unwritten : List ℕ) × IsServed book before after left old new unwritten) → HasServed site book before after 1
+  one_done before after input left old new Same is some goes up (inl same) = none_done before after 1 same.0
+  one_done before after input left old new Same is some goes up (inr s) = one_served before after input left old new s.0 is some goes up s.1
 
   -- the site answered one by itself
   pub one_ruled : (here : B) (input : List ℕ) (r : Ruling) → 0 < length input → HasRuling site.guard.port site.guard.has_page input r → r ≢ Routed → HasServed site book here here 1
@@ -86,6 +97,8 @@ module _ (site : Site) {B : Type 0} (book : Ghosts B) where
         run = (m, (some, (rules, other, refl)), refl, refl);
         held = held;
         sound = sound;
+        failures = inl refl;
+        blame = λ t i e. elim i [ inl is ↦ subst (λ (t : Turn). TellsFailure t.deed) is e | inr none ↦ absurd none ];
         account = account_same json_texts m m refl;
       }
 
@@ -101,6 +114,8 @@ module _ (site : Site) {B : Type 0} (book : Ghosts B) where
         run = turns-append site m first.next second.next first.served second.served first.run second.run;
         held = second.held;
         sound = second.sound;
+        failures = up_more (book.failed before) (book.failed mid) (book.failed after) first.failures second.failures;
+        blame = blame-append (book.failed before) (book.failed mid) (book.failed after) first.served second.served first.failures second.failures first.blame second.blame;
         account = subst (λ es. HasAccount json_texts m (map (λ e. e.0) es) (map (λ e. e.1) es) second.next) (sym (exchanges-append first.served second.served))
             (account_more json_texts m first.next second.next (exchanges first.served) (exchanges second.served) first.account second.account);
       }
@@ -116,6 +131,8 @@ module _ (site : Site) {B : Type 0} (book : Ghosts B) where
         run = done.run;
         held = done.held;
         sound = done.sound;
+        failures = done.failures;
+        blame = done.blame;
         account = done.account;
       }
 

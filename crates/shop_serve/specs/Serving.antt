@@ -1,11 +1,15 @@
 -- Connections that were served, one request after another.
-use Rattle.std.specs.Prelude.{◌≡◌, ◌≢◌, ◌⊎◌, ◌<◌, ◌≤◌, ◌+◌, ℕ, List, [], ◌∷◌, ◌++◌, length, map, Some}
+use Rattle.std.specs.Prelude.{◌≡◌, ◌≢◌, ◌⊎◌, ◌<◌, ◌≤◌, ◌+◌, ℕ, List, [], ◌∷◌, ◌++◌, length, map, Some, ⊥}
 use Rattle.std.specs.List.{flat_map}
+use Rattle.shop_desk.specs.Faults.{CountsUp, StoreFailed}
 use Rattle.shop_desk.specs.Handled.{HasAccount}
 use Rattle.shop_machine.specs.Content.{Content}
+use Rattle.shop_machine.specs.History.{IsIn}
 use Rattle.shop_machine.specs.Soundness.{IsSound}
 use Rattle.shop_machine.specs.declared.messages.Message.{Message}
 use Rattle.shop_machine.specs.declared.messages.Reply.{Reply}
+use Rattle.shop_machine.specs.declared.messages.Reply.TheVariants.{Refused}
+use Rattle.shop_machine.specs.declared.refusals.Refusal.TheVariants.{StoreFault}
 use Rattle.shop_request.specs.Guards.{HasRuling}
 use Rattle.shop_request.specs.declared.guards.Ruling.{Ruling}
 use Rattle.shop_request.specs.declared.guards.Ruling.TheVariants.{Routed}
@@ -15,7 +19,7 @@ use Rattle.shop_serve.specs.declared.faults.ServeFault.{ServeFault}
 use Rattle.shop_serve.specs.declared.faults.ServeFault.TheVariants.{NoMemory, Port}
 use Rattle.shop_book.specs.declared.books.Book.{Ghosts}
 use Rattle.shop_book.specs.Kept.{Says}
-use Rattle.shop_wire.specs.AnswerBytes.{Telling, bytes_of}
+use Rattle.shop_wire.specs.AnswerBytes.{Telling, replied, bytes_of}
 use Rattle.shop_wire.specs.Serves.{SenseStep, exchanged, IsServed}
 use Rattle.shop_serve.specs.Sites.{own_bytes}
 use Rattle.shop_serve.specs.declared.sites.Site.{Site}
@@ -62,20 +66,32 @@ exchange_of (ruled r) = []
 abbrev pub exchanges : List Turn → List (Message × Reply)
 exchanges = flat_map (λ t. exchange_of t.deed)
 
+-- a failed store is told
+abbrev pub TellsFailure : Deed → Type 0
+TellsFailure (routed sense telling) = telling ≡ replied (Refused StoreFault)
+TellsFailure (ruled r) = ⊥
+
+-- a failed store is told of only where it failed meanwhile
+abbrev pub TellOfFailures : List Turn → ℕ → ℕ → Type 0
+TellOfFailures served before after = (t : Turn) → IsIn t served → TellsFailure t.deed → StoreFailed before after
+
 -- The book held old and holds next, and at most so many requests led from one to the other, each of which came as some bytes.
--- Where a history gives old, one with each message that was accepted, once, gives next, and this is its account.
-pub record HasServedTurns (site : Site) {B : Type 0} (book : Ghosts B) (after : B) (old : Content) (count : ℕ) : Type 0 where
+-- A failed store was told of only where it failed. Where a history gives old, one with each message that was accepted, once,
+-- gives next, and this is its account.
+pub record HasServedTurns (site : Site) {B : Type 0} (book : Ghosts B) (before after : B) (old : Content) (count : ℕ) : Type 0 where
   pub served : List Turn
   pub few : length served ≤ count
   pub next : Content
   pub run : InTurn site old served next
   pub held : book.holds after next
   pub sound : IsSound json_texts next
+  pub failures : CountsUp (book.failed before) (book.failed after)
+  pub blame : TellOfFailures served (book.failed before) (book.failed after)
   pub account : HasAccount json_texts old (map (λ e. e.0) (exchanges served)) (map (λ e. e.1) (exchanges served)) next
 
 -- at most so many requests were served by a book: each sound content that an honest one held led to one that it holds now
 abbrev pub HasServed : Site → {B : Type 0} → Ghosts B → B → B → ℕ → Type 0
-HasServed site book before after count = Says book before after (λ m. IsSound json_texts m → HasServedTurns site book after m count)
+HasServed site book before after count = Says book before after (λ m. IsSound json_texts m → HasServedTurns site book before after m count)
 
 -- a count rose from one number to another, and at most that many requests were served
 abbrev pub Advances : Site → {B : Type 0} → Ghosts B → B → B → ℕ → ℕ → Type 0

@@ -1,6 +1,6 @@
 -- What a request was told, and what it did.
 use Rattle.std.proofs.Common.{◌≡◌, ◌≢◌, ℕ, ◌+◌, ◌⊎◌, arith, nat_lt, inl, inr, List, map, Bool, true, false, Option, Some, None, Result, Ok, Err, refl, sym, ap, subst, ◌∙◌}
-use Rattle.std.specs.Prelude.{MatchOption, if◌then◌else◌}
+use Rattle.std.specs.Prelude.{MatchOption, option_map, ⊤, if◌then◌else◌}
 use Rattle.std.specs.declared.string.String.{String}
 use Rattle.shop_machine.specs.declared.messages.Message.{Message as MessageOf}
 use Rattle.shop_machine.specs.declared.messages.Query.{Query}
@@ -22,12 +22,15 @@ use Rattle.shop_desk.proofs.Steps.{fault_step}
 use Rattle.shop_desk.proofs.Blame.{up_reply}
 use Rattle.shop_desk.proofs.Accounts.{account_same, account_step}
 use Rattle.shop_text.specs.Printing.{CountsRefusal, IsFailure, IsTold}
+use Rattle.shop_text.specs.Tickets.{ticket_of}
+use Rattle.shop_text.specs.Yields.{yield_of}
+use Rattle.shop_text.proofs.ToldTickets.{ticket_told, report_told}
 use Rattle.shop_request.specs.declared.routes.Route.{Route}
 use Rattle.shop_request.specs.declared.routes.Route.TheVariants.{Message, Plan, Bound, Totals, Rack, Trace, Demand, Ticket, Yield, Materials, Parts, PartsBehind, Demands, DemandsOf, Jobs, Job, Terminal}
 use Rattle.shop_request.specs.Requests.{asking}
 use Rattle.shop_wire.specs.AnswerBytes.{Telling, replied, printed}
 use Rattle.shop_wire.specs.Replays.{IsNoMessage, line_message}
-use Rattle.shop_wire.specs.Serves.{AskStep, HasServed, MessageStep, PrintStep, TellsText, asked_at, text_at, with_reply}
+use Rattle.shop_wire.specs.Serves.{AskStep, HasServed, MessageStep, PrintStep, TellsText, asked_at, code_at, numbered, text_at, with_reply}
 use Rattle.shop_wire.specs.Tellings.{IsToldOf, IsUnread, PrintsCounted, TellsCounted}
 use Rattle.shop_wire.proofs.Meant.{unread_not_store}
 
@@ -72,15 +75,23 @@ failed_by a b false e is = inr is
 store_failed : (a b : ℕ) → b ≡ one_more_failure a → StoreFailed a b
 store_failed a b is = failed_by a b (nat_lt a MOST_FAILURES) refl is
 
-text_blame : (said : Result (List ℕ) Refusal) (refusal : Refusal) (a b : ℕ) → (said ≡ Err refusal) ⊎ IsFailure refusal a b → refusal ≡ StoreFault → StoreFailed a b ⊎ (Some said ≡ Some (Err StoreFault))
-text_blame said refusal a b (inl is) e = inr (ap Some (is ∙ ap Err e))
-text_blame said refusal a b (inr (inl p)) e = absurd (cc (sym p.0 ∙ e))
-text_blame said refusal a b (inr (inr p)) e = inl (store_failed a b p.1)
+text_blame : (said : Result (List ℕ) Refusal) (refusal : Refusal) (a b : ℕ) → said ≢ Err StoreFault → (said ≡ Err refusal) ⊎ IsFailure refusal a b → refusal ≡ StoreFault → StoreFailed a b
+text_blame said refusal a b agrees (inl is) e = absurd (agrees (is ∙ ap Err e))
+text_blame said refusal a b agrees (inr (inl p)) e = absurd (cc (sym p.0 ∙ e))
+text_blame said refusal a b agrees (inr (inr p)) e = store_failed a b p.1
 
-printed_blame : (o : Option (Result (List ℕ) Refusal)) (telling : Telling) (a b : ℕ) → PrintsCounted o telling a b → telling ≡ replied (Refused StoreFault) → StoreFailed a b ⊎ (o ≡ Some (Err StoreFault))
-printed_blame None telling a b is e = absurd (cc (sym is ∙ e))
-printed_blame (Some said) (printed text) a b h e = absurd (cc e)
-printed_blame (Some said) (replied reply) a b h e = text_blame said h.0 a b h.2 (refused_same h.0 (sym h.1 ∙ told_same reply e))
+-- what is asked for is no contradiction
+abbrev Agrees : Option (Result (List ℕ) Refusal) → Type 0
+Agrees o = MatchOption o ⊤ (λ said. said ≢ Err StoreFault)
+
+printed_blame : (o : Option (Result (List ℕ) Refusal)) (telling : Telling) (a b : ℕ) → Agrees o → PrintsCounted o telling a b → telling ≡ replied (Refused StoreFault) → StoreFailed a b
+printed_blame None telling a b agrees is e = absurd (cc (sym is ∙ e))
+printed_blame (Some said) (printed text) a b agrees h e = absurd (cc e)
+printed_blame (Some said) (replied reply) a b agrees h e = text_blame said h.0 a b agrees h.2 (refused_same h.0 (sym h.1 ∙ told_same reply e))
+
+asked_agrees : {X : Type 0} (says : X → Result (List ℕ) Refusal) → ((x : X) → says x ≢ Err StoreFault) → (o : Option X) → Agrees (option_map says o)
+asked_agrees says agrees None = tt
+asked_agrees says agrees (Some x) = agrees x
 
 -- a text that was made, or the refusal that stands for it
 pub told_counted : {Z : Type 0} (r : Result (String Z) Refusal) (telling : Telling) (a b : ℕ) (said : Result (List ℕ) Refusal) → IsToldOf r telling → IsTold a b r said → TellsCounted said telling a b
@@ -133,7 +144,7 @@ module _ {B : Type 0} (book : Ghosts B) (before after : B) (m : Content) where
         step = subst (λ (o : Option MessageOf). MatchOption o (IsNoMessage m reply next) (λ message. Step json_texts m message reply next)) (sym is) step;
         held = held;
         sound = sound;
-        blame = λ e. inl (blame (told_same reply e));
+        blame = λ e. blame (told_same reply e);
         account = subst (λ o. AccountOf m o (replied reply) next) (sym is) (account_step json_texts m next message reply is_message step);
       }
 
@@ -157,25 +168,25 @@ module _ {B : Type 0} (book : Ghosts B) (before after : B) (m : Content) where
     asked_served Message text reply a b c step blame = absurd (a refl)
     asked_served Ticket text reply a b c step blame = absurd (b refl)
     asked_served Yield text reply a b c step blame = absurd (c refl)
-    asked_served Plan text reply a b c step blame = record { next = m; step = step; held = held; sound = sound; blame = λ e. inl (blame (told_same reply e)); account = account_same json_texts m m refl }
-    asked_served Bound text reply a b c step blame = record { next = m; step = step; held = held; sound = sound; blame = λ e. inl (blame (told_same reply e)); account = account_same json_texts m m refl }
-    asked_served Totals text reply a b c step blame = record { next = m; step = step; held = held; sound = sound; blame = λ e. inl (blame (told_same reply e)); account = account_same json_texts m m refl }
-    asked_served Rack text reply a b c step blame = record { next = m; step = step; held = held; sound = sound; blame = λ e. inl (blame (told_same reply e)); account = account_same json_texts m m refl }
-    asked_served Trace text reply a b c step blame = record { next = m; step = step; held = held; sound = sound; blame = λ e. inl (blame (told_same reply e)); account = account_same json_texts m m refl }
-    asked_served Demand text reply a b c step blame = record { next = m; step = step; held = held; sound = sound; blame = λ e. inl (blame (told_same reply e)); account = account_same json_texts m m refl }
-    asked_served Materials text reply a b c step blame = record { next = m; step = step; held = held; sound = sound; blame = λ e. inl (blame (told_same reply e)); account = account_same json_texts m m refl }
-    asked_served Parts text reply a b c step blame = record { next = m; step = step; held = held; sound = sound; blame = λ e. inl (blame (told_same reply e)); account = account_same json_texts m m refl }
-    asked_served PartsBehind text reply a b c step blame = record { next = m; step = step; held = held; sound = sound; blame = λ e. inl (blame (told_same reply e)); account = account_same json_texts m m refl }
-    asked_served Demands text reply a b c step blame = record { next = m; step = step; held = held; sound = sound; blame = λ e. inl (blame (told_same reply e)); account = account_same json_texts m m refl }
-    asked_served DemandsOf text reply a b c step blame = record { next = m; step = step; held = held; sound = sound; blame = λ e. inl (blame (told_same reply e)); account = account_same json_texts m m refl }
-    asked_served Jobs text reply a b c step blame = record { next = m; step = step; held = held; sound = sound; blame = λ e. inl (blame (told_same reply e)); account = account_same json_texts m m refl }
-    asked_served Job text reply a b c step blame = record { next = m; step = step; held = held; sound = sound; blame = λ e. inl (blame (told_same reply e)); account = account_same json_texts m m refl }
-    asked_served Terminal text reply a b c step blame = record { next = m; step = step; held = held; sound = sound; blame = λ e. inl (blame (told_same reply e)); account = account_same json_texts m m refl }
+    asked_served Plan text reply a b c step blame = record { next = m; step = step; held = held; sound = sound; blame = λ e. blame (told_same reply e); account = account_same json_texts m m refl }
+    asked_served Bound text reply a b c step blame = record { next = m; step = step; held = held; sound = sound; blame = λ e. blame (told_same reply e); account = account_same json_texts m m refl }
+    asked_served Totals text reply a b c step blame = record { next = m; step = step; held = held; sound = sound; blame = λ e. blame (told_same reply e); account = account_same json_texts m m refl }
+    asked_served Rack text reply a b c step blame = record { next = m; step = step; held = held; sound = sound; blame = λ e. blame (told_same reply e); account = account_same json_texts m m refl }
+    asked_served Trace text reply a b c step blame = record { next = m; step = step; held = held; sound = sound; blame = λ e. blame (told_same reply e); account = account_same json_texts m m refl }
+    asked_served Demand text reply a b c step blame = record { next = m; step = step; held = held; sound = sound; blame = λ e. blame (told_same reply e); account = account_same json_texts m m refl }
+    asked_served Materials text reply a b c step blame = record { next = m; step = step; held = held; sound = sound; blame = λ e. blame (told_same reply e); account = account_same json_texts m m refl }
+    asked_served Parts text reply a b c step blame = record { next = m; step = step; held = held; sound = sound; blame = λ e. blame (told_same reply e); account = account_same json_texts m m refl }
+    asked_served PartsBehind text reply a b c step blame = record { next = m; step = step; held = held; sound = sound; blame = λ e. blame (told_same reply e); account = account_same json_texts m m refl }
+    asked_served Demands text reply a b c step blame = record { next = m; step = step; held = held; sound = sound; blame = λ e. blame (told_same reply e); account = account_same json_texts m m refl }
+    asked_served DemandsOf text reply a b c step blame = record { next = m; step = step; held = held; sound = sound; blame = λ e. blame (told_same reply e); account = account_same json_texts m m refl }
+    asked_served Jobs text reply a b c step blame = record { next = m; step = step; held = held; sound = sound; blame = λ e. blame (told_same reply e); account = account_same json_texts m m refl }
+    asked_served Job text reply a b c step blame = record { next = m; step = step; held = held; sound = sound; blame = λ e. blame (told_same reply e); account = account_same json_texts m m refl }
+    asked_served Terminal text reply a b c step blame = record { next = m; step = step; held = held; sound = sound; blame = λ e. blame (told_same reply e); account = account_same json_texts m m refl }
 
     pub ticket_served : (part : List ℕ) (telling : Telling) → PrintsCounted (text_at m Ticket part) telling (book.failed before) (book.failed after) → HasServed book before after m (asking Ticket part) telling
     ticket_served part telling h =
-        record { next = m; step = printed_step m (text_at m Ticket part) telling _ _ h; held = held; sound = sound; blame = printed_blame (text_at m Ticket part) telling _ _ h; account = account_same json_texts m m refl }
+        record { next = m; step = printed_step m (text_at m Ticket part) telling _ _ h; held = held; sound = sound; blame = printed_blame (text_at m Ticket part) telling _ _ (asked_agrees (ticket_of m) (λ number. ticket_told json_texts m number sound) (numbered part)) h; account = account_same json_texts m m refl }
 
     pub yield_served : (part : List ℕ) (telling : Telling) → PrintsCounted (text_at m Yield part) telling (book.failed before) (book.failed after) → HasServed book before after m (asking Yield part) telling
     yield_served part telling h =
-        record { next = m; step = printed_step m (text_at m Yield part) telling _ _ h; held = held; sound = sound; blame = printed_blame (text_at m Yield part) telling _ _ h; account = account_same json_texts m m refl }
+        record { next = m; step = printed_step m (text_at m Yield part) telling _ _ h; held = held; sound = sound; blame = printed_blame (text_at m Yield part) telling _ _ (asked_agrees (yield_of m) (report_told m) (code_at part)) h; account = account_same json_texts m m refl }

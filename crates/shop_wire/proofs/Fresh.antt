@@ -1,16 +1,17 @@
--- A replay over a fresh book.
+-- A replay over a fresh book whose store can't fail.
 use Rattle.std.proofs.Common.{◌≡◌, List, [], ◌++◌, length, ℕ, Option, Result, Ok, Err, refl}
 use Rattle.std.specs.Prelude.{IfOk, IfErr}
 use Rattle.shop_machine.specs.Content.{fresh}
 use Rattle.shop_machine.proofs.Sound.{gives_sound}
 use Rattle.shop_rules.specs.Forms.{json_texts}
+use Rattle.shop_desk.specs.Faults.{StoreFailed}
 use Rattle.shop_book.specs.declared.books.Book.{Ghosts}
 use Rattle.shop_wire.specs.declared.faults.ReplayFault.{ReplayFault}
 use Rattle.shop_wire.specs.declared.faults.ReplayFault.TheVariants.{Read}
 use Rattle.shop_wire.specs.Lines.{AreLines}
 use Rattle.shop_wire.specs.Replays.{IsReplayed, IsReplayedFresh}
 
-module _ {B : Type 0} (book : Ghosts B) (before after : B) (honest : book.is_honest after) (held : book.holds before fresh) where
+module _ {B : Type 0} (book : Ghosts B) (before after : B) (honest : book.is_honest after) (held : book.holds before fresh) (sure : StoreFailed (book.failed before) (book.failed after) → ⊥) where
   pub from_fresh : (held_old held_new : Option (List ℕ)) (lines : List (List ℕ)) (unwritten : List ℕ)
       → IsReplayed book before after held_old held_new lines unwritten → IsReplayedFresh held_old held_new lines unwritten
   from_fresh held_old held_new lines unwritten r =
@@ -22,7 +23,7 @@ module _ {B : Type 0} (book : Ghosts B) (before after : B) (honest : book.is_hon
         bytes = r.bytes;
         told = r.told;
         written = r.written;
-        run = record { next = one.next; run = one.run; history = later.0; messages = later.1; account = later.2 };
+        run = record { next = one.next; run = one.run; blame = λ told. sure (one.blame told); history = later.0; messages = later.1; account = later.2 };
       }
 
   module _ (left held_old held_new : Option (List ℕ)) (result : Result ℕ ReplayFault) where

@@ -3,12 +3,12 @@ use Rattle.std.specs.Prelude.{◌≡◌, ◌≢◌, ℕ, ◌&&◌, List, [], ◌
 use Rattle.std.specs.Str.{is_utf8}
 use Rattle.std.specs.List.{flat_map}
 use Rattle.std.specs.Io.KnownBytes.{Appends}
-use Rattle.shop_machine.specs.declared.refusals.Refusal.TheVariants.{BadMessage, NoMemory}
+use Rattle.shop_machine.specs.declared.refusals.Refusal.TheVariants.{BadMessage, NoMemory, StoreFault}
 use Rattle.shop_machine.specs.declared.messages.Message.{Message}
 use Rattle.shop_machine.specs.declared.messages.Reply.{Reply}
 use Rattle.shop_machine.specs.declared.messages.Reply.TheVariants.{Refused}
 use Rattle.shop_machine.specs.Content.{Content, fresh}
-use Rattle.shop_machine.specs.History.{Entry, messages_of, history_after, IsAccountOf}
+use Rattle.shop_machine.specs.History.{Entry, IsIn, messages_of, history_after, IsAccountOf}
 use Rattle.shop_machine.specs.Machine.{Step, Answers}
 use Rattle.shop_machine.specs.Soundness.{IsSound}
 use Rattle.serde_json.specs.Data.{Data}
@@ -67,11 +67,12 @@ module _ {X : Type 0} (step : Content → X → Reply → Content → Type 0) (m
     pub blame : TellOfFailures replies (book.failed before) (book.failed after)
     pub account : HasAccount json_texts old (map (λ e. e.0) (exchanges asked replies)) (map (λ e. e.1) (exchanges asked replies)) next
 
-  -- A shop in which nothing was done yet was asked this, and answered so: the account is that of the messages that were
-  -- accepted, each once.
+  -- A shop in which nothing was done yet, and under which no store can fail, was asked this, and answered so: no reply tells
+  -- of a failed store, and the account is that of the messages that were accepted, each once.
   pub record IsFromFresh (asked : List X) (replies : List Reply) : Type 0 where
     pub next : Content
     pub run : InTurn fresh asked replies next
+    pub blame : IsIn (Refused StoreFault) replies → ⊥
     pub history : List Entry
     pub messages : messages_of history ≡ history_after [] (map (λ e. e.0) (exchanges asked replies)) (map (λ e. e.1) (exchanges asked replies))
     pub account : IsAccountOf json_texts history next
@@ -100,6 +101,6 @@ IsReplayed book before after held_old held_new lines unwritten =
     AreAnswered (λ replies. Says book before after (λ m. IsSound json_texts m → HasAnswered LineStep line_message book before after m lines replies))
     held_old held_new lines unwritten
 
--- The lines were answered in turn by a shop in which nothing was done yet.
+-- The lines were answered in turn by a shop in which nothing was done yet, and under which no store can fail.
 abbrev pub IsReplayedFresh : Option (List ℕ) → Option (List ℕ) → List (List ℕ) → List ℕ → Type 0
 IsReplayedFresh held_old held_new lines unwritten = AreAnswered (IsFromFresh LineStep line_message lines) held_old held_new lines unwritten

@@ -184,20 +184,14 @@ with_reply _ telling = []
 abbrev pub exchanged : Sense → Telling → List (MessageOf × Reply)
 exchanged sense telling = with_reply (sense_message sense) telling
 
--- rows contradict each other, so that there is no text
-abbrev pub Contradicts : Content → Sense → Type 0
-Contradicts m (asking route part) = text_at m route part ≡ Some (Err StoreFault)
-Contradicts m _ = ⊥
-
--- The book held old and holds next, a step later. A failed store is told of only where it failed, or rows contradict each
--- other. Where a history gives old, one with the message, if it was accepted and isn't a repeat, gives next, and this is its
--- account.
+-- The book held old and holds next, a step later. A failed store is told of only where it failed. Where a history gives
+-- old, one with the message, if it was accepted and isn't a repeat, gives next, and this is its account.
 pub record HasServed {B : Type 0} (book : Ghosts B) (before after : B) (old : Content) (sense : Sense) (telling : Telling) : Type 0 where
   pub next : Content
   pub step : SenseStep old sense telling next
   pub held : book.holds after next
   pub sound : IsSound json_texts next
-  pub blame : telling ≡ replied (Refused StoreFault) → StoreFailed (book.failed before) (book.failed after) ⊎ Contradicts old sense
+  pub blame : telling ≡ replied (Refused StoreFault) → StoreFailed (book.failed before) (book.failed after)
   pub account : HasAccount json_texts old (map (λ e. e.0) (exchanged sense telling)) (map (λ e. e.1) (exchanged sense telling)) next
 
 -- An input of this sense was served, and the answer written but for some last bytes; this is said of what was told.

@@ -1,4 +1,5 @@
-use Rattle.std.proofs.Common.{◌≡◌, sym, subst, inl, inr, refl}
+use Rattle.std.proofs.Common.{◌≡◌, refl, sym, subst, inl, inr}
+use Rattle.std.proofs.lemmas.Result.{err_from_is_err_and}
 use Rattle.shop_commands.specs.Stored.{IsShopRead, IsBookServed, IsBookUnserved}
 use Rattle.shop_commands.proofs.Opened.{of_ok, of_err}
 use Rattle.shop_commands.proofs.stored.serve.Goals as goal
@@ -24,4 +25,9 @@ returns-clause-err g c =
     let new = g.W.Sink.held c.serve_book-served.new.sink in
     let stopped = of_err (λ f. IsBookUnserved g.B.Book site before after entries c.args.port c.args.limit f old new (g.W.Sink.failed c.args.sink.now) (g.W.Sink.failed c.serve_book-served.new.sink))
     c.serve_book-served.result c.in-Err.fault c.in-Err.is c.serve_book-served.ensures.err in
-    inr (inr (inr (entries, subst IsShopRead (sym c.as_slice.ensures) c.in_ok-entries.ensures.ok.0, site, c.in_ok-site.ensures.ok, before, after, c.in_ok-book.ensures.ok, stopped)))
+    inr (entries, subst IsShopRead (sym c.as_slice.ensures) c.in_ok-entries.ensures.ok.0, inr (site, c.in_ok-site.ensures.ok, inr (before, after, c.in_ok-book.ensures.ok, stopped)))
+
+pub returns-in_err-book-clause-err : goal.returns-in_err-book-clause-err
+returns-in_err-book-clause-err g c =
+    let exit = err_from_is_err_and c.from_residual-in_err-book.result c.from_residual-in_err-book.ensures.1 in
+    rw (exit.1, exit.2) (inr (c.in_ok-entries.entries, c.in_ok-entries.ensures.ok.0, inr (c.in_ok-site.site, c.in_ok-site.ensures.ok, inl (c.in_err-book.ensures.err, refl))))
