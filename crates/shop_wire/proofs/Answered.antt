@@ -26,6 +26,7 @@ use Rattle.shop_desk.proofs.Steps.{fault_step}
 use Rattle.shop_desk.proofs.Blame.{tell_one}
 use Rattle.shop_desk.proofs.Accounts.{account_same, account_step}
 use Rattle.shop_wire.specs.Lines.{kept_of, longest_line}
+use Rattle.shop_wire.specs.Tellings.{IsUnread}
 use Rattle.shop_wire.specs.Replays.{data_of, IsNoMessage, ValueStep, LineStep, line_message, HasAnswered}
 
 pub not_store : (refusal : Refusal) → refusal ≡ BadMessage → refusal ≢ StoreFault
@@ -97,8 +98,17 @@ data_long line long = ap (λ (short : Bool). if short && is_utf8 line then read 
 pub line_answered : (old new : Content) (line : List ℕ) (d : Data) (reply : Reply) → data_of line ≡ Some d → ValueStep old d reply new → LineStep old line reply new
 line_answered old new line d reply is step = subst (λ (o : Option Data). MatchOption o (IsNoMessage old reply new) (λ d. ValueStep old d reply new)) (sym is) step
 
-pub line_refused : (old : Content) (line : List ℕ) → data_of line ≡ None → LineStep old line (Refused BadMessage) old
+line_refused : (old : Content) (line : List ℕ) → data_of line ≡ None → LineStep old line (Refused BadMessage) old
 line_refused old line is = subst (λ (o : Option Data). MatchOption o (IsNoMessage old (Refused BadMessage) old) (λ d. ValueStep old d (Refused BadMessage) old)) (sym is) ((λ _. refl), refl)
+
+-- a line that isn't read is refused
+line_no_memory : (old : Content) (o : Option Data) → MatchOption o (IsNoMessage old (Refused NoMemory) old) (λ d. ValueStep old d (Refused NoMemory) old)
+line_no_memory old None = ((λ no. absurd (no refl)), refl)
+line_no_memory old (Some d) = of_no_memory old d
+
+pub line_unread : (old : Content) (line : List ℕ) (refusal : Refusal) → IsUnread refusal (data_of line) → LineStep old line (Refused refusal) old
+line_unread old line refusal (inl is) = subst (λ (r : Refusal). LineStep old line (Refused r) old) (sym is) (line_no_memory old (data_of line))
+line_unread old line refusal (inr why) = subst (λ (r : Refusal). LineStep old line (Refused r) old) (sym why.0) (line_refused old line why.1)
 
 pub not_memory : {M : Type 0} (b : Bool) → (M → b ≡ true) → b ≡ false → ¬ M
 not_memory b told is m = cc (told m)

@@ -60,24 +60,21 @@ pub(crate) fn value_in(alloc: Global, line: &[u8]) -> Result<Value, Refusal>
     }
 }
 
-/// The reply to a line, and its text, where it was written to be kept.
+/// The reply to a line, and its text, where it was written to be kept. Refused `NoMemory` where memory runs out while the line is
+/// read.
 pub(crate) fn answer<B: Book>(
     alloc: Global,
     book: &mut B,
     line: &[u8],
-) -> Result<(Reply, Option<Text>), AllocError>
-    ensures ok { IfOk result (λ told. Says B.Book book.old book.new (λ m. IsSound json_texts m → HasAnswered LineStep line_message B.Book book.old book.new m (line.now ∷ []) (told.0 ∷ []))) }
-    ensures told { IfOk result (λ told. IfSome told.1 (λ text. text ≡ json_texts.of_reply told.0)) }
-    ensures err { OnErr result (book.new ≡ book.old) }
+) -> (Reply, Option<Text>)
+    ensures step { Says B.Book book.old book.new (λ m. IsSound json_texts m → HasAnswered LineStep line_message B.Book book.old book.new m (line.now ∷ []) (result.0 ∷ [])) }
+    ensures told { IfSome result.1 (λ text. text ≡ json_texts.of_reply result.0) }
     ensures honest { B.is_honest book.new → B.is_honest book.old }
     ensures failures { CountsUp (B.failed book.old) (B.failed book.new) }
 {
     match value_in(alloc, line) {
-        Ok(value) => Ok(reply_to(alloc, book, &value)),
-        Err(refusal) => match refusal {
-            Refusal::NoMemory => Err(AllocError),
-            _ => Ok((Reply::Refused(Refusal::BadMessage), None)),
-        },
+        Ok(value) => reply_to(alloc, book, &value),
+        Err(refusal) => (Reply::Refused(refusal), None),
     }
 }
 

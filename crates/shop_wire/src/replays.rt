@@ -10,7 +10,7 @@ ghost use Rattle.shop_wire.specs.declared.faults.ReplayFault.TheVariants.{Read, 
 
 use crate::answers::{answer, hold_told};
 use crate::faults::ReplayFault;
-use crate::limits::MOST_HELD;
+use crate::limits::{LONGEST_LINE, MOST_HELD};
 use crate::reader::LineReader;
 use shop_book::Book;
 use shop_text::{Sink, Source, write_all};
@@ -30,9 +30,7 @@ fn hold_reply<B: Book>(
     ensures failures { CountsUp (B.failed book.old) (B.failed book.new) }
     ensures fault { IfErr result (λ fault. fault ≡ NoMemory) }
 {
-    let Ok((reply, told)) = answer(alloc, book, line) else {
-        return Err(ReplayFault::NoMemory);
-    };
+    let (reply, told) = answer(alloc, book, line);
     match hold_told(alloc, &reply, told, held) {
         Ok(()) => Ok(()),
         Err(_) => Err(ReplayFault::NoMemory),
@@ -103,7 +101,9 @@ fn answer_lines<S: Source, W: Sink, B: Book>(
     ensures worked { (W.failed sink.new ≡ W.failed sink.old) ⊎ (held.new.items ≡ []) }
 {
     let mut reader = LineReader::new();
-    let mut line = Vec::new(alloc);
+    let Ok(mut line) = Vec::with_capacity(alloc, LONGEST_LINE + 1) else {
+        return Err(ReplayFault::NoMemory);
+    };
     let mut count = 0u64;
     while reader.next_line(source, &mut line)? {
         hold_reply(alloc, &line, book, held)?;
@@ -115,10 +115,11 @@ fn answer_lines<S: Source, W: Sink, B: Book>(
 
 /// Answers each line of a source by a line of a sink, and tells how many there were. Each line that ends in a line feed
 /// is one, and a last one without it that isn't empty. An empty line and one of over 131072 bytes are no messages.
-/// Replies go out before the source is read for the next line, and where 65536 bytes are held.
+/// Replies go out before the source is read for the next line, and where 65536 bytes are held. A line for which memory runs
+/// out while it is read or done is refused 98.
 ///
-/// `Read` where the source failed, or 1000000000 reads didn't come to its end; `Write` where the sink failed;
-/// `NoMemory` for want of memory. Then some first lines were answered, and their replies were written but for some last
+/// `Read` where the source failed, or 1000000000 reads didn't come to its end; `Write` where the sink failed; `NoMemory`
+/// where there is no memory for a line or for its reply. Then some first lines were answered, and their replies were written but for some last
 /// bytes; after `Read` all of them.
 pub fn replay<S: Source, W: Sink, B: Book>(
     alloc: Global,
@@ -138,7 +139,9 @@ pub fn replay<S: Source, W: Sink, B: Book>(
         ⊎ (AreReads (S.reads source.old) most_reads (S.reads source.new) × IsLong 0 (S.left source.old)) }
     ensures write { result ≡ Err Write → HasFailed (W.failed sink.old) (W.failed sink.new) }
 {
-    let mut held = Vec::new(alloc);
+    let Ok(mut held) = Vec::with_capacity(alloc, MOST_HELD + LONGEST_LINE) else {
+        return Err(ReplayFault::NoMemory);
+    };
     let outcome = answer_lines(alloc, source, sink, book, &mut held);
     pass_on(sink, &mut held)?;
     outcome

@@ -1,23 +1,12 @@
-use Rattle.std.proofs.Common.{◌∷◌, ◌++◌, [], Some, refl, sym, ap, subst, ◌∙◌, append-nil}
-use Rattle.std.proofs.KnownBytes.{Appends-nil}
-use Rattle.shop_wire.specs.Replays.{IsReplayed, reply_line}
-use Rattle.shop_wire.proofs.Replayed.{none_replayed, one_replayed}
+use Rattle.std.proofs.Common.{◌∷◌, ◌++◌, [], Some, refl, append-nil}
+use Rattle.shop_wire.specs.Replays.{reply_line}
+use Rattle.shop_wire.proofs.Replayed.{one_replayed}
 use Rattle.shop_wire.proofs.replays.hold_reply.Goals as goal
 
-pub returns-in_default-clause-err : goal.returns-in_default-clause-err
-returns-in_default-clause-err g c = (
-  [],
-  c.args.line.now ∷ [],
-  refl,
-  [],
-  subst (λ book. IsReplayed g.B.Book book c.answer.new.book (Some c.args.held.now.items) (Some c.args.held.now.items) [] []) c.in_default.ensures.err
-      (none_replayed g.B.Book c.answer.new.book (Some c.args.held.now.items)),
-)
-
-pub returns-in-Ok-hold_told-clause-ok : goal.returns-in-Ok-hold_told-clause-ok
-returns-in-Ok-hold_told-clause-ok g c =
+pub returns-in-Ok-clause-ok : goal.returns-in-Ok-clause-ok
+returns-in-Ok-clause-ok g c =
     one_replayed g.B.Book c.args.book.now c.answer.new.book (Some c.args.held.now.items) (Some c.hold_told.new.held.items)
-    c.args.line.now c.in-Ok.reply (reply_line c.in-Ok.reply) [] (append-nil (reply_line c.in-Ok.reply)) c.in-Ok-hold_told.ensures.ok c.in-Ok.ensures.ok
+    c.args.line.now c.answer.result.0 (reply_line c.answer.result.0) [] (append-nil (reply_line c.answer.result.0)) c.in-Ok.ensures.ok c.answer.ensures.step
 
 pub returns-clause-err : goal.returns-clause-err
 returns-clause-err g c =
@@ -27,5 +16,5 @@ returns-clause-err g c =
       refl,
       part.1,
       one_replayed g.B.Book c.args.book.now c.answer.new.book (Some c.args.held.now.items) (Some c.hold_told.new.held.items)
-          c.args.line.now c.in-Ok.reply part.0 part.1 part.2 part.3 c.in-Ok.ensures.ok,
+          c.args.line.now c.answer.result.0 part.0 part.1 part.2 part.3 c.answer.ensures.step,
     )
