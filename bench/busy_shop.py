@@ -3,14 +3,16 @@
 
     bench/busy_shop.py [PROGRAM] [--seed N] [--lines N ..] [--million] [--runs N] [--beside PROGRAM] [--files]
 
-PROGRAM is the built program, crates/cutshop/out/cutshop by default. The lines are made from a seed: materials,
-receipts of 1 to 100 units, orders, reservations of bars in stock and of what is left of them, jobs that are done or
-released, questions for totals, traces and demands, and messages that are sent again. A second mix has plenty of orders,
-whose codes come in no order. The script runs the program on each number of lines (1000, 10000 and 100000 by default, and
-1000000 with --million), and prints for each the lines a second, what a line costs in processor time, and the peak memory;
-then the ratio of the cost of a line between the most lines and the fewest: 1.0 means that a line costs the same however
-many came before. With --beside, another program takes the same lines in turn with the first, has to answer the same, and
-the ratio of their costs is told. With --files, bench/books.py goes on with the same numbers of lines over books in files.
+PROGRAM is the built program, crates/cutshop/out/cutshop by default. The lines are made from a seed: materials, receipts
+of 1 to 100 units, orders, reservations of bars in stock and of what is left of them, jobs that are done or released,
+questions for totals, traces and demands, and messages that are sent again. A second mix has plenty of orders, whose
+codes come in no order. A third is a whole day: every command and every question, among them scrap, returns, broken
+jobs, order files, racks, lists and plans. The script runs the program on each number of lines (1000, 10000 and 100000
+by default, and 1000000 with --million), and prints for each the lines a second, what a line costs in processor time,
+and the peak memory; then the ratio of the cost of a line between the most lines and the fewest: 1.0 means that a line
+costs the same however many came before. With --beside, another program takes the same lines in turn with the first, has
+to answer the same, and the ratio of their costs is told. With --files, bench/books.py goes on with the same numbers of
+lines over books in files.
 """
 
 import argparse
@@ -27,9 +29,19 @@ HERE = os.path.dirname(os.path.abspath(__file__))
 PROGRAM = os.path.join(HERE, "..", "crates", "cutshop", "out", "cutshop")
 MATERIALS = 20
 
-# How many of the lines are receipts, orders, reservations, ends of jobs, and repeats; the others are questions.
-BUSY = (0.20, 0.10, 0.25, 0.23, 0.07)
-ORDERS = (0.05, 0.60, 0.10, 0.08, 0.07)
+# How many of the lines are of each kind; the others are questions.
+BUSY = {"receive": 0.20, "order": 0.10, "reserve": 0.25, "end": 0.23, "again": 0.07}
+ORDERS = {"receive": 0.05, "order": 0.60, "reserve": 0.10, "end": 0.08, "again": 0.07}
+DAY = {
+    "receive": 0.12, "order": 0.06, "read": 0.02, "reserve": 0.22, "end": 0.17, "halt": 0.02, "scrap": 0.01,
+    "give_back": 0.01, "again": 0.06,
+}
+
+# How many of a whole day's questions are of each kind; the others are for totals.
+QUESTIONS = {
+    "trace": 0.20, "demand": 0.20, "rack": 0.04, "parts": 0.06, "demands": 0.08, "jobs": 0.08, "job": 0.06,
+    "materials": 0.02, "terminal": 0.04, "plan": 0.06, "bound": 0.02,
+}
 
 
 def code(i):
@@ -63,13 +75,15 @@ class Shop:
     PIECE = 50
     KERF = 3
 
-    def __init__(self, source, mixed):
+    def __init__(self, source, mixed, questions):
         self.source = source
         self.mixed = mixed
+        self.questions = questions
         self.number = MATERIALS
         self.acts = 0
         self.demands = 0
         self.parts = []
+        self.units = set()
         self.open = {}
         self.jobs = []
 
@@ -80,6 +94,7 @@ class Shop:
         if message["h"] == 1:
             for node in range(message["count"]):
                 self.parts.append((f"{self.acts}/{node}", message["material"], message["w"]))
+                self.units.add(f"{self.acts}/{node}")
         return message
 
     def order(self):
@@ -126,38 +141,115 @@ class Shop:
             self.parts.append((f"{job}/{2 * pieces}", material, rest))
         return {"do": "done", "terminal": 1, "number": self.number, "job": job}
 
-    def ask(self):
-        kind = self.source.random()
-        if kind < 0.3 and self.parts:
+    def take(self, is_fit):
+        """A part that stands and is fit, which stands no longer."""
+        for _ in range(min(8, len(self.parts))):
+            i = self.source.randrange(len(self.parts))
+            if is_fit(self.parts[i]):
+                return self.parts.pop(i)
+        return None
+
+    def read(self):
+        """An order that comes as a file."""
+        self.number += 1
+        material = code(2 * self.source.randrange(MATERIALS // 2))
+        rows = ["line,material,length,width,turn,count,worth"]
+        for line in range(1, self.source.randint(2, 20)):
+            self.demands += 1
+            count = self.source.randint(10, 50)
+            self.open.setdefault(material, []).append([self.demands, count])
+            rows.append(f"{line},{material},{self.PIECE / 10:.1f},0.1,no,{count},50")
+        text = "\n".join(rows) + "\n"
+        return {"do": "import", "terminal": 1, "number": self.number, "order": f"F-{self.number}", "form": "csv", "text": text}
+
+    def halt(self):
+        """A job whose work ended early, behind some of its cuts."""
+        if not self.jobs:
+            return None
+        job, _, _, _, pieces, _ = self.jobs.pop(self.source.randrange(len(self.jobs)))
+        self.number += 1
+        made = self.source.randrange(pieces)
+        return {"do": "break", "terminal": 1, "number": self.number, "job": job, "cuts": made, "lost": made == 0}
+
+    def scrap(self):
+        part = self.take(lambda part: True)
+        if part is None:
+            return None
+        self.number += 1
+        return {"do": "scrap", "terminal": 1, "number": self.number, "part": part[0]}
+
+    def give_back(self):
+        part = self.take(lambda part: part[0] in self.units)
+        if part is None:
+            return None
+        self.number += 1
+        return {"do": "return", "terminal": 1, "number": self.number, "part": part[0]}
+
+    def plan(self):
+        """A question for a plan of a part that stands, or for a bound, where there are demands for it."""
+        if not self.parts:
+            return None
+        part, material, w = self.source.choice(self.parts)
+        wanted = self.open.get(material, [])
+        if not wanted or w < self.PIECE:
+            return None
+        return part, material, w, [demand for demand, _ in wanted[-3:]]
+
+    def ask_of(self, kind):
+        if kind == "trace" and self.parts:
             return {"ask": "trace", "part": self.source.choice(self.parts)[0]}
-        if kind < 0.6 and self.demands:
+        if kind == "demand" and self.demands:
             return {"ask": "demand", "demand": self.source.randint(1, self.demands)}
-        return {"ask": "totals", "material": code(self.source.randrange(MATERIALS))}
+        if kind == "demands":
+            return {"ask": "demands", "after": self.source.randint(0, self.demands)}
+        if kind == "jobs":
+            return {"ask": "jobs", "after": 0}
+        if kind == "job" and self.jobs:
+            return {"ask": "job", "job": self.source.choice(self.jobs)[0]}
+        if kind == "materials":
+            return {"ask": "materials"}
+        if kind == "terminal":
+            return {"ask": "terminal", "terminal": 1 + self.source.randrange(8)}
+        if kind in ("plan", "bound") and (found := self.plan()):
+            part, material, w, demands = found
+            if kind == "plan":
+                return {"ask": "plan", "part": part, "demands": demands, "step": 1}
+            return {"ask": "bound", "material": material, "w": w, "h": 1, "demands": demands, "step": 1}
+        material = code(self.source.randrange(MATERIALS))
+        if kind == "parts":
+            return {"ask": "parts", "material": material, "after": ""}
+        return {"ask": "rack" if kind == "rack" else "totals", "material": material}
+
+    def ask(self):
+        return self.ask_of(chosen(self.source, self.questions))
+
+
+# The questions of the first two mixes.
+PLAIN = {"trace": 0.3, "demand": 0.3}
+
+
+def chosen(source, shares):
+    """A kind by its share, or None for the rest."""
+    left = source.random()
+    for kind, share in shares.items():
+        left -= share
+        if left < 0:
+            return kind
+    return None
 
 
 def lines(count, seed, shares=BUSY):
     source = random.Random(seed)
-    shop = Shop(source, shares is ORDERS)
-    bounds = [sum(shares[: i + 1]) for i in range(len(shares))]
+    shop = Shop(source, shares is ORDERS, QUESTIONS if shares is DAY else PLAIN)
     made = [compact(material(i, i + 1)) for i in range(MATERIALS)]
     sent = list(made)
     while len(made) < count:
-        kind = source.random()
-        if kind < bounds[0]:
-            value = shop.receive()
-        elif kind < bounds[1]:
-            value = shop.order()
-        elif kind < bounds[2]:
-            value = shop.reserve()
-        elif kind < bounds[3]:
-            value = shop.end()
-        elif kind < bounds[4]:
-            made.append(source.choice(sent))
-            continue
-        else:
+        kind = chosen(source, shares)
+        if kind is None:
             made.append(compact(shop.ask()))
-            continue
-        if value is not None:
+        elif kind == "again":
+            made.append(source.choice(sent))
+        elif (value := getattr(shop, kind)()) is not None:
             line = compact(value)
             sent.append(line)
             made.append(line)
@@ -240,6 +332,7 @@ def main():
         given.lines.append(1000000)
     measure("busy shop", BUSY, given)
     measure("plenty of orders", ORDERS, given)
+    measure("whole day", DAY, given)
     if given.files:
         counts = [str(count) for count in given.lines]
         subprocess.run([sys.executable, os.path.join(HERE, "books.py"), "--memory", given.program, "--lines", *counts], check=True)

@@ -26,7 +26,8 @@ use std::net::{Net, TcpListener, TcpStream};
 use std::time::Clock;
 
 // What is told where words that `clap` takes ask for nothing.
-const NOTHING_ASKED: &str = "error: the words ask for nothing: a code is 1 to 16 of A-Z, 0-9 and -, and --order, --terminal and --number stand together; try '--help'\n";
+const NOTHING_ASKED: &str =
+    "error: the words ask for nothing: a code is 1 to 16 of A-Z, 0-9 and -, and --order, --terminal and --number stand together; try '--help'\n";
 
 fn fault_line(alloc: Global, fault: Fault) -> Result<String, AllocError>
     ensures { IfOk result (λ text. string_bytes text ≡ spec.fault_line fault) }

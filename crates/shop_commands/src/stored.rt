@@ -116,12 +116,7 @@ fn page_in<R: Files>(rt: &R, alloc: Global, path: Option<&str>) -> Result<Option
 }
 
 // The site of a port, with the page of a file or without one.
-fn site_of<R: Files>(
-    rt: &R,
-    alloc: Global,
-    port: u32,
-    page: Option<&str>,
-) -> Result<Site, Fault>
+fn site_of<R: Files>(rt: &R, alloc: Global, port: u32, page: Option<&str>) -> Result<Site, Fault>
     ensures ok { IfOk result (λ site. IsSite port (option_map (λ p. p.now) page.entry) site) }
     ensures err { IfErr result IsPageUnread }
 {

@@ -62,11 +62,7 @@ pub(crate) fn value_in(alloc: Global, line: &[u8]) -> Result<Value, Refusal>
 
 /// The reply to a line, and its text, where it was written to be kept. Refused `NoMemory` where memory runs out while the line is
 /// read.
-pub(crate) fn answer<B: Book>(
-    alloc: Global,
-    book: &mut B,
-    line: &[u8],
-) -> (Reply, Option<Text>)
+pub(crate) fn answer<B: Book>(alloc: Global, book: &mut B, line: &[u8]) -> (Reply, Option<Text>)
     ensures step { Says B.Book book.old book.new (λ m. IsSound json_texts m → HasAnswered LineStep line_message B.Book book.old book.new m (line.now ∷ []) (result.0 ∷ [])) }
     ensures told { IfSome result.1 (λ text. text ≡ json_texts.of_reply result.0) }
     ensures honest { B.is_honest book.new → B.is_honest book.old }
