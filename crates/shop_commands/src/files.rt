@@ -26,12 +26,7 @@ fn bytes_of<R: Files>(rt: &R, alloc: Global, path: &str, most: usize) -> io::Res
 }
 
 // What a file holds, up to one byte more than these.
-fn read_up_to<R: Files>(
-    rt: &R,
-    alloc: Global,
-    path: &str,
-    most: usize,
-) -> Result<Vec<u8>, Fault>
+fn read_up_to<R: Files>(rt: &R, alloc: Global, path: &str, most: usize) -> Result<Vec<u8>, Fault>
     ensures { IfErr result (λ f. (f ≡ fault.NoMemory) ⊎ (f ≡ fault.File)) }
 {
     match bytes_of(rt, alloc, path, most) {

@@ -152,11 +152,7 @@ fn line_of(
 
 /// The line that is told of an order file's bytes: how many lines they have, or the message that makes an order of them. Their
 /// first fault, or want of memory; `File` for a text that is no UTF-8 and has no fault.
-pub fn orders_line(
-    alloc: Global,
-    told: Option<ImportAs>,
-    text: &[u8],
-) -> Result<String, Fault>
+pub fn orders_line(alloc: Global, told: Option<ImportAs>, text: &[u8]) -> Result<String, Fault>
     ensures ok { IfOk result (λ line. spec.IsOrdersLine told text.now (string_bytes line)) }
     ensures err { IfErr result (spec.IsOrdersFault text.now) }
 {

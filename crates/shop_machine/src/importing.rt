@@ -10,12 +10,12 @@ ghost use Rattle.shop_machine.specs.Importing.{IsRepeat, problem_lines, piece_li
 use crate::changes::Change;
 use crate::decisions::no_change;
 use crate::imports::{Form, ImportRow};
-use crate::kept_texts::Text;
 use crate::messages::{LineList, Reply};
 use crate::ordering::{FoundLine, decide_order, lines_refusal};
 use crate::receiving::decide_receive;
 use crate::records::{Material, Totals};
 use crate::refusals::Refusal;
+use crate::texts::Text;
 use cut_measure::{Code, Size};
 use shop_files::{OrderLine, Piece};
 use std::alloc::{AllocError, Global};

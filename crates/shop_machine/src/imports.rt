@@ -1,4 +1,4 @@
-use crate::kept_texts::Text;
+use crate::texts::Text;
 use cut_measure::Code;
 use std::alloc::{AllocError, Global};
 

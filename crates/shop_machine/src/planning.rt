@@ -9,10 +9,10 @@ ghost use Rattle.shop_machine.specs.declared.messages.Reply.TheVariants.{Refused
 ghost use Rattle.shop_machine.specs.Planning as planning;
 ghost use Rattle.shop_machine.specs.Planning.{AreAsked, AreFound, HasNumber, IsPlanAnswer, IsBoundAnswer, IsPlanned, IsBounded, Tells, are_bad_numbers, numbers_in, planned_size, numbers_refusal};
 
-use crate::kept_texts::Text;
 use crate::messages::Reply;
 use crate::records::{Demand, Material, Part};
 use crate::refusals::Refusal;
+use crate::texts::Text;
 use cut_measure::{Code, Kind, MOST_NUMBERS, RowList, Size};
 use cut_plan::{MOST_WANTS, Want, least_units, plan_bar, plan_sheet};
 use cut_tree::Plan;

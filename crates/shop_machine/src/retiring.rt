@@ -4,7 +4,7 @@ ghost use Rattle.shop_machine.specs.declared.records.State.TheVariants as state;
 ghost use Rattle.shop_machine.specs.Messages.{is_accepted};
 ghost use Rattle.shop_machine.specs.Decisions.{Decides};
 ghost use Rattle.shop_machine.specs.Moving.{has_cells};
-ghost use Rattle.shop_machine.specs.Turning.{scrap_refusal, return_refusal, turn_change};
+ghost use Rattle.shop_machine.specs.Retiring.{scrap_refusal, return_refusal, turn_change};
 
 use crate::changes::{Change, MaterialTotals};
 use crate::decisions::no_change;
