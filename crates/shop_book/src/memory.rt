@@ -1,3 +1,5 @@
+//! The book in memory: rows in the order of their keys, running sums, and lists of what is open.
+
 ghost use Rattle.std.specs.Prelude.{◌≡◌, ◌≢◌, ◌⊎◌, ◌+◌, ◌++◌, ◌<◌, ◌≤◌, ◌^◌, ⊤, false, IfOk, IfErr, IfNone, IfSome, IsOk, IsSome, OnOk, OnErr, IsTrue, List, ℕ, ◌-◌, filter, length, map, option_copied, take, vec_len, vec_capacity};
 ghost use Rattle.std.specs.Option.{option_to_list};
 ghost use Rattle.cut_measure.specs.Codes.{code_cmp};
