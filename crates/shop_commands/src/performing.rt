@@ -1,3 +1,5 @@
+//! From the words of a command line to the command that is done, and the status that is given back.
+
 ghost use Rattle.std.specs.Prelude.{◌≡◌, ◌+◌, ◌≤◌, IfOk, IfErr, OnOk, map, string_bytes};
 ghost use Rattle.cut_measure.specs.declared.ranges.TheConstants.{MOST_KERF};
 ghost use Rattle.clap.specs.Words.{kind_of};

@@ -1,3 +1,5 @@
+//! `cutshop serve`, `cutshop ticket` and `cutshop yield`: what is done over the book of a store file.
+
 ghost use Rattle.std.specs.Prelude.{◌≡◌, ◌≤◌, IfOk, IfErr, OnOk, length, option_map, string_bytes};
 ghost use Rattle.shop_files.specs.declared.limits.TheConstants.{MOST_ENTRIES};
 ghost use Rattle.shop_text.specs.Tickets.{ticket_of};
