@@ -1,3 +1,5 @@
+//! What is decided on each command, from the rows that a book has for it.
+
 ghost use Rattle.std.specs.Prelude.{◌≡◌, ◌⊎◌, option_map, IfOk, IfSome, IsTrue, All, Some};
 ghost use Rattle.shop_machine.specs.declared.imports.ImportRow.{ImportRow as ImportRowOf};
 ghost use Rattle.shop_machine.specs.Messages.{is_accepted};

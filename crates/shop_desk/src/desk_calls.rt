@@ -1,3 +1,5 @@
+//! The desk's calls: a message is handled once, a query is answered, and messages are run in order.
+
 ghost use Rattle.std.specs.Prelude.{◌≡◌, ◌≢◌, IfOk, IfSome, OnErr, None, true, false};
 ghost use Rattle.shop_machine.specs.Content.{Content, demand_at, kept_at, material_at, material_of, part_at, parts_of, rack_rows};
 ghost use Rattle.shop_machine.specs.Planning.{AreAsked};

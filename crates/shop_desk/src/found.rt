@@ -1,3 +1,5 @@
+//! Rows that a decision needs, found in a book: those of a plan's leaves, of an order's lines and of demands.
+
 ghost use Rattle.std.specs.Prelude.{◌≡◌, ◌≤◌, ℕ, IfOk, IfSome, IsTrue, List, MatchOption, All, None, Some, OnOk, ◌++◌, ◌∷◌, []};
 ghost use Rattle.cut_tree.specs.Tree.{Tree, cut_count};
 ghost use Rattle.cut_tree.specs.Spelling.{IsSpelling};

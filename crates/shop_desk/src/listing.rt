@@ -1,3 +1,5 @@
+//! Answers to the queries for lists, for a job and for a terminal, from a book's rows.
+
 ghost use Rattle.std.specs.Prelude.{◌≡◌, ◌≢◌, ◌∷◌, ◌++◌, [], IfOk, OnOk, Some, filter_map};
 ghost use Rattle.shop_machine.specs.Machine.{Answers};
 ghost use Rattle.shop_machine.specs.declared.messages.Query.TheVariants as query;
