@@ -1,3 +1,5 @@
+//! What an accepted command changes of the shop: its new rows, the rows that move, and its reply.
+
 use crate::imports::ImportRow;
 use crate::messages::Reply;
 use crate::records::{Demand, Job, Material, Part, Totals};

@@ -1,3 +1,5 @@
+//! An order is made from the text of an order file or of a problem file: what is decided on it.
+
 ghost use Rattle.std.specs.Prelude.{◌≡◌, ◌≤◌, ℕ, List, [], Option, Some, IfOk, IfSome, IsTrue, ◌↔◌, MatchOption, length};
 ghost use Rattle.cut_measure.specs.Measures.{Extent};
 ghost use Rattle.shop_files.specs.declared.limits.TheConstants.{MOST_PIECES};

@@ -1,3 +1,5 @@
+//! What is kept of an import: the form and the text that an order came from, and its reply.
+
 use crate::texts::Text;
 use cut_measure::Code;
 use std::alloc::{AllocError, Global};

@@ -1,3 +1,5 @@
+//! What a terminal says to the shop, a command or a query, and what it is answered.
+
 use crate::changes::{DemandList, MaterialList, PartList};
 use crate::imports::Form;
 use crate::records::{JobRow, JobState, RackRow, StateWord};

@@ -1,3 +1,5 @@
+//! Queries for a plan of a part and for the least number of units: the wants that are left, and the answer.
+
 ghost use Rattle.std.specs.Prelude.{filter_map, ◌≡◌, ◌≢◌, ◌≤◌, IfOk, IfErr, IfNone, ℕ, List, Option, None, Some, All, not, Ok, Err};
 ghost use Rattle.cut_measure.specs.declared.ranges.TheConstants.{MOST_KERF};
 ghost use Rattle.cut_measure.specs.declared.sizes.Kind.TheVariants.{Bar, Sheet};

@@ -1,3 +1,5 @@
+//! A standing part becomes scrap as a whole, or a unit goes back to its supplier: what is decided on it.
+
 ghost use Rattle.std.specs.Prelude.{◌≡◌, IfOk, IsTrue, MatchOption};
 ghost use Rattle.shop_machine.specs.declared.messages.Reply.TheVariants as reply;
 ghost use Rattle.shop_machine.specs.declared.records.State.TheVariants as state;
