@@ -1,3 +1,5 @@
+//! The words of `do` and `ok` in JSON, by which a command and its reply are known.
+
 ghost use Rattle.std.specs.Prelude.{◌≡◌, IfSome, IfNone, None};
 ghost use Rattle.serde_json.specs.Data.{Data};
 ghost use Rattle.shop_rules.specs.CommandWords.{command_word_text};

@@ -1,3 +1,5 @@
+//! Messages and queries as JSON: how a value is read as one, and a message's canonical text.
+
 ghost use Rattle.std.specs.Prelude.{◌≡◌, ◌≢◌, ◌⊎◌, IfOk, IfErr, OnOk, Some, None, option_map};
 ghost use Rattle.serde_json.specs.View.{view};
 ghost use Rattle.shop_machine.specs.Messages.{IsMessage};

@@ -1,3 +1,5 @@
+//! Replies as JSON: how a value or a kept text is read as one, and a reply's text.
+
 ghost use Rattle.std.specs.Prelude.{◌≡◌, IfOk, OnOk, Some};
 ghost use Rattle.std.specs.Option.{ok_or};
 ghost use Rattle.serde_json.specs.View.{view};
