@@ -1,3 +1,5 @@
+//! The whole answer to the bytes of a request: its route's, or what the site answers by itself.
+
 ghost use Rattle.std.specs.Prelude.{◌≡◌, ◌≢◌, ◌⊎◌, ◌<◌, ◌++◌, length, IfOk, IfSome, Some, [], string_bytes, decimal};
 ghost use Rattle.shop_request.specs.Guards.{HasRuling};
 ghost use Rattle.shop_request.specs.declared.guards.Ruling.TheVariants as ruling;
