@@ -1,3 +1,5 @@
+//! The book in SQL tables: it adopts a connection, reads rows, commits changes and counts failures.
+
 ghost use Rattle.std.specs.Prelude.{◌≡◌, ◌≢◌, ◌+◌, ◌≤◌, false, true, Err, IfOk, IfErr, IsTrue, OnOk, OnErr, unwrap_or};
 ghost use Rattle.std.specs.FinMap.{get};
 ghost use Rattle.sqlite.specs.Held.{state};
