@@ -1,3 +1,5 @@
+//! The table of jobs, whose plans are kept as texts: read, put and moved.
+
 ghost use Rattle.std.specs.Prelude.{◌≡◌, ◌≤◌, ℕ, List, [], ◌∷◌, pos, false, Some, IfOk};
 ghost use Rattle.sqlite.specs.State.{HasCleanDisk};
 ghost use Rattle.shop_tables.specs.Found.{AreJobColumns, IsJobUnder, IsUnder, columns_of};

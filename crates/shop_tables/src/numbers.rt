@@ -1,3 +1,5 @@
+//! The last act's and the last demand's numbers, which stand in the table `meta`: read and set.
+
 ghost use Rattle.std.specs.Prelude.{◌≡◌, ◌⊎◌, ℕ, pos, false, [], ◌∷◌, codes, filter, IfOk, IfSome};
 ghost use Rattle.sqlite_value.specs.declared.value.Value.TheVariants.{Int};
 ghost use Rattle.std.specs.Ordering.{eq_by_cmp};

@@ -1,3 +1,5 @@
+//! The table of the codes of orders: looked up and put.
+
 ghost use Rattle.std.specs.Prelude.{◌≡◌, false, is_some, IfOk};
 ghost use Rattle.sqlite.specs.Held.{state};
 ghost use Rattle.shop_machine.specs.Content.{has_order};

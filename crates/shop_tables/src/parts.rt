@@ -1,3 +1,5 @@
+//! The table of parts: read, put and moved.
+
 ghost use Rattle.std.specs.Prelude.{◌≡◌, false, IfOk};
 ghost use Rattle.sqlite.specs.Held.{state};
 ghost use Rattle.shop_machine.specs.Content.{part_at};
