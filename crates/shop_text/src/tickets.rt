@@ -1,3 +1,5 @@
+//! The ticket of a job: what is cut in which order, where, and for whom.
+
 ghost use Rattle.std.specs.Prelude.{◌≡◌, ◌++◌, ◌∷◌, [], ℕ, List, Option, OnOk, IfOk, IfErr, Ok, Err, All, MatchOption, string_bytes};
 ghost use Rattle.cut_tree.specs.Stepping.{AreSteps};
 ghost use Rattle.shop_machine.specs.declared.records.Demand.{Demand as DemandOf};

@@ -1,3 +1,5 @@
+//! The yield report of a material: its totals, what share became pieces, and the parts that stand.
+
 ghost use Rattle.std.specs.Prelude.{◌≡◌, ◌++◌, OnOk, Err, string_bytes};
 ghost use Rattle.cut_measure.specs.Lengths.{mm_text};
 ghost use Rattle.shop_machine.specs.declared.refusals.Refusal.{Refusal as RefusalOf};
