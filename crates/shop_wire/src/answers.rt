@@ -1,3 +1,5 @@
+//! The reply to a line: it is read as a message or a query, handled over a book, and held as a line.
+
 ghost use Rattle.std.specs.Prelude.{◌≡◌, ◌++◌, ◌∷◌, [], ℕ, List, IfOk, IfSome, OnOk, OnErr, None};
 ghost use Rattle.serde_json.specs.View.{view};
 ghost use Rattle.shop_machine.specs.Soundness.{IsSound};

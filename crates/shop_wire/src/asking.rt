@@ -1,3 +1,5 @@
+//! What a request is told: its route's message, query, ticket or report, done over a book.
+
 ghost use Rattle.std.specs.Prelude.{◌≡◌, ◌⊎◌, ◌∷◌, [], Some, None, IfErr, IfOk};
 ghost use Rattle.shop_machine.specs.declared.messages.Reply.TheVariants.{Refused};
 ghost use Rattle.shop_machine.specs.declared.refusals.Refusal.TheVariants.{StoreFault};

@@ -1,3 +1,5 @@
+//! One request, read from a source, done over a book and answered on a sink.
+
 ghost use Rattle.std.specs.Prelude.{◌≡◌, ◌≢◌, ◌⊎◌, ◌≤◌, ◌+◌, ◌++◌, [], ℕ, List, OnOk, OnErr, Err, IfOk, IfErr, IfSome, IsErrOf, string_bytes};
 ghost use Rattle.std.specs.Io.KnownBytes.{Appends};
 ghost use Rattle.shop_desk.specs.Faults.{CountsUp};
