@@ -1,3 +1,5 @@
+//! Two plans as the planners give them, printed: of a bar and of a sheet.
+
 ghost use Rattle.std.specs.Prelude.{◌≡◌, ◌≤◌, IfOk};
 ghost use Rattle.cut_tree.specs.Tree.{Tree};
 ghost use Rattle.cut_table.specs.Legal.{Legal, IsWithinCounts, worth_of};

@@ -1,3 +1,5 @@
+//! A cutting tree read from its text, and the rectangles that it lays on a sheet, printed.
+
 ghost use Rattle.std.specs.Prelude.{◌≤◌, IfOk};
 ghost use Rattle.cut_tree.specs.Tree.{Tree};
 ghost use Rattle.cut_tree.specs.Cells.{all_made};

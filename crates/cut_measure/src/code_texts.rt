@@ -1,3 +1,5 @@
+//! Codes of materials, batches and orders: 1 to 16 characters of `A-Z0-9-`, compared by their bytes.
+
 ghost use Rattle.std.specs.Prelude.{◌≡◌, ◌++◌, IsTrue, ◌↔◌, OnOk, OnErr, string_bytes};
 ghost use Rattle.std.specs.List.{list_all};
 ghost use Rattle.cut_measure.specs.Codes.{code_of, code_cmp, is_code, is_code_byte};

@@ -1,3 +1,5 @@
+//! What holds of the texts of lengths and of part names: no text stands for two.
+
 ghost use Rattle.std.specs.Prelude.{◌≡◌, ◌≤◌, ℕ, List};
 ghost use Rattle.cut_measure.specs.Lengths.{IsLengthText, mm_text};
 ghost use Rattle.cut_measure.specs.Names.{Name, IsName, name_text};

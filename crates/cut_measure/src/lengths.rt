@@ -1,3 +1,5 @@
+//! Lengths as texts: millimetres with at most one decimal, read and written as tenths of a millimetre.
+
 ghost use Rattle.std.specs.Prelude.{◌≡◌, ◌+◌, ◌<◌, ◌≤◌, ℕ, [], ◌∷◌, ◌++◌, IfSome, Some, MatchOption, OnOk, OnErr, string_bytes};
 ghost use Rattle.std.specs.Option.{SomeIff};
 ghost use Rattle.std.specs.Str.Parse.{digits_value};

@@ -1,3 +1,5 @@
+//! What a material's saw takes, and from which sides on a rest of the material is kept.
+
 ghost use Rattle.std.specs.Prelude.{◌≡◌, ◌≤◌};
 ghost use Rattle.cut_measure.specs.Measures.{rule_of, is_kept};
 

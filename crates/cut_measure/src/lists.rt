@@ -1,3 +1,5 @@
+//! A list of rows that grows at its end.
+
 use std::alloc::{AllocError, Global};
 use std::marker::Model;
 

@@ -1,3 +1,5 @@
+//! Names of parts: the number of the act that made one, a slash, and its node in that act, as `12/3`.
+
 ghost use Rattle.cut_measure.specs.Names.{IsNameOf};
 
 use crate::numbers::read_number;

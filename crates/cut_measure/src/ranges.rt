@@ -1,3 +1,5 @@
+//! The greatest measures and numbers that the shop allows.
+
 /// The greatest width of a unit, a part or a piece, in tenths of a millimetre.
 pub const MOST_WIDTH: u32 = 200_000;
 

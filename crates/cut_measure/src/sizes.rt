@@ -1,3 +1,5 @@
+//! Bars and sheets, the axes along which they are cut, and the sides of a unit or a part.
+
 ghost use Rattle.std.specs.Prelude.{◌≡◌, ◌*◌, ◌≤◌, length};
 ghost use Rattle.cut_measure.specs.Measures.{size_of, cells_of};
 

@@ -1,3 +1,5 @@
+//! The best plan of a bar: an integer knapsack over what is left of the wants.
+
 ghost use Rattle.std.specs.Prelude.{◌≡◌, ◌≤◌, ◌++◌, ◌⊎◌, ◌↔◌, IsTrue, ℕ, IfOk, IfErr, IfSome, OnOk, None, Some, length, replicate};
 ghost use Rattle.cut_measure.specs.declared.sizes.Kind.TheVariants.{Bar};
 ghost use Rattle.cut_plan.specs.declared.faults.PlanFault.TheVariants.{NoMemory, TableTooLarge};

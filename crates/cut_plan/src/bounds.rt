@@ -1,3 +1,5 @@
+//! What no unit is worth more than, and how many units it takes at least to make all that is left.
+
 ghost use Rattle.std.specs.Prelude.{◌≡◌, ◌+◌, ◌≤◌, ◌<◌, ◌^◌, ◌⊎◌, IfOk, IfErr, IfSome, Some, None};
 ghost use Rattle.cut_measure.specs.declared.sizes.Kind.TheVariants.{Bar, Sheet};
 ghost use Rattle.cut_table.specs.Counts.{AreCounts, worth_of_counts};

@@ -1,3 +1,5 @@
+//! Why there is no plan: what is wrong with the wants, the step or the size, in the order in which it is judged.
+
 ghost use Rattle.std.specs.Prelude.{◌≡◌, ◌+◌, ◌≤◌, ◌<◌, ◌==◌, IsTrue, IfNone};
 ghost use Rattle.std.specs.List.{list_any};
 ghost use Rattle.cut_measure.specs.declared.sizes.Kind.TheVariants.{Sheet};

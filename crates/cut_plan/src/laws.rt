@@ -1,3 +1,5 @@
+//! What holds of plans: each listed piece is one of the wants, and a sheet's plan of which nothing dropped is best.
+
 ghost use Rattle.std.specs.Prelude.{◌≡◌, ℕ, ◌≤◌, List, All, None};
 ghost use Rattle.cut_measure.specs.Measures.{Extent};
 ghost use Rattle.cut_measure.specs.declared.sizes.Kind.TheVariants.{Sheet};

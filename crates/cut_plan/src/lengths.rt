@@ -1,3 +1,5 @@
+//! Which lengths of a bar pieces take together, each with the greatest worth of such pieces.
+
 ghost use Rattle.std.specs.Prelude.{◌≡◌, ◌+◌, ◌≤◌, ◌⊎◌, IfOk, IfErr, IfSome, Some, None, Err};
 ghost use Rattle.std.specs.BTreeMap.{get};
 ghost use Rattle.std.specs.Ordering.{nat_cmp};

@@ -1,4 +1,5 @@
-// The best counts of pieces for a bar, and all that counts reach.
+//! The best counts of pieces for a bar, and all that counts of pieces reach.
+
 ghost use Rattle.std.specs.Prelude.{◌≡◌, ℕ, ◌+◌, ◌-◌, ◌*◌, ◌^◌, ◌<◌, ◌≤◌, length, IfOk, IsTrue, Contains, [], ◌∷◌};
 ghost use Rattle.cut_table.specs.declared.wants.Want.{Want};
 ghost use Rattle.cut_table.specs.declared.reach.Entry.{Entry};

@@ -1,4 +1,5 @@
-// The ceiling of a sheet, and the least number of units.
+//! The ceiling of a sheet, which no legal plan is worth more than, and the least number of units.
+
 ghost use Rattle.std.specs.Prelude.{◌≡◌, ℕ, ◌+◌, ◌*◌, ◌/◌, ◌^◌, ◌<◌, ◌≤◌, length, IfOk, sum_by, Contains, List};
 ghost use Rattle.std.specs.List.{list_all};
 ghost use Rattle.cut_table.specs.declared.wants.Want.{Want};

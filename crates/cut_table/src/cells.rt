@@ -1,4 +1,5 @@
-// Rooms of a bar as a table: a cell for each room, 0 where no counts take it, and else one more than the greatest worth.
+//! The rooms of a bar as a table: 0 where no counts of pieces take a room, else one more than their best worth.
+
 ghost use Rattle.std.specs.Prelude.{◌≡◌, ℕ, ◌+◌, ◌-◌, ◌*◌, ◌^◌, ◌<◌, ◌≤◌, ◌↔◌, IfOk, IsTrue, Contains, length, map, max, vec_len};
 ghost use Rattle.cut_table.specs.declared.reach.Entry.{Entry};
 ghost use Rattle.cut_table.specs.Reached.{AreRising, HaveWorthsBoundedByRoom};

@@ -1,4 +1,5 @@
-// How a room is divided between the pieces of two parts of the wants.
+//! How the room of a bar is divided between the pieces of two parts of the wants.
+
 ghost use Rattle.std.specs.Prelude.{◌≡◌, ℕ, ◌+◌, ◌-◌, ◌^◌, ◌≤◌, ◌⊎◌, IfOk, Contains, length, map};
 ghost use Rattle.cut_table.specs.declared.reach.Entry.{Entry};
 ghost use Rattle.cut_table.specs.Reached.{AreRising, HaveSmallWorths};

@@ -1,4 +1,5 @@
-// Which leaves of a best tree are kept: of each want as many as are left.
+//! Which piece leaves of a sheet's best tree are kept: of each want as many as are left.
+
 ghost use Rattle.std.specs.Prelude.{◌≡◌, ℕ, ◌+◌, ◌*◌, ◌^◌, ◌<◌, ◌≤◌, ◌⊎◌, ◌↔◌, length, slice_index, slice_get, slice_set, Some, IfOk, OnOk, IsTrue};
 ghost use Rattle.cut_tree.specs.Tree.{Piece, Rest};
 ghost use Rattle.cut_tree.specs.Nodes.{tree_of};

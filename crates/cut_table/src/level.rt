@@ -1,4 +1,5 @@
-// What counts of some wants reach, want by want: entries while they are few, and then cells.
+//! What counts of pieces reach on a bar, want by want: a list of entries while they are few, and then a table.
+
 ghost use Rattle.std.specs.Prelude.{◌≡◌, ℕ, ◌+◌, ◌-◌, ◌*◌, ◌/◌, ◌^◌, ◌<◌, ◌≤◌, ◌↔◌, IfOk, IsTrue, Contains, length, map};
 ghost use Rattle.cut_table.specs.declared.reach.Entry.{Entry};
 ghost use Rattle.cut_table.specs.Reached.{AreRising, AreOffered, HaveSmallWorths, HaveWorthsBoundedByRoom, StayBelow};

@@ -1,4 +1,5 @@
-// The numbers of tables.
+//! The worths that tables hold, in 32 bits or in 64.
+
 ghost use Rattle.std.specs.Prelude.{◌≡◌, ℕ, ◌+◌, ◌^◌, ◌<◌, ◌↔◌, max, map, All, IfOk, IsTrue, vec_len};
 
 use std::alloc::{AllocError, Global};

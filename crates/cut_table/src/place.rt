@@ -1,4 +1,5 @@
-// Where the kept leaves of a best tree lie on the sheet itself.
+//! Where the pieces of a tree that was found in steps lie on the sheet itself.
+
 ghost use Rattle.std.specs.Prelude.{◌≡◌, ◌+◌, ◌^◌, ◌<◌, ◌≤◌, IfOk, IfSome, IfNone, Contains};
 ghost use Rattle.cut_measure.specs.declared.sizes.Axis.TheVariants.{X, Y};
 ghost use Rattle.cut_tree.specs.Tree.{Piece, Cut};

@@ -1,4 +1,5 @@
-// Lists of the rooms of a bar that counts of pieces take, each with the greatest worth of such counts.
+//! Lists of the rooms of a bar that counts of pieces take, each with the greatest worth of such counts.
+
 ghost use Rattle.std.specs.Prelude.{◌≡◌, ℕ, ◌+◌, ◌*◌, ◌^◌, ◌≤◌, ◌↔◌, IfOk, IsTrue, Contains, length};
 ghost use Rattle.cut_table.specs.Reached.{AreRising, AreOffered, HaveWorthsBoundedByRoom};
 ghost use Rattle.cut_table.specs.Levels.{AreJoined, AreUpTo, IsFirstOf};

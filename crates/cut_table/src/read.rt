@@ -1,4 +1,5 @@
-// How the best worths of a table are reached.
+//! How the best worth of a rectangle is reached, read from a table: by a cut, a piece or a rest.
+
 ghost use Rattle.std.specs.Prelude.{◌≡◌, ℕ, ◌+◌, ◌-◌, ◌*◌, ◌^◌, ◌<◌, ◌≤◌, ◌≢◌, length, slice_index, IfSome, IfNone, Bool, Contains, IsTrue, ◌↔◌, true, false};
 ghost use Rattle.cut_table.specs.declared.wants.Want.{Want};
 ghost use Rattle.cut_table.specs.Best.{IsBestOf};

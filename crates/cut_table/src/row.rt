@@ -1,4 +1,5 @@
-// What is done with the rows of a sheet's table.
+//! How one row of a sheet's table is filled from others: by single worths, by stacked rows, and by joined parts.
+
 ghost use Rattle.std.specs.Prelude.{◌≡◌, ℕ, ◌+◌, ◌-◌, ◌<◌, ◌≤◌, ◌≢◌, ◌↔◌, length, max, map, slice_index, IsTrue};
 ghost use Rattle.cut_table.specs.Table.{IsStacked, IsBelow, IsOfferedFrom, IsJoined};
 

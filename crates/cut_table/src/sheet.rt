@@ -1,4 +1,5 @@
-// The best worth of a sheet without kerf, for every rectangle up to a size.
+//! The best worth of a sheet without kerf, for every rectangle up to a size.
+
 ghost use Rattle.std.specs.Prelude.{◌≡◌, ℕ, ◌+◌, ◌-◌, ◌*◌, ◌/◌, ◌^◌, ◌<◌, ◌≤◌, length, map, IfOk, IsTrue, All, true, false};
 ghost use Rattle.cut_table.specs.Legal.{HaveOwnDemands, HasSides};
 ghost use Rattle.cut_table.specs.Best.{IsBestOf};

@@ -1,3 +1,5 @@
+//! What is wanted of one size, in tenths of a millimetre and in steps.
+
 use cut_measure::Size;
 use std::marker::Model;
 

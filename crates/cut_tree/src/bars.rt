@@ -1,3 +1,5 @@
+//! The cutting tree of pieces that are cut off a bar one after another, and why there may be none.
+
 ghost use Rattle.std.specs.Prelude.{◌≡◌, ◌+◌, ◌-◌, ◌≤◌, ◌<◌, IfOk, IfErr, OnOk, All, length, sum_by};
 ghost use Rattle.std.specs.Option.{SomeIff};
 ghost use Rattle.cut_tree.specs.Tree.{cut_count};

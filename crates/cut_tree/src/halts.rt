@@ -1,3 +1,5 @@
+//! Where the work on a plan ended: which of its cuts were made, and which one went wrong.
+
 ghost use Rattle.std.specs.Prelude.{◌≡◌, ◌+◌, ◌^◌, ◌<◌, ◌≤◌, ◌↔◌, ◌||◌, ℕ, IsTrue, IfOk, true, false};
 ghost use Rattle.std.specs.List.Sorted.{IsStrictlyIncreasing};
 ghost use Rattle.cut_tree.specs.Tree.{cut_count};

@@ -1,3 +1,5 @@
+//! The pieces that a cutting tree lists: demand, sides, and whether one is turned.
+
 ghost use Rattle.std.specs.Prelude.{◌≡◌, ◌≤◌, ◌++◌, OnOk};
 ghost use Rattle.cut_tree.specs.Tree.{IsShaped};
 ghost use Rattle.cut_tree.specs.Nodes.{tree_of, FarSidesFit};

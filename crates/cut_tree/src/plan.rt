@@ -1,3 +1,5 @@
+//! A plan: a legal cutting tree on the sides of a unit, under the kerf of a saw.
+
 ghost use Rattle.std.specs.Prelude.{ℕ, ◌↔◌, IsTrue, All, sum_by, OnOk, ◌≡◌, ◌≤◌, ◌<◌, ◌++◌, IfOk, IfErr, MatchResult, is_ok, if◌then◌else◌, string_bytes};
 ghost use Rattle.cut_tree.specs.Tree.{Tree, cut_count, count_of, leaf_sum};
 ghost use Rattle.cut_tree.specs.declared.token.Cause.TheVariants.{NoMemory};

@@ -1,3 +1,5 @@
+//! A plan node by node in the order of its text, each with its rectangle and with what is done there.
+
 ghost use Rattle.std.specs.Prelude.{◌≡◌, ◌+◌, ◌^◌, ◌<◌, ◌≤◌, ◌++◌, OnOk};
 ghost use Rattle.cut_tree.specs.Tree.{IsShaped, node_count};
 ghost use Rattle.cut_tree.specs.Nodes.{tree_of, FarSidesFit};

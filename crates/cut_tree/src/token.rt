@@ -1,3 +1,5 @@
+//! The words of which the text of a cutting tree consists, and what may be wrong with one.
+
 ghost use Rattle.std.specs.Prelude.{◌≡◌, ◌≤◌, ◌<◌, ◌^◌, ℕ, MatchOption, ◌∷◌, ◌++◌};
 ghost use Rattle.std.specs.Fmt.{decimal};
 

@@ -21,9 +21,9 @@ use Rattle.std.specs.BTreeMap.{insert_entry}
 use Rattle.std.specs.FinMap.{FinMap, empty, insert, from_sorted, find, put, is_sorted, get, get-from_sorted, values, entries-from_sorted, entries-insert, same_entries_map, len-entries, empty_of_len}
 use Rattle.std.specs.FinMap.Entries.{by_order, is_sorted-put}
 use Rattle.shop_machine.specs.declared.imports.ImportRow.{ImportRow}
-use Rattle.shop_machine.specs.declared.kept_texts.Pair.{Pair}
-use Rattle.shop_machine.specs.declared.kept_texts.Kept.{Kept}
-use Rattle.shop_machine.specs.declared.kept_texts.KeptMessage.{KeptMessage}
+use Rattle.shop_machine.specs.declared.texts.Pair.{Pair}
+use Rattle.shop_machine.specs.declared.texts.Kept.{Kept}
+use Rattle.shop_machine.specs.declared.texts.KeptMessage.{KeptMessage}
 use Rattle.shop_book.specs.Memory.{put_kept, pairs_total}
 use Rattle.shop_rows.specs.Keys.{material_key, part_key, job_key, demand_key, import_key}
 use Rattle.shop_rows.specs.Rows.{entries_of, rise, row_at, put_each, map_of, with_rows, ArePut}

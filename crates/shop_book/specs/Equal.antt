@@ -25,8 +25,8 @@ use Rattle.shop_machine.specs.declared.records.JobState.TheVariants as job_state
 use Rattle.shop_machine.specs.declared.records.Demand.{Demand}
 use Rattle.shop_machine.specs.declared.records.State.{State}
 use Rattle.shop_machine.specs.declared.records.State.TheVariants as state
-use Rattle.shop_machine.specs.declared.kept_texts.Pair.{Pair}
-use Rattle.shop_machine.specs.declared.kept_texts.Kept.{Kept}
+use Rattle.shop_machine.specs.declared.texts.Pair.{Pair}
+use Rattle.shop_machine.specs.declared.texts.Kept.{Kept}
 use Rattle.shop_machine.specs.declared.imports.Form.{Form}
 use Rattle.shop_machine.specs.declared.imports.Form.TheVariants.{Csv, Cgcut}
 use Rattle.shop_machine.specs.declared.imports.ImportRow.{ImportRow}
@@ -40,7 +40,7 @@ use Rattle.shop_machine.specs.contracts.records.JobPartialEq.TheImpl as job_eq
 use Rattle.shop_machine.specs.contracts.records.JobStatePartialEq.TheImpl as job_state_eq
 use Rattle.shop_machine.specs.contracts.records.DemandPartialEq.TheImpl as demand_eq
 use Rattle.cut_tree.specs.SamePatterns.{same_pattern_decides}
-use Rattle.shop_machine.specs.contracts.kept_texts.KeptPartialEq.TheImpl as kept_eq
+use Rattle.shop_machine.specs.contracts.texts.KeptPartialEq.TheImpl as kept_eq
 use Rattle.shop_machine.specs.contracts.imports.FormPartialEq.TheImpl as form_eq
 use Rattle.shop_machine.specs.contracts.imports.ImportRowPartialEq.TheImpl as import_eq
 use Rattle.shop_book.specs.Memory.{MemoryBook}

@@ -10,8 +10,8 @@ use Rattle.shop_machine.specs.contracts.records.Material as material_type
 use Rattle.shop_machine.specs.contracts.records.Part as part_type
 use Rattle.shop_machine.specs.contracts.records.Job as job_type
 use Rattle.shop_machine.specs.contracts.records.Demand as demand_type
-use Rattle.shop_machine.specs.contracts.kept_texts.Pair as pair_type
-use Rattle.shop_machine.specs.contracts.kept_texts.Kept as kept_type
+use Rattle.shop_machine.specs.contracts.texts.Pair as pair_type
+use Rattle.shop_machine.specs.contracts.texts.Kept as kept_type
 use Rattle.shop_machine.specs.contracts.imports.ImportRow as import_type
 use Rattle.cut_measure.specs.Codes.{code_cmp}
 use Rattle.cut_measure.specs.Names.{Name, name_cmp}
@@ -19,9 +19,9 @@ use Rattle.shop_machine.specs.declared.records.Material.{Material}
 use Rattle.shop_machine.specs.declared.records.Part.{Part}
 use Rattle.shop_machine.specs.declared.records.Job.{Job}
 use Rattle.shop_machine.specs.declared.records.Demand.{Demand}
-use Rattle.shop_machine.specs.declared.kept_texts.Pair.{Pair}
-use Rattle.shop_machine.specs.declared.kept_texts.Kept.{Kept}
-use Rattle.shop_machine.specs.declared.kept_texts.KeptMessage.{KeptMessage}
+use Rattle.shop_machine.specs.declared.texts.Pair.{Pair}
+use Rattle.shop_machine.specs.declared.texts.Kept.{Kept}
+use Rattle.shop_machine.specs.declared.texts.KeptMessage.{KeptMessage}
 use Rattle.shop_machine.specs.declared.imports.ImportRow.{ImportRow}
 use Rattle.shop_machine.specs.Content.{Content, pair_cmp}
 use Rattle.shop_rows.specs.Rows.{map_of}

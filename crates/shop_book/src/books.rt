@@ -1,3 +1,5 @@
+//! What is promised of a book, which keeps the shop's content: what its calls answer, and what a crash may leave.
+
 ghost use Rattle.std.specs.Prelude.{◌≡◌, ◌+◌, ◌≤◌, ◌⊎◌, ℕ, IfOk, IfSome, OnOk, OnErr, map, take};
 ghost use Rattle.shop_machine.specs.Content.{Content, material_at, part_at, job_at, has_order, demand_at, kept_at, import_at, totals_of, parts_of as listed_parts, changed};
 ghost use Rattle.shop_machine.specs.Listing.{IsLastNumber, materials_of, parts_behind, open_demands, waiting_jobs};

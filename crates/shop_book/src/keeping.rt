@@ -1,3 +1,5 @@
+//! How a message is kept in memory, in texts that take no more than they need.
+
 ghost use Rattle.std.specs.Prelude.{◌≡◌, OnOk, OnErr};
 ghost use Rattle.shop_book.specs.Memory.{put_kept};
 

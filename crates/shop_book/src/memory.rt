@@ -1,3 +1,5 @@
+//! The book in memory: rows in the order of their keys, running sums, and lists of what is open.
+
 ghost use Rattle.std.specs.Prelude.{◌≡◌, ◌≢◌, ◌⊎◌, ◌+◌, ◌++◌, ◌<◌, ◌≤◌, ◌^◌, ⊤, false, IfOk, IfErr, IfNone, IfSome, IsOk, IsSome, OnOk, OnErr, IsTrue, List, ℕ, ◌-◌, filter, length, map, option_copied, take, vec_len, vec_capacity};
 ghost use Rattle.std.specs.Option.{option_to_list};
 ghost use Rattle.cut_measure.specs.Codes.{code_cmp};
@@ -6,7 +8,7 @@ ghost use Rattle.std.specs.Ordering.{is_lt, nat_cmp};
 ghost use Rattle.shop_machine.specs.Content.{Content, material_at, part_at, job_at, has_order, demand_at, kept_at, import_at, totals_of, parts_of as listed_parts, changed, with_parts, with_moved, with_material, with_job, with_order, with_demands, pair_cmp};
 ghost use Rattle.shop_machine.specs.Listing.{IsLastNumber, is_asked_for, is_open, materials_of, open_demands, parts_behind, waiting_jobs};
 ghost use Rattle.shop_machine.specs.declared.records.Job.{Job as JobOf};
-ghost use Rattle.shop_machine.specs.declared.kept_texts.Pair.{Pair as PairOf};
+ghost use Rattle.shop_machine.specs.declared.texts.Pair.{Pair as PairOf};
 ghost use Rattle.shop_machine.specs.Soundness.{IsInRange};
 ghost use Rattle.shop_rows.specs.Keys.{material_key, part_key, job_key, demand_key, import_key};
 ghost use Rattle.std.specs.FinMap.{find as find_entry};
@@ -457,7 +459,7 @@ fn put_one_by_one(
 
 // Puts parts of one material that stand together between two others, all by one move, and tells whether they do; else nothing
 // changes.
-fn put_together(
+fn insert_run(
     parts: &mut Vec<Part>,
     totals: &mut Vec<Sums>,
     keys: &mut Vec<OpenPart>,
@@ -517,7 +519,7 @@ fn put_parts(parts: &mut Vec<Part>, totals: &mut Vec<Sums>, keys: &mut Vec<OpenP
     ensures keys { IsTrue (rise own_key open_cmp keys.new.items) }
     ensures listed { AreListed parts.new.items keys.new.items }
 {
-    if put_together(parts, totals, keys, rows) {
+    if insert_run(parts, totals, keys, rows) {
         return;
     }
     put_one_by_one(parts, totals, keys, rows);

@@ -1,3 +1,5 @@
+//! The codes of orders in memory, put together with a kept message or not at all.
+
 ghost use Rattle.std.specs.Prelude.{◌≡◌, List, ℕ, OnOk, OnErr};
 ghost use Rattle.std.specs.Option.{option_to_list};
 ghost use Rattle.cut_measure.specs.Codes.{code_cmp};

@@ -15,7 +15,7 @@ use Rattle.shop_commands.specs.declared.files.TheConstants.{LONGEST_PAGE}
 use Rattle.shop_opening.specs.declared.shops.EntryRefused.{EntryRefused}
 use Rattle.shop_opening.specs.Shops.{HasShop, IsAccepted, IsFirstRefused}
 use Rattle.shop_book.specs.declared.books.Book.{Ghosts}
-use Rattle.shop_book.specs.Kept.{KeepsBook, Says}
+use Rattle.shop_book.specs.Kept.{Unchanged, OnContent}
 use Rattle.shop_text.specs.Printing.{CountsPrint, IsPrinted}
 use Rattle.shop_text.specs.Streams.{HasFailed}
 use Rattle.shop_text.specs.declared.printing.PrintFault.{PrintFault}
@@ -65,8 +65,8 @@ module _ {B : Type 0} (book : Ghosts B) where
     pub before : B
     pub after : B
     pub given : gives before
-    pub printed : Says book before after (λ m. IsPrinted (book.failed before) (book.failed after) old new result (said m))
-    pub keeps : KeepsBook book (CountsPrint result) before after
+    pub printed : OnContent book before after (λ m. IsPrinted (book.failed before) (book.failed after) old new result (said m))
+    pub keeps : Unchanged book (CountsPrint result) before after
 
   abbrev pub IsTextDone : (B → Type 0) → (Content → Result (List ℕ) Refusal) → (held_old held_new : Option (List ℕ)) → Type 0
   IsTextDone gives said old new = IsPrintedFrom gives said old new (Ok tt)
@@ -90,8 +90,8 @@ module _ {B : Type 0} (book : Ghosts B) where
     pub served : HasServed site book mid after count
 
   -- memory was wanting, and nothing was done, or an entry was refused
-  abbrev pub IsUnadded : B → B → List MaterialEntry → Fault → Type 0
-  IsUnadded before after entries fault =
+  abbrev pub AddFailed : B → B → List MaterialEntry → Fault → Type 0
+  AddFailed before after entries fault =
       ((fault ≡ NoMemory) × (after ≡ before)) ⊎ ((e : EntryRefused) × (fault ≡ Entry e) × HasShop book before after entries (λ replies. IsFirstRefused replies e))
 
   -- memory was wanting before the first connection, or no more could be accepted
@@ -108,7 +108,7 @@ module _ {B : Type 0} (book : Ghosts B) where
   -- the entries aren't all there; or they are, and the port isn't told; or it is, and serving stopped
   abbrev pub IsBookUnserved : Site → (before after : B) → List MaterialEntry → (port limit : ℕ) → Fault → (held_old held_new : Option (List ℕ)) → (failed_old failed_new : ℕ) → Type 0
   IsBookUnserved site before after entries port limit fault old new failed_old failed_new =
-      (IsUnadded before after entries fault × (new ≡ old))
+      (AddFailed before after entries fault × (new ≡ old))
       ⊎ ((IsShopped before after entries × IsUnannounced port fault old new failed_old failed_new)
       ⊎ IsBookLeft site before after entries port limit fault old new)
 

@@ -1,3 +1,5 @@
+//! Why a command stopped, and the line that tells it.
+
 ghost use Rattle.std.specs.Prelude.{◌≡◌};
 ghost use Rattle.shop_commands.specs.Faults as spec;
 

@@ -1,3 +1,5 @@
+//! Files read whole up to a limit, and texts written to the last byte.
+
 ghost use Rattle.std.specs.Prelude.{◌≡◌, ◌⊎◌, ◌≤◌, IfOk, IfErr, OnOk, length};
 ghost use Rattle.std.specs.Io.KnownBytes.{Appends};
 ghost use Rattle.shop_text.specs.Streams.{HasFailed};

@@ -1,3 +1,5 @@
+//! The limits that definitions cite, tied to their numbers.
+
 ghost use Rattle.shop_commands.specs.Limits.{AreMeasures, ArePlans, AreFiles, AreCounts, AreRequests};
 
 /// Each limit has its number. Definitions cite the constants of the code, so a changed constant is refused here.

@@ -1,3 +1,5 @@
+//! `cutshop orders`: an order file is checked, or becomes a message.
+
 ghost use Rattle.std.specs.Prelude.{◌≡◌, ◌⊎◌, IfOk, IfErr, OnOk, length, string_bytes, decimal};
 ghost use Rattle.std.specs.Io.KnownBytes.{Appends};
 ghost use Rattle.shop_files.specs.declared.orders.OrdersFault.{OrdersFault as OrdersFaultOf};

@@ -1,3 +1,5 @@
+//! From the words of a command line to the command that is done, and the status that is given back.
+
 ghost use Rattle.std.specs.Prelude.{◌≡◌, ◌+◌, ◌≤◌, IfOk, IfErr, OnOk, map, string_bytes};
 ghost use Rattle.cut_measure.specs.declared.ranges.TheConstants.{MOST_KERF};
 ghost use Rattle.clap.specs.Words.{kind_of};
@@ -38,7 +40,7 @@ fn fault_line(alloc: Global, fault: Fault) -> Result<String, AllocError>
 }
 
 // Writes the line of a fault, and gives the status of a program that stopped.
-fn tell<E: Sink>(alloc: Global, fault: Fault, errors: &mut E) -> u8
+fn report_fault<E: Sink>(alloc: Global, fault: Fault, errors: &mut E) -> u8
     ensures status { result ≡ 1 }
     ensures told { TellsFault fault (E.held errors.old) (E.held errors.new) (E.failed errors.old) (E.failed errors.new) }
 {
@@ -68,7 +70,7 @@ fn plan<R: Files, W: Sink>(
 }
 
 // Writes the replies to the lines of the input.
-fn answer_lines<S: Source, W: Sink>(
+fn replay_input<S: Source, W: Sink>(
     alloc: Global,
     source: &mut S,
     sink: &mut W,
@@ -102,7 +104,7 @@ fn work<
     ensures reads { S.reads source.new ≤ S.reads source.old + most_reads }
 {
     match request {
-        Request::Replay => answer_lines(alloc, source, sink),
+        Request::Replay => replay_input(alloc, source, sink),
         Request::Plan { file, kerf, step } => plan(rt, alloc, file, *kerf, *step, sink),
         Request::Orders { file, told } => orders(rt, alloc, file, *told, sink),
         Request::Serve {
@@ -123,7 +125,7 @@ fn conclude<E: Sink>(alloc: Global, outcome: Result<(), Fault>, errors: &mut E) 
 {
     match outcome {
         Ok(()) => 0,
-        Err(fault) => tell(alloc, fault, errors),
+        Err(fault) => report_fault(alloc, fault, errors),
     }
 }
 
@@ -140,7 +142,7 @@ fn help<W: Sink, E: Sink>(alloc: Global, text: &str, sink: &mut W, errors: &mut 
 {
     match write_text(sink, text) {
         Ok(()) => 0,
-        Err(unwritten) => tell(alloc, unwritten, errors),
+        Err(unwritten) => report_fault(alloc, unwritten, errors),
     }
 }
 
@@ -156,11 +158,11 @@ fn version<W: Sink, E: Sink>(alloc: Global, sink: &mut W, errors: &mut E) -> u8
     ensures { IsTold (W.held sink.old) (W.held sink.new) (E.held errors.old) (E.held errors.new) kind.DisplayVersion result }
 {
     let Ok(line) = version_line(alloc) else {
-        return tell(alloc, Fault::NoMemory, errors);
+        return report_fault(alloc, Fault::NoMemory, errors);
     };
     match write_text(sink, line.as_str()) {
         Ok(()) => 0,
-        Err(unwritten) => tell(alloc, unwritten, errors),
+        Err(unwritten) => report_fault(alloc, unwritten, errors),
     }
 }
 
@@ -169,10 +171,10 @@ fn explain<W: Sink, E: Sink>(alloc: Global, error: &Error, sink: &mut W, errors:
     ensures { IsTold (W.held sink.old) (W.held sink.new) (E.held errors.old) (E.held errors.new) (E.failed errors.old) (E.failed errors.new) (kind_of error.now) result }
 {
     let Ok(text) = error_text(alloc, error) else {
-        return tell(alloc, Fault::NoMemory, errors);
+        return report_fault(alloc, Fault::NoMemory, errors);
     };
     match error.kind() {
-        ErrorKind::OutOfMemory => tell(alloc, Fault::NoMemory, errors),
+        ErrorKind::OutOfMemory => report_fault(alloc, Fault::NoMemory, errors),
         ErrorKind::DisplayHelp => help(alloc, text.as_str(), sink, errors),
         ErrorKind::DisplayVersion => version(alloc, sink, errors),
         _ => {

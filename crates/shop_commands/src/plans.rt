@@ -1,3 +1,5 @@
+//! `cutshop plan`: the plan of a problem file.
+
 ghost use Rattle.std.specs.Prelude.{◌≡◌, ◌+◌, ◌≤◌, ℕ, IfOk, IfErr, string_bytes, length};
 ghost use Rattle.cut_measure.specs.declared.ranges.TheConstants.{MOST_KERF, MOST_NUMBERS};
 ghost use Rattle.shop_files.specs.Problems.{ArePieces, IsPiece};

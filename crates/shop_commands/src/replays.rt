@@ -1,3 +1,5 @@
+//! `cutshop replay`: lines are answered over a fresh book in memory.
+
 ghost use Rattle.std.specs.Prelude.{◌≡◌, ◌+◌, ◌≤◌, ◌++◌, [], ℕ, List, IfOk, IfErr, Err, length};
 ghost use Rattle.shop_text.specs.Streams.{HasFailed};
 ghost use Rattle.shop_wire.specs.Lines.{AreLines};

@@ -1,3 +1,5 @@
+//! `cutshop serve`, `cutshop ticket` and `cutshop yield`: what is done over the book of a store file.
+
 ghost use Rattle.std.specs.Prelude.{◌≡◌, ◌≤◌, IfOk, IfErr, OnOk, length, option_map, string_bytes};
 ghost use Rattle.shop_files.specs.declared.limits.TheConstants.{MOST_ENTRIES};
 ghost use Rattle.shop_text.specs.Tickets.{ticket_of};
@@ -6,7 +8,7 @@ ghost use Rattle.shop_machine.specs.Content.{Content};
 ghost use Rattle.shop_commands.specs.declared.faults.Fault.TheVariants as fault;
 ghost use Rattle.shop_commands.specs.Faults.{shop_fault};
 ghost use Rattle.shop_commands.specs.Stored as spec;
-ghost use Rattle.shop_commands.specs.Stored.{IsTextDone, IsTextStopped, IsShopRead, IsUnread, IsUnopened, IsShopped, IsUnadded, IsUnannounced, IsUnaccepted, IsBookServed, IsBookUnserved, IsPageRead, IsPageUnread, IsServeDone, IsServeStopped, IsSite};
+ghost use Rattle.shop_commands.specs.Stored.{IsTextDone, IsTextStopped, IsShopRead, IsUnread, IsUnopened, IsShopped, AddFailed, IsUnannounced, IsUnaccepted, IsBookServed, IsBookUnserved, IsPageRead, IsPageUnread, IsServeDone, IsServeStopped, IsSite};
 ghost use Rattle.shop_files.specs.Shops.{IsShop, IsShopFault};
 ghost use Rattle.shop_files.specs.declared.shops.ShopFault.{ShopFault as ShopFaultOf};
 ghost use Rattle.shop_serve.specs.Serving.{HasServed};
@@ -26,7 +28,11 @@ use std::net::{Ipv4Addr, Net, TcpListener, TcpStream};
 use std::time::Clock;
 
 // Opens the book of a store.
-fn opened<B: Book + Drop, O: Opens<B>>(stores: &O, alloc: Global, store: &str) -> Result<B, Fault>
+fn open_store<B: Book + Drop, O: Opens<B>>(
+    stores: &O,
+    alloc: Global,
+    store: &str,
+) -> Result<B, Fault>
     ensures ok { IfOk result (O.gives stores.now store.now) }
     ensures err { IfErr result IsUnopened }
 {
@@ -47,7 +53,7 @@ pub fn print_ticket<B: Book + Drop, O: Opens<B>, W: Sink>(
     ensures ok { OnOk result (IsTextDone B.Book (O.gives stores.now store.now) (λ m. ticket_of m job) (W.held sink.old) (W.held sink.new)) }
     ensures err { IfErr result (λ f. IsTextStopped B.Book (O.gives stores.now store.now) (λ m. ticket_of m job) f (W.held sink.old) (W.held sink.new) (W.failed sink.old) (W.failed sink.new)) }
 {
-    let mut book = opened(stores, alloc, store)?;
+    let mut book = open_store(stores, alloc, store)?;
     let printed = ticket(alloc, &mut book, job, sink);
     stores.close(book);
     match printed {
@@ -67,7 +73,7 @@ pub fn print_yield<B: Book + Drop, O: Opens<B>, W: Sink>(
     ensures ok { OnOk result (IsTextDone B.Book (O.gives stores.now store.now) (λ m. yield_of m material) (W.held sink.old) (W.held sink.new)) }
     ensures err { IfErr result (λ f. IsTextStopped B.Book (O.gives stores.now store.now) (λ m. yield_of m material) f (W.held sink.old) (W.held sink.new) (W.failed sink.old) (W.failed sink.new)) }
 {
-    let mut book = opened(stores, alloc, store)?;
+    let mut book = open_store(stores, alloc, store)?;
     let printed = yield_report(alloc, &mut book, material, sink);
     stores.close(book);
     match printed {
@@ -126,10 +132,10 @@ fn site_of<R: Files>(rt: &R, alloc: Global, port: u32, page: Option<&str>) -> Re
 }
 
 // Adds the entries to a book.
-fn added<B: Book>(alloc: Global, book: &mut B, entries: &[MaterialEntry]) -> Result<(), Fault>
+fn add_entries<B: Book>(alloc: Global, book: &mut B, entries: &[MaterialEntry]) -> Result<(), Fault>
     requires { length entries.now ≤ MOST_ENTRIES }
     ensures ok { OnOk result (IsShopped B.Book book.old book.new entries.now) }
-    ensures err { IfErr result (IsUnadded B.Book book.old book.new entries.now) }
+    ensures err { IfErr result (AddFailed B.Book book.old book.new entries.now) }
 {
     match add_shop(alloc, book, entries) {
         Ok(()) => Ok(()),
@@ -161,7 +167,7 @@ fn listen<R: Net<Listener = TcpListener, Stream = TcpStream>>(
 }
 
 // Tells the port, once it is listened to.
-fn announced<R: Net<Listener = TcpListener, Stream = TcpStream>, W: Sink>(
+fn bind_and_announce<R: Net<Listener = TcpListener, Stream = TcpStream>, W: Sink>(
     rt: &R,
     alloc: Global,
     port: u32,
@@ -177,7 +183,7 @@ fn announced<R: Net<Listener = TcpListener, Stream = TcpStream>, W: Sink>(
 }
 
 // Serves connections.
-fn accepted<R: Net<Listener = TcpListener, Stream = TcpStream> + Clock, B: Book>(
+fn serve_connections<R: Net<Listener = TcpListener, Stream = TcpStream> + Clock, B: Book>(
     rt: &R,
     alloc: Global,
     listener: &TcpListener,
@@ -209,9 +215,9 @@ fn serve_book<R: Net<Listener = TcpListener, Stream = TcpStream> + Clock, B: Boo
     ensures ok { OnOk result (IsBookServed B.Book site.now book.old book.new entries.now port limit (W.held sink.old) (W.held sink.new)) }
     ensures err { IfErr result (λ f. IsBookUnserved B.Book site.now book.old book.new entries.now port limit f (W.held sink.old) (W.held sink.new) (W.failed sink.old) (W.failed sink.new)) }
 {
-    added(alloc, book, entries)?;
-    let listener = announced(rt, alloc, port, sink)?;
-    match accepted(rt, alloc, &listener, limit, site, book) {
+    add_entries(alloc, book, entries)?;
+    let listener = bind_and_announce(rt, alloc, port, sink)?;
+    match serve_connections(rt, alloc, &listener, limit, site, book) {
         Ok(()) => Ok(()),
         Err(fault) => Err(fault),
     }
@@ -239,7 +245,7 @@ pub fn serve<
 {
     let entries = shop_entries(rt, alloc, shop)?;
     let site = site_of(rt, alloc, port, page)?;
-    let mut book = opened(stores, alloc, store)?;
+    let mut book = open_store(stores, alloc, store)?;
     let served = serve_book(
         rt,
         alloc,

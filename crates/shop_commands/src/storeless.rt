@@ -1,3 +1,5 @@
+//! A book in memory under which no store can fail: where a number is out of range, memory is wanting.
+
 ghost use Rattle.std.specs.Prelude.{◌≡◌};
 ghost use Rattle.shop_machine.specs.Content.{fresh};
 

@@ -29,7 +29,7 @@ use Rattle.shop_machine.specs.Machine.{Reads, refusal_of, Makes}
 use Rattle.shop_machine.specs.Ending.{IsWork, job_refusal, end_refusal}
 use Rattle.shop_machine.specs.Reserving.{IsReservation, reserve_refusal}
 use Rattle.shop_machine.specs.Ordering.{order_refusal, order_change}
-use Rattle.shop_machine.specs.Turning.{turn_change}
+use Rattle.shop_machine.specs.Retiring.{turn_change}
 use Rattle.shop_machine.specs.declared.records.State.{State}
 use Rattle.shop_machine.specs.declared.messages.Reply.{Reply}
 use Rattle.shop_desk.specs.Decided.{IsJudged, AreJobRows}

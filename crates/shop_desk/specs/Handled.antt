@@ -8,7 +8,7 @@ use Rattle.shop_machine.specs.Machine.{StepNew, Step, Run}
 use Rattle.shop_machine.specs.History.{Entry, messages_of, Gives, IsAccountOf, history_after}
 use Rattle.shop_machine.specs.Soundness.{IsSound}
 use Rattle.shop_book.specs.declared.books.Book.{Ghosts}
-use Rattle.shop_book.specs.Kept.{Says}
+use Rattle.shop_book.specs.Kept.{OnContent}
 use Rattle.shop_desk.specs.Faults.{TellOfFailures}
 
 module _ (texts : Texts) {Left : Type 0} (stands : Left → Content → Type 0) where
@@ -43,7 +43,7 @@ module _ (texts : Texts) {Left : Type 0} (stands : Left → Content → Type 0) 
 
 -- a refusal leaves each content that an honest book held, whether a history gives it or not
 abbrev pub RefusalKeeps : {B : Type 0} → Ghosts B → B → B → Reply → Type 0
-RefusalKeeps book before after answer = Says book before after (λ m. IfSome (refusal_in answer) (λ refusal. book.holds after m))
+RefusalKeeps book before after answer = OnContent book before after (λ m. IfSome (refusal_in answer) (λ refusal. book.holds after m))
 
 -- replies in turn led from one book to the next, and so it is after each of them
 abbrev pub RefusalsKeep : {B : Type 0} → Ghosts B → B → List Reply → B → Type 0

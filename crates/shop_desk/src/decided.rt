@@ -1,3 +1,5 @@
+//! What is decided on each command, from the rows that a book has for it.
+
 ghost use Rattle.std.specs.Prelude.{◌≡◌, ◌⊎◌, option_map, IfOk, IfSome, IsTrue, All, Some};
 ghost use Rattle.shop_machine.specs.declared.imports.ImportRow.{ImportRow as ImportRowOf};
 ghost use Rattle.shop_machine.specs.Messages.{is_accepted};
@@ -5,7 +7,7 @@ ghost use Rattle.cut_measure.specs.Names.{Name};
 ghost use Rattle.shop_machine.specs.Content.{Content, demand_at};
 ghost use Rattle.shop_machine.specs.Recounts.{plan_leaves, AreDemandsFound, IsNumbered, leaves_in};
 ghost use Rattle.shop_book.specs.Failures.{CountsFailure};
-ghost use Rattle.shop_book.specs.Kept.{KeepsBook, Says};
+ghost use Rattle.shop_book.specs.Kept.{Unchanged, OnContent};
 ghost use Rattle.shop_machine.specs.declared.messages.Command.TheVariants.{AddMaterial, Receive, AddOrder, Reserve, Done, Break, Release, Scrap, GiveBack};
 ghost use Rattle.shop_machine.specs.declared.messages.Reply.TheVariants.{Refused};
 ghost use Rattle.shop_machine.specs.declared.refusals.Refusal.TheVariants.{BadMessage};
@@ -35,8 +37,8 @@ fn add_material<B: Book>(
     min_long: u32,
     min_short: u32,
 ) -> Result<Change, Refusal>
-    ensures decision { Says B.Book book.old book.new (λ m. IsSound json_texts m → IsJudged json_texts m (AddMaterial material kind kerf min_long min_short) (B.failed book.old) result (B.failed book.new)) }
-    ensures keeps { KeepsBook B.Book (CountsOrDisagrees result) book.old book.new }
+    ensures decision { OnContent B.Book book.old book.new (λ m. IsSound json_texts m → IsJudged json_texts m (AddMaterial material kind kerf min_long min_short) (B.failed book.old) result (B.failed book.new)) }
+    ensures keeps { Unchanged B.Book (CountsOrDisagrees result) book.old book.new }
     ensures told { IfOk result (λ change. IsTrue (is_accepted change.reply)) }
 {
     let known = book.material(material)?;
@@ -53,8 +55,8 @@ fn receive<B: Book>(
     h: u32,
     count: u32,
 ) -> Result<Change, Refusal>
-    ensures decision { Says B.Book book.old book.new (λ m. IsSound json_texts m → IsJudged json_texts m (Receive material batch w h count) (B.failed book.old) result (B.failed book.new)) }
-    ensures keeps { KeepsBook B.Book (CountsOrDisagrees result) book.old book.new }
+    ensures decision { OnContent B.Book book.old book.new (λ m. IsSound json_texts m → IsJudged json_texts m (Receive material batch w h count) (B.failed book.old) result (B.failed book.new)) }
+    ensures keeps { Unchanged B.Book (CountsOrDisagrees result) book.old book.new }
     ensures told { IfOk result (λ change. IsTrue (is_accepted change.reply)) }
 {
     let known = book.material(material)?;
@@ -70,8 +72,8 @@ fn add_order<B: Book>(
     order: Code,
     lines: &LineList,
 ) -> Result<Change, Refusal>
-    ensures decision { Says B.Book book.old book.new (λ m. IsSound json_texts m → IsJudged json_texts m (AddOrder order lines.now) (B.failed book.old) result (B.failed book.new)) }
-    ensures keeps { KeepsBook B.Book (CountsOrDisagrees result) book.old book.new }
+    ensures decision { OnContent B.Book book.old book.new (λ m. IsSound json_texts m → IsJudged json_texts m (AddOrder order lines.now) (B.failed book.old) result (B.failed book.new)) }
+    ensures keeps { Unchanged B.Book (CountsOrDisagrees result) book.old book.new }
     ensures told { IfOk result (λ change. IsTrue (is_accepted change.reply)) }
 {
     let used = book.order(order)?;
@@ -86,10 +88,10 @@ fn leaves_for<B: Book>(
     book: &mut B,
     plan: &Option<Plan>,
 ) -> Result<Vec<FoundLeaf>, BookFault>
-    ensures found { Says B.Book book.old book.new (λ m. IfOk result (λ found. AreDemandsFound (demand_at m) found.items)) }
+    ensures found { OnContent B.Book book.old book.new (λ m. IfOk result (λ found. AreDemandsFound (demand_at m) found.items)) }
     ensures leaves { IfOk result (λ found. IfSome plan.now (λ p. leaves_in found.items ≡ plan_leaves p)) }
     ensures numbered { IfOk result (λ found. All IsNumbered found.items) }
-    ensures keeps { KeepsBook B.Book (CountsFailure result) book.old book.new }
+    ensures keeps { Unchanged B.Book (CountsFailure result) book.old book.new }
 {
     match plan {
         Some(plan) => found_leaves(alloc, book, plan),
@@ -103,10 +105,10 @@ fn job_leaves<B: Book>(
     book: &mut B,
     job: &Option<Job>,
 ) -> Result<Vec<FoundLeaf>, BookFault>
-    ensures found { Says B.Book book.old book.new (λ m. IfOk result (λ found. AreDemandsFound (demand_at m) found.items)) }
+    ensures found { OnContent B.Book book.old book.new (λ m. IfOk result (λ found. AreDemandsFound (demand_at m) found.items)) }
     ensures leaves { IfOk result (λ found. IfSome job.now (λ j. leaves_in found.items ≡ plan_leaves j.plan)) }
     ensures numbered { IfOk result (λ found. All IsNumbered found.items) }
-    ensures keeps { KeepsBook B.Book (CountsFailure result) book.old book.new }
+    ensures keeps { Unchanged B.Book (CountsFailure result) book.old book.new }
 {
     match job {
         Some(job) => found_leaves(alloc, book, &job.plan),
@@ -121,8 +123,8 @@ fn reserve<B: Book>(
     part: PartName,
     tree: &Text,
 ) -> Result<Change, Refusal>
-    ensures decision { Says B.Book book.old book.new (λ m. IsSound json_texts m → IsJudged json_texts m (Reserve part tree.now) (B.failed book.old) result (B.failed book.new)) }
-    ensures keeps { KeepsBook B.Book (CountsOrDisagrees result) book.old book.new }
+    ensures decision { OnContent B.Book book.old book.new (λ m. IsSound json_texts m → IsJudged json_texts m (Reserve part tree.now) (B.failed book.old) result (B.failed book.new)) }
+    ensures keeps { Unchanged B.Book (CountsOrDisagrees result) book.old book.new }
     ensures told { IfOk result (λ change. IsTrue (is_accepted change.reply)) }
 {
     let row = book.part(part)?;
@@ -144,10 +146,10 @@ struct JobRows {
 }
 
 fn job_rows<B: Book>(alloc: Global, book: &mut B, number: u32) -> Result<JobRows, BookFault>
-    ensures rows { Says B.Book book.old book.new (λ m. IfOk result (λ rows. AreJobRows m number rows.job rows.part rows.material rows.totals rows.leaves.items)) }
+    ensures rows { OnContent B.Book book.old book.new (λ m. IfOk result (λ rows. AreJobRows m number rows.job rows.part rows.material rows.totals rows.leaves.items)) }
     ensures leaves { IfOk result (λ rows. IfSome rows.job (λ j. leaves_in rows.leaves.items ≡ plan_leaves j.plan)) }
     ensures numbered { IfOk result (λ rows. All IsNumbered rows.leaves.items) }
-    ensures keeps { KeepsBook B.Book (CountsFailure result) book.old book.new }
+    ensures keeps { Unchanged B.Book (CountsFailure result) book.old book.new }
 {
     let job = book.job(alloc, number)?;
     let part = part_for(book, &job)?;
@@ -165,8 +167,8 @@ fn job_rows<B: Book>(alloc: Global, book: &mut B, number: u32) -> Result<JobRows
 
 // Finishes a job.
 fn done<B: Book>(alloc: Global, book: &mut B, number: u32) -> Result<Change, Refusal>
-    ensures decision { Says B.Book book.old book.new (λ m. IsSound json_texts m → IsJudged json_texts m (Done number) (B.failed book.old) result (B.failed book.new)) }
-    ensures keeps { KeepsBook B.Book (CountsOrDisagrees result) book.old book.new }
+    ensures decision { OnContent B.Book book.old book.new (λ m. IsSound json_texts m → IsJudged json_texts m (Done number) (B.failed book.old) result (B.failed book.new)) }
+    ensures keeps { Unchanged B.Book (CountsOrDisagrees result) book.old book.new }
     ensures told { IfOk result (λ change. IsTrue (is_accepted change.reply)) }
 {
     let JobRows {
@@ -186,8 +188,8 @@ fn break_off<B: Book>(
     number: u32,
     halt: &Halt,
 ) -> Result<Change, Refusal>
-    ensures decision { Says B.Book book.old book.new (λ m. IsSound json_texts m → IsJudged json_texts m (Break number halt.now) (B.failed book.old) result (B.failed book.new)) }
-    ensures keeps { KeepsBook B.Book (CountsOrDisagrees result) book.old book.new }
+    ensures decision { OnContent B.Book book.old book.new (λ m. IsSound json_texts m → IsJudged json_texts m (Break number halt.now) (B.failed book.old) result (B.failed book.new)) }
+    ensures keeps { Unchanged B.Book (CountsOrDisagrees result) book.old book.new }
     ensures told { IfOk result (λ change. IsTrue (is_accepted change.reply)) }
 {
     let JobRows {
@@ -202,8 +204,8 @@ fn break_off<B: Book>(
 
 // Releases a job.
 fn release<B: Book>(alloc: Global, book: &mut B, number: u32) -> Result<Change, Refusal>
-    ensures decision { Says B.Book book.old book.new (λ m. IsSound json_texts m → IsJudged json_texts m (Release number) (B.failed book.old) result (B.failed book.new)) }
-    ensures keeps { KeepsBook B.Book (CountsOrDisagrees result) book.old book.new }
+    ensures decision { OnContent B.Book book.old book.new (λ m. IsSound json_texts m → IsJudged json_texts m (Release number) (B.failed book.old) result (B.failed book.new)) }
+    ensures keeps { Unchanged B.Book (CountsOrDisagrees result) book.old book.new }
     ensures told { IfOk result (λ change. IsTrue (is_accepted change.reply)) }
 {
     let JobRows {
@@ -218,8 +220,8 @@ fn release<B: Book>(alloc: Global, book: &mut B, number: u32) -> Result<Change, 
 
 // Makes a part scrap.
 fn scrap<B: Book>(alloc: Global, book: &mut B, part: PartName) -> Result<Change, Refusal>
-    ensures decision { Says B.Book book.old book.new (λ m. IsSound json_texts m → IsJudged json_texts m (Scrap part) (B.failed book.old) result (B.failed book.new)) }
-    ensures keeps { KeepsBook B.Book (CountsOrDisagrees result) book.old book.new }
+    ensures decision { OnContent B.Book book.old book.new (λ m. IsSound json_texts m → IsJudged json_texts m (Scrap part) (B.failed book.old) result (B.failed book.new)) }
+    ensures keeps { Unchanged B.Book (CountsOrDisagrees result) book.old book.new }
     ensures told { IfOk result (λ change. IsTrue (is_accepted change.reply)) }
 {
     let row = book.part(part)?;
@@ -229,8 +231,8 @@ fn scrap<B: Book>(alloc: Global, book: &mut B, part: PartName) -> Result<Change,
 
 // Returns a unit to its supplier.
 fn give_back<B: Book>(alloc: Global, book: &mut B, part: PartName) -> Result<Change, Refusal>
-    ensures decision { Says B.Book book.old book.new (λ m. IsSound json_texts m → IsJudged json_texts m (GiveBack part) (B.failed book.old) result (B.failed book.new)) }
-    ensures keeps { KeepsBook B.Book (CountsOrDisagrees result) book.old book.new }
+    ensures decision { OnContent B.Book book.old book.new (λ m. IsSound json_texts m → IsJudged json_texts m (GiveBack part) (B.failed book.old) result (B.failed book.new)) }
+    ensures keeps { Unchanged B.Book (CountsOrDisagrees result) book.old book.new }
     ensures told { IfOk result (λ change. IsTrue (is_accepted change.reply)) }
 {
     let row = book.part(part)?;
@@ -240,8 +242,8 @@ fn give_back<B: Book>(alloc: Global, book: &mut B, part: PartName) -> Result<Cha
 
 /// What is decided on a command, from the rows that it needs.
 pub fn decide<B: Book>(alloc: Global, book: &mut B, command: &Command) -> Result<Change, Refusal>
-    ensures decision { Says B.Book book.old book.new (λ m. IsSound json_texts m → IsJudged json_texts m command.now (B.failed book.old) result (B.failed book.new)) }
-    ensures keeps { KeepsBook B.Book (CountsOrDisagrees result) book.old book.new }
+    ensures decision { OnContent B.Book book.old book.new (λ m. IsSound json_texts m → IsJudged json_texts m command.now (B.failed book.old) result (B.failed book.new)) }
+    ensures keeps { Unchanged B.Book (CountsOrDisagrees result) book.old book.new }
     ensures told { IfOk result (λ change. IsTrue (is_accepted change.reply)) }
 {
     match command {

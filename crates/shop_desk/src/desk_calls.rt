@@ -1,17 +1,19 @@
+//! The desk's calls: a message is handled once, a query is answered, and messages are run in order.
+
 ghost use Rattle.std.specs.Prelude.{◌≡◌, ◌≢◌, IfOk, IfSome, OnErr, None, true, false};
 ghost use Rattle.shop_machine.specs.Content.{Content, demand_at, kept_at, material_at, material_of, part_at, parts_of, rack_rows};
 ghost use Rattle.shop_machine.specs.Planning.{AreAsked};
 ghost use Rattle.shop_machine.specs.Messages.{IsMessage, pair_of};
 ghost use Rattle.shop_machine.specs.Machine.{Answers, StepAgain};
 ghost use Rattle.shop_machine.specs.Soundness.{IsSound, IsKept};
-ghost use Rattle.shop_machine.specs.declared.kept_texts.Pair.{Pair as PairOf};
+ghost use Rattle.shop_machine.specs.declared.texts.Pair.{Pair as PairOf};
 ghost use Rattle.shop_machine.specs.declared.messages.Message.{Message as MessageOf};
 ghost use Rattle.shop_machine.specs.declared.messages.Query.TheVariants.{Totals, Rack, Trace, Demand, Plan, Bound};
 ghost use Rattle.shop_machine.specs.declared.messages.Reply.TheVariants.{Refused, Rack as RackParts};
 ghost use Rattle.shop_machine.specs.declared.refusals.Refusal.TheVariants.{NoMemory, StoreFault};
 ghost use Rattle.shop_rules.specs.Forms.{json_texts};
 ghost use Rattle.shop_book.specs.Failures.{CountsFailure};
-ghost use Rattle.shop_book.specs.Kept.{KeepsBook, Says};
+ghost use Rattle.shop_book.specs.Kept.{Unchanged, OnContent};
 ghost use Rattle.shop_desk.specs.Faults.{CountsReply, CountsOrContradicts, CountsUp, StoreFailed};
 ghost use Rattle.shop_desk.specs.Handled.{IsHandled, HasRun, RefusalKeeps, RefusalsKeep};
 
@@ -95,7 +97,11 @@ fn handle_new<B: Book>(
 /// Handles a message: one step of the machine. A message whose pair is kept gets the kept reply, or 11 where it is
 /// another command; one that is accepted is kept with its reply. Beside the reply its text, where it was written to be kept
 /// and there was memory for a copy.
-pub fn handle_told<B: Book>(alloc: Global, book: &mut B, message: &Message) -> (Reply, Option<Text>)
+pub fn handle_with_text<B: Book>(
+    alloc: Global,
+    book: &mut B,
+    message: &Message,
+) -> (Reply, Option<Text>)
     ensures step { B.is_honest book.new → (m : Content) → B.holds book.old m → IsSound json_texts m
         → IsHandled json_texts B.stands (B.may_leave book.old) (B.may_leave book.new) (B.holds book.new) m message.now result.0 }
     ensures refused { RefusalKeeps B.Book book.old book.new result.0 }
@@ -116,7 +122,7 @@ pub fn handle_told<B: Book>(alloc: Global, book: &mut B, message: &Message) -> (
     }
 }
 
-/// Handles a message as `handle_told` does, and gives the reply alone.
+/// Handles a message as `handle_with_text` does, and gives the reply alone.
 pub fn handle<B: Book>(alloc: Global, book: &mut B, message: &Message) -> Reply
     ensures step { B.is_honest book.new → (m : Content) → B.holds book.old m → IsSound json_texts m
         → IsHandled json_texts B.stands (B.may_leave book.old) (B.may_leave book.new) (B.holds book.new) m message.now result }
@@ -127,13 +133,13 @@ pub fn handle<B: Book>(alloc: Global, book: &mut B, message: &Message) -> Reply
     ensures store_fault { B.is_honest book.new → (m : Content) → B.holds book.old m → IsSound json_texts m
         → result ≡ Refused StoreFault → StoreFailed (B.failed book.old) (B.failed book.new) }
 {
-    handle_told(alloc, book, message).0
+    handle_with_text(alloc, book, message).0
 }
 
 // The cells of a material.
 fn totals<B: Book>(book: &mut B, material: Code) -> Reply
-    ensures answer { Says B.Book book.old book.new (λ m. Answers m (Totals material) result) }
-    ensures keeps { KeepsBook B.Book (CountsReply result) book.old book.new }
+    ensures answer { OnContent B.Book book.old book.new (λ m. Answers m (Totals material) result) }
+    ensures keeps { Unchanged B.Book (CountsReply result) book.old book.new }
 {
     match book.material(material) {
         Err(fault) => Reply::Refused(Refusal::from(fault)),
@@ -156,8 +162,8 @@ fn totals<B: Book>(book: &mut B, material: Code) -> Reply
 
 // The parts on the rack of a material that is there.
 fn known_rack<B: Book>(alloc: Global, book: &mut B, material: Code) -> Reply
-    ensures answer { Says B.Book book.old book.new (λ m. result ≢ Refused NoMemory → result ≢ Refused StoreFault → result ≡ RackParts material (rack_rows (parts_of m material))) }
-    ensures keeps { KeepsBook B.Book (CountsReply result) book.old book.new }
+    ensures answer { OnContent B.Book book.old book.new (λ m. result ≢ Refused NoMemory → result ≢ Refused StoreFault → result ≡ RackParts material (rack_rows (parts_of m material))) }
+    ensures keeps { Unchanged B.Book (CountsReply result) book.old book.new }
 {
     let mut taker = RackTaker {
         parts: RackList::new(alloc),
@@ -174,8 +180,8 @@ fn known_rack<B: Book>(alloc: Global, book: &mut B, material: Code) -> Reply
 
 // A material's parts on the rack.
 fn rack<B: Book>(alloc: Global, book: &mut B, material: Code) -> Reply
-    ensures answer { Says B.Book book.old book.new (λ m. Answers m (Rack material) result) }
-    ensures keeps { KeepsBook B.Book (CountsReply result) book.old book.new }
+    ensures answer { OnContent B.Book book.old book.new (λ m. Answers m (Rack material) result) }
+    ensures keeps { Unchanged B.Book (CountsReply result) book.old book.new }
 {
     match book.material(material) {
         Err(fault) => Reply::Refused(Refusal::from(fault)),
@@ -188,8 +194,8 @@ fn rack<B: Book>(alloc: Global, book: &mut B, material: Code) -> Reply
 
 // What became of a part.
 fn trace<B: Book>(book: &mut B, part: PartName) -> Reply
-    ensures answer { Says B.Book book.old book.new (λ m. Answers m (Trace part) result) }
-    ensures keeps { KeepsBook B.Book (CountsReply result) book.old book.new }
+    ensures answer { OnContent B.Book book.old book.new (λ m. Answers m (Trace part) result) }
+    ensures keeps { Unchanged B.Book (CountsReply result) book.old book.new }
 {
     match book.part(part) {
         Err(fault) => Reply::Refused(Refusal::from(fault)),
@@ -210,8 +216,8 @@ fn trace<B: Book>(book: &mut B, part: PartName) -> Reply
 
 // How a demand stands.
 fn demand<B: Book>(book: &mut B, number: u32) -> Reply
-    ensures answer { Says B.Book book.old book.new (λ m. Answers m (Demand number) result) }
-    ensures keeps { KeepsBook B.Book (CountsReply result) book.old book.new }
+    ensures answer { OnContent B.Book book.old book.new (λ m. Answers m (Demand number) result) }
+    ensures keeps { Unchanged B.Book (CountsReply result) book.old book.new }
 {
     match book.demand(number) {
         Err(fault) => Reply::Refused(Refusal::from(fault)),
@@ -241,8 +247,8 @@ fn plan_rows<B: Book>(
     part: PartName,
     numbers: &[u32],
 ) -> Result<PlanRows, BookFault>
-    ensures rows { Says B.Book book.old book.new (λ m. IfOk result (λ rows. (rows.part ≡ part_at m part) × (rows.material ≡ material_of m rows.part) × AreAsked (demand_at m) numbers.now rows.demands)) }
-    ensures keeps { KeepsBook B.Book (CountsFailure result) book.old book.new }
+    ensures rows { OnContent B.Book book.old book.new (λ m. IfOk result (λ rows. (rows.part ≡ part_at m part) × (rows.material ≡ material_of m rows.part) × AreAsked (demand_at m) numbers.now rows.demands)) }
+    ensures keeps { Unchanged B.Book (CountsFailure result) book.old book.new }
 {
     let part = book.part(part)?;
     let material = material_for(book, &part)?;
@@ -256,8 +262,8 @@ fn plan_rows<B: Book>(
 
 // Which plan to cut a part by.
 fn plan<B: Book>(alloc: Global, book: &mut B, part: PartName, numbers: &[u32], step: u32) -> Reply
-    ensures answer { Says B.Book book.old book.new (λ m. Answers m (Plan part numbers.now step) result) }
-    ensures keeps { KeepsBook B.Book (CountsReply result) book.old book.new }
+    ensures answer { OnContent B.Book book.old book.new (λ m. Answers m (Plan part numbers.now step) result) }
+    ensures keeps { Unchanged B.Book (CountsReply result) book.old book.new }
 {
     match plan_rows(alloc, book, part, numbers) {
         Err(fault) => Reply::Refused(Refusal::from(fault)),
@@ -283,8 +289,8 @@ fn bound_rows<B: Book>(
     material: Code,
     numbers: &[u32],
 ) -> Result<BoundRows, BookFault>
-    ensures rows { Says B.Book book.old book.new (λ m. IfOk result (λ rows. (rows.material ≡ material_at m material) × AreAsked (demand_at m) numbers.now rows.demands)) }
-    ensures keeps { KeepsBook B.Book (CountsFailure result) book.old book.new }
+    ensures rows { OnContent B.Book book.old book.new (λ m. IfOk result (λ rows. (rows.material ≡ material_at m material) × AreAsked (demand_at m) numbers.now rows.demands)) }
+    ensures keeps { Unchanged B.Book (CountsFailure result) book.old book.new }
 {
     let material = book.material(material)?;
     let demands = demands_for(alloc, book, numbers)?;
@@ -301,8 +307,8 @@ fn bound<B: Book>(
     numbers: &[u32],
     step: u32,
 ) -> Reply
-    ensures answer { Says B.Book book.old book.new (λ m. Answers m (Bound material w h numbers.now step) result) }
-    ensures keeps { KeepsBook B.Book (CountsReply result) book.old book.new }
+    ensures answer { OnContent B.Book book.old book.new (λ m. Answers m (Bound material w h numbers.now step) result) }
+    ensures keeps { Unchanged B.Book (CountsReply result) book.old book.new }
 {
     match bound_rows(alloc, book, material, numbers) {
         Err(fault) => Reply::Refused(Refusal::from(fault)),
@@ -317,8 +323,8 @@ fn bound<B: Book>(
 
 /// Answers a query, and changes nothing.
 pub fn ask<B: Book>(alloc: Global, book: &mut B, query: &Query) -> Reply
-    ensures answer { Says B.Book book.old book.new (λ m. Answers m query.now result) }
-    ensures keeps { KeepsBook B.Book (CountsReply result) book.old book.new }
+    ensures answer { OnContent B.Book book.old book.new (λ m. Answers m query.now result) }
+    ensures keeps { Unchanged B.Book (CountsReply result) book.old book.new }
     ensures store_fault { result ≡ Refused StoreFault → StoreFailed (B.failed book.old) (B.failed book.new) }
 {
     match query {
@@ -354,7 +360,7 @@ pub fn run<B: Book>(
     book: &mut B,
     messages: &[Message],
 ) -> Result<Vec<Reply>, AllocError>
-    ensures run { Says B.Book book.old book.new (λ m. IsSound json_texts m → IfOk result (λ replies. HasRun json_texts B.Book book.old book.new m messages.now replies.items)) }
+    ensures run { OnContent B.Book book.old book.new (λ m. IsSound json_texts m → IfOk result (λ replies. HasRun json_texts B.Book book.old book.new m messages.now replies.items)) }
     ensures refused { IfOk result (λ replies. RefusalsKeep B.Book book.old replies.items book.new) }
     ensures err { OnErr result (book.new ≡ book.old) }
     ensures honest { B.is_honest book.new → B.is_honest book.old }

@@ -1,3 +1,5 @@
+//! Rows that a decision needs, found in a book: those of a plan's leaves, of an order's lines and of demands.
+
 ghost use Rattle.std.specs.Prelude.{◌≡◌, ◌≤◌, ℕ, IfOk, IfSome, IsTrue, List, MatchOption, All, None, Some, OnOk, ◌++◌, ◌∷◌, []};
 ghost use Rattle.cut_tree.specs.Tree.{Tree, cut_count};
 ghost use Rattle.cut_tree.specs.Spelling.{IsSpelling};
@@ -11,7 +13,7 @@ ghost use Rattle.shop_machine.specs.Ordering.{AreMaterialsFound, lines_in};
 ghost use Rattle.shop_machine.specs.Planning.{AreAsked, AreFound, numbers_in};
 ghost use Rattle.shop_rules.specs.Forms.{json_texts};
 ghost use Rattle.shop_book.specs.Failures.{CountsFailure};
-ghost use Rattle.shop_book.specs.Kept.{KeepsBook, Says};
+ghost use Rattle.shop_book.specs.Kept.{Unchanged, OnContent};
 
 use cut_tree::{Cause, Leaf, Plan};
 use shop_book::{Book, BookFault};
@@ -26,8 +28,8 @@ pub fn material_for<B: Book>(
     book: &mut B,
     part: &Option<Part>,
 ) -> Result<Option<Material>, BookFault>
-    ensures row { Says B.Book book.old book.new (λ m. IfOk result (λ row. row ≡ material_of m part.now)) }
-    ensures keeps { KeepsBook B.Book (CountsFailure result) book.old book.new }
+    ensures row { OnContent B.Book book.old book.new (λ m. IfOk result (λ row. row ≡ material_of m part.now)) }
+    ensures keeps { Unchanged B.Book (CountsFailure result) book.old book.new }
 {
     match part {
         Some(part) => book.material(part.material),
@@ -37,8 +39,8 @@ pub fn material_for<B: Book>(
 
 /// The totals of the material of a part that was found.
 pub fn totals_for<B: Book>(book: &mut B, part: &Option<Part>) -> Result<Totals, BookFault>
-    ensures row { Says B.Book book.old book.new (λ m. IfOk result (λ totals. totals ≡ totals_for m part.now)) }
-    ensures keeps { KeepsBook B.Book (CountsFailure result) book.old book.new }
+    ensures row { OnContent B.Book book.old book.new (λ m. IfOk result (λ totals. totals ≡ totals_for m part.now)) }
+    ensures keeps { Unchanged B.Book (CountsFailure result) book.old book.new }
 {
     match part {
         Some(part) => book.totals(part.material),
@@ -48,8 +50,8 @@ pub fn totals_for<B: Book>(book: &mut B, part: &Option<Part>) -> Result<Totals, 
 
 /// The part of a job that was found.
 pub fn part_for<B: Book>(book: &mut B, job: &Option<Job>) -> Result<Option<Part>, BookFault>
-    ensures row { Says B.Book book.old book.new (λ m. IfOk result (λ row. row ≡ part_of_job m job.now)) }
-    ensures keeps { KeepsBook B.Book (CountsFailure result) book.old book.new }
+    ensures row { OnContent B.Book book.old book.new (λ m. IfOk result (λ row. row ≡ part_of_job m job.now)) }
+    ensures keeps { Unchanged B.Book (CountsFailure result) book.old book.new }
 {
     match job {
         Some(job) => book.part(job.part),
@@ -126,10 +128,10 @@ pub fn found_leaves<B: Book>(
     book: &mut B,
     plan: &Plan,
 ) -> Result<Vec<FoundLeaf>, BookFault>
-    ensures found { Says B.Book book.old book.new (λ m. IfOk result (λ found. AreDemandsFound (demand_at m) found.items)) }
+    ensures found { OnContent B.Book book.old book.new (λ m. IfOk result (λ found. AreDemandsFound (demand_at m) found.items)) }
     ensures leaves { IfOk result (λ found. leaves_in found.items ≡ plan_leaves plan.now) }
     ensures numbered { IfOk result (λ found. All IsNumbered found.items) }
-    ensures keeps { KeepsBook B.Book (CountsFailure result) book.old book.new }
+    ensures keeps { Unchanged B.Book (CountsFailure result) book.old book.new }
 {
     let leaves = plan.leaves(alloc)?;
     let mut found = Vec::new(alloc);
@@ -153,9 +155,9 @@ fn found_demands<B: Book>(
     book: &mut B,
     numbers: &[u32],
 ) -> Result<FoundList, BookFault>
-    ensures found { Says B.Book book.old book.new (λ m. IfOk result (AreFound (demand_at m))) }
+    ensures found { OnContent B.Book book.old book.new (λ m. IfOk result (AreFound (demand_at m))) }
     ensures numbers { IfOk result (λ found. numbers_in found ≡ numbers.now) }
-    ensures keeps { KeepsBook B.Book (CountsFailure result) book.old book.new }
+    ensures keeps { Unchanged B.Book (CountsFailure result) book.old book.new }
 {
     let mut found = FoundList::new(alloc);
     for number in numbers {
@@ -171,8 +173,8 @@ pub fn demands_for<B: Book>(
     book: &mut B,
     numbers: &[u32],
 ) -> Result<Option<FoundList>, BookFault>
-    ensures asked { Says B.Book book.old book.new (λ m. IfOk result (AreAsked (demand_at m) numbers.now)) }
-    ensures keeps { KeepsBook B.Book (CountsFailure result) book.old book.new }
+    ensures asked { OnContent B.Book book.old book.new (λ m. IfOk result (AreAsked (demand_at m) numbers.now)) }
+    ensures keeps { Unchanged B.Book (CountsFailure result) book.old book.new }
 {
     if !can_be_planned(numbers) {
         return Ok(None);
@@ -187,9 +189,9 @@ pub fn found_lines<B: Book>(
     book: &mut B,
     lines: &[OrderLine],
 ) -> Result<Vec<FoundLine>, BookFault>
-    ensures found { Says B.Book book.old book.new (λ m. IfOk result (λ found. AreMaterialsFound (material_at m) found.items)) }
+    ensures found { OnContent B.Book book.old book.new (λ m. IfOk result (λ found. AreMaterialsFound (material_at m) found.items)) }
     ensures lines { IfOk result (λ found. lines_in found.items ≡ lines.now) }
-    ensures keeps { KeepsBook B.Book (CountsFailure result) book.old book.new }
+    ensures keeps { Unchanged B.Book (CountsFailure result) book.old book.new }
 {
     let mut found = Vec::new(alloc);
     for line in lines {

@@ -1,3 +1,5 @@
+//! Imports of order files and problem files: their texts are read, and decided from a book's rows.
+
 ghost use Rattle.std.specs.Prelude.{◌≡◌, ◌≤◌, ℕ, List, Option, Some, IfOk, IfSome, IsTrue, MatchOption, false};
 ghost use Rattle.cut_measure.specs.Measures.{Extent};
 ghost use Rattle.shop_files.specs.declared.orders.OrderLine.{OrderLine as OrderLineOf};
@@ -14,7 +16,7 @@ ghost use Rattle.shop_machine.specs.Importing.{IsRepeat, Tells};
 ghost use Rattle.shop_machine.specs.Soundness.{IsSound};
 ghost use Rattle.shop_rules.specs.Forms.{json_texts};
 ghost use Rattle.shop_book.specs.Failures.{CountsFailure};
-ghost use Rattle.shop_book.specs.Kept.{KeepsBook, Says};
+ghost use Rattle.shop_book.specs.Kept.{Unchanged, OnContent};
 ghost use Rattle.shop_desk.specs.Decided.{IsJudged, CountsOrDisagrees, AreReceiptRows};
 
 use crate::found::found_lines;
@@ -59,9 +61,9 @@ fn import_lines<B: Book>(
     order: Code,
     text: &Text,
 ) -> Result<Change, Refusal>
-    ensures decision { Says B.Book book.old book.new (λ m. IfSome (import_at m order) (λ row. IsRepeat Csv text.now row → ⊥)
+    ensures decision { OnContent B.Book book.old book.new (λ m. IfSome (import_at m order) (λ row. IsRepeat Csv text.now row → ⊥)
         → IsJudged json_texts m (Import order Csv text.now) (B.failed book.old) result (B.failed book.new)) }
-    ensures keeps { KeepsBook B.Book (CountsOrDisagrees result) book.old book.new }
+    ensures keeps { Unchanged B.Book (CountsOrDisagrees result) book.old book.new }
     ensures told { IfOk result (λ change. IsTrue (is_accepted change.reply)) }
 {
     let used = book.order(order)?;
@@ -84,9 +86,9 @@ struct ReceiptRows {
 
 // The rows that a receipt of a material is decided by.
 fn receipt_rows<B: Book>(book: &mut B, material: Code) -> Result<ReceiptRows, BookFault>
-    ensures rows { Says B.Book book.old book.new (λ m. IfOk result (λ rows. AreReceiptRows m material rows.known rows.totals rows.act)) }
+    ensures rows { OnContent B.Book book.old book.new (λ m. IfOk result (λ rows. AreReceiptRows m material rows.known rows.totals rows.act)) }
     ensures least { IfOk result (λ rows. 1 ≤ rows.act) }
-    ensures keeps { KeepsBook B.Book (CountsFailure result) book.old book.new }
+    ensures keeps { Unchanged B.Book (CountsFailure result) book.old book.new }
 {
     let known = book.material(material)?;
     let totals = book.totals(material)?;
@@ -102,9 +104,9 @@ fn import_problem<B: Book>(
     material: Code,
     text: &Text,
 ) -> Result<Change, Refusal>
-    ensures decision { Says B.Book book.old book.new (λ m. IfSome (import_at m order) (λ row. IsRepeat (Cgcut material) text.now row → ⊥)
+    ensures decision { OnContent B.Book book.old book.new (λ m. IfSome (import_at m order) (λ row. IsRepeat (Cgcut material) text.now row → ⊥)
         → IsJudged json_texts m (Import order (Cgcut material) text.now) (B.failed book.old) result (B.failed book.new)) }
-    ensures keeps { KeepsBook B.Book (CountsOrDisagrees result) book.old book.new }
+    ensures keeps { Unchanged B.Book (CountsOrDisagrees result) book.old book.new }
     ensures told { IfOk result (λ change. IsTrue (is_accepted change.reply)) }
 {
     let used = book.order(order)?;
@@ -160,9 +162,9 @@ fn import_new<B: Book>(
     form: &Form,
     text: &Text,
 ) -> Result<Change, Refusal>
-    ensures decision { Says B.Book book.old book.new (λ m. IfSome (import_at m order) (λ row. IsRepeat form.now text.now row → ⊥)
+    ensures decision { OnContent B.Book book.old book.new (λ m. IfSome (import_at m order) (λ row. IsRepeat form.now text.now row → ⊥)
         → IsJudged json_texts m (Import order form.now text.now) (B.failed book.old) result (B.failed book.new)) }
-    ensures keeps { KeepsBook B.Book (CountsOrDisagrees result) book.old book.new }
+    ensures keeps { Unchanged B.Book (CountsOrDisagrees result) book.old book.new }
     ensures told { IfOk result (λ change. IsTrue (is_accepted change.reply)) }
 {
     match form {
@@ -180,9 +182,9 @@ fn import_known<B: Book>(
     form: &Form,
     text: &Text,
 ) -> Result<Change, Refusal>
-    ensures decision { Says B.Book book.old book.new (λ m. IsSound json_texts m → import_at m order ≡ Some row.now
+    ensures decision { OnContent B.Book book.old book.new (λ m. IsSound json_texts m → import_at m order ≡ Some row.now
         → IsJudged json_texts m (Import order form.now text.now) (B.failed book.old) result (B.failed book.new)) }
-    ensures keeps { KeepsBook B.Book (CountsOrDisagrees result) book.old book.new }
+    ensures keeps { Unchanged B.Book (CountsOrDisagrees result) book.old book.new }
     ensures told { IfOk result (λ change. IsTrue (is_accepted change.reply)) }
 {
     if repeats(row, *form, text) {
@@ -200,8 +202,8 @@ pub fn import_order<B: Book>(
     form: &Form,
     text: &Text,
 ) -> Result<Change, Refusal>
-    ensures decision { Says B.Book book.old book.new (λ m. IsSound json_texts m → IsJudged json_texts m (Import order form.now text.now) (B.failed book.old) result (B.failed book.new)) }
-    ensures keeps { KeepsBook B.Book (CountsOrDisagrees result) book.old book.new }
+    ensures decision { OnContent B.Book book.old book.new (λ m. IsSound json_texts m → IsJudged json_texts m (Import order form.now text.now) (B.failed book.old) result (B.failed book.new)) }
+    ensures keeps { Unchanged B.Book (CountsOrDisagrees result) book.old book.new }
     ensures told { IfOk result (λ change. IsTrue (is_accepted change.reply)) }
 {
     match book.import(alloc, order)? {

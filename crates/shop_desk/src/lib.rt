@@ -8,4 +8,4 @@ mod importing;
 mod listing;
 mod racks;
 
-pub use desk_calls::{ask, handle, handle_told, run};
+pub use desk_calls::{ask, handle, handle_with_text, run};

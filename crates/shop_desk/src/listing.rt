@@ -1,3 +1,5 @@
+//! Answers to the queries for lists, for a job and for a terminal, from a book's rows.
+
 ghost use Rattle.std.specs.Prelude.{◌≡◌, ◌≢◌, ◌∷◌, ◌++◌, [], IfOk, OnOk, Some, filter_map};
 ghost use Rattle.shop_machine.specs.Machine.{Answers};
 ghost use Rattle.shop_machine.specs.declared.messages.Query.TheVariants as query;
@@ -5,7 +7,7 @@ ghost use Rattle.shop_machine.specs.declared.messages.Reply.TheVariants.{Refused
 ghost use Rattle.shop_machine.specs.declared.refusals.Refusal.TheVariants.{NoMemory, StoreFault};
 ghost use Rattle.shop_machine.specs.Listing.{are_more, first_told, job_numbers, job_row_at, job_with_part, open_demands, parts_behind, waiting_jobs};
 ghost use Rattle.shop_book.specs.Failures.{CountsFailure};
-ghost use Rattle.shop_book.specs.Kept.{KeepsBook, Says};
+ghost use Rattle.shop_book.specs.Kept.{Unchanged, OnContent};
 ghost use Rattle.shop_desk.specs.Faults.{CountsReply};
 ghost use Rattle.shop_desk.specs.ListedJobs.{told_row};
 
@@ -19,8 +21,8 @@ use std::alloc::{AllocError, Global};
 
 /// All materials.
 pub fn materials<B: Book>(alloc: Global, book: &mut B) -> Reply
-    ensures answer { Says B.Book book.old book.new (λ m. Answers m query.Materials result) }
-    ensures keeps { KeepsBook B.Book (CountsReply result) book.old book.new }
+    ensures answer { OnContent B.Book book.old book.new (λ m. Answers m query.Materials result) }
+    ensures keeps { Unchanged B.Book (CountsReply result) book.old book.new }
 {
     match book.materials(alloc) {
         Err(fault) => Reply::Refused(Refusal::from(fault)),
@@ -35,9 +37,9 @@ fn known_parts<B: Book>(
     material: Code,
     after: Option<PartName>,
 ) -> Reply
-    ensures answer { Says B.Book book.old book.new (λ m. result ≢ Refused NoMemory → result ≢ Refused StoreFault
+    ensures answer { OnContent B.Book book.old book.new (λ m. result ≢ Refused NoMemory → result ≢ Refused StoreFault
         → result ≡ Parts material (are_more (parts_behind m material after)) (first_told (parts_behind m material after))) }
-    ensures keeps { KeepsBook B.Book (CountsReply result) book.old book.new }
+    ensures keeps { Unchanged B.Book (CountsReply result) book.old book.new }
 {
     match book.first_parts(alloc, material, after, MOST_TOLD + 1) {
         Err(fault) => Reply::Refused(Refusal::from(fault)),
@@ -47,8 +49,8 @@ fn known_parts<B: Book>(
 
 /// The standing and reserved parts of a material behind a name.
 pub fn parts<B: Book>(alloc: Global, book: &mut B, material: Code, after: Option<PartName>) -> Reply
-    ensures answer { Says B.Book book.old book.new (λ m. Answers m (query.Parts material after) result) }
-    ensures keeps { KeepsBook B.Book (CountsReply result) book.old book.new }
+    ensures answer { OnContent B.Book book.old book.new (λ m. Answers m (query.Parts material after) result) }
+    ensures keeps { Unchanged B.Book (CountsReply result) book.old book.new }
 {
     match book.material(material) {
         Err(fault) => Reply::Refused(Refusal::from(fault)),
@@ -61,9 +63,9 @@ pub fn parts<B: Book>(alloc: Global, book: &mut B, material: Code, after: Option
 
 // The open demands behind a number, of a material that is there or of all.
 fn known_demands<B: Book>(alloc: Global, book: &mut B, after: u32, material: Option<Code>) -> Reply
-    ensures answer { Says B.Book book.old book.new (λ m. result ≢ Refused NoMemory → result ≢ Refused StoreFault
+    ensures answer { OnContent B.Book book.old book.new (λ m. result ≢ Refused NoMemory → result ≢ Refused StoreFault
         → result ≡ Demands (first_told (open_demands m after material)) (are_more (open_demands m after material))) }
-    ensures keeps { KeepsBook B.Book (CountsReply result) book.old book.new }
+    ensures keeps { Unchanged B.Book (CountsReply result) book.old book.new }
 {
     match book.first_demands(alloc, after, material, MOST_TOLD + 1) {
         Err(fault) => Reply::Refused(Refusal::from(fault)),
@@ -73,8 +75,8 @@ fn known_demands<B: Book>(alloc: Global, book: &mut B, after: u32, material: Opt
 
 // The open demands of a material behind a number.
 fn material_demands<B: Book>(alloc: Global, book: &mut B, after: u32, material: Code) -> Reply
-    ensures answer { Says B.Book book.old book.new (λ m. Answers m (query.Demands after (Some material)) result) }
-    ensures keeps { KeepsBook B.Book (CountsReply result) book.old book.new }
+    ensures answer { OnContent B.Book book.old book.new (λ m. Answers m (query.Demands after (Some material)) result) }
+    ensures keeps { Unchanged B.Book (CountsReply result) book.old book.new }
 {
     match book.material(material) {
         Err(fault) => Reply::Refused(Refusal::from(fault)),
@@ -87,8 +89,8 @@ fn material_demands<B: Book>(alloc: Global, book: &mut B, after: u32, material: 
 
 /// The open demands behind a number, of one material or of all.
 pub fn demands<B: Book>(alloc: Global, book: &mut B, after: u32, material: Option<Code>) -> Reply
-    ensures answer { Says B.Book book.old book.new (λ m. Answers m (query.Demands after material) result) }
-    ensures keeps { KeepsBook B.Book (CountsReply result) book.old book.new }
+    ensures answer { OnContent B.Book book.old book.new (λ m. Answers m (query.Demands after material) result) }
+    ensures keeps { Unchanged B.Book (CountsReply result) book.old book.new }
 {
     match material {
         None => known_demands(alloc, book, after, None),
@@ -102,8 +104,8 @@ fn job_with_part<B: Book>(
     book: &mut B,
     number: u32,
 ) -> Result<Option<(Job, Part)>, BookFault>
-    ensures found { Says B.Book book.old book.new (λ m. IfOk result (λ found. found ≡ job_with_part m number)) }
-    ensures keeps { KeepsBook B.Book (CountsFailure result) book.old book.new }
+    ensures found { OnContent B.Book book.old book.new (λ m. IfOk result (λ found. found ≡ job_with_part m number)) }
+    ensures keeps { Unchanged B.Book (CountsFailure result) book.old book.new }
 {
     let Some(job) = book.job(alloc, number)? else {
         return Ok(None);
@@ -126,8 +128,8 @@ fn push_job(rows: &mut JobList, found: Option<(Job, Part)>) -> Result<(), AllocE
 
 // The rows of jobs, as they are told; none of a job that isn't there with its part.
 fn job_rows<B: Book>(alloc: Global, book: &mut B, numbers: &[u32]) -> Result<JobList, BookFault>
-    ensures rows { Says B.Book book.old book.new (λ m. IfOk result (λ rows. rows ≡ filter_map (job_row_at m) numbers.now)) }
-    ensures keeps { KeepsBook B.Book (CountsFailure result) book.old book.new }
+    ensures rows { OnContent B.Book book.old book.new (λ m. IfOk result (λ rows. rows ≡ filter_map (job_row_at m) numbers.now)) }
+    ensures keeps { Unchanged B.Book (CountsFailure result) book.old book.new }
 {
     let mut rows = JobList::new(alloc);
     for number in numbers {
@@ -143,9 +145,9 @@ fn first_jobs<B: Book>(
     book: &mut B,
     after: u32,
 ) -> Result<(JobList, bool), BookFault>
-    ensures jobs { Says B.Book book.old book.new (λ m. IfOk result (λ found.
+    ensures jobs { OnContent B.Book book.old book.new (λ m. IfOk result (λ found.
         (found.0 ≡ filter_map (job_row_at m) (first_told (job_numbers (waiting_jobs m after)))) × (found.1 ≡ are_more (job_numbers (waiting_jobs m after))))) }
-    ensures keeps { KeepsBook B.Book (CountsFailure result) book.old book.new }
+    ensures keeps { Unchanged B.Book (CountsFailure result) book.old book.new }
 {
     let numbers = book.first_jobs(alloc, after, MOST_TOLD + 1)?;
     let rows = job_rows(alloc, book, first_told(numbers.as_slice()))?;
@@ -154,8 +156,8 @@ fn first_jobs<B: Book>(
 
 /// The waiting jobs behind a number.
 pub fn jobs<B: Book>(alloc: Global, book: &mut B, after: u32) -> Reply
-    ensures answer { Says B.Book book.old book.new (λ m. Answers m (query.Jobs after) result) }
-    ensures keeps { KeepsBook B.Book (CountsReply result) book.old book.new }
+    ensures answer { OnContent B.Book book.old book.new (λ m. Answers m (query.Jobs after) result) }
+    ensures keeps { Unchanged B.Book (CountsReply result) book.old book.new }
 {
     match first_jobs(alloc, book, after) {
         Err(fault) => Reply::Refused(Refusal::from(fault)),
@@ -165,8 +167,8 @@ pub fn jobs<B: Book>(alloc: Global, book: &mut B, after: u32) -> Reply
 
 /// A job and its plan.
 pub fn job<B: Book>(alloc: Global, book: &mut B, number: u32) -> Reply
-    ensures answer { Says B.Book book.old book.new (λ m. Answers m (query.Job number) result) }
-    ensures keeps { KeepsBook B.Book (CountsReply result) book.old book.new }
+    ensures answer { OnContent B.Book book.old book.new (λ m. Answers m (query.Job number) result) }
+    ensures keeps { Unchanged B.Book (CountsReply result) book.old book.new }
 {
     match job_with_part(alloc, book, number) {
         Err(fault) => Reply::Refused(Refusal::from(fault)),
@@ -177,8 +179,8 @@ pub fn job<B: Book>(alloc: Global, book: &mut B, number: u32) -> Reply
 
 /// The last number of a terminal.
 pub fn terminal<B: Book>(book: &mut B, terminal: u32) -> Reply
-    ensures answer { Says B.Book book.old book.new (λ m. Answers m (query.Terminal terminal) result) }
-    ensures keeps { KeepsBook B.Book (CountsReply result) book.old book.new }
+    ensures answer { OnContent B.Book book.old book.new (λ m. Answers m (query.Terminal terminal) result) }
+    ensures keeps { Unchanged B.Book (CountsReply result) book.old book.new }
 {
     match book.last_number(terminal) {
         Err(fault) => Reply::Refused(Refusal::from(fault)),

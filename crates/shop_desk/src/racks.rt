@@ -1,3 +1,5 @@
+//! Takes the parts that a book hands out, but for whole units, as rows of a rack.
+
 ghost use Rattle.shop_desk.specs.Racks.{TakesRack};
 
 use shop_machine::PartVisitor;

@@ -1,3 +1,5 @@
+//! What holds of all files: a text has one first fault, and none that is spelled has a fault.
+
 ghost use Rattle.std.specs.Prelude.{◌≡◌, ℕ, List};
 ghost use Rattle.cut_measure.specs.Measures.{Extent};
 ghost use Rattle.shop_files.specs.Problems.{IsProblem, IsProblemFault};

@@ -1,3 +1,5 @@
+//! The most bytes, pieces, lines and materials of a file that is read.
+
 /// The most bytes of a text that is read.
 pub const LONGEST_TEXT: usize = 65_536;
 

@@ -1,3 +1,5 @@
+//! Order files: records in CSV behind a header, each a line of an order.
+
 ghost use Rattle.std.specs.Prelude.{◌≡◌, ◌≢◌, ◌≤◌, ◌<◌, ◌+◌, ◌^◌, ◌⊎◌, ℕ, List, [], ◌∷◌, ◌++◌, IfOk, IfErr, MatchOption, MatchResult, IsTrue, ◌↔◌, Bool, Some, true, false, codes, get_or, length};
 ghost use Rattle.csv.specs.Records.{fields_of, field_at};
 ghost use Rattle.cut_measure.specs.Codes.{code_of};
@@ -164,7 +166,7 @@ fn header_fault(record: &ByteRecord) -> Option<usize>
     None
 }
 
-// ReadsRuns the next record into the buffer, if there is one.
+// Reads the next record into the buffer, if there is one.
 fn next_row(reader: &mut Reader<&[u8]>, record: &mut ByteRecord) -> Result<bool, OrdersFault>
     ensures found { IfOk result (λ found. (text : List ℕ) (rows : List Fields) → HasRead (λ s. Some s.now) reader.old text rows
         → HasNext (λ s. Some s.now) found text rows (fields_of record.new) reader.new) }
@@ -177,7 +179,7 @@ fn next_row(reader: &mut Reader<&[u8]>, record: &mut ByteRecord) -> Result<bool,
     Ok(found)
 }
 
-// ReadsRuns the lines behind the header.
+// Reads the lines behind the header.
 fn read_lines(
     alloc: Global,
     reader: &mut Reader<&[u8]>,

@@ -26,7 +26,7 @@ use Rattle.shop_machine.proofs.ReceivingDeed.{by_receipt}
 use Rattle.shop_machine.proofs.ImportingDeed.{by_import}
 use Rattle.shop_machine.proofs.ReservingDeed.{reserves}
 use Rattle.shop_machine.proofs.EndingDeed.{ends, breaks, releases}
-use Rattle.shop_machine.proofs.TurningDeed.{scraps, gives_back}
+use Rattle.shop_machine.proofs.RetiringDeed.{scraps, gives_back}
 
 module _ (texts : Texts) (message : Message) (earlier : List Deed) (old : Content) (sound : IsSound texts old) (f : Follows earlier old) where
   abbrev Then : Command → Reading → Change → Type 0

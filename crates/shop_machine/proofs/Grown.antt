@@ -6,7 +6,7 @@ use Rattle.std.specs.FinMap.{FinMap}
 use Rattle.std.proofs.lemmas.List.Elements.{All-nil}
 use Rattle.cut_measure.specs.Codes.{code_cmp}
 use Rattle.cut_measure.specs.Names.{Name, name_cmp}
-use Rattle.shop_machine.specs.declared.kept_texts.Kept.{Kept}
+use Rattle.shop_machine.specs.declared.texts.Kept.{Kept}
 use Rattle.shop_machine.specs.declared.imports.ImportRow.{ImportRow}
 use Rattle.shop_machine.specs.declared.records.Material.{Material}
 use Rattle.shop_machine.specs.declared.records.Part.{Part}

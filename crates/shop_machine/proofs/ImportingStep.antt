@@ -9,7 +9,7 @@ use Rattle.cut_measure.specs.Measures.{Extent, is_size}
 use Rattle.shop_files.specs.declared.orders.OrderLine.{OrderLine}
 use Rattle.shop_files.specs.declared.problems.Piece.{Piece}
 use Rattle.shop_machine.specs.declared.records.Material.{Material}
-use Rattle.shop_machine.specs.declared.kept_texts.Kept.{Kept}
+use Rattle.shop_machine.specs.declared.texts.Kept.{Kept}
 use Rattle.shop_machine.specs.declared.imports.Form.{Form}
 use Rattle.shop_machine.specs.declared.imports.Form.TheVariants.{Csv, Cgcut}
 use Rattle.shop_machine.specs.declared.imports.ImportRow.{ImportRow}

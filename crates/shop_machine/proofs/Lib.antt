@@ -45,8 +45,8 @@ pub mod EndingDecision
 pub mod EndingStep
 pub mod EndingDeed
 -- a standing part as a whole gets another state
-pub mod TurningStep
-pub mod TurningDeed
+pub mod RetiringStep
+pub mod RetiringDeed
 -- asking for a plan, or for a bound
 pub mod PlanningDecision
 pub mod PlanningReply

@@ -21,7 +21,7 @@ use Rattle.shop_machine.specs.declared.records.Demand.{Demand}
 use Rattle.shop_machine.specs.declared.records.Column.{Column}
 use Rattle.shop_machine.specs.declared.records.Column.TheVariants.{Received, Stock, Rack, Pieces, Kerf, Scrap, Returned}
 use Rattle.shop_machine.specs.declared.records.Totals.{Totals}
-use Rattle.shop_machine.specs.declared.kept_texts.Kept.{Kept}
+use Rattle.shop_machine.specs.declared.texts.Kept.{Kept}
 use Rattle.shop_machine.specs.declared.imports.ImportRow.{ImportRow}
 use Rattle.shop_machine.specs.declared.messages.Message.{Message}
 use Rattle.shop_machine.specs.declared.refusals.Refusal.TheVariants.{BadSize, BadCount, TooMuch, NumbersSpent, StoreFault}

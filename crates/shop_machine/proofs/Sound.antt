@@ -20,8 +20,8 @@ use Rattle.shop_machine.specs.declared.messages.Command.TheVariants.{AddMaterial
 use Rattle.shop_machine.specs.declared.messages.Message.{Message}
 use Rattle.shop_machine.specs.declared.messages.Reply.TheVariants as reply
 use Rattle.shop_machine.specs.declared.refusals.Refusal.TheVariants.{StoreFault}
-use Rattle.shop_machine.specs.declared.kept_texts.Pair.{Pair}
-use Rattle.shop_machine.specs.declared.kept_texts.Kept.{Kept}
+use Rattle.shop_machine.specs.declared.texts.Pair.{Pair}
+use Rattle.shop_machine.specs.declared.texts.Kept.{Kept}
 use Rattle.shop_machine.specs.Messages.{Texts, IsMessage, IsMade, pair_of, IsCommand}
 use Rattle.shop_machine.specs.Readings.{Reading, plan_in}
 use Rattle.shop_machine.specs.Content.{Content, fresh, pair_cmp, material_at, totals_in, AddsUp, has_order, kept_at, import_at, with_order, with_import, changed, part_at, demand_at, material_of, totals_of, totals_for}
@@ -36,7 +36,7 @@ use Rattle.shop_machine.proofs.OrderingStep.{order_of, order_stock, order_fits, 
 use Rattle.shop_machine.proofs.EndingStep.{job_waits, end_stock, end_fits, release_stock, release_fits, so_far, end_told, end_agrees}
 use Rattle.shop_machine.proofs.ReceivingStep.{receive_stock, receive_fits, receipt, receive_agrees}
 use Rattle.shop_machine.proofs.ReservingStep.{reserve_stock, reserve_fits, reading, fitting, reserve_agrees}
-use Rattle.shop_machine.proofs.TurningStep.{scrap_stands, returned_stands, turn_stock, turn_fits, scrap_agrees, return_agrees, held_for}
+use Rattle.shop_machine.proofs.RetiringStep.{scrap_stands, returned_stands, turn_stock, turn_fits, scrap_agrees, return_agrees, held_for}
 use Rattle.shop_machine.proofs.Grown.{IsStock, stock_of}
 use Rattle.shop_machine.proofs.AddingStep.{material_stock, material_fits, material_agrees, made_material}
 

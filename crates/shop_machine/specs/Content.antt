@@ -16,9 +16,9 @@ use Rattle.shop_machine.specs.declared.records.Totals.{Totals}
 use Rattle.shop_machine.specs.declared.records.Column.{Column}
 use Rattle.shop_machine.specs.declared.records.Column.TheVariants.{Received, Stock, Rack, Pieces, Kerf, Scrap, Returned}
 use Rattle.shop_machine.specs.declared.imports.ImportRow.{ImportRow}
-use Rattle.shop_machine.specs.declared.kept_texts.Pair.{Pair}
-use Rattle.shop_machine.specs.declared.kept_texts.Kept.{Kept}
-use Rattle.shop_machine.specs.declared.kept_texts.KeptMessage.{KeptMessage}
+use Rattle.shop_machine.specs.declared.texts.Pair.{Pair}
+use Rattle.shop_machine.specs.declared.texts.Kept.{Kept}
+use Rattle.shop_machine.specs.declared.texts.KeptMessage.{KeptMessage}
 use Rattle.shop_machine.specs.declared.changes.Change.{Change}
 use Rattle.shop_machine.specs.Columns.{is_counted, is_there, is_whole, rack_row}
 

@@ -13,7 +13,7 @@ pub mod Importing
 pub mod Reserving
 pub mod Moving
 pub mod Ending
-pub mod Turning
+pub mod Retiring
 pub mod Planning
 pub mod Machine
 pub mod Soundness

@@ -9,7 +9,7 @@ use Rattle.shop_machine.specs.declared.records.State.TheVariants as state
 use Rattle.shop_machine.specs.declared.records.Job.{Job}
 use Rattle.shop_machine.specs.declared.records.Demand.{Demand}
 use Rattle.shop_machine.specs.declared.records.Totals.{Totals}
-use Rattle.shop_machine.specs.declared.kept_texts.Kept.{Kept}
+use Rattle.shop_machine.specs.declared.texts.Kept.{Kept}
 use Rattle.shop_machine.specs.declared.changes.Change.{Change}
 use Rattle.shop_machine.specs.declared.messages.Command.{Command}
 use Rattle.shop_machine.specs.declared.messages.Command.TheVariants.{AddMaterial, Receive, AddOrder, Reserve, Done, Break, Release, Scrap, GiveBack, Import}
@@ -31,7 +31,7 @@ use Rattle.shop_machine.specs.Ordering.{order_refusal, order_change}
 use Rattle.shop_machine.specs.Importing.{IsImportReading, import_refusal, ImportMakes}
 use Rattle.shop_machine.specs.Reserving.{IsReading, reserve_refusal, IsReservation}
 use Rattle.shop_machine.specs.Ending.{end_refusal, IsWork, IsDone, IsBroken, IsRelease}
-use Rattle.shop_machine.specs.Turning.{scrap_refusal, return_refusal, turn_change}
+use Rattle.shop_machine.specs.Retiring.{scrap_refusal, return_refusal, turn_change}
 use Rattle.shop_machine.specs.Planning.{IsPlanAnswer, IsBoundAnswer}
 use Rattle.shop_machine.specs.Listing.{materials_of, parts_behind, open_demands, waiting_jobs, job_numbers, is_known, job_with_part, told_parts, told_demands, told_jobs, told_job, IsTerminalAnswer}
 

@@ -1,3 +1,5 @@
+//! A material is added: what is decided on it.
+
 ghost use Rattle.std.specs.Prelude.{◌≡◌, IfOk, IsTrue};
 ghost use Rattle.cut_measure.specs.Measures.{Rule};
 ghost use Rattle.shop_machine.specs.Messages.{is_accepted};

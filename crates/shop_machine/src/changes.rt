@@ -1,7 +1,9 @@
+//! What an accepted command changes of the shop: its new rows, the rows that move, and its reply.
+
 use crate::imports::ImportRow;
-use crate::kept_texts::KeptMessage;
 use crate::messages::Reply;
 use crate::records::{Demand, Job, Material, Part, Totals};
+use crate::texts::KeptMessage;
 use cut_measure::{Code, RowList};
 
 /// Rows of materials, in order.

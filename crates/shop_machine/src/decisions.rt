@@ -1,3 +1,5 @@
+//! The change that changes nothing.
+
 ghost use Rattle.std.specs.Prelude.{◌≡◌};
 ghost use Rattle.shop_machine.specs.Decisions.{no_change};
 

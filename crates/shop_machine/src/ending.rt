@@ -1,3 +1,5 @@
+//! A job is done, breaks off or is released: what becomes of its part, its rests and its demands.
+
 ghost use Rattle.std.specs.Prelude.{◌≡◌, ◌*◌, ◌≤◌, IfOk, IfErr, IsTrue, ◌+◌, ◌∷◌, ℕ, Option, None, All, map, ◌<◌, ◌^◌, Some, IfSome, MatchOption, sum_by, drop};
 ghost use Rattle.std.specs.List.{list_all};
 ghost use Rattle.cut_measure.specs.declared.ranges.TheConstants.{MOST_HEIGHT, MOST_NUMBERS, MOST_WIDTH};

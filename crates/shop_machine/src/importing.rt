@@ -1,3 +1,5 @@
+//! An order is made from the text of an order file or of a problem file: what is decided on it.
+
 ghost use Rattle.std.specs.Prelude.{◌≡◌, ◌≤◌, ℕ, List, [], Option, Some, IfOk, IfSome, IsTrue, ◌↔◌, MatchOption, length};
 ghost use Rattle.cut_measure.specs.Measures.{Extent};
 ghost use Rattle.shop_files.specs.declared.limits.TheConstants.{MOST_PIECES};
@@ -10,12 +12,12 @@ ghost use Rattle.shop_machine.specs.Importing.{IsRepeat, problem_lines, piece_li
 use crate::changes::Change;
 use crate::decisions::no_change;
 use crate::imports::{Form, ImportRow};
-use crate::kept_texts::Text;
 use crate::messages::{LineList, Reply};
 use crate::ordering::{FoundLine, decide_order, lines_refusal};
 use crate::receiving::decide_receive;
 use crate::records::{Material, Totals};
 use crate::refusals::Refusal;
+use crate::texts::Text;
 use cut_measure::{Code, Size};
 use shop_files::{OrderLine, Piece};
 use std::alloc::{AllocError, Global};

@@ -1,4 +1,6 @@
-use crate::kept_texts::Text;
+//! What is kept of an import: the form and the text that an order came from, and its reply.
+
+use crate::texts::Text;
 use cut_measure::Code;
 use std::alloc::{AllocError, Global};
 

@@ -1,3 +1,5 @@
+//! What holds of every history of the shop: its content is sound, and each cell has exactly one owner.
+
 ghost use Rattle.std.specs.Prelude.{◌≡◌, ◌≢◌, ◌≤◌, ◌⊎◌, ◌↔◌, ℕ, List, Some, None};
 ghost use Rattle.cut_measure.specs.Names.{Name};
 ghost use Rattle.cut_tree.specs.declared.lay.Row.{Row};

@@ -7,7 +7,6 @@ mod decisions;
 mod ending;
 mod importing;
 mod imports;
-mod kept_texts;
 mod laws;
 mod listing;
 mod messages;
@@ -19,7 +18,8 @@ mod records;
 mod recounts;
 mod refusals;
 mod reserving;
-mod turning;
+mod retiring;
+mod texts;
 mod visits;
 
 pub use adding::decide_material;
@@ -30,7 +30,6 @@ pub use importing::{
     decide_again, decide_lines, decide_problem, problem_lines, repeats, unread_refusal,
 };
 pub use imports::{Form, ImportRow};
-pub use kept_texts::{Kept, KeptMessage, Pair, Text};
 pub use laws::{
     accepted_changes_fit, histories_have_accounts, shared_cells_are_laid,
     told_plans_can_be_reserved,
@@ -49,6 +48,7 @@ pub use records::{
 pub use recounts::FoundLeaf;
 pub use refusals::Refusal;
 pub use reserving::decide_reserve;
+pub use retiring::{decide_give_back, decide_scrap};
 pub use shop_files::{MOST_LINES, OrderLine};
-pub use turning::{decide_give_back, decide_scrap};
+pub use texts::{Kept, KeptMessage, Pair, Text};
 pub use visits::PartVisitor;

@@ -1,3 +1,5 @@
+//! Lists of what stands, is open or waits: the first rows, and whether others follow; and the answer on a job.
+
 ghost use Rattle.std.specs.Prelude.{◌≡◌, ◌≢◌, ◌+◌, List, Some, IfOk, take};
 ghost use Rattle.shop_machine.specs.declared.listing.TheConstants.{MOST_TOLD};
 ghost use Rattle.shop_machine.specs.declared.records.Demand.{Demand as DemandOf};

@@ -1,8 +1,10 @@
+//! What a terminal says to the shop, a command or a query, and what it is answered.
+
 use crate::changes::{DemandList, MaterialList, PartList};
 use crate::imports::Form;
-use crate::kept_texts::Text;
 use crate::records::{JobRow, JobState, RackRow, StateWord};
 use crate::refusals::Refusal;
+use crate::texts::Text;
 use cut_measure::{Code, Kind, PartName, RowList};
 use cut_tree::Halt;
 use shop_files::OrderLine;

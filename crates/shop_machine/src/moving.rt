@@ -1,3 +1,5 @@
+//! The totals of a material as a part becomes other parts: cells that go and cells that come.
+
 ghost use Rattle.std.specs.Prelude.{◌≡◌, ◌*◌, ◌<◌, ◌≤◌, ◌^◌, ◌+◌, ◌-◌, ◌∷◌, [], sum_by, IsTrue};
 ghost use Rattle.shop_machine.specs.Content.{no_totals};
 ghost use Rattle.shop_machine.specs.Moving.{cells_counted, tally, can_move, has_cells, moved_totals, AreFew};

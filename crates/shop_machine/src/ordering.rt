@@ -1,3 +1,5 @@
+//! An order is added: what its lines have to be, and the demands that they become.
+
 ghost use Rattle.std.specs.Prelude.{◌≡◌, ◌≤◌, IfOk, IsTrue, ◌+◌, ℕ, List, Option, IfNone, All, length};
 ghost use Rattle.cut_measure.specs.declared.ranges.TheConstants.{MOST_NUMBERS};
 ghost use Rattle.cut_measure.specs.Measures.{is_size};

@@ -1,3 +1,5 @@
+//! Queries for a plan of a part and for the least number of units: the wants that are left, and the answer.
+
 ghost use Rattle.std.specs.Prelude.{filter_map, ◌≡◌, ◌≢◌, ◌≤◌, IfOk, IfErr, IfNone, ℕ, List, Option, None, Some, All, not, Ok, Err};
 ghost use Rattle.cut_measure.specs.declared.ranges.TheConstants.{MOST_KERF};
 ghost use Rattle.cut_measure.specs.declared.sizes.Kind.TheVariants.{Bar, Sheet};
@@ -9,10 +11,10 @@ ghost use Rattle.shop_machine.specs.declared.messages.Reply.TheVariants.{Refused
 ghost use Rattle.shop_machine.specs.Planning as planning;
 ghost use Rattle.shop_machine.specs.Planning.{AreAsked, AreFound, HasNumber, IsPlanAnswer, IsBoundAnswer, IsPlanned, IsBounded, Tells, are_bad_numbers, numbers_in, planned_size, numbers_refusal};
 
-use crate::kept_texts::Text;
 use crate::messages::Reply;
 use crate::records::{Demand, Material, Part};
 use crate::refusals::Refusal;
+use crate::texts::Text;
 use cut_measure::{Code, Kind, MOST_NUMBERS, RowList, Size};
 use cut_plan::{MOST_WANTS, Want, least_units, plan_bar, plan_sheet};
 use cut_tree::Plan;

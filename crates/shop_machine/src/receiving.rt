@@ -1,3 +1,5 @@
+//! Units are received: what is decided on a receipt, and its new parts.
+
 ghost use Rattle.std.specs.Prelude.{◌≡◌, ◌≤◌, IfOk, IsTrue};
 ghost use Rattle.cut_measure.specs.declared.ranges.TheConstants.{MOST_NUMBERS};
 ghost use Rattle.shop_machine.specs.Messages.{is_accepted};

@@ -1,3 +1,5 @@
+//! The rows of which the shop's content consists: materials, parts, jobs, demands and totals.
+
 use cut_measure::{Code, Kind, Limits, PartName, Size};
 use cut_tree::Plan;
 use std::alloc::{AllocError, Global};

@@ -1,3 +1,5 @@
+//! The demands of a plan as its pieces are reserved, made or set free.
+
 ghost use Rattle.std.specs.Prelude.{◌≡◌, ◌≢◌, IfOk, IsTrue, ℕ, Option, OnOk, All, ◌<◌, ◌^◌, Any, false};
 ghost use Rattle.cut_tree.specs.Counting.{is_demand_piece};
 ghost use Rattle.cut_tree.specs.Tree.{count_of};

@@ -1,3 +1,5 @@
+//! Why a message or a query is refused, with the numbers and the names that replies print.
+
 ghost use Rattle.std.specs.Prelude.{◌≡◌};
 ghost use Rattle.shop_machine.specs.Refusals.{refusal_number, refusal_name};
 

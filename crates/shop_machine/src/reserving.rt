@@ -1,3 +1,5 @@
+//! A part is reserved for a plan: which plans of a part are taken, and what becomes of its demands.
+
 ghost use Rattle.std.specs.Prelude.{◌≡◌, IfOk, IsTrue, ℕ, Option, IfNone, All, Some, IfSome, is_some, MatchOption, false};
 ghost use Rattle.std.specs.List.{list_any};
 ghost use Rattle.cut_tree.specs.Tree.{count_of};

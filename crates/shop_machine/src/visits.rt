@@ -1,3 +1,5 @@
+//! What looks at parts that are handed out one at a time.
+
 ghost use Rattle.std.specs.Prelude.{Bool};
 ghost use Rattle.shop_machine.specs.declared.records.Part.{Part as PartRow};
 

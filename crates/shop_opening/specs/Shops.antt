@@ -9,7 +9,7 @@ use Rattle.shop_machine.specs.Soundness.{IsSound}
 use Rattle.shop_desk.specs.Handled.{HasRun}
 use Rattle.shop_rules.specs.Forms.{json_texts}
 use Rattle.shop_book.specs.declared.books.Book.{Ghosts}
-use Rattle.shop_book.specs.Kept.{Says}
+use Rattle.shop_book.specs.Kept.{OnContent}
 use Rattle.shop_opening.specs.declared.shops.AddFault.{AddFault}
 use Rattle.shop_opening.specs.declared.shops.AddFault.TheVariants.{NoMemory, Refused}
 use Rattle.shop_opening.specs.declared.shops.EntryRefused.{EntryRefused}
@@ -42,9 +42,9 @@ pub record IsFirstRefused (replies : List Reply) (e : EntryRefused) : Type 0 whe
 -- it holds now by a run of the machine.
 abbrev pub HasShop : {B : Type 0} → Ghosts B → B → B → List MaterialEntry → (List Reply → Type 0) → Type 0
 HasShop book before after entries replied =
-    (replies : List Reply) × replied replies × Says book before after (λ m. IsSound json_texts m → HasRun json_texts book before after m (shop_messages entries) replies)
+    (replies : List Reply) × replied replies × OnContent book before after (λ m. IsSound json_texts m → HasRun json_texts book before after m (shop_messages entries) replies)
 
 -- not all are there: nothing was done, or an entry was refused
-abbrev pub IsUnshopped : {B : Type 0} → Ghosts B → B → B → List MaterialEntry → AddFault → Type 0
-IsUnshopped book before after entries NoMemory = after ≡ before
-IsUnshopped book before after entries (Refused e) = HasShop book before after entries (λ replies. IsFirstRefused replies e)
+abbrev pub ShopFailed : {B : Type 0} → Ghosts B → B → B → List MaterialEntry → AddFault → Type 0
+ShopFailed book before after entries NoMemory = after ≡ before
+ShopFailed book before after entries (Refused e) = HasShop book before after entries (λ replies. IsFirstRefused replies e)

@@ -1,11 +1,13 @@
+//! The materials of a shop file, added to a book as messages of terminal 0.
+
 ghost use Rattle.std.specs.Prelude.{◌≡◌, ◌≤◌, length, IfOk, OnOk, IfErr, MatchOption, All};
 ghost use Rattle.shop_desk.specs.Faults.{CountsUp};
 ghost use Rattle.shop_files.specs.declared.limits.TheConstants.{MOST_ENTRIES};
 ghost use Rattle.shop_machine.specs.Messages.{refusal_in};
 ghost use Rattle.shop_rules.specs.Forms.{json_texts};
 ghost use Rattle.shop_opening.specs.Shops as spec;
-ghost use Rattle.shop_opening.specs.Shops.{HasShop, IsAccepted, IsFirstRefused, IsUnshopped};
-ghost use Rattle.shop_book.specs.Kept.{Says};
+ghost use Rattle.shop_opening.specs.Shops.{HasShop, IsAccepted, IsFirstRefused, ShopFailed};
+ghost use Rattle.shop_book.specs.Kept.{OnContent};
 
 use shop_desk::run;
 use shop_files::MaterialEntry;
@@ -111,7 +113,7 @@ pub fn add_shop<B: Book>(
 ) -> Result<(), AddFault>
     requires { length entries.now ≤ MOST_ENTRIES }
     ensures ok { OnOk result (HasShop B.Book book.old book.new entries.now (All IsAccepted)) }
-    ensures err { IfErr result (IsUnshopped B.Book book.old book.new entries.now) }
+    ensures err { IfErr result (ShopFailed B.Book book.old book.new entries.now) }
     ensures honest { B.is_honest book.new → B.is_honest book.old }
     ensures failures { CountsUp (B.failed book.old) (B.failed book.new) }
 {

@@ -1,3 +1,5 @@
+//! The books of store files: what opens and closes one.
+
 ghost use Rattle.std.specs.Prelude.{◌≡◌, IfErr};
 
 use shop_store::{BookFault, SqlBook};

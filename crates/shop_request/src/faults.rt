@@ -1,3 +1,5 @@
+//! What may be wrong with a request, and why one couldn't be read.
+
 /// What is wrong with a request: the first fault, in the order of `read_request`.
 #[derive(Clone, Copy, Debug, PartialEq, Eq)]
 pub enum Fault {

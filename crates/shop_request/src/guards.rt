@@ -1,3 +1,5 @@
+//! The guard before the routes: by its head alone a request is let through, refused, or gets the page.
+
 ghost use Rattle.std.specs.Prelude.{◌≡◌, length, map, All, IfOk, string_bytes};
 ghost use Rattle.std.specs.List.{list_any};
 ghost use Rattle.httparse.specs.Spans.{IsHeaderWithin, header_bytes};

@@ -1,3 +1,5 @@
+//! The head of a request: read from a source, and parsed into its method, its target and its fields.
+
 ghost use Rattle.std.specs.Prelude.{◌≡◌, ◌⊎◌, ◌+◌, ◌≤◌, ℕ, List, length, IfOk, IfErr, OnOk, []};
 ghost use Rattle.shop_text.specs.Streams.{HasFailed};
 ghost use Rattle.shop_request.specs.Heads.{front, most_head};

@@ -1,3 +1,5 @@
+//! What a head asks for, its route and its part of the path, or the first fault in it.
+
 ghost use Rattle.std.specs.Prelude.{◌≡◌, ◌≤◌, ℕ, List, Option, Result, length, map, take, All, option_map, Ok};
 ghost use Rattle.std.specs.Str.{IsUtf8};
 ghost use Rattle.httparse.specs.Grammar.{RequestHead};

@@ -1,3 +1,5 @@
+//! What holds of all requests: an input has one sense, and one ruling.
+
 ghost use Rattle.shop_request.specs.Guards.{OneRuling};
 ghost use Rattle.shop_request.specs.Senses.{OneSense};
 

@@ -1,3 +1,5 @@
+//! The routes: their methods, their paths, and which one a path takes.
+
 ghost use Rattle.std.specs.Prelude.{◌≡◌, length, IfOk, OnOk};
 ghost use Rattle.shop_request.specs.Routes.{all_routes, route_of, route_start, route_text, takes_body, with_route, with_routes};
 

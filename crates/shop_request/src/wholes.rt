@@ -1,3 +1,5 @@
+//! Whether the bytes that came are a whole request.
+
 ghost use Rattle.std.specs.Prelude.{◌≡◌, ◌<◌, ◌-◌, ◌≤◌, length, true, false};
 ghost use Rattle.shop_request.specs.Requests.{most_request_reads};
 ghost use Rattle.shop_request.specs.Senses.{IsSettled};

@@ -1,3 +1,5 @@
+//! The keys by which materials, parts, jobs, demands, imports and numbers are kept in order.
+
 use crate::rows::Row;
 use cut_measure::{Code, PartName};
 use shop_machine::{Demand, ImportRow, Job, Material, Part};

@@ -1,3 +1,5 @@
+//! Lists of the keys of what is open: standing parts, waiting jobs, and demands that aren't made yet.
+
 ghost use Rattle.std.specs.Prelude.{◌≡◌, ◌+◌, ◌<◌, ◌≤◌, List, ℕ, Option, IsTrue, filter, length, nat_lt, not, vec_len, vec_capacity};
 ghost use Rattle.cut_measure.specs.Names.{Name, name_cmp};
 ghost use Rattle.shop_machine.specs.declared.records.Part.{Part as PartOf};

@@ -1,3 +1,5 @@
+//! Rows in the order of their keys: how one is found, put in its place and taken out.
+
 ghost use Rattle.std.specs.declared.cmp.Ordering.{Ordering};
 ghost use Rattle.std.specs.declared.cmp.Ordering.TheVariants.{Equal, Greater};
 ghost use Rattle.std.specs.Prelude.{◌≡◌, ◌+◌, ◌++◌, ◌<◌, ◌≤◌, ℕ, All, List, IfSome, IsSome, IsTrue, None, Err, false, length, option_copied, vec_len, vec_capacity};

@@ -2,7 +2,7 @@ pub mod Fields
 pub mod Forms
 pub mod Tokens
 pub mod Members
-pub mod Deeds
+pub mod CommandWords
 pub mod Told
 pub use Rattle.cut_measure.specs.Codes
 pub use Rattle.cut_measure.specs.Measures

@@ -1,3 +1,5 @@
+//! JSON of the queries for totals, racks, parts, demands, plans and bounds, and of the replies to them.
+
 ghost use Rattle.std.specs.Prelude.{◌≡◌, IfOk, OnOk, All};
 ghost use Rattle.serde_json.specs.View.{view};
 ghost use Rattle.shop_machine.specs.declared.messages.Reply.TheVariants as reply;

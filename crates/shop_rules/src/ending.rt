@@ -1,3 +1,5 @@
+//! JSON of a job that is done or released: its commands and their replies, read and written.
+
 ghost use Rattle.std.specs.Prelude.{◌≡◌, OnOk};
 ghost use Rattle.serde_json.specs.View.{view};
 ghost use Rattle.shop_machine.specs.declared.messages.Command.TheVariants.{Done, Release};

@@ -1,3 +1,5 @@
+//! What stands at the keys of a JSON object: numbers, flags, texts, codes, names and lists.
+
 ghost use Rattle.std.specs.Prelude.{◌≡◌, ℕ, IfOk, map, option_map};
 ghost use Rattle.serde_json.specs.View.{view};
 ghost use Rattle.shop_rules.specs.Fields as form;

@@ -1,3 +1,5 @@
+//! JSON of importing an order from the text of a file: its command and its reply, read and written.
+
 ghost use Rattle.std.specs.Prelude.{◌≡◌, IfOk, OnOk};
 ghost use Rattle.serde_json.specs.View.{view};
 ghost use Rattle.shop_machine.specs.declared.messages.Command.TheVariants.{Import};

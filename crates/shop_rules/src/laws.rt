@@ -1,3 +1,5 @@
+//! What holds of all JSON texts: messages and replies are read back, and no text stands for two.
+
 ghost use Rattle.std.specs.Prelude.{◌≡◌, ◌≤◌, IsTrue, Some};
 ghost use Rattle.serde_json.specs.Data.{Data};
 ghost use Rattle.shop_machine.specs.declared.messages.Message.{Message};

@@ -3,10 +3,10 @@
 
 mod adding;
 mod asking;
-mod breaking;
-mod deeds;
+mod command_words;
 mod ending;
 mod fields;
+mod halting;
 mod importing;
 mod laws;
 mod listing;
@@ -15,7 +15,7 @@ mod ordering;
 mod receiving;
 mod replies;
 mod reserving;
-mod turning;
+mod retiring;
 mod words;
 mod writing;
 

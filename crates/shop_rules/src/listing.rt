@@ -1,3 +1,5 @@
+//! JSON of the queries for lists, for a job and for a terminal, and of the replies to them.
+
 ghost use Rattle.std.specs.Prelude.{◌≡◌, OnOk, All, codes, map};
 ghost use Rattle.serde_json.specs.Data.{Data, array};
 ghost use Rattle.serde_json.specs.View.{view, items_of};

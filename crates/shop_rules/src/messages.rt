@@ -1,3 +1,5 @@
+//! Messages and queries as JSON: how a value is read as one, and a message's canonical text.
+
 ghost use Rattle.std.specs.Prelude.{◌≡◌, ◌≢◌, ◌⊎◌, IfOk, IfErr, OnOk, Some, None, option_map};
 ghost use Rattle.serde_json.specs.View.{view};
 ghost use Rattle.shop_machine.specs.Messages.{IsMessage};
@@ -8,15 +10,15 @@ ghost use Rattle.shop_rules.specs.Tokens.{AddsValue};
 
 use crate::adding::{material_command, write_material};
 use crate::asking::asked;
-use crate::breaking::{break_command, has_few_cuts, see_halt, write_break};
-use crate::deeds::{Deed, deed_of};
+use crate::command_words::{CommandWord, command_word_of};
 use crate::ending::{done_command, release_command, write_done, write_release};
 use crate::fields::{number_at, word_at};
+use crate::halting::{break_command, has_few_cuts, see_halt, write_break};
 use crate::importing::{import_command, write_csv, write_problem};
 use crate::ordering::{order_command, see_lines, write_order};
 use crate::receiving::{receive_command, write_receive};
 use crate::reserving::{reserve_command, write_reserve};
-use crate::turning::{return_command, scrap_command, write_return, write_scrap};
+use crate::retiring::{return_command, scrap_command, write_return, write_scrap};
 use crate::words::{see_part, wide};
 use crate::writing::{new_writer, value_of, written_text};
 use json::Writer;
@@ -28,20 +30,20 @@ use std::alloc::{AllocError, Global};
 fn command(alloc: Global, value: &Value, word: &str) -> Result<Option<Command>, AllocError>
     ensures { IfOk result (λ command. command ≡ form.command_of word.now (view value.now)) }
 {
-    let Some(deed) = deed_of(word) else {
+    let Some(command_word) = command_word_of(word) else {
         return Ok(None);
     };
-    match deed {
-        Deed::Material => Ok(material_command(value)),
-        Deed::Receive => Ok(receive_command(value)),
-        Deed::Order => order_command(alloc, value),
-        Deed::Reserve => reserve_command(alloc, value),
-        Deed::Done => Ok(done_command(value)),
-        Deed::Break => break_command(alloc, value),
-        Deed::Release => Ok(release_command(value)),
-        Deed::Scrap => Ok(scrap_command(value)),
-        Deed::GiveBack => Ok(return_command(value)),
-        Deed::Import => import_command(alloc, value),
+    match command_word {
+        CommandWord::Material => Ok(material_command(value)),
+        CommandWord::Receive => Ok(receive_command(value)),
+        CommandWord::Order => order_command(alloc, value),
+        CommandWord::Reserve => reserve_command(alloc, value),
+        CommandWord::Done => Ok(done_command(value)),
+        CommandWord::Break => break_command(alloc, value),
+        CommandWord::Release => Ok(release_command(value)),
+        CommandWord::Scrap => Ok(scrap_command(value)),
+        CommandWord::GiveBack => Ok(return_command(value)),
+        CommandWord::Import => import_command(alloc, value),
     }
 }
 

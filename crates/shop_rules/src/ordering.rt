@@ -1,3 +1,5 @@
+//! JSON of adding an order: its lines, its command and its reply, read and written.
+
 ghost use Rattle.std.specs.Prelude.{◌≡◌, IfOk, OnOk, All, map};
 ghost use Rattle.serde_json.specs.View.{view};
 ghost use Rattle.shop_machine.specs.declared.messages.Command.TheVariants.{AddOrder};

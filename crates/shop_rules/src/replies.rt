@@ -1,3 +1,5 @@
+//! Replies as JSON: how a value or a kept text is read as one, and a reply's text.
+
 ghost use Rattle.std.specs.Prelude.{◌≡◌, IfOk, OnOk, Some};
 ghost use Rattle.std.specs.Option.{ok_or};
 ghost use Rattle.serde_json.specs.View.{view};
@@ -14,10 +16,10 @@ use crate::adding::{material_made, tell_material};
 use crate::asking::{
     Counts, Place, tell_bound, tell_demand, tell_plan, tell_rack, tell_totals, tell_trace,
 };
-use crate::breaking::break_made;
-use crate::deeds::{Deed, deed_of};
+use crate::command_words::{CommandWord, command_word_of};
 use crate::ending::{done_made, release_made, tell_ended, tell_release};
 use crate::fields::text_at;
+use crate::halting::break_made;
 use crate::importing::{import_made, tell_import};
 use crate::listing::{
     JobNumbers, tell_behind, tell_job, tell_materials, tell_parts, tell_terminal,
@@ -25,7 +27,7 @@ use crate::listing::{
 use crate::ordering::{order_made, tell_order};
 use crate::receiving::{receive_made, tell_receive};
 use crate::reserving::{reserve_made, tell_reserve};
-use crate::turning::{return_made, scrap_made, tell_turned};
+use crate::retiring::{return_made, scrap_made, tell_turned};
 use crate::words::wide;
 use crate::writing::{Member, new_writer, value_of, write_object, written_text};
 use json::Writer;
@@ -37,17 +39,17 @@ use std::alloc::{AllocError, Global};
 fn made(value: &Value) -> Option<Reply>
     ensures { result ≡ form.reply_of (view value.now) }
 {
-    match deed_of(text_at(value, "ok")?)? {
-        Deed::Material => material_made(value),
-        Deed::Receive => receive_made(value),
-        Deed::Order => order_made(value),
-        Deed::Reserve => reserve_made(value),
-        Deed::Done => done_made(value),
-        Deed::Break => break_made(value),
-        Deed::Release => release_made(value),
-        Deed::Scrap => scrap_made(value),
-        Deed::GiveBack => return_made(value),
-        Deed::Import => import_made(value),
+    match command_word_of(text_at(value, "ok")?)? {
+        CommandWord::Material => material_made(value),
+        CommandWord::Receive => receive_made(value),
+        CommandWord::Order => order_made(value),
+        CommandWord::Reserve => reserve_made(value),
+        CommandWord::Done => done_made(value),
+        CommandWord::Break => break_made(value),
+        CommandWord::Release => release_made(value),
+        CommandWord::Scrap => scrap_made(value),
+        CommandWord::GiveBack => return_made(value),
+        CommandWord::Import => import_made(value),
     }
 }
 

@@ -1,3 +1,5 @@
+//! JSON of reserving a part for a plan: its command and its reply, read and written.
+
 ghost use Rattle.std.specs.Prelude.{◌≡◌, IfOk, OnOk};
 ghost use Rattle.serde_json.specs.View.{view};
 ghost use Rattle.shop_machine.specs.declared.messages.Command.TheVariants.{Reserve};

@@ -1,3 +1,5 @@
+//! The words for kinds and states in JSON, and readings by which the range of a number or a name is known.
+
 ghost use Rattle.std.specs.Prelude.{◌≡◌};
 ghost use Rattle.cut_measure.specs.Names.{IsName};
 ghost use Rattle.shop_machine.specs.Messages.{IsNumber};

@@ -15,7 +15,7 @@ use Rattle.shop_book.specs.declared.books.Book.{Ghosts}
 use Rattle.shop_wire.specs.Serves.{exchanged, IsServed}
 use Rattle.shop_serve.specs.declared.sites.Site.{Site}
 use Rattle.shop_serve.specs.Sites.{is_routed, own_bytes}
-use Rattle.shop_serve.specs.Serving.{Turn, Deed, routed, ruled, InTurn, exchange_of, exchanges, TellsFailure, TellOfFailures, HasServed, Advances}
+use Rattle.shop_serve.specs.Serving.{Turn, Handling, routed, ruled, InTurn, exchange_of, exchanges, TellsFailure, TellOfFailures, HasServed, Advances}
 
 -- what goes to its route, and what doesn't
 pub is_route : (r : Ruling) → is_routed r ≡ true → r ≡ Routed
@@ -34,7 +34,7 @@ turns-append site old mid new (s ∷ ss) ts run more = (run.0, run.1, run.2, tur
 exchanges-append : (ss ts : List Turn) → exchanges (ss ++ ts) ≡ exchanges ss ++ exchanges ts
 exchanges-append [] ts = refl
 exchanges-append (s ∷ ss) ts =
-    ap (λ es. exchange_of s.deed ++ es) (exchanges-append ss ts) ∙ sym (append_assoc (exchange_of s.deed) (exchanges ss) (exchanges ts))
+    ap (λ es. exchange_of s.handling ++ es) (exchanges-append ss ts) ∙ sym (append_assoc (exchange_of s.handling) (exchanges ss) (exchanges ts))
 
 -- turns, and then more of them
 blame-append : (a b c : ℕ) (ss ts : List Turn) → CountsUp a b → CountsUp b c → TellOfFailures ss a b → TellOfFailures ts b c → TellOfFailures (ss ++ ts) a c
@@ -62,7 +62,7 @@ module _ (site : Site) {B : Type 0} (book : Ghosts B) where
   served_once before after input old new unwritten some goes up s honest m held sound =
       let telling = s.2.telling in
       let done = s.2.run honest m held sound in
-      let turn : Turn = record { input = input; deed = routed s.0 telling; answer = s.2.bytes } in
+      let turn : Turn = record { input = input; handling = routed s.0 telling; answer = s.2.bytes } in
       record {
         served = turn ∷ [];
         few = omega arith;
@@ -71,7 +71,7 @@ module _ (site : Site) {B : Type 0} (book : Ghosts B) where
         held = done.held;
         sound = done.sound;
         failures = up;
-        blame = λ t i e. elim i [ inl is ↦ done.blame (subst (λ (t : Turn). TellsFailure t.deed) is e) | inr none ↦ absurd none ];
+        blame = λ t i e. elim i [ inl is ↦ done.blame (subst (λ (t : Turn). TellsFailure t.handling) is e) | inr none ↦ absurd none ];
         account = subst (λ es. HasAccount json_texts m (map (λ e. e.0) es) (map (λ e. e.1) es) done.next) (sym (append-nil (exchanged s.0 telling))) done.account;
       }
 
@@ -89,7 +89,7 @@ module _ (site : Site) {B : Type 0} (book : Ghosts B) where
   -- the site answered one by itself
   pub one_ruled : (here : B) (input : List ℕ) (r : Ruling) → 0 < length input → HasRuling site.guard.port site.guard.has_page input r → r ≢ Routed → HasServed site book here here 1
   one_ruled here input r some rules other honest m held sound =
-      let turn : Turn = record { input = input; deed = ruled r; answer = own_bytes site r } in
+      let turn : Turn = record { input = input; handling = ruled r; answer = own_bytes site r } in
       record {
         served = turn ∷ [];
         few = omega arith;
@@ -98,7 +98,7 @@ module _ (site : Site) {B : Type 0} (book : Ghosts B) where
         held = held;
         sound = sound;
         failures = inl refl;
-        blame = λ t i e. elim i [ inl is ↦ subst (λ (t : Turn). TellsFailure t.deed) is e | inr none ↦ absurd none ];
+        blame = λ t i e. elim i [ inl is ↦ subst (λ (t : Turn). TellsFailure t.handling) is e | inr none ↦ absurd none ];
         account = account_same json_texts m m refl;
       }
 

@@ -18,62 +18,62 @@ use Rattle.shop_rules.specs.Forms.{json_texts}
 use Rattle.shop_serve.specs.declared.faults.ServeFault.{ServeFault}
 use Rattle.shop_serve.specs.declared.faults.ServeFault.TheVariants.{NoMemory, Port}
 use Rattle.shop_book.specs.declared.books.Book.{Ghosts}
-use Rattle.shop_book.specs.Kept.{Says}
+use Rattle.shop_book.specs.Kept.{OnContent}
 use Rattle.shop_wire.specs.AnswerBytes.{Telling, replied, bytes_of}
 use Rattle.shop_wire.specs.Serves.{SenseStep, exchanged, IsServed}
 use Rattle.shop_serve.specs.Sites.{own_bytes}
 use Rattle.shop_serve.specs.declared.sites.Site.{Site}
 
 -- What is done with a request: it goes to its route, with this sense, and this is told; or the site answers by itself.
-pub data Deed : Type 0 where
-  routed : Sense → Telling → Deed
-  ruled : Ruling → Deed
+pub data Handling : Type 0 where
+  routed : Sense → Telling → Handling
+  ruled : Ruling → Handling
 
 -- What was served: the bytes that came of a connection, what was done, and the bytes that were made of it.
 pub record Turn : Type 0 where
   pub input : List ℕ
-  pub deed : Deed
+  pub handling : Handling
   pub answer : List ℕ
 
 -- By its head the request goes to its route, and the answer is that of its sense but for some last bytes; or it doesn't, and the
 -- answer is the site's own.
-abbrev pub IsDeed : Site → (input answer : List ℕ) → Deed → Type 0
-IsDeed site input answer (routed sense telling) =
+abbrev pub IsHandling : Site → (input answer : List ℕ) → Handling → Type 0
+IsHandling site input answer (routed sense telling) =
     HasRuling site.guard.port site.guard.has_page input Routed × HasSense input sense
     × ((unwritten : List ℕ) × (answer ++ unwritten ≡ bytes_of sense telling))
-IsDeed site input answer (ruled r) = HasRuling site.guard.port site.guard.has_page input r × (r ≢ Routed) × (answer ≡ own_bytes site r)
+IsHandling site input answer (ruled r) = HasRuling site.guard.port site.guard.has_page input r × (r ≢ Routed) × (answer ≡ own_bytes site r)
 
 -- some bytes came, and this is what was done with them
 abbrev pub IsTurn : Site → Turn → Type 0
-IsTurn site t = (0 < length t.input) × IsDeed site t.input t.answer t.deed
+IsTurn site t = (0 < length t.input) × IsHandling site t.input t.answer t.handling
 
 -- what the site answers by itself does nothing
-abbrev pub DeedStep : Content → Deed → Content → Type 0
-DeedStep old (routed sense telling) new = SenseStep old sense telling new
-DeedStep old (ruled r) new = new ≡ old
+abbrev pub HandlingStep : Content → Handling → Content → Type 0
+HandlingStep old (routed sense telling) new = SenseStep old sense telling new
+HandlingStep old (ruled r) new = new ≡ old
 
 -- one after another
 abbrev pub InTurn : Site → Content → List Turn → Content → Type 0
 InTurn site old [] new = new ≡ old
-InTurn site old (t ∷ ts) new = (mid : Content) × IsTurn site t × DeedStep old t.deed mid × InTurn site mid ts new
+InTurn site old (t ∷ ts) new = (mid : Content) × IsTurn site t × HandlingStep old t.handling mid × InTurn site mid ts new
 
 -- the message that was read, with its reply
-abbrev pub exchange_of : Deed → List (Message × Reply)
+abbrev pub exchange_of : Handling → List (Message × Reply)
 exchange_of (routed sense telling) = exchanged sense telling
 exchange_of (ruled r) = []
 
 -- the messages among them, each with its reply
 abbrev pub exchanges : List Turn → List (Message × Reply)
-exchanges = flat_map (λ t. exchange_of t.deed)
+exchanges = flat_map (λ t. exchange_of t.handling)
 
 -- a failed store is told
-abbrev pub TellsFailure : Deed → Type 0
+abbrev pub TellsFailure : Handling → Type 0
 TellsFailure (routed sense telling) = telling ≡ replied (Refused StoreFault)
 TellsFailure (ruled r) = ⊥
 
 -- a failed store is told of only where it failed meanwhile
 abbrev pub TellOfFailures : List Turn → ℕ → ℕ → Type 0
-TellOfFailures served before after = (t : Turn) → IsIn t served → TellsFailure t.deed → StoreFailed before after
+TellOfFailures served before after = (t : Turn) → IsIn t served → TellsFailure t.handling → StoreFailed before after
 
 -- The book held old and holds next, and at most so many requests led from one to the other, each of which came as some bytes.
 -- A failed store was told of only where it failed. Where a history gives old, one with each message that was accepted, once,
@@ -91,7 +91,7 @@ pub record HasServedTurns (site : Site) {B : Type 0} (book : Ghosts B) (before a
 
 -- at most so many requests were served by a book: each sound content that an honest one held led to one that it holds now
 abbrev pub HasServed : Site → {B : Type 0} → Ghosts B → B → B → ℕ → Type 0
-HasServed site book before after count = Says book before after (λ m. IsSound json_texts m → HasServedTurns site book before after m count)
+HasServed site book before after count = OnContent book before after (λ m. IsSound json_texts m → HasServedTurns site book before after m count)
 
 -- a count rose from one number to another, and at most that many requests were served
 abbrev pub Advances : Site → {B : Type 0} → Ghosts B → B → B → ℕ → ℕ → Type 0

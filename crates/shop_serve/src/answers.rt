@@ -1,3 +1,5 @@
+//! The whole answer to the bytes of a request: its route's, or what the site answers by itself.
+
 ghost use Rattle.std.specs.Prelude.{◌≡◌, ◌≢◌, ◌⊎◌, ◌<◌, ◌++◌, length, IfOk, IfSome, Some, [], string_bytes, decimal};
 ghost use Rattle.shop_request.specs.Guards.{HasRuling};
 ghost use Rattle.shop_request.specs.declared.guards.Ruling.TheVariants as ruling;
@@ -11,7 +13,7 @@ use crate::sites::Site;
 use shop_book::Book;
 use shop_request::Ruling;
 use shop_text::{Counted, Failed, Sink};
-use shop_wire::serve_with;
+use shop_wire::serve_request;
 use std::alloc::{AllocError, Global};
 
 const FORBIDDEN: &[u8] =
@@ -68,7 +70,7 @@ fn routed_answer<B: Book>(alloc: Global, site: &Site, came: &[u8], book: &mut B)
         bytes: Vec::new(alloc),
         failures: 0,
     };
-    match serve_with(alloc, &site.routes, &mut source, &mut sink, book) {
+    match serve_request(alloc, &site.routes, &mut source, &mut sink, book) {
         Ok(()) => Some(sink.bytes),
         Err(_) => None,
     }

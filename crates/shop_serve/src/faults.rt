@@ -1,3 +1,5 @@
+//! Why no more connections are served.
+
 use std::alloc::AllocError;
 
 /// Why no more connections are served.

@@ -1,3 +1,5 @@
+//! The open connections: how long each has, what came of it, and how much of its answer was handed over.
+
 ghost use Rattle.std.specs.Prelude.{◌≡◌, ◌≤◌, ◌<◌, length, Some, IfSome};
 ghost use Rattle.shop_serve.specs.Serving.{Advances};
 

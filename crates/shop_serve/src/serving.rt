@@ -1,3 +1,5 @@
+//! The turns of a server: it waits, attends to connections, closes late ones and accepts those that wait.
+
 ghost use Rattle.std.specs.Prelude.{◌≡◌, ◌≤◌, IfErr, OnOk, OnErr};
 ghost use Rattle.shop_serve.specs.Serving.{Advances, HasServed, IsUnserved};
 ghost use Rattle.shop_serve.specs.declared.faults.ServeFault.TheVariants.{Port};

@@ -1,3 +1,5 @@
+//! What is served on a port: the routes, the guard before them, and a page.
+
 ghost use Rattle.std.specs.Prelude.{◌≡◌, IfOk, option_map};
 
 use shop_request::{Guard, Routes};

@@ -1,3 +1,5 @@
+//! Bytes taken from a connection until they are a whole request, and the bytes of its answer handed over.
+
 ghost use Rattle.std.specs.Prelude.{◌≡◌, ◌≢◌, ◌⊎◌, ◌<◌, ◌≤◌, ◌++◌, ℕ, List, Option, [], length, take, IfSome};
 ghost use Rattle.std.specs.Io.KnownBytes.{Appends, Consumes, IsAtEnd};
 ghost use Rattle.shop_request.specs.Reading.{IsReadOn};

@@ -4,7 +4,7 @@ use Rattle.sqlite_trees.specs.declared.store.Store.{Ghosts}
 use Rattle.sqlite.specs.State.{HasCleanDisk}
 use Rattle.sqlite.specs.Held.{Held, state}
 use Rattle.shop_machine.specs.Content.{Content}
-use Rattle.shop_tables.specs.Shown.{Books, Leaves, Says}
+use Rattle.shop_tables.specs.Shown.{Books, Leaves, OnBooks}
 use Rattle.shop_tables.specs.Held.{books, HoldsContent}
 use Rattle.shop_tables.specs.declared.faults.TableFault.{TableFault}
 use Rattle.shop_book.specs.Books.{Keeps}
@@ -29,7 +29,7 @@ on_err_told (Err e) f h = f h
 
 module _ {S : Type 0} (g : Ghosts S) where
   -- what is said of the books is said of a held content, with the sums of its parts
-  pub says_of : (What : Books → Type 0) (old new now : Held S) → now ≡ new → Says (state g old) (state g new) What → HasCleanDisk (state g now) → (m : Content) (was : HoldsContent (state g old) m) → What (books m was.totals)
+  pub says_of : (What : Books → Type 0) (old new now : Held S) → now ≡ new → OnBooks (state g old) (state g new) What → HasCleanDisk (state g now) → (m : Content) (was : HoldsContent (state g old) m) → What (books m was.totals)
   says_of What old new now same says clean m was = says (subst (λ h. HasCleanDisk (state g h)) same clean) (books m was.totals) was.holds
 
   -- a reading leaves the book as it was

@@ -1,3 +1,5 @@
+//! Adds up parts that are handed out, for the materials that it was made for.
+
 ghost use Rattle.std.specs.Prelude.{◌<◌, ◌^◌, ℕ, List, IsTrue, vec_len, vec_capacity};
 ghost use Rattle.cut_measure.specs.Codes.{code_cmp};
 ghost use Rattle.shop_machine.specs.declared.records.Column.{Column};

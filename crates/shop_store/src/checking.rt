@@ -6,8 +6,8 @@ ghost use Rattle.sqlite.specs.Held.{state};
 ghost use Rattle.cut_measure.specs.Codes.{code_cmp};
 ghost use Rattle.shop_machine.specs.declared.records.Column.{Column as ColumnOf};
 ghost use Rattle.shop_tables.specs.Changing.{HasSums};
-ghost use Rattle.shop_tables.specs.Earlier.{SaysEarlier};
-ghost use Rattle.shop_tables.specs.Shown.{Leaves, Says};
+ghost use Rattle.shop_tables.specs.Earlier.{OnBooksEarlier};
+ghost use Rattle.shop_tables.specs.Shown.{Leaves, OnBooks};
 ghost use Rattle.shop_rows.specs.Adding.{has_sums};
 ghost use Rattle.shop_store.specs.Checking.{AddsPart, AreNarrow, AreSumsIn, IsListOf, are_totals_for};
 ghost use Rattle.shop_rows.specs.Rows.{rise};
@@ -71,8 +71,8 @@ fn are_sums_of_parts<S: Alter>(
     conn: &mut Connection<S>,
     totals: &[MaterialTotals],
 ) -> Result<bool, TableFault>
-    ensures sums { Says (state S.Store conn.old) (state S.Store conn.new) (λ books. IsListOf books totals.now → IfOk result (λ good. Decides good (HasSums books))) }
-    ensures earlier { SaysEarlier (state S.Store conn.old) (state S.Store conn.new) (λ books. IsListOf books totals.now → IfOk result (λ good. Decides good (HasSums books))) }
+    ensures sums { OnBooks (state S.Store conn.old) (state S.Store conn.new) (λ books. IsListOf books totals.now → IfOk result (λ good. Decides good (HasSums books))) }
+    ensures earlier { OnBooksEarlier (state S.Store conn.old) (state S.Store conn.new) (λ books. IsListOf books totals.now → IfOk result (λ good. Decides good (HasSums books))) }
     ensures leaves { Leaves (state S.Store conn.old) (state S.Store conn.new) }
     ensures mode { conn.old.in_transaction ≡ false → conn.new.in_transaction ≡ false }
 {
@@ -86,7 +86,7 @@ fn are_sums_of_parts<S: Alter>(
 
 /// Goes through all parts once, and tells whether the totals are their sums: those of each material, and of nothing else.
 pub fn have_sums<S: Alter>(alloc: Global, conn: &mut Connection<S>) -> Result<bool, TableFault>
-    ensures sums { Says (state S.Store conn.old) (state S.Store conn.new) (λ books. IfOk result (λ good. Decides good (HasSums books))) }
+    ensures sums { OnBooks (state S.Store conn.old) (state S.Store conn.new) (λ books. IfOk result (λ good. Decides good (HasSums books))) }
     ensures leaves { Leaves (state S.Store conn.old) (state S.Store conn.new) }
     ensures mode { conn.old.in_transaction ≡ false → conn.new.in_transaction ≡ false }
 {
@@ -101,7 +101,7 @@ pub fn have_earlier_sums<S: Alter>(
     alloc: Global,
     conn: &mut Connection<S>,
 ) -> Result<bool, TableFault>
-    ensures sums { SaysEarlier (state S.Store conn.old) (state S.Store conn.new) (λ books. IfOk result (λ good. Decides good (HasSums books))) }
+    ensures sums { OnBooksEarlier (state S.Store conn.old) (state S.Store conn.new) (λ books. IfOk result (λ good. Decides good (HasSums books))) }
     ensures leaves { Leaves (state S.Store conn.old) (state S.Store conn.new) }
     ensures mode { conn.old.in_transaction ≡ false → conn.new.in_transaction ≡ false }
 {

@@ -1,3 +1,5 @@
+//! The book in SQL tables: it adopts a connection, reads rows, commits changes and counts failures.
+
 ghost use Rattle.std.specs.Prelude.{◌≡◌, ◌≢◌, ◌+◌, ◌≤◌, false, true, Err, IfOk, IfErr, IsTrue, OnOk, OnErr, unwrap_or};
 ghost use Rattle.std.specs.FinMap.{get};
 ghost use Rattle.sqlite.specs.Held.{state};
@@ -9,7 +11,7 @@ ghost use Rattle.shop_tables.specs.Earlier.{earlier_schema};
 ghost use Rattle.shop_tables.specs.Held.{HoldsContent, IsSettledAt, LeavesOnly, StandsFor};
 ghost use Rattle.shop_tables.specs.Layout.{no_schema, IsShop};
 ghost use Rattle.shop_tables.specs.Changing.{HasSums};
-ghost use Rattle.shop_tables.specs.Shown.{Books, HasShopSchema, Holds, IsSettled, Leaves, Says};
+ghost use Rattle.shop_tables.specs.Shown.{Books, HasShopSchema, Holds, IsSettled, Leaves, OnBooks};
 ghost use Rattle.shop_store.specs.EarlierBooks.{HoldsEarlierContent, IsSettledEarlierAt};
 ghost use Rattle.shop_book.specs.Failures.{CountsFailure};
 ghost use Rattle.shop_store.specs.SqlBooks.{adopt_fault, book_fault, told as as_told, EitherWay};
@@ -43,7 +45,7 @@ pub struct SqlBook<S: Alter> {
 
 // The number behind the last act's.
 fn next_act<S: Alter>(conn: &mut Connection<S>) -> Result<u32, TableFault>
-    ensures number { Says (state S.Store conn.old) (state S.Store conn.new) (λ books. IfOk result (λ number. number ≡ books.content.last_act + 1)) }
+    ensures number { OnBooks (state S.Store conn.old) (state S.Store conn.new) (λ books. IfOk result (λ number. number ≡ books.content.last_act + 1)) }
     ensures least { IfOk result (λ number. 1 ≤ number) }
     ensures leaves { Leaves (state S.Store conn.old) (state S.Store conn.new) }
     ensures mode { conn.old.in_transaction ≡ false → conn.new.in_transaction ≡ false }
@@ -57,7 +59,7 @@ fn next_act<S: Alter>(conn: &mut Connection<S>) -> Result<u32, TableFault>
 
 // The number behind the last demand's.
 fn next_demand<S: Alter>(conn: &mut Connection<S>) -> Result<u32, TableFault>
-    ensures number { Says (state S.Store conn.old) (state S.Store conn.new) (λ books. IfOk result (λ number. number ≡ books.content.last_demand + 1)) }
+    ensures number { OnBooks (state S.Store conn.old) (state S.Store conn.new) (λ books. IfOk result (λ number. number ≡ books.content.last_demand + 1)) }
     ensures least { IfOk result (λ number. 1 ≤ number) }
     ensures leaves { Leaves (state S.Store conn.old) (state S.Store conn.new) }
     ensures mode { conn.old.in_transaction ≡ false → conn.new.in_transaction ≡ false }
@@ -71,7 +73,7 @@ fn next_demand<S: Alter>(conn: &mut Connection<S>) -> Result<u32, TableFault>
 
 // A code's totals, which are zeros where it has no row.
 fn totals_of<S: Alter>(conn: &mut Connection<S>, code: Code) -> Result<Totals, TableFault>
-    ensures row { Says (state S.Store conn.old) (state S.Store conn.new) (λ books. IfOk result (λ totals. totals ≡ unwrap_or (get books.totals code) nothing)) }
+    ensures row { OnBooks (state S.Store conn.old) (state S.Store conn.new) (λ books. IfOk result (λ totals. totals ≡ unwrap_or (get books.totals code) nothing)) }
     ensures leaves { Leaves (state S.Store conn.old) (state S.Store conn.new) }
     ensures mode { conn.old.in_transaction ≡ false → conn.new.in_transaction ≡ false }
 {
@@ -87,7 +89,7 @@ fn listed_parts<S: Alter>(
     conn: &mut Connection<S>,
     material: Code,
 ) -> Result<PartList, TableFault>
-    ensures rows { Says (state S.Store conn.old) (state S.Store conn.new) (λ books. IfOk result (λ rows. rows ≡ parts_of books.content material)) }
+    ensures rows { OnBooks (state S.Store conn.old) (state S.Store conn.new) (λ books. IfOk result (λ rows. rows ≡ parts_of books.content material)) }
     ensures leaves { Leaves (state S.Store conn.old) (state S.Store conn.new) }
     ensures mode { conn.old.in_transaction ≡ false → conn.new.in_transaction ≡ false }
 {
@@ -288,7 +290,7 @@ impl<S: Alter> SqlBook<S> {
     }
 
     // What the tables answered, where a failure of the store is counted.
-    fn tell<T: Drop>(&mut self, answer: Result<T, TableFault>) -> Result<T, BookFault>
+    fn count_fault<T: Drop>(&mut self, answer: Result<T, TableFault>) -> Result<T, BookFault>
         ensures conn { self.new.conn ≡ self.old.conn }
         ensures answer { result ≡ as_told answer }
         ensures failures { CountsFailure result self.old.failures self.new.failures }
@@ -325,27 +327,27 @@ impl<S: Alter> Book for SqlBook<S> {
 
     fn material(&mut self, code: Code) -> Result<Option<Material>, BookFault> {
         let answer = find_material(&mut self.conn, code);
-        self.tell(answer)
+        self.count_fault(answer)
     }
 
     fn part(&mut self, name: PartName) -> Result<Option<Part>, BookFault> {
         let answer = find_part(&mut self.conn, name);
-        self.tell(answer)
+        self.count_fault(answer)
     }
 
     fn job(&mut self, alloc: Global, number: u32) -> Result<Option<Job>, BookFault> {
         let answer = find_job(alloc, &mut self.conn, number);
-        self.tell(answer)
+        self.count_fault(answer)
     }
 
     fn order(&mut self, code: Code) -> Result<bool, BookFault> {
         let answer = find_order(&mut self.conn, code);
-        self.tell(answer)
+        self.count_fault(answer)
     }
 
     fn demand(&mut self, number: u32) -> Result<Option<Demand>, BookFault> {
         let answer = find_demand(&mut self.conn, number);
-        self.tell(answer)
+        self.count_fault(answer)
     }
 
     fn kept(
@@ -355,32 +357,32 @@ impl<S: Alter> Book for SqlBook<S> {
         number: u32,
     ) -> Result<Option<Kept>, BookFault> {
         let answer = find_kept(&mut self.conn, Pair { terminal, number });
-        self.tell(answer)
+        self.count_fault(answer)
     }
 
     fn import(&mut self, _alloc: Global, order: Code) -> Result<Option<ImportRow>, BookFault> {
         let answer = find_import(&mut self.conn, order);
-        self.tell(answer)
+        self.count_fault(answer)
     }
 
     fn next_act(&mut self) -> Result<u32, BookFault> {
         let answer = next_act(&mut self.conn);
-        self.tell(answer)
+        self.count_fault(answer)
     }
 
     fn next_demand(&mut self) -> Result<u32, BookFault> {
         let answer = next_demand(&mut self.conn);
-        self.tell(answer)
+        self.count_fault(answer)
     }
 
     fn totals(&mut self, material: Code) -> Result<Totals, BookFault> {
         let answer = totals_of(&mut self.conn, material);
-        self.tell(answer)
+        self.count_fault(answer)
     }
 
     fn parts_of(&mut self, alloc: Global, material: Code) -> Result<PartList, BookFault> {
         let answer = listed_parts(alloc, &mut self.conn, material);
-        self.tell(answer)
+        self.count_fault(answer)
     }
 
     fn visit_parts<V: PartVisitor>(
@@ -389,12 +391,12 @@ impl<S: Alter> Book for SqlBook<S> {
         visitor: &mut V,
     ) -> Result<bool, BookFault> {
         let answer = lend_parts(&mut self.conn, material, visitor);
-        self.tell(answer)
+        self.count_fault(answer)
     }
 
     fn materials(&mut self, alloc: Global) -> Result<MaterialList, BookFault> {
         let answer = list_materials(alloc, &mut self.conn);
-        self.tell(answer)
+        self.count_fault(answer)
     }
 
     fn first_parts(
@@ -405,7 +407,7 @@ impl<S: Alter> Book for SqlBook<S> {
         most: usize,
     ) -> Result<PartList, BookFault> {
         let answer = list_first_parts(alloc, &mut self.conn, material, after, most);
-        self.tell(answer)
+        self.count_fault(answer)
     }
 
     fn first_demands(
@@ -416,7 +418,7 @@ impl<S: Alter> Book for SqlBook<S> {
         most: usize,
     ) -> Result<DemandList, BookFault> {
         let answer = list_open_demands(alloc, &mut self.conn, after, material, most);
-        self.tell(answer)
+        self.count_fault(answer)
     }
 
     fn first_jobs(
@@ -426,17 +428,17 @@ impl<S: Alter> Book for SqlBook<S> {
         most: usize,
     ) -> Result<NumberList, BookFault> {
         let answer = list_waiting_jobs(alloc, &mut self.conn, after, most);
-        self.tell(answer)
+        self.count_fault(answer)
     }
 
     fn last_number(&mut self, terminal: u32) -> Result<u32, BookFault> {
         let answer = find_last_number(&mut self.conn, terminal);
-        self.tell(answer)
+        self.count_fault(answer)
     }
 
     fn commit(&mut self, change: Change) -> Result<(), BookFault> {
         let answer = commit_change(self.alloc, &mut self.conn, &change);
-        self.tell(answer)
+        self.count_fault(answer)
     }
 
     fn failures(&self) -> u64 {

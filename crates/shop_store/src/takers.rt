@@ -1,3 +1,5 @@
+//! Takes parts that are handed out, as a list.
+
 ghost use Rattle.shop_store.specs.Takers.{TakesPart};
 
 use shop_machine::{Part, PartList, PartVisitor};

@@ -6,7 +6,7 @@ use Rattle.sqlite.specs.Held.{Held, state}
 use Rattle.sqlite.specs.State.{HasCleanDisk}
 use Rattle.shop_machine.specs.Visits.{IsVisit}
 use Rattle.shop_machine.specs.declared.records.Part.{Part}
-use Rattle.shop_tables.specs.Earlier.{HoldsEarlier, SaysEarlier, ShowsEarlier, earlier_schema}
+use Rattle.shop_tables.specs.Earlier.{HoldsEarlier, OnBooksEarlier, ShowsEarlier, earlier_schema}
 use Rattle.shop_tables.specs.Lending.{IsLent, gone_through}
 use Rattle.shop_tables.specs.Shown.{Books}
 use Rattle.shop_tables.specs.declared.faults.TableFault.{TableFault}
@@ -25,10 +25,10 @@ module _ {S : Type 0} (g : Ghosts S) (old new : Held S) (before : HasCleanDisk (
   by_held = visited_by g all_parts_text [] (λ b. values b.content.parts) ShowsEarlier (λ s t b has. all_there_of s earlier_schema has.schema _ earlier_parts_is b.content has.keyed has.stands.parts t)
       (λ s b has. first_there_of s earlier_schema has.schema _ earlier_parts_is b.content has.keyed has.stands.parts) old new Was (λ b w mid held. sees_earlier g all_parts_text [] old b w.0 w.1 mid held) looks was now
 
-  pub visited_earlier : (r : Result Lent TableFault) → IsLent g all_parts_text [] old looks new was r now → IsVisit looks {Fault = TableFault} (λ what. SaysEarlier (state g old) (state g new) (λ b. what (values b.content.parts))) was (gone_through r) now
+  pub visited_earlier : (r : Result Lent TableFault) → IsLent g all_parts_text [] old looks new was r now → IsVisit looks {Fault = TableFault} (λ what. OnBooksEarlier (state g old) (state g new) (λ b. what (values b.content.parts))) was (gone_through r) now
   visited_earlier r lent = let v = by_held r lent in record { parts = v.parts; on = v.on; visitor = v.visitor; answer = v.answer; begins = λ clean b held. v.begins clean b (before clean, held) }
 
-  pub not_strange_earlier : (r : Result Lent TableFault) → IsLent g all_parts_text [] old looks new was r now → SaysEarlier (state g old) (state g new) (λ b. IfOk r (λ how. ¬ (how ≡ lent.Strange)))
+  pub not_strange_earlier : (r : Result Lent TableFault) → IsLent g all_parts_text [] old looks new was r now → OnBooksEarlier (state g old) (state g new) (λ b. IfOk r (λ how. ¬ (how ≡ lent.Strange)))
   not_strange_earlier r it clean b held =
       not_strange_by g all_parts_text [] (λ b. values b.content.parts) ShowsEarlier (λ s t b has. all_there_of s earlier_schema has.schema _ earlier_parts_is b.content has.keyed has.stands.parts t)
       (λ s b has. first_there_of s earlier_schema has.schema _ earlier_parts_is b.content has.keyed has.stands.parts) old new Was (λ b w mid held. sees_earlier g all_parts_text [] old b w.0 w.1 mid held) looks was now r it

@@ -13,8 +13,8 @@ use Rattle.sqlite.specs.Term.{lit}
 use Rattle.sqlite.proofs.Callers.{reads_as}
 use Rattle.shop_machine.specs.Content.{Content, kept_at}
 use Rattle.shop_machine.specs.Listing.{IsLastNumber}
-use Rattle.shop_machine.specs.declared.kept_texts.Kept.{Kept}
-use Rattle.shop_machine.specs.declared.kept_texts.Pair.{Pair}
+use Rattle.shop_machine.specs.declared.texts.Kept.{Kept}
+use Rattle.shop_machine.specs.declared.texts.Pair.{Pair}
 use Rattle.shop_tables.specs.ListedRows.{IsLastRow, number_row}
 use Rattle.shop_tables.specs.Rows.{kept_row}
 use Rattle.shop_tables.specs.Shown.{Books, Shows}

@@ -34,7 +34,7 @@ use Rattle.shop_machine.specs.declared.records.Job.{Job}
 use Rattle.shop_machine.specs.declared.records.Demand.{Demand}
 use Rattle.shop_machine.specs.declared.records.Totals.{Totals}
 use Rattle.shop_machine.specs.declared.imports.ImportRow.{ImportRow}
-use Rattle.shop_machine.specs.declared.kept_texts.Kept.{Kept}
+use Rattle.shop_machine.specs.declared.texts.Kept.{Kept}
 use Rattle.shop_tables.specs.Layout.{Loose, no_schema, shop_schema, IsShop, meta_table, materials_table, parts_table, jobs_table, orders_table, demands_table, kept_table, imports_table, totals_table, totals2_table}
 use Rattle.shop_tables.specs.Rows.{AreRows, IsKeyed, meta_row, meta_entries, material_row, part_row, job_row, order_row, demand_row, kept_row, import_row, totals_row}
 use Rattle.shop_tables.specs.Shown.{Shows, fresh_books, Lays as LaysTables}

@@ -37,7 +37,7 @@ use Rattle.shop_tables.specs.declared.faults.TableFault.{TableFault}
 use Rattle.shop_tables.specs.declared.lending.Lent.{Lent}
 use Rattle.shop_tables.specs.declared.lending.Lent.TheVariants as lent
 use Rattle.shop_tables.specs.Rows.{AreRows, IsKeyed, part_row, state_number}
-use Rattle.shop_tables.specs.Shown.{Books, Shows, Holds, Says}
+use Rattle.shop_tables.specs.Shown.{Books, Shows, Holds, OnBooks}
 use Rattle.shop_tables.specs.Strange.{IsNoPart}
 use Rattle.shop_tables.specs.Values.{IsPartValue}
 use Rattle.shop_tables.proofs.Finding.{name_total, name_same}
@@ -306,7 +306,7 @@ module _ {S : Type 0} (g : Ghosts S) (sql : List ℕ) (params : Row) (list : Boo
     (first_of : (s : State) (b : Books) → Shows s b → (given : List Row) (parts : List Part) → Begins sql params s given → AreReadOf given parts → (rest : List Part) × (list b ≡ parts ++ rest))
     (old new : Held S) {V : Type 0} (looks : V → Part → Bool → V → Type 0) (before after : V) where
   abbrev pub VisitedHeld : Result Bool TableFault → Type 0
-  VisitedHeld told = IsVisit looks {Fault = TableFault} (λ what. Says (state g old) (state g new) (λ b. what (list b))) before told after
+  VisitedHeld told = IsVisit looks {Fault = TableFault} (λ what. OnBooks (state g old) (state g new) (λ b. what (list b))) before told after
 
   sees : (b : Books) → Holds (state g old) b → (mid : Held S) → IsHeldAt g sql params old mid → Shows (state g mid) b
   sees b was mid held = (held.stays b was held.clean held.is_open).shows
@@ -324,5 +324,5 @@ module _ {S : Type 0} (g : Ghosts S) (sql : List ℕ) (params : Row) (list : Boo
   visited = visited_by g sql params list Shows whole_list first_of old new (Holds (state g old)) sees looks before after
 
   pub not_strange : (r : Result Lent TableFault) → IsLent g sql params old looks new before r after → ((s : State) (b : Books) → Shows s b → (given : List Row) (row : Row) → Begins sql params s (given ++ row ∷ []) → ¬ IsNoPart row)
-      → Says (state g old) (state g new) (λ b. IfOk r (λ how. ¬ (how ≡ lent.Strange)))
+      → OnBooks (state g old) (state g new) (λ b. IfOk r (λ how. ¬ (how ≡ lent.Strange)))
   not_strange = not_strange_by g sql params list Shows whole_list first_of old new (Holds (state g old)) sees looks before after

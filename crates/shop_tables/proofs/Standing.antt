@@ -14,7 +14,7 @@ use Rattle.shop_machine.specs.declared.records.Job.{Job}
 use Rattle.shop_machine.specs.declared.records.Demand.{Demand}
 use Rattle.shop_machine.specs.declared.records.Totals.{Totals}
 use Rattle.shop_machine.specs.declared.imports.ImportRow.{ImportRow}
-use Rattle.shop_machine.specs.declared.kept_texts.Kept.{Kept}
+use Rattle.shop_machine.specs.declared.texts.Kept.{Kept}
 use Rattle.shop_tables.specs.Layout.{IsShop}
 use Rattle.shop_tables.specs.Rows.{AreRows, AreOrders, IsKeyed, meta_row, meta_entries, material_row, part_row, job_row, demand_row, kept_row, import_row, totals_row}
 use Rattle.shop_tables.specs.Shown.{Books, Shows}

@@ -76,8 +76,8 @@ abbrev pub names_are_earlier : Schema → Bool
 names_are_earlier schema = is_table schema (codes "meta") && (is_table schema (codes "materials") && (is_table schema (codes "parts") && (is_table schema (codes "jobs") && (is_table schema (codes "orders") && (is_table schema (codes "demands") && (is_table schema (codes "kept") && (is_table schema (codes "imports") && (is_table schema (codes "totals") && not (is_used schema (codes "totals2"))))))))))
 
 -- what is said of books that were held in version 1 holds, where the disk gave back what was written
-abbrev pub SaysEarlier : State → State → (Books → Type 0) → Type 0
-SaysEarlier old new what = HasCleanDisk new → (b : Books) → HoldsEarlier old b → what b
+abbrev pub OnBooksEarlier : State → State → (Books → Type 0) → Type 0
+OnBooksEarlier old new what = HasCleanDisk new → (b : Books) → HoldsEarlier old b → what b
 
 -- The tables were brought to version 2 inside a transaction, which goes on, and stand for the same books.
 pub record Renews (old new : State) (b : Books) : Type 0 where

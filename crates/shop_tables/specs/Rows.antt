@@ -28,8 +28,8 @@ use Rattle.shop_machine.specs.declared.records.Totals.{Totals}
 use Rattle.shop_machine.specs.declared.imports.Form.{Form}
 use Rattle.shop_machine.specs.declared.imports.Form.TheVariants as form
 use Rattle.shop_machine.specs.declared.imports.ImportRow.{ImportRow}
-use Rattle.shop_machine.specs.declared.kept_texts.Pair.{Pair}
-use Rattle.shop_machine.specs.declared.kept_texts.Kept.{Kept}
+use Rattle.shop_machine.specs.declared.texts.Pair.{Pair}
+use Rattle.shop_machine.specs.declared.texts.Kept.{Kept}
 use Rattle.shop_tables.specs.Values.{IsPartValue}
 
 -- ---- numbers of words

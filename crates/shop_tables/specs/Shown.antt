@@ -61,8 +61,8 @@ pub record Leaves (old new : State) : Type 0 where
   pub survives : Survives old new (λ _. ⊥)
 
 -- what is said of books that were held holds, where the disk gave back what was written
-abbrev pub Says : State → State → (Books → Type 0) → Type 0
-Says old new what = HasCleanDisk new → (b : Books) → Holds old b → what b
+abbrev pub OnBooks : State → State → (Books → Type 0) → Type 0
+OnBooks old new what = HasCleanDisk new → (b : Books) → Holds old b → what b
 
 -- a step inside a transaction, which goes on
 pub record Ran (old new : State) : Type 0 where

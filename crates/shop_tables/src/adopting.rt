@@ -5,10 +5,10 @@ ghost use Rattle.sqlite.specs.State.{HasCleanDisk, Survives};
 ghost use Rattle.sqlite.specs.Held.{state};
 ghost use Rattle.sqlite_catalog.specs.Change.{is_used};
 ghost use Rattle.shop_tables.specs.Adopting.{HasVersion, IsVacant, LeavesBooks, is_table, names_are_free, names_are_tables};
-ghost use Rattle.shop_tables.specs.Earlier.{HoldsEarlier, IsSettledEarlier, SaysEarlier, earlier_schema, names_are_earlier};
+ghost use Rattle.shop_tables.specs.Earlier.{HoldsEarlier, IsSettledEarlier, OnBooksEarlier, earlier_schema, names_are_earlier};
 ghost use Rattle.shop_tables.specs.Faults.{adopt_fault_of, fault_of};
 ghost use Rattle.shop_tables.specs.Layout.{no_schema, IsShop};
-ghost use Rattle.shop_tables.specs.Shown.{Books, HasShopSchema, Holds, IsSettled, Leaves, Says, StandsIn, fresh_books};
+ghost use Rattle.shop_tables.specs.Shown.{Books, HasShopSchema, Holds, IsSettled, Leaves, OnBooks, StandsIn, fresh_books};
 ghost use Rattle.shop_tables.specs.declared.adopting.Adopted.TheVariants.{Made, Found, Earlier};
 ghost use Rattle.shop_tables.specs.declared.adopting.AdoptFault.TheVariants.{WrongVersion};
 
@@ -122,8 +122,8 @@ fn lay<S: Alter>(conn: &mut Connection<S>) -> Result<(), Error>
 
 // Whether the tables say that they are of this version.
 fn has_version<S: Alter>(conn: &mut Connection<S>, wanted: u32) -> Result<bool, TableFault>
-    ensures ours { wanted ≡ 2 → Says (state S.Store conn.old) (state S.Store conn.new) (λ books. IfOk result (λ is. is ≡ true)) }
-    ensures one { wanted ≡ 1 → SaysEarlier (state S.Store conn.old) (state S.Store conn.new) (λ books. IfOk result (λ is. is ≡ true)) }
+    ensures ours { wanted ≡ 2 → OnBooks (state S.Store conn.old) (state S.Store conn.new) (λ books. IfOk result (λ is. is ≡ true)) }
+    ensures one { wanted ≡ 1 → OnBooksEarlier (state S.Store conn.old) (state S.Store conn.new) (λ books. IfOk result (λ is. is ≡ true)) }
     ensures named { HasCleanDisk (state S.Store conn.new) → IsShop conn.old.schema ⊎ (conn.old.schema ≡ earlier_schema) → IfOk result (λ is. IsTrue is → HasVersion (state S.Store conn.old) wanted) }
     ensures leaves { Leaves (state S.Store conn.old) (state S.Store conn.new) }
     ensures mode { conn.old.in_transaction ≡ false → conn.new.in_transaction ≡ false }

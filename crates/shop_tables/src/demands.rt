@@ -1,10 +1,12 @@
+//! The table of demands: read, put and counted.
+
 ghost use Rattle.std.specs.Prelude.{◌≡◌, ◌++◌, false, IfOk, IfSome};
 ghost use Rattle.sqlite.specs.Held.{state};
 ghost use Rattle.sqlite_value.specs.Order.{Row as Values};
 ghost use Rattle.shop_machine.specs.Content.{demand_at};
 ghost use Rattle.shop_machine.specs.declared.records.Demand.{Demand as DemandRecord};
 ghost use Rattle.shop_tables.specs.Rows.{demand_columns};
-ghost use Rattle.shop_tables.specs.Shown.{Leaves, Says, IsRowOf};
+ghost use Rattle.shop_tables.specs.Shown.{Leaves, OnBooks, IsRowOf};
 ghost use Rattle.std.specs.Prelude.{Some, None, OnOk};
 ghost use Rattle.shop_tables.specs.Changes.{with_demand};
 ghost use Rattle.shop_tables.specs.Shown.{Books, Makes, Ran, Within};
@@ -42,7 +44,7 @@ pub(crate) fn read_demand(number: u32, row: &Row) -> Result<Demand, TableFault>
 }
 
 fn demand_row<S: Alter>(conn: &mut Connection<S>, number: u32) -> Result<Option<Row>, Error>
-    ensures row { Says (state S.Store conn.old) (state S.Store conn.new) (λ books. IfOk result (IsRowOf (λ (demand : DemandRecord). demand.number ≡ number) demand_columns (demand_at books.content number))) }
+    ensures row { OnBooks (state S.Store conn.old) (state S.Store conn.new) (λ books. IfOk result (IsRowOf (λ (demand : DemandRecord). demand.number ≡ number) demand_columns (demand_at books.content number))) }
     ensures stands { HasCleanDisk (state S.Store conn.new) → IsShop conn.old.schema → IfOk result (λ found. IsUnder ((state S.Store conn.old).now.trees 9) 0 (Int (pos number) ∷ []) 10 2 found) }
     ensures leaves { Leaves (state S.Store conn.old) (state S.Store conn.new) }
     ensures mode { conn.old.in_transaction ≡ false → conn.new.in_transaction ≡ false }
@@ -59,7 +61,7 @@ pub fn find_demand<S: Alter>(
     conn: &mut Connection<S>,
     number: u32,
 ) -> Result<Option<Demand>, TableFault>
-    ensures row { Says (state S.Store conn.old) (state S.Store conn.new) (λ books. IfOk result (λ row. row ≡ demand_at books.content number)) }
+    ensures row { OnBooks (state S.Store conn.old) (state S.Store conn.new) (λ books. IfOk result (λ row. row ≡ demand_at books.content number)) }
     ensures key { IfOk result (λ row. IfSome row (λ demand. demand.number ≡ number)) }
     ensures stands { HasCleanDisk (state S.Store conn.new) → IsShop conn.old.schema → IfOk result (λ found. IsUnder ((state S.Store conn.old).now.trees 9) 0 (Int (pos number) ∷ []) 10 2 (option_map demand_columns found)) }
     ensures leaves { Leaves (state S.Store conn.old) (state S.Store conn.new) }

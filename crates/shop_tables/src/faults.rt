@@ -1,3 +1,5 @@
+//! Why tables gave no answer: want of memory, or a failed store.
+
 use sqlite::{Error, ErrorCode};
 use std::alloc::AllocError;
 

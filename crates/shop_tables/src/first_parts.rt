@@ -4,7 +4,7 @@ ghost use Rattle.std.specs.Prelude.{◌≡◌, false, map, take, Some, None, IfO
 ghost use Rattle.sqlite.specs.Held.{state};
 ghost use Rattle.shop_machine.specs.Listing.{parts_behind};
 ghost use Rattle.shop_tables.specs.ListedRows.{listed_part};
-ghost use Rattle.shop_tables.specs.Shown.{Leaves, Says};
+ghost use Rattle.shop_tables.specs.Shown.{Leaves, OnBooks};
 
 use crate::TableFault;
 use crate::listed_rows::{at_most, read_rows};
@@ -19,7 +19,7 @@ fn first_rows<S: Alter>(
     material: Code,
     most: usize,
 ) -> Result<Vec<Row>, TableFault>
-    ensures rows { Says (state S.Store conn.old) (state S.Store conn.new) (λ books. IfOk result (λ rows. rows.items ≡ map listed_part (take most (parts_behind books.content material None)))) }
+    ensures rows { OnBooks (state S.Store conn.old) (state S.Store conn.new) (λ books. IfOk result (λ rows. rows.items ≡ map listed_part (take most (parts_behind books.content material None)))) }
     ensures leaves { Leaves (state S.Store conn.old) (state S.Store conn.new) }
     ensures mode { conn.old.in_transaction ≡ false → conn.new.in_transaction ≡ false }
 {
@@ -38,7 +38,7 @@ fn rows_behind<S: Alter>(
     after: PartName,
     most: usize,
 ) -> Result<Vec<Row>, TableFault>
-    ensures rows { Says (state S.Store conn.old) (state S.Store conn.new) (λ books. IfOk result (λ rows. rows.items ≡ map listed_part (take most (parts_behind books.content material (Some after))))) }
+    ensures rows { OnBooks (state S.Store conn.old) (state S.Store conn.new) (λ books. IfOk result (λ rows. rows.items ≡ map listed_part (take most (parts_behind books.content material (Some after))))) }
     ensures leaves { Leaves (state S.Store conn.old) (state S.Store conn.new) }
     ensures mode { conn.old.in_transaction ≡ false → conn.new.in_transaction ≡ false }
 {
@@ -57,7 +57,7 @@ fn first_parts<S: Alter>(
     material: Code,
     most: usize,
 ) -> Result<PartList, TableFault>
-    ensures rows { Says (state S.Store conn.old) (state S.Store conn.new) (λ books. IfOk result (λ rows. rows ≡ take most (parts_behind books.content material None))) }
+    ensures rows { OnBooks (state S.Store conn.old) (state S.Store conn.new) (λ books. IfOk result (λ rows. rows ≡ take most (parts_behind books.content material None))) }
     ensures leaves { Leaves (state S.Store conn.old) (state S.Store conn.new) }
     ensures mode { conn.old.in_transaction ≡ false → conn.new.in_transaction ≡ false }
 {
@@ -72,7 +72,7 @@ fn parts_behind<S: Alter>(
     after: PartName,
     most: usize,
 ) -> Result<PartList, TableFault>
-    ensures rows { Says (state S.Store conn.old) (state S.Store conn.new) (λ books. IfOk result (λ rows. rows ≡ take most (parts_behind books.content material (Some after)))) }
+    ensures rows { OnBooks (state S.Store conn.old) (state S.Store conn.new) (λ books. IfOk result (λ rows. rows ≡ take most (parts_behind books.content material (Some after)))) }
     ensures leaves { Leaves (state S.Store conn.old) (state S.Store conn.new) }
     ensures mode { conn.old.in_transaction ≡ false → conn.new.in_transaction ≡ false }
 {
@@ -89,7 +89,7 @@ pub fn list_first_parts<S: Alter>(
     after: Option<PartName>,
     most: usize,
 ) -> Result<PartList, TableFault>
-    ensures rows { Says (state S.Store conn.old) (state S.Store conn.new) (λ books. IfOk result (λ rows. rows ≡ take most (parts_behind books.content material after))) }
+    ensures rows { OnBooks (state S.Store conn.old) (state S.Store conn.new) (λ books. IfOk result (λ rows. rows ≡ take most (parts_behind books.content material after))) }
     ensures leaves { Leaves (state S.Store conn.old) (state S.Store conn.new) }
     ensures mode { conn.old.in_transaction ≡ false → conn.new.in_transaction ≡ false }
 {

@@ -1,9 +1,11 @@
+//! The table of imports: read and put.
+
 ghost use Rattle.std.specs.Prelude.{◌≡◌, false, IfOk};
 ghost use Rattle.sqlite.specs.Held.{state};
 ghost use Rattle.shop_machine.specs.Content.{import_at};
 ghost use Rattle.shop_machine.specs.declared.imports.ImportRow.{ImportRow as ImportRecord};
 ghost use Rattle.shop_tables.specs.Rows.{import_columns};
-ghost use Rattle.shop_tables.specs.Shown.{Leaves, Says, IsRowOf};
+ghost use Rattle.shop_tables.specs.Shown.{Leaves, OnBooks, IsRowOf};
 ghost use Rattle.std.specs.Prelude.{None, OnOk};
 ghost use Rattle.shop_tables.specs.Changes.{with_import};
 ghost use Rattle.shop_tables.specs.Shown.{Books, Makes, Ran, Within};
@@ -34,7 +36,7 @@ fn read_import(order: Code, row: &Row) -> Result<ImportRow, TableFault>
 }
 
 fn import_row<S: Alter>(conn: &mut Connection<S>, order: Code) -> Result<Option<Row>, Error>
-    ensures row { Says (state S.Store conn.old) (state S.Store conn.new) (λ books. IfOk result (IsRowOf (λ (import : ImportRecord). import.order ≡ order) import_columns (import_at books.content order))) }
+    ensures row { OnBooks (state S.Store conn.old) (state S.Store conn.new) (λ books. IfOk result (IsRowOf (λ (import : ImportRecord). import.order ≡ order) import_columns (import_at books.content order))) }
     ensures stands { HasCleanDisk (state S.Store conn.new) → IsShop conn.old.schema → IfOk result (λ found. IsUnder ((state S.Store conn.old).now.trees 13) 1 (Word order ∷ []) 4 2 found) }
     ensures leaves { Leaves (state S.Store conn.old) (state S.Store conn.new) }
     ensures mode { conn.old.in_transaction ≡ false → conn.new.in_transaction ≡ false }
@@ -51,7 +53,7 @@ pub fn find_import<S: Alter>(
     conn: &mut Connection<S>,
     order: Code,
 ) -> Result<Option<ImportRow>, TableFault>
-    ensures row { Says (state S.Store conn.old) (state S.Store conn.new) (λ books. IfOk result (λ row. row ≡ import_at books.content order)) }
+    ensures row { OnBooks (state S.Store conn.old) (state S.Store conn.new) (λ books. IfOk result (λ row. row ≡ import_at books.content order)) }
     ensures stands { HasCleanDisk (state S.Store conn.new) → IsShop conn.old.schema → IfOk result (λ found. IsUnder ((state S.Store conn.old).now.trees 13) 1 (Word order ∷ []) 4 2 (option_map import_columns found)) }
     ensures leaves { Leaves (state S.Store conn.old) (state S.Store conn.new) }
     ensures mode { conn.old.in_transaction ≡ false → conn.new.in_transaction ≡ false }

@@ -1,3 +1,5 @@
+//! The table of jobs, whose plans are kept as texts: read, put and moved.
+
 ghost use Rattle.std.specs.Prelude.{◌≡◌, ◌≤◌, ℕ, List, [], ◌∷◌, pos, false, Some, IfOk};
 ghost use Rattle.sqlite.specs.State.{HasCleanDisk};
 ghost use Rattle.shop_tables.specs.Found.{AreJobColumns, IsJobUnder, IsUnder, columns_of};
@@ -14,7 +16,7 @@ ghost use Rattle.shop_machine.specs.declared.records.Job.{Job as JobRecord};
 ghost use Rattle.shop_machine.specs.declared.records.Part.{Part as PartRecord};
 ghost use Rattle.shop_machine.specs.declared.records.Material.{Material as MaterialRecord};
 ghost use Rattle.shop_tables.specs.Rows.{job_columns, IsOwnJob};
-ghost use Rattle.shop_tables.specs.Shown.{Leaves, Says, IsRowOf};
+ghost use Rattle.shop_tables.specs.Shown.{Leaves, OnBooks, IsRowOf};
 ghost use Rattle.std.specs.Prelude.{None, OnOk, string_bytes};
 ghost use Rattle.shop_tables.specs.Changes.{with_job};
 ghost use Rattle.shop_tables.specs.Shown.{Books, Makes, Ran, Within};
@@ -32,7 +34,7 @@ use sqlite::{Alter, Connection, Error, Row, Transaction, params};
 use std::alloc::{AllocError, Global};
 
 fn job_row<S: Alter>(conn: &mut Connection<S>, number: u32) -> Result<Option<Row>, Error>
-    ensures row { Says (state S.Store conn.old) (state S.Store conn.new) (λ books. IfOk result (IsRowOf (IsOwnJob books.content number) job_columns (job_at books.content number))) }
+    ensures row { OnBooks (state S.Store conn.old) (state S.Store conn.new) (λ books. IfOk result (IsRowOf (IsOwnJob books.content number) job_columns (job_at books.content number))) }
     ensures stands { HasCleanDisk (state S.Store conn.new) → IsShop conn.old.schema → IfOk result (λ found. IsUnder ((state S.Store conn.old).now.trees 6) 0 (Int (pos number) ∷ []) 4 2 found) }
     ensures leaves { Leaves (state S.Store conn.old) (state S.Store conn.new) }
     ensures mode { conn.old.in_transaction ≡ false → conn.new.in_transaction ≡ false }
@@ -46,7 +48,7 @@ fn job_row<S: Alter>(conn: &mut Connection<S>, number: u32) -> Result<Option<Row
 
 // A part's size, and the kerf of its material.
 fn cut_of<S: Alter>(conn: &mut Connection<S>, name: PartName) -> Result<(Size, u32), TableFault>
-    ensures sides { Says (state S.Store conn.old) (state S.Store conn.new) (λ books. (part : PartRecord) (material : MaterialRecord) → part_at books.content name ≡ Some part → material_at books.content part.material ≡ Some material
+    ensures sides { OnBooks (state S.Store conn.old) (state S.Store conn.new) (λ books. (part : PartRecord) (material : MaterialRecord) → part_at books.content name ≡ Some part → material_at books.content part.material ≡ Some material
         → IfOk result (λ cut. (cut.0 ≡ part.size) × (cut.1 ≡ material.limits.kerf))) }
     ensures narrow { IfOk result (λ cut. cut.1 ≤ MOST_KERF) }
     ensures leaves { Leaves (state S.Store conn.old) (state S.Store conn.new) }
@@ -106,7 +108,7 @@ fn job_of_row<S: Alter>(
     row: &Row,
 ) -> Result<Job, TableFault>
     ensures exact { IfOk result (AreJobColumns (columns_of 4 0 row.now)) }
-    ensures read { Says (state S.Store conn.old) (state S.Store conn.new) (λ books. (job : JobRecord) → IsOwnJob books.content number job → row.now ≡ job_columns job → IfOk result (λ read. read ≡ job)) }
+    ensures read { OnBooks (state S.Store conn.old) (state S.Store conn.new) (λ books. (job : JobRecord) → IsOwnJob books.content number job → row.now ≡ job_columns job → IfOk result (λ read. read ≡ job)) }
     ensures leaves { Leaves (state S.Store conn.old) (state S.Store conn.new) }
     ensures mode { conn.old.in_transaction ≡ false → conn.new.in_transaction ≡ false }
 {
@@ -121,7 +123,7 @@ pub fn find_job<S: Alter>(
     conn: &mut Connection<S>,
     number: u32,
 ) -> Result<Option<Job>, TableFault>
-    ensures row { Says (state S.Store conn.old) (state S.Store conn.new) (λ books. IfOk result (λ row. row ≡ job_at books.content number)) }
+    ensures row { OnBooks (state S.Store conn.old) (state S.Store conn.new) (λ books. IfOk result (λ row. row ≡ job_at books.content number)) }
     ensures stands { HasCleanDisk (state S.Store conn.new) → IsShop conn.old.schema → IfOk result (IsJobUnder ((state S.Store conn.old).now.trees 6) number) }
     ensures leaves { Leaves (state S.Store conn.old) (state S.Store conn.new) }
     ensures mode { conn.old.in_transaction ≡ false → conn.new.in_transaction ≡ false }

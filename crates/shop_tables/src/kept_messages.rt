@@ -1,9 +1,11 @@
+//! The table of accepted messages, each under its terminal and number: read and put.
+
 ghost use Rattle.std.specs.Prelude.{◌≡◌, false, IfOk};
 ghost use Rattle.sqlite.specs.Held.{state};
 ghost use Rattle.shop_machine.specs.Content.{kept_at};
-ghost use Rattle.shop_machine.specs.declared.kept_texts.Kept.{Kept as KeptRecord};
+ghost use Rattle.shop_machine.specs.declared.texts.Kept.{Kept as KeptRecord};
 ghost use Rattle.shop_tables.specs.Rows.{kept_columns};
-ghost use Rattle.shop_tables.specs.Shown.{Leaves, Says, IsRowOf};
+ghost use Rattle.shop_tables.specs.Shown.{Leaves, OnBooks, IsRowOf};
 ghost use Rattle.std.specs.Prelude.{None, OnOk};
 ghost use Rattle.shop_tables.specs.Changes.{with_kept};
 ghost use Rattle.shop_tables.specs.Shown.{Books, Makes, Ran, Within};
@@ -31,7 +33,7 @@ fn read_kept(row: &Row) -> Result<Kept, TableFault>
 }
 
 fn kept_row<S: Alter>(conn: &mut Connection<S>, pair: Pair) -> Result<Option<Row>, Error>
-    ensures row { Says (state S.Store conn.old) (state S.Store conn.new) (λ books. IfOk result (IsRowOf (λ (kept : KeptRecord). Unit {0}) kept_columns (kept_at books.content pair))) }
+    ensures row { OnBooks (state S.Store conn.old) (state S.Store conn.new) (λ books. IfOk result (IsRowOf (λ (kept : KeptRecord). Unit {0}) kept_columns (kept_at books.content pair))) }
     ensures stands { HasCleanDisk (state S.Store conn.new) → IsShop conn.old.schema → IfOk result (λ found. IsUnder ((state S.Store conn.old).now.trees 11) 1 (Int (pos pair.terminal) ∷ Int (pos pair.number) ∷ []) 2 3 found) }
     ensures leaves { Leaves (state S.Store conn.old) (state S.Store conn.new) }
     ensures mode { conn.old.in_transaction ≡ false → conn.new.in_transaction ≡ false }
@@ -46,7 +48,7 @@ fn kept_row<S: Alter>(conn: &mut Connection<S>, pair: Pair) -> Result<Option<Row
 
 /// What is kept of the accepted message with this pair.
 pub fn find_kept<S: Alter>(conn: &mut Connection<S>, pair: Pair) -> Result<Option<Kept>, TableFault>
-    ensures row { Says (state S.Store conn.old) (state S.Store conn.new) (λ books. IfOk result (λ row. row ≡ kept_at books.content pair)) }
+    ensures row { OnBooks (state S.Store conn.old) (state S.Store conn.new) (λ books. IfOk result (λ row. row ≡ kept_at books.content pair)) }
     ensures stands { HasCleanDisk (state S.Store conn.new) → IsShop conn.old.schema → IfOk result (λ found. IsUnder ((state S.Store conn.old).now.trees 11) 1 (Int (pos pair.terminal) ∷ Int (pos pair.number) ∷ []) 2 3 (option_map kept_columns found)) }
     ensures leaves { Leaves (state S.Store conn.old) (state S.Store conn.new) }
     ensures mode { conn.old.in_transaction ≡ false → conn.new.in_transaction ≡ false }

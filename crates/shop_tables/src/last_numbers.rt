@@ -3,7 +3,7 @@
 ghost use Rattle.std.specs.Prelude.{◌≡◌, false, Some, None, IfOk};
 ghost use Rattle.sqlite.specs.Held.{state};
 ghost use Rattle.shop_machine.specs.Listing.{IsLastNumber};
-ghost use Rattle.shop_tables.specs.Shown.{Leaves, Says};
+ghost use Rattle.shop_tables.specs.Shown.{Leaves, OnBooks};
 ghost use Rattle.shop_tables.specs.ListedRows.{IsLastRow};
 
 use crate::TableFault;
@@ -12,7 +12,7 @@ use crate::rows::row_by_number;
 use sqlite::{Alter, Connection, Error, Row};
 
 fn last_row<S: Alter>(conn: &mut Connection<S>, terminal: u32) -> Result<Option<Row>, Error>
-    ensures row { Says (state S.Store conn.old) (state S.Store conn.new) (λ books. IfOk result (IsLastRow books.content terminal)) }
+    ensures row { OnBooks (state S.Store conn.old) (state S.Store conn.new) (λ books. IfOk result (IsLastRow books.content terminal)) }
     ensures leaves { Leaves (state S.Store conn.old) (state S.Store conn.new) }
     ensures mode { conn.old.in_transaction ≡ false → conn.new.in_transaction ≡ false }
 {
@@ -28,7 +28,7 @@ pub fn find_last_number<S: Alter>(
     conn: &mut Connection<S>,
     terminal: u32,
 ) -> Result<u32, TableFault>
-    ensures number { Says (state S.Store conn.old) (state S.Store conn.new) (λ books. IfOk result (λ last. IsLastNumber books.content terminal last)) }
+    ensures number { OnBooks (state S.Store conn.old) (state S.Store conn.new) (λ books. IfOk result (λ last. IsLastNumber books.content terminal last)) }
     ensures leaves { Leaves (state S.Store conn.old) (state S.Store conn.new) }
     ensures mode { conn.old.in_transaction ≡ false → conn.new.in_transaction ≡ false }
 {

@@ -4,10 +4,10 @@ ghost use Rattle.std.specs.Prelude.{◌≡◌, ◌≢◌, true, false, IfOk, IfS
 ghost use Rattle.sqlite.specs.Held.{state};
 ghost use Rattle.sqlite.specs.Values.{bound};
 ghost use Rattle.std.specs.FinMap.{values};
-ghost use Rattle.shop_tables.specs.Earlier.{SaysEarlier};
+ghost use Rattle.shop_tables.specs.Earlier.{OnBooksEarlier};
 ghost use Rattle.shop_tables.specs.Lending.{IsLent, IsReadOf, gone_through};
 ghost use Rattle.shop_tables.specs.Selecting.{is_select};
-ghost use Rattle.shop_tables.specs.Shown.{Leaves, Says};
+ghost use Rattle.shop_tables.specs.Shown.{Leaves, OnBooks};
 ghost use Rattle.shop_tables.specs.Strange.{IsNoPart};
 ghost use Rattle.shop_tables.specs.declared.lending.Lent.TheVariants.{Strange};
 ghost use Rattle.shop_machine.specs.Content.{parts_of};
@@ -99,7 +99,7 @@ pub fn lend_parts<S: Alter, V: PartVisitor>(
     material: Code,
     visitor: &mut V,
 ) -> Result<bool, TableFault>
-    ensures visit { IsVisit V.looks (λ what. Says (state S.Store conn.old) (state S.Store conn.new) (λ books. what (parts_of books.content material))) visitor.old result visitor.new }
+    ensures visit { IsVisit V.looks (λ what. OnBooks (state S.Store conn.old) (state S.Store conn.new) (λ books. what (parts_of books.content material))) visitor.old result visitor.new }
     ensures leaves { Leaves (state S.Store conn.old) (state S.Store conn.new) }
     ensures mode { conn.old.in_transaction ≡ false → conn.new.in_transaction ≡ false }
 {
@@ -123,10 +123,10 @@ pub fn lend_all_parts<S: Alter, V: PartVisitor>(
     conn: &mut Connection<S>,
     visitor: &mut V,
 ) -> Result<Lent, TableFault>
-    ensures visit { IsVisit V.looks (λ what. Says (state S.Store conn.old) (state S.Store conn.new) (λ books. what (values books.content.parts))) visitor.old (gone_through result) visitor.new }
-    ensures strange { Says (state S.Store conn.old) (state S.Store conn.new) (λ _. IfOk result (λ how. how ≢ Strange)) }
-    ensures earlier { IsVisit V.looks (λ what. SaysEarlier (state S.Store conn.old) (state S.Store conn.new) (λ books. what (values books.content.parts))) visitor.old (gone_through result) visitor.new }
-    ensures earlier_strange { SaysEarlier (state S.Store conn.old) (state S.Store conn.new) (λ _. IfOk result (λ how. how ≢ Strange)) }
+    ensures visit { IsVisit V.looks (λ what. OnBooks (state S.Store conn.old) (state S.Store conn.new) (λ books. what (values books.content.parts))) visitor.old (gone_through result) visitor.new }
+    ensures strange { OnBooks (state S.Store conn.old) (state S.Store conn.new) (λ _. IfOk result (λ how. how ≢ Strange)) }
+    ensures earlier { IsVisit V.looks (λ what. OnBooksEarlier (state S.Store conn.old) (state S.Store conn.new) (λ books. what (values books.content.parts))) visitor.old (gone_through result) visitor.new }
+    ensures earlier_strange { OnBooksEarlier (state S.Store conn.old) (state S.Store conn.new) (λ _. IfOk result (λ how. how ≢ Strange)) }
     ensures leaves { Leaves (state S.Store conn.old) (state S.Store conn.new) }
     ensures mode { conn.old.in_transaction ≡ false → conn.new.in_transaction ≡ false }
 {

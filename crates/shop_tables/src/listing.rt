@@ -4,9 +4,9 @@ ghost use Rattle.std.specs.Prelude.{◌≡◌, ◌≢◌, [], ◌∷◌, ℕ, Li
 ghost use Rattle.std.specs.FinMap.{entries};
 ghost use Rattle.sqlite.specs.Held.{state};
 ghost use Rattle.shop_machine.specs.declared.records.Totals.{Totals as TotalsRecord};
-ghost use Rattle.shop_tables.specs.Earlier.{SaysEarlier};
+ghost use Rattle.shop_tables.specs.Earlier.{OnBooksEarlier};
 ghost use Rattle.shop_tables.specs.Listing.{AreAllTotals, AreCodes, code_row, key_of, listed_row, named};
-ghost use Rattle.shop_tables.specs.Shown.{Leaves, Says};
+ghost use Rattle.shop_tables.specs.Shown.{Leaves, OnBooks};
 
 use crate::TableFault;
 use crate::columns::code_in;
@@ -19,10 +19,10 @@ use std::alloc::Global;
 
 /// The codes of all materials, in order.
 pub(crate) fn material_rows<S: Alter>(conn: &mut Connection<S>) -> Result<Vec<Row>, Error>
-    ensures rows { Says (state S.Store conn.old) (state S.Store conn.new) (λ books. IfOk result (λ rows. rows.items ≡ map (λ e. code_row (key_of e)) (entries books.content.materials))) }
-    ensures earlier { SaysEarlier (state S.Store conn.old) (state S.Store conn.new) (λ books. IfOk result (λ rows. rows.items ≡ map (λ e. code_row (key_of e)) (entries books.content.materials))) }
-    ensures coded { Says (state S.Store conn.old) (state S.Store conn.new) (λ books. IfOk result (λ _. AreCodes (map key_of (entries books.content.materials)))) }
-    ensures earlier_coded { SaysEarlier (state S.Store conn.old) (state S.Store conn.new) (λ books. IfOk result (λ _. AreCodes (map key_of (entries books.content.materials)))) }
+    ensures rows { OnBooks (state S.Store conn.old) (state S.Store conn.new) (λ books. IfOk result (λ rows. rows.items ≡ map (λ e. code_row (key_of e)) (entries books.content.materials))) }
+    ensures earlier { OnBooksEarlier (state S.Store conn.old) (state S.Store conn.new) (λ books. IfOk result (λ rows. rows.items ≡ map (λ e. code_row (key_of e)) (entries books.content.materials))) }
+    ensures coded { OnBooks (state S.Store conn.old) (state S.Store conn.new) (λ books. IfOk result (λ _. AreCodes (map key_of (entries books.content.materials)))) }
+    ensures earlier_coded { OnBooksEarlier (state S.Store conn.old) (state S.Store conn.new) (λ books. IfOk result (λ _. AreCodes (map key_of (entries books.content.materials)))) }
     ensures leaves { Leaves (state S.Store conn.old) (state S.Store conn.new) }
     ensures mode { conn.old.in_transaction ≡ false → conn.new.in_transaction ≡ false }
 {
@@ -30,7 +30,7 @@ pub(crate) fn material_rows<S: Alter>(conn: &mut Connection<S>) -> Result<Vec<Ro
 }
 
 fn totals_rows<S: Alter>(conn: &mut Connection<S>) -> Result<Vec<Row>, Error>
-    ensures rows { Says (state S.Store conn.old) (state S.Store conn.new) (λ books. IfOk result (λ rows. rows.items ≡ map listed_row (entries books.totals))) }
+    ensures rows { OnBooks (state S.Store conn.old) (state S.Store conn.new) (λ books. IfOk result (λ rows. rows.items ≡ map listed_row (entries books.totals))) }
     ensures leaves { Leaves (state S.Store conn.old) (state S.Store conn.new) }
     ensures mode { conn.old.in_transaction ≡ false → conn.new.in_transaction ≡ false }
 {
@@ -86,7 +86,7 @@ pub fn list_totals<S: Alter>(
     alloc: Global,
     conn: &mut Connection<S>,
 ) -> Result<Option<Vec<MaterialTotals>>, TableFault>
-    ensures rows { Says (state S.Store conn.old) (state S.Store conn.new) (λ books. IfOk result (AreAllTotals books)) }
+    ensures rows { OnBooks (state S.Store conn.old) (state S.Store conn.new) (λ books. IfOk result (AreAllTotals books)) }
     ensures leaves { Leaves (state S.Store conn.old) (state S.Store conn.new) }
     ensures mode { conn.old.in_transaction ≡ false → conn.new.in_transaction ≡ false }
 {

@@ -1,3 +1,5 @@
+//! The last act's and the last demand's numbers, which stand in the table `meta`: read and set.
+
 ghost use Rattle.std.specs.Prelude.{◌≡◌, ◌⊎◌, ℕ, pos, false, [], ◌∷◌, codes, filter, IfOk, IfSome};
 ghost use Rattle.sqlite_value.specs.declared.value.Value.TheVariants.{Int};
 ghost use Rattle.std.specs.Ordering.{eq_by_cmp};
@@ -5,10 +7,10 @@ ghost use Rattle.sqlite.specs.Held.{state};
 ghost use Rattle.cut_measure.specs.Codes.{code_cmp};
 ghost use Rattle.sqlite.specs.State.{HasCleanDisk};
 ghost use Rattle.shop_tables.specs.Adopting.{IsNumberRow};
-ghost use Rattle.shop_tables.specs.Earlier.{SaysEarlier, earlier_entries, earlier_schema};
+ghost use Rattle.shop_tables.specs.Earlier.{OnBooksEarlier, earlier_entries, earlier_schema};
 ghost use Rattle.shop_tables.specs.Layout.{IsShop};
 ghost use Rattle.shop_tables.specs.Rows.{meta_entries};
-ghost use Rattle.shop_tables.specs.Shown.{Leaves, Says, GivesNumber};
+ghost use Rattle.shop_tables.specs.Shown.{Leaves, OnBooks, GivesNumber};
 ghost use Rattle.std.specs.Prelude.{OnOk};
 ghost use Rattle.shop_tables.specs.Changes.{with_last_act, with_last_demand};
 ghost use Rattle.shop_tables.specs.Shown.{Books, Makes, Ran, Within};
@@ -23,8 +25,8 @@ pub(crate) fn number_row<S: Alter>(
     conn: &mut Connection<S>,
     word: &str,
 ) -> Result<Option<Row>, Error>
-    ensures row { Says (state S.Store conn.old) (state S.Store conn.new) (λ books. (n : ℕ) → filter (λ e. eq_by_cmp code_cmp e.0 word.now) (meta_entries books.content) ≡ (word.now, n) ∷ [] → IfOk result (GivesNumber n)) }
-    ensures earlier { SaysEarlier (state S.Store conn.old) (state S.Store conn.new) (λ books. (n : ℕ) → filter (λ e. eq_by_cmp code_cmp e.0 word.now) (earlier_entries books.content) ≡ (word.now, n) ∷ [] → IfOk result (GivesNumber n)) }
+    ensures row { OnBooks (state S.Store conn.old) (state S.Store conn.new) (λ books. (n : ℕ) → filter (λ e. eq_by_cmp code_cmp e.0 word.now) (meta_entries books.content) ≡ (word.now, n) ∷ [] → IfOk result (GivesNumber n)) }
+    ensures earlier { OnBooksEarlier (state S.Store conn.old) (state S.Store conn.new) (λ books. (n : ℕ) → filter (λ e. eq_by_cmp code_cmp e.0 word.now) (earlier_entries books.content) ≡ (word.now, n) ∷ [] → IfOk result (GivesNumber n)) }
     ensures stands { HasCleanDisk (state S.Store conn.new) → IsShop conn.old.schema ⊎ (conn.old.schema ≡ earlier_schema) → IfOk result (λ row. IfSome row (IsNumberRow (state S.Store conn.old) word.now)) }
     ensures leaves { Leaves (state S.Store conn.old) (state S.Store conn.new) }
     ensures mode { conn.old.in_transaction ≡ false → conn.new.in_transaction ≡ false }
@@ -34,7 +36,7 @@ pub(crate) fn number_row<S: Alter>(
 
 // The number that stands under a word.
 fn number_of<S: Alter>(conn: &mut Connection<S>, word: &str) -> Result<u32, TableFault>
-    ensures number { Says (state S.Store conn.old) (state S.Store conn.new) (λ books. (n : ℕ) → filter (λ e. eq_by_cmp code_cmp e.0 word.now) (meta_entries books.content) ≡ (word.now, n) ∷ [] → IfOk result (λ number. number ≡ n)) }
+    ensures number { OnBooks (state S.Store conn.old) (state S.Store conn.new) (λ books. (n : ℕ) → filter (λ e. eq_by_cmp code_cmp e.0 word.now) (meta_entries books.content) ≡ (word.now, n) ∷ [] → IfOk result (λ number. number ≡ n)) }
     ensures stands { HasCleanDisk (state S.Store conn.new) → IsShop conn.old.schema → IfOk result (λ number. IsNumberRow (state S.Store conn.old) word.now (Int (pos number) ∷ [])) }
     ensures leaves { Leaves (state S.Store conn.old) (state S.Store conn.new) }
     ensures mode { conn.old.in_transaction ≡ false → conn.new.in_transaction ≡ false }
@@ -47,7 +49,7 @@ fn number_of<S: Alter>(conn: &mut Connection<S>, word: &str) -> Result<u32, Tabl
 
 /// The number of the last act, 0 at first.
 pub fn find_last_act<S: Alter>(conn: &mut Connection<S>) -> Result<u32, TableFault>
-    ensures number { Says (state S.Store conn.old) (state S.Store conn.new) (λ books. IfOk result (λ number. number ≡ books.content.last_act)) }
+    ensures number { OnBooks (state S.Store conn.old) (state S.Store conn.new) (λ books. IfOk result (λ number. number ≡ books.content.last_act)) }
     ensures stands { HasCleanDisk (state S.Store conn.new) → IsShop conn.old.schema → IfOk result (λ number. IsNumberRow (state S.Store conn.old) (codes "act") (Int (pos number) ∷ [])) }
     ensures leaves { Leaves (state S.Store conn.old) (state S.Store conn.new) }
     ensures mode { conn.old.in_transaction ≡ false → conn.new.in_transaction ≡ false }
@@ -57,7 +59,7 @@ pub fn find_last_act<S: Alter>(conn: &mut Connection<S>) -> Result<u32, TableFau
 
 /// The number of the last demand, 0 at first.
 pub fn find_last_demand<S: Alter>(conn: &mut Connection<S>) -> Result<u32, TableFault>
-    ensures number { Says (state S.Store conn.old) (state S.Store conn.new) (λ books. IfOk result (λ number. number ≡ books.content.last_demand)) }
+    ensures number { OnBooks (state S.Store conn.old) (state S.Store conn.new) (λ books. IfOk result (λ number. number ≡ books.content.last_demand)) }
     ensures stands { HasCleanDisk (state S.Store conn.new) → IsShop conn.old.schema → IfOk result (λ number. IsNumberRow (state S.Store conn.old) (codes "demand") (Int (pos number) ∷ [])) }
     ensures leaves { Leaves (state S.Store conn.old) (state S.Store conn.new) }
     ensures mode { conn.old.in_transaction ≡ false → conn.new.in_transaction ≡ false }

@@ -1,7 +1,9 @@
+//! The table of the codes of orders: looked up and put.
+
 ghost use Rattle.std.specs.Prelude.{◌≡◌, false, is_some, IfOk};
 ghost use Rattle.sqlite.specs.Held.{state};
 ghost use Rattle.shop_machine.specs.Content.{has_order};
-ghost use Rattle.shop_tables.specs.Shown.{Leaves, Says};
+ghost use Rattle.shop_tables.specs.Shown.{Leaves, OnBooks};
 ghost use Rattle.std.specs.Prelude.{OnOk};
 ghost use Rattle.shop_tables.specs.Changes.{with_order};
 ghost use Rattle.shop_tables.specs.Shown.{Books, Makes, Ran, Within};
@@ -13,7 +15,7 @@ use cut_measure::Code;
 use sqlite::{Alter, Connection, Error, Row, Transaction, params};
 
 fn found_row<S: Alter>(conn: &mut Connection<S>, code: Code) -> Result<Option<Row>, Error>
-    ensures there { Says (state S.Store conn.old) (state S.Store conn.new) (λ books. IfOk result (λ row. is_some row ≡ has_order books.content code)) }
+    ensures there { OnBooks (state S.Store conn.old) (state S.Store conn.new) (λ books. IfOk result (λ row. is_some row ≡ has_order books.content code)) }
     ensures leaves { Leaves (state S.Store conn.old) (state S.Store conn.new) }
     ensures mode { conn.old.in_transaction ≡ false → conn.new.in_transaction ≡ false }
 {
@@ -22,7 +24,7 @@ fn found_row<S: Alter>(conn: &mut Connection<S>, code: Code) -> Result<Option<Ro
 
 /// Whether there is an order of this code.
 pub fn find_order<S: Alter>(conn: &mut Connection<S>, code: Code) -> Result<bool, TableFault>
-    ensures there { Says (state S.Store conn.old) (state S.Store conn.new) (λ books. IfOk result (λ there. there ≡ has_order books.content code)) }
+    ensures there { OnBooks (state S.Store conn.old) (state S.Store conn.new) (λ books. IfOk result (λ there. there ≡ has_order books.content code)) }
     ensures leaves { Leaves (state S.Store conn.old) (state S.Store conn.new) }
     ensures mode { conn.old.in_transaction ≡ false → conn.new.in_transaction ≡ false }
 {

@@ -1,9 +1,11 @@
+//! The table of parts: read, put and moved.
+
 ghost use Rattle.std.specs.Prelude.{◌≡◌, false, IfOk};
 ghost use Rattle.sqlite.specs.Held.{state};
 ghost use Rattle.shop_machine.specs.Content.{part_at};
 ghost use Rattle.shop_machine.specs.declared.records.Part.{Part as PartRecord};
 ghost use Rattle.shop_tables.specs.Rows.{part_columns};
-ghost use Rattle.shop_tables.specs.Shown.{Leaves, Says, IsRowOf};
+ghost use Rattle.shop_tables.specs.Shown.{Leaves, OnBooks, IsRowOf};
 ghost use Rattle.std.specs.Prelude.{Some, None, OnOk};
 ghost use Rattle.shop_machine.specs.Content.{in_state};
 ghost use Rattle.shop_tables.specs.Changes.{with_part};
@@ -41,7 +43,7 @@ pub(crate) fn read_part(name: PartName, row: &Row) -> Result<Part, TableFault>
 }
 
 fn part_row<S: Alter>(conn: &mut Connection<S>, name: PartName) -> Result<Option<Row>, Error>
-    ensures row { Says (state S.Store conn.old) (state S.Store conn.new) (λ books. IfOk result (IsRowOf (λ (part : PartRecord). part.name ≡ name) part_columns (part_at books.content name))) }
+    ensures row { OnBooks (state S.Store conn.old) (state S.Store conn.new) (λ books. IfOk result (IsRowOf (λ (part : PartRecord). part.name ≡ name) part_columns (part_at books.content name))) }
     ensures stands { HasCleanDisk (state S.Store conn.new) → IsShop conn.old.schema → IfOk result (λ found. IsUnder ((state S.Store conn.old).now.trees 4) 1 (Int (pos name.act) ∷ Int (pos name.node) ∷ []) 10 3 found) }
     ensures leaves { Leaves (state S.Store conn.old) (state S.Store conn.new) }
     ensures mode { conn.old.in_transaction ≡ false → conn.new.in_transaction ≡ false }
@@ -59,7 +61,7 @@ pub fn find_part<S: Alter>(
     conn: &mut Connection<S>,
     name: PartName,
 ) -> Result<Option<Part>, TableFault>
-    ensures row { Says (state S.Store conn.old) (state S.Store conn.new) (λ books. IfOk result (λ row. row ≡ part_at books.content name)) }
+    ensures row { OnBooks (state S.Store conn.old) (state S.Store conn.new) (λ books. IfOk result (λ row. row ≡ part_at books.content name)) }
     ensures stands { HasCleanDisk (state S.Store conn.new) → IsShop conn.old.schema → IfOk result (λ found. IsUnder ((state S.Store conn.old).now.trees 4) 1 (Int (pos name.act) ∷ Int (pos name.node) ∷ []) 10 3 (option_map part_columns found)) }
     ensures leaves { Leaves (state S.Store conn.old) (state S.Store conn.new) }
     ensures mode { conn.old.in_transaction ≡ false → conn.new.in_transaction ≡ false }

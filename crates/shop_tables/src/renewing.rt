@@ -5,7 +5,7 @@ ghost use Rattle.std.specs.FinMap.{entries};
 ghost use Rattle.sqlite.specs.State.{HasCleanDisk, Survives};
 ghost use Rattle.sqlite.specs.Held.{state};
 ghost use Rattle.shop_tables.specs.Adopting.{LeavesBooks};
-ghost use Rattle.shop_tables.specs.Earlier.{HoldsEarlier, Renews, SaysEarlier, ShowsEarlier};
+ghost use Rattle.shop_tables.specs.Earlier.{HoldsEarlier, Renews, OnBooksEarlier, ShowsEarlier};
 ghost use Rattle.shop_tables.specs.Listing.{AreAllTotals, listed_row};
 ghost use Rattle.shop_tables.specs.Shown.{Books, HasShopSchema, Holds, Leaves, StandsIn, Within};
 
@@ -17,7 +17,7 @@ use sqlite::{Alter, Connection, Error, Row, Transaction};
 use std::alloc::Global;
 
 fn earlier_totals_rows<S: Alter>(conn: &mut Connection<S>) -> Result<Vec<Row>, Error>
-    ensures rows { SaysEarlier (state S.Store conn.old) (state S.Store conn.new) (λ books. IfOk result (λ rows. rows.items ≡ map listed_row (entries books.totals))) }
+    ensures rows { OnBooksEarlier (state S.Store conn.old) (state S.Store conn.new) (λ books. IfOk result (λ rows. rows.items ≡ map listed_row (entries books.totals))) }
     ensures leaves { Leaves (state S.Store conn.old) (state S.Store conn.new) }
     ensures mode { conn.old.in_transaction ≡ false → conn.new.in_transaction ≡ false }
 {
@@ -34,7 +34,7 @@ pub fn list_earlier_totals<S: Alter>(
     alloc: Global,
     conn: &mut Connection<S>,
 ) -> Result<Option<Vec<MaterialTotals>>, TableFault>
-    ensures rows { SaysEarlier (state S.Store conn.old) (state S.Store conn.new) (λ books. IfOk result (AreAllTotals books)) }
+    ensures rows { OnBooksEarlier (state S.Store conn.old) (state S.Store conn.new) (λ books. IfOk result (AreAllTotals books)) }
     ensures leaves { Leaves (state S.Store conn.old) (state S.Store conn.new) }
     ensures mode { conn.old.in_transaction ≡ false → conn.new.in_transaction ≡ false }
 {

@@ -1,3 +1,5 @@
+//! One statement, run inside a transaction.
+
 ghost use Rattle.std.specs.Prelude.{◌≡◌, OnOk};
 ghost use Rattle.sqlite.specs.Held.{state};
 ghost use Rattle.sqlite.specs.Values.{bound};

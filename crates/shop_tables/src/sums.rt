@@ -1,10 +1,12 @@
+//! The table of totals: a material's cells, read, put and set.
+
 ghost use Rattle.std.specs.Prelude.{◌≡◌, ◌++◌, false, IfOk};
 ghost use Rattle.std.specs.FinMap.{get};
 ghost use Rattle.sqlite.specs.Held.{state};
 ghost use Rattle.sqlite_value.specs.Order.{Row as Values};
 ghost use Rattle.shop_machine.specs.declared.records.Totals.{Totals as TotalsRecord};
 ghost use Rattle.shop_tables.specs.Rows.{totals_columns, totals_row};
-ghost use Rattle.shop_tables.specs.Shown.{Leaves, Says, IsRowOf};
+ghost use Rattle.shop_tables.specs.Shown.{Leaves, OnBooks, IsRowOf};
 ghost use Rattle.std.specs.Prelude.{pos, Some, None, OnOk};
 ghost use Rattle.shop_tables.specs.Changes.{with_totals};
 ghost use Rattle.shop_tables.specs.Shown.{Books, HasRun, Makes, Ran, Within};
@@ -39,7 +41,7 @@ pub(crate) fn read_totals(row: &Row) -> Result<Totals, TableFault>
 }
 
 fn totals_row<S: Alter>(conn: &mut Connection<S>, material: Code) -> Result<Option<Row>, Error>
-    ensures row { Says (state S.Store conn.old) (state S.Store conn.new) (λ books. IfOk result (IsRowOf (λ (totals : TotalsRecord). Unit {0}) totals_columns (get books.totals material))) }
+    ensures row { OnBooks (state S.Store conn.old) (state S.Store conn.new) (λ books. IfOk result (IsRowOf (λ (totals : TotalsRecord). Unit {0}) totals_columns (get books.totals material))) }
     ensures stands { HasCleanDisk (state S.Store conn.new) → IsShop conn.old.schema → IfOk result (λ found. IsUnder ((state S.Store conn.old).now.trees 17) 1 (Word material ∷ []) 7 2 found) }
     ensures leaves { Leaves (state S.Store conn.old) (state S.Store conn.new) }
     ensures mode { conn.old.in_transaction ≡ false → conn.new.in_transaction ≡ false }
@@ -56,7 +58,7 @@ pub fn find_totals<S: Alter>(
     conn: &mut Connection<S>,
     material: Code,
 ) -> Result<Option<Totals>, TableFault>
-    ensures row { Says (state S.Store conn.old) (state S.Store conn.new) (λ books. IfOk result (λ row. row ≡ get books.totals material)) }
+    ensures row { OnBooks (state S.Store conn.old) (state S.Store conn.new) (λ books. IfOk result (λ row. row ≡ get books.totals material)) }
     ensures stands { HasCleanDisk (state S.Store conn.new) → IsShop conn.old.schema → IfOk result (λ found. IsUnder ((state S.Store conn.old).now.trees 17) 1 (Word material ∷ []) 7 2 (option_map totals_columns found)) }
     ensures leaves { Leaves (state S.Store conn.old) (state S.Store conn.new) }
     ensures mode { conn.old.in_transaction ≡ false → conn.new.in_transaction ≡ false }

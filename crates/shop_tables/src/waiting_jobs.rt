@@ -5,7 +5,7 @@ ghost use Rattle.sqlite.specs.Held.{state};
 ghost use Rattle.shop_machine.specs.Listing.{waiting_jobs};
 ghost use Rattle.shop_machine.specs.declared.records.Job.{Job};
 ghost use Rattle.shop_tables.specs.ListedRows.{number_row};
-ghost use Rattle.shop_tables.specs.Shown.{Leaves, Says};
+ghost use Rattle.shop_tables.specs.Shown.{Leaves, OnBooks};
 
 use crate::TableFault;
 use crate::listed_rows::{at_most, read_rows};
@@ -19,7 +19,7 @@ fn job_rows<S: Alter>(
     after: u32,
     most: usize,
 ) -> Result<Vec<Row>, TableFault>
-    ensures rows { Says (state S.Store conn.old) (state S.Store conn.new) (λ books. IfOk result (λ rows. rows.items ≡ map number_row (take most (map (λ (job : Job). job.act) (waiting_jobs books.content after))))) }
+    ensures rows { OnBooks (state S.Store conn.old) (state S.Store conn.new) (λ books. IfOk result (λ rows. rows.items ≡ map number_row (take most (map (λ (job : Job). job.act) (waiting_jobs books.content after))))) }
     ensures leaves { Leaves (state S.Store conn.old) (state S.Store conn.new) }
     ensures mode { conn.old.in_transaction ≡ false → conn.new.in_transaction ≡ false }
 {
@@ -39,7 +39,7 @@ pub fn list_waiting_jobs<S: Alter>(
     after: u32,
     most: usize,
 ) -> Result<NumberList, TableFault>
-    ensures numbers { Says (state S.Store conn.old) (state S.Store conn.new) (λ books. IfOk result (λ numbers. numbers ≡ take most (map (λ (job : Job). job.act) (waiting_jobs books.content after)))) }
+    ensures numbers { OnBooks (state S.Store conn.old) (state S.Store conn.new) (λ books. IfOk result (λ numbers. numbers ≡ take most (map (λ (job : Job). job.act) (waiting_jobs books.content after)))) }
     ensures leaves { Leaves (state S.Store conn.old) (state S.Store conn.new) }
     ensures mode { conn.old.in_transaction ≡ false → conn.new.in_transaction ≡ false }
 {

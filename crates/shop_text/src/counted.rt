@@ -1,3 +1,5 @@
+//! A source over any reader and a sink over any writer, which count what fails.
+
 ghost use Rattle.std.specs.Prelude.{◌≡◌};
 ghost use Rattle.shop_text.specs.Streams.{one_more};
 

@@ -1,3 +1,5 @@
+//! What holds of tickets and reports: what a history's content has to say is never 99, a failed store.
+
 ghost use Rattle.std.specs.Prelude.{◌≢◌, ℕ, List, Err};
 ghost use Rattle.shop_machine.specs.declared.refusals.Refusal.TheVariants.{StoreFault};
 ghost use Rattle.shop_machine.specs.Messages.{Texts};

@@ -1,10 +1,12 @@
+//! The ticket of a job: what is cut in which order, where, and for whom.
+
 ghost use Rattle.std.specs.Prelude.{◌≡◌, ◌++◌, ◌∷◌, [], ℕ, List, Option, OnOk, IfOk, IfErr, Ok, Err, All, MatchOption, string_bytes};
 ghost use Rattle.cut_tree.specs.Stepping.{AreSteps};
 ghost use Rattle.shop_machine.specs.declared.records.Demand.{Demand as DemandOf};
 ghost use Rattle.shop_machine.specs.declared.refusals.Refusal.{Refusal as RefusalOf};
 ghost use Rattle.shop_machine.specs.Content.{demand_at};
 ghost use Rattle.shop_text.specs.declared.printing.PrintFault.TheVariants.{Refused, Write};
-ghost use Rattle.shop_book.specs.Kept.{KeepsBook, Says};
+ghost use Rattle.shop_book.specs.Kept.{Unchanged, OnContent};
 ghost use Rattle.shop_book.specs.Failures.{CountsFailure};
 ghost use Rattle.shop_text.specs.Printing.{IsTold, IsPrinted, CountsRefusal, CountsPrint};
 ghost use Rattle.shop_text.specs.Streams.{HasFailed};
@@ -38,8 +40,8 @@ fn push_node(
 
 // The row of a piece's demand.
 fn demand_of<B: Book>(book: &mut B, what: Token) -> Result<Option<Demand>, BookFault>
-    ensures row { Says B.Book book.old book.new (λ m. IfOk result (λ row. row ≡ demand_for (demand_at m) what)) }
-    ensures keeps { KeepsBook B.Book (CountsFailure result) book.old book.new }
+    ensures row { OnContent B.Book book.old book.new (λ m. IfOk result (λ row. row ≡ demand_for (demand_at m) what)) }
+    ensures keeps { Unchanged B.Book (CountsFailure result) book.old book.new }
 {
     match what {
         Token::Cut(..) | Token::Rest => Ok(None),
@@ -53,9 +55,9 @@ fn found_nodes<B: Book>(
     book: &mut B,
     plan: &Plan,
 ) -> Result<Vec<FoundNode>, BookFault>
-    ensures found { Says B.Book book.old book.new (λ m. IfOk result (λ nodes. AreNodesFound (demand_at m) nodes.items)) }
+    ensures found { OnContent B.Book book.old book.new (λ m. IfOk result (λ nodes. AreNodesFound (demand_at m) nodes.items)) }
     ensures steps { IfOk result (λ nodes. AreSteps plan.now.tree plan.now.w plan.now.h plan.now.kerf (steps_in nodes.items)) }
-    ensures keeps { KeepsBook B.Book (CountsFailure result) book.old book.new }
+    ensures keeps { Unchanged B.Book (CountsFailure result) book.old book.new }
 {
     let steps = plan.steps(alloc)?;
     let mut nodes = Vec::new(alloc);
@@ -230,8 +232,8 @@ fn ticket_lines(
 /// The ticket of a job as text. An unknown job is refused 70; 98 is want of memory, and 99 comes where the store failed, or
 /// where rows that no history gives contradict each other.
 pub fn ticket_text<B: Book>(alloc: Global, book: &mut B, number: u32) -> Result<String, Refusal>
-    ensures told { Says B.Book book.old book.new (λ m. IsTold (B.failed book.old) (B.failed book.new) result (ticket_of m number)) }
-    ensures keeps { KeepsBook B.Book (CountsRefusal result) book.old book.new }
+    ensures told { OnContent B.Book book.old book.new (λ m. IsTold (B.failed book.old) (B.failed book.new) result (ticket_of m number)) }
+    ensures keeps { Unchanged B.Book (CountsRefusal result) book.old book.new }
 {
     let Some(job) = book.job(alloc, number)? else {
         return Err(Refusal::NoJob);
@@ -254,11 +256,11 @@ pub fn ticket<B: Book, W: Sink>(
     job: u32,
     sink: &mut W,
 ) -> Result<(), PrintFault>
-    ensures printed { Says B.Book book.old book.new (λ m. IsPrinted (B.failed book.old) (B.failed book.new) (W.held sink.old) (W.held sink.new) result (ticket_of m job)) }
+    ensures printed { OnContent B.Book book.old book.new (λ m. IsPrinted (B.failed book.old) (B.failed book.new) (W.held sink.old) (W.held sink.new) result (ticket_of m job)) }
     ensures refused { (refusal : RefusalOf) → result ≡ Err (Refused refusal) → sink.new ≡ sink.old }
     ensures write { result ≡ Err Write → HasFailed (W.failed sink.old) (W.failed sink.new) }
     ensures worked { OnOk result (W.failed sink.new ≡ W.failed sink.old) }
-    ensures keeps { KeepsBook B.Book (CountsPrint result) book.old book.new }
+    ensures keeps { Unchanged B.Book (CountsPrint result) book.old book.new }
 {
     let text = ticket_text(alloc, book, job)?;
     print(text.as_str(), sink)

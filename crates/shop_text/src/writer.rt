@@ -1,3 +1,5 @@
+//! Bytes written to the last.
+
 ghost use Rattle.std.specs.Prelude.{◌≡◌, ◌++◌, ℕ, List, OnErr, OnOk};
 ghost use Rattle.std.specs.Io.KnownBytes.{Appends};
 ghost use Rattle.shop_text.specs.Streams.{HasFailed};

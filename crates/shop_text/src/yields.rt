@@ -1,8 +1,10 @@
+//! The yield report of a material: its totals, what share became pieces, and the parts that stand.
+
 ghost use Rattle.std.specs.Prelude.{◌≡◌, ◌++◌, OnOk, Err, string_bytes};
 ghost use Rattle.cut_measure.specs.Lengths.{mm_text};
 ghost use Rattle.shop_machine.specs.declared.refusals.Refusal.{Refusal as RefusalOf};
 ghost use Rattle.shop_machine.specs.Content.{totals_of, parts_of};
-ghost use Rattle.shop_book.specs.Kept.{KeepsBook, Says};
+ghost use Rattle.shop_book.specs.Kept.{Unchanged, OnContent};
 ghost use Rattle.shop_text.specs.declared.printing.PrintFault.TheVariants.{Refused, Write};
 ghost use Rattle.shop_text.specs.Printing.{IsTold, IsPrinted, CountsRefusal, CountsPrint};
 ghost use Rattle.shop_text.specs.Streams.{HasFailed};
@@ -123,8 +125,8 @@ impl PartVisitor for PartLines {
 /// The yield report of a material as text. An unknown material is refused 20; 98 is want of memory, and 99 comes where the
 /// store failed.
 pub fn report_text<B: Book>(alloc: Global, book: &mut B, code: Code) -> Result<String, Refusal>
-    ensures told { Says B.Book book.old book.new (λ m. IsTold (B.failed book.old) (B.failed book.new) result (yield_of m code)) }
-    ensures keeps { KeepsBook B.Book (CountsRefusal result) book.old book.new }
+    ensures told { OnContent B.Book book.old book.new (λ m. IsTold (B.failed book.old) (B.failed book.new) result (yield_of m code)) }
+    ensures keeps { Unchanged B.Book (CountsRefusal result) book.old book.new }
 {
     let Some(material) = book.material(code)? else {
         return Err(Refusal::NoMaterial);
@@ -151,11 +153,11 @@ pub fn yield_report<B: Book, W: Sink>(
     material: Code,
     sink: &mut W,
 ) -> Result<(), PrintFault>
-    ensures printed { Says B.Book book.old book.new (λ m. IsPrinted (B.failed book.old) (B.failed book.new) (W.held sink.old) (W.held sink.new) result (yield_of m material)) }
+    ensures printed { OnContent B.Book book.old book.new (λ m. IsPrinted (B.failed book.old) (B.failed book.new) (W.held sink.old) (W.held sink.new) result (yield_of m material)) }
     ensures refused { (refusal : RefusalOf) → result ≡ Err (Refused refusal) → sink.new ≡ sink.old }
     ensures write { result ≡ Err Write → HasFailed (W.failed sink.old) (W.failed sink.new) }
     ensures worked { OnOk result (W.failed sink.new ≡ W.failed sink.old) }
-    ensures keeps { KeepsBook B.Book (CountsPrint result) book.old book.new }
+    ensures keeps { Unchanged B.Book (CountsPrint result) book.old book.new }
 {
     let text = report_text(alloc, book, material)?;
     print(text.as_str(), sink)

@@ -16,7 +16,7 @@ use Rattle.shop_machine.specs.Soundness.{IsSound}
 use Rattle.shop_rules.specs.Forms.{message_of, json_texts}
 use Rattle.shop_wire.specs.Lines.{lines_of, AreLines, GivesLine, kept_of}
 use Rattle.shop_book.specs.declared.books.Book.{Ghosts}
-use Rattle.shop_book.specs.Kept.{Says}
+use Rattle.shop_book.specs.Kept.{OnContent}
 use Rattle.shop_desk.specs.Faults.{CountsUp}
 use Rattle.shop_desk.specs.Handled.{HasAccount}
 use Rattle.shop_desk.proofs.Blame.{tell_more}
@@ -82,7 +82,7 @@ module _ {B : Type 0} (book : Ghosts B) where
   -- a line that was answered, and whose reply was written but for some last bytes
   pub one_replayed : (before after : B) (held_old held_new : Option (List ℕ)) (line : List ℕ) (reply : Reply) (bytes unwritten : List ℕ)
       → bytes ++ unwritten ≡ reply_line reply → Appends held_old held_new bytes
-      → Says book before after (λ m. IsSound json_texts m → HasAnswered LineStep line_message book before after m (line ∷ []) (reply ∷ []))
+      → OnContent book before after (λ m. IsSound json_texts m → HasAnswered LineStep line_message book before after m (line ∷ []) (reply ∷ []))
       → IsReplayed book before after held_old held_new (line ∷ []) unwritten
   one_replayed before after held_old held_new line reply bytes unwritten told written answered =
       record {

@@ -15,7 +15,7 @@ use Rattle.serde_json.specs.Data.{Data}
 use Rattle.serde_json.specs.Read.{read}
 use Rattle.shop_rules.specs.Forms.{message_of, query_of, json_texts}
 use Rattle.shop_book.specs.declared.books.Book.{Ghosts}
-use Rattle.shop_book.specs.Kept.{Says}
+use Rattle.shop_book.specs.Kept.{OnContent}
 use Rattle.shop_desk.specs.Faults.{TellOfFailures}
 use Rattle.shop_desk.specs.Handled.{HasAccount}
 use Rattle.shop_wire.specs.Lines.{longest_line}
@@ -98,7 +98,7 @@ pub record AreAnswered (says : List Reply → Type 0) (held_old held_new : Optio
 -- The lines were answered in turn: each sound content that an honest book held before led to one that it holds now.
 abbrev pub IsReplayed : {B : Type 0} → Ghosts B → B → B → Option (List ℕ) → Option (List ℕ) → List (List ℕ) → List ℕ → Type 0
 IsReplayed book before after held_old held_new lines unwritten =
-    AreAnswered (λ replies. Says book before after (λ m. IsSound json_texts m → HasAnswered LineStep line_message book before after m lines replies))
+    AreAnswered (λ replies. OnContent book before after (λ m. IsSound json_texts m → HasAnswered LineStep line_message book before after m lines replies))
     held_old held_new lines unwritten
 
 -- The lines were answered in turn by a shop in which nothing was done yet, and under which no store can fail.

@@ -20,7 +20,7 @@ use Rattle.shop_machine.specs.Machine.{Step, Answers}
 use Rattle.shop_machine.specs.Soundness.{IsSound}
 use Rattle.shop_rules.specs.Forms.{query_of, json_texts}
 use Rattle.shop_book.specs.declared.books.Book.{Ghosts}
-use Rattle.shop_book.specs.Kept.{Says}
+use Rattle.shop_book.specs.Kept.{OnContent}
 use Rattle.shop_desk.specs.Faults.{StoreFailed}
 use Rattle.shop_desk.specs.Handled.{HasAccount}
 use Rattle.shop_text.specs.Tickets.{ticket_of}
@@ -205,7 +205,7 @@ pub record IsAnswered (says : Telling → Type 0) (held_old held_new : Option (L
 -- the sense was served by a book: each sound content that an honest book held before led to one that it holds now
 abbrev pub IsServedAs : {B : Type 0} → Ghosts B → B → B → Option (List ℕ) → Option (List ℕ) → Sense → List ℕ → Type 0
 IsServedAs book before after held_old held_new sense unwritten =
-    IsAnswered (λ telling. Says book before after (λ m. IsSound json_texts m → HasServed book before after m sense telling)) held_old held_new sense unwritten
+    IsAnswered (λ telling. OnContent book before after (λ m. IsSound json_texts m → HasServed book before after m sense telling)) held_old held_new sense unwritten
 
 -- What an input stands for was served.
 abbrev pub IsServed : {B : Type 0} → Ghosts B → B → B → Option (List ℕ) → Option (List ℕ) → Option (List ℕ) → List ℕ → Type 0

@@ -1,8 +1,10 @@
+//! The reply to a line: it is read as a message or a query, handled over a book, and held as a line.
+
 ghost use Rattle.std.specs.Prelude.{◌≡◌, ◌++◌, ◌∷◌, [], ℕ, List, IfOk, IfSome, OnOk, OnErr, None};
 ghost use Rattle.serde_json.specs.View.{view};
 ghost use Rattle.shop_machine.specs.Soundness.{IsSound};
 ghost use Rattle.shop_rules.specs.Forms.{message_of, json_texts};
-ghost use Rattle.shop_book.specs.Kept.{Says};
+ghost use Rattle.shop_book.specs.Kept.{OnContent};
 ghost use Rattle.shop_desk.specs.Faults.{CountsUp};
 ghost use Rattle.shop_wire.specs.Replays.{HasAnswered, LineStep, ValueStep, data_of, line_message, reply_line};
 ghost use Rattle.shop_wire.specs.Tellings.{IsRead};
@@ -10,13 +12,13 @@ ghost use Rattle.shop_wire.specs.Tellings.{IsRead};
 use crate::limits::LONGEST_LINE;
 use serde_json::Value;
 use shop_book::Book;
-use shop_desk::{ask, handle_told};
+use shop_desk::{ask, handle_with_text};
 use shop_rules::{Refusal, Reply, Text, read_message, read_query, reply_text};
 use std::alloc::{AllocError, Global};
 
 // The reply to a value that is no message.
 fn query_reply<B: Book>(alloc: Global, book: &mut B, value: &Value) -> Reply
-    ensures step { message_of (view value.now) ≡ None → Says B.Book book.old book.new (λ m. IsSound json_texts m → HasAnswered ValueStep message_of B.Book book.old book.new m (view value.now ∷ []) (result ∷ [])) }
+    ensures step { message_of (view value.now) ≡ None → OnContent B.Book book.old book.new (λ m. IsSound json_texts m → HasAnswered ValueStep message_of B.Book book.old book.new m (view value.now ∷ []) (result ∷ [])) }
     ensures honest { B.is_honest book.new → B.is_honest book.old }
     ensures failures { CountsUp (B.failed book.old) (B.failed book.new) }
 {
@@ -28,13 +30,13 @@ fn query_reply<B: Book>(alloc: Global, book: &mut B, value: &Value) -> Reply
 
 // The reply to a value, and its text, where it was written to be kept.
 fn reply_to<B: Book>(alloc: Global, book: &mut B, value: &Value) -> (Reply, Option<Text>)
-    ensures step { Says B.Book book.old book.new (λ m. IsSound json_texts m → HasAnswered ValueStep message_of B.Book book.old book.new m (view value.now ∷ []) (result.0 ∷ [])) }
+    ensures step { OnContent B.Book book.old book.new (λ m. IsSound json_texts m → HasAnswered ValueStep message_of B.Book book.old book.new m (view value.now ∷ []) (result.0 ∷ [])) }
     ensures told { IfSome result.1 (λ text. text ≡ json_texts.of_reply result.0) }
     ensures honest { B.is_honest book.new → B.is_honest book.old }
     ensures failures { CountsUp (B.failed book.old) (B.failed book.new) }
 {
     match read_message(alloc, value) {
-        Ok(message) => handle_told(alloc, book, &message),
+        Ok(message) => handle_with_text(alloc, book, &message),
         Err(refusal) => match refusal {
             Refusal::NoMemory => (Reply::Refused(Refusal::NoMemory), None),
             _ => (query_reply(alloc, book, value), None),
@@ -63,7 +65,7 @@ pub(crate) fn value_in(alloc: Global, line: &[u8]) -> Result<Value, Refusal>
 /// The reply to a line, and its text, where it was written to be kept. Refused `NoMemory` where memory runs out while the line is
 /// read.
 pub(crate) fn answer<B: Book>(alloc: Global, book: &mut B, line: &[u8]) -> (Reply, Option<Text>)
-    ensures step { Says B.Book book.old book.new (λ m. IsSound json_texts m → HasAnswered LineStep line_message B.Book book.old book.new m (line.now ∷ []) (result.0 ∷ [])) }
+    ensures step { OnContent B.Book book.old book.new (λ m. IsSound json_texts m → HasAnswered LineStep line_message B.Book book.old book.new m (line.now ∷ []) (result.0 ∷ [])) }
     ensures told { IfSome result.1 (λ text. text ≡ json_texts.of_reply result.0) }
     ensures honest { B.is_honest book.new → B.is_honest book.old }
     ensures failures { CountsUp (B.failed book.old) (B.failed book.new) }
@@ -97,7 +99,7 @@ fn hold_line(held: &mut Vec<u8>, text: &Text) -> Result<(), AllocError>
 }
 
 /// Puts a reply behind what is held as a line, as far as there is memory. What was told of it is its text.
-pub(crate) fn hold_told(
+pub(crate) fn buffer_reply(
     alloc: Global,
     reply: &Reply,
     told: Option<Text>,

@@ -1,3 +1,5 @@
+//! Why a replay stopped, and why a request wasn't answered.
+
 use std::error::Error;
 use std::fmt;
 

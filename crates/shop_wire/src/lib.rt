@@ -14,4 +14,4 @@ mod telling;
 
 pub use faults::{ReplayFault, WireFault};
 pub use replays::replay;
-pub use serving::{serve_one, serve_with};
+pub use serving::{serve_one, serve_request};

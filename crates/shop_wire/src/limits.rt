@@ -1,3 +1,5 @@
+//! The most bytes and reads of lines and of what is held.
+
 /// The most reads of a replay.
 pub(crate) const MOST_READS: u32 = 1_000_000_000;
 

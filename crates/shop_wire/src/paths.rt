@@ -1,3 +1,5 @@
+//! Numbers, terminals and queries of two parts, as the paths of requests say them.
+
 ghost use Rattle.std.specs.Prelude.{◌≡◌};
 ghost use Rattle.shop_wire.specs.Serves as serves;
 ghost use Rattle.shop_wire.specs.Serves.{behind_slash, in_front, path_query, ranged};

@@ -1,3 +1,5 @@
+//! A replay: each line of a source is answered by a line of a sink.
+
 ghost use Rattle.std.specs.Prelude.{◌≡◌, ◌+◌, ◌<◌, ◌≤◌, ◌++◌, ◌∷◌, [], ◌⊎◌, ℕ, List, Some, IfOk, IfErr, OnOk, OnErr, Err, length};
 ghost use Rattle.std.specs.Io.KnownBytes.{Appends};
 ghost use Rattle.shop_desk.specs.Faults.{CountsUp};
@@ -8,7 +10,7 @@ ghost use Rattle.shop_wire.specs.Streams.{AreReads, IsLong, most_reads};
 ghost use Rattle.shop_wire.specs.declared.limits.TheConstants.{MOST_HELD};
 ghost use Rattle.shop_wire.specs.declared.faults.ReplayFault.TheVariants.{Read, Write, NoMemory};
 
-use crate::answers::{answer, hold_told};
+use crate::answers::{answer, buffer_reply};
 use crate::faults::ReplayFault;
 use crate::limits::{LONGEST_LINE, MOST_HELD};
 use crate::reader::LineReader;
@@ -31,7 +33,7 @@ fn hold_reply<B: Book>(
     ensures fault { IfErr result (λ fault. fault ≡ NoMemory) }
 {
     let (reply, told) = answer(alloc, book, line);
-    match hold_told(alloc, &reply, told, held) {
+    match buffer_reply(alloc, &reply, told, held) {
         Ok(()) => Ok(()),
         Err(_) => Err(ReplayFault::NoMemory),
     }
@@ -57,7 +59,7 @@ fn pass_on<W: Sink>(sink: &mut W, held: &mut Vec<u8>) -> Result<(), ReplayFault>
 }
 
 // Writes what is held where the source would be read for the next line, and where much is held.
-fn pass_on_in_time<W: Sink>(
+fn flush_if_due<W: Sink>(
     reader: &LineReader,
     sink: &mut W,
     held: &mut Vec<u8>,
@@ -108,7 +110,7 @@ fn answer_lines<S: Source, W: Sink, B: Book>(
     while reader.next_line(source, &mut line)? {
         hold_reply(alloc, &line, book, held)?;
         count += 1;
-        pass_on_in_time(&reader, sink, held)?;
+        flush_if_due(&reader, sink, held)?;
     }
     Ok(count)
 }

@@ -1,3 +1,5 @@
+//! One request, read from a source, done over a book and answered on a sink.
+
 ghost use Rattle.std.specs.Prelude.{◌≡◌, ◌≢◌, ◌⊎◌, ◌≤◌, ◌+◌, ◌++◌, [], ℕ, List, OnOk, OnErr, Err, IfOk, IfErr, IfSome, IsErrOf, string_bytes};
 ghost use Rattle.std.specs.Io.KnownBytes.{Appends};
 ghost use Rattle.shop_desk.specs.Faults.{CountsUp};
@@ -7,7 +9,7 @@ ghost use Rattle.shop_wire.specs.AnswerBytes.{answer_bytes, fault_answer};
 ghost use Rattle.shop_wire.specs.Serves.{IsServed, IsServedAs};
 ghost use Rattle.shop_wire.specs.declared.faults.WireFault.TheVariants.{Read, Write, NoMemory};
 
-use crate::asking::tell;
+use crate::asking::respond;
 use crate::faults::WireFault;
 use crate::telling::{fault_text, told_text};
 use shop_book::Book;
@@ -57,7 +59,7 @@ fn answer_request<W: Sink, B: Book>(
     ensures fault { IfErr result (λ fault. (fault ≡ NoMemory) ⊎ (fault ≡ Write) × HasFailed (W.failed sink.old) (W.failed sink.new)) }
     ensures worked { OnOk result (W.failed sink.new ≡ W.failed sink.old) }
 {
-    let told = tell(alloc, book, route, text);
+    let told = respond(alloc, book, route, text);
     match write_made(sink, told_text(alloc, route, &told)) {
         Ok(()) => Ok(()),
         Err(fault) => Err(fault),
@@ -104,7 +106,7 @@ fn read_one<S: Source>(alloc: Global, routes: &Routes, source: &mut S) -> Result
 /// `Read` where the source failed: then nothing changed, and nothing was written. `Write` where the sink failed and
 /// `NoMemory` for want of memory: then what was asked for may be done, and a first part of the answer was written; a message
 /// that is sent again gets the kept reply.
-pub fn serve_with<S: Source, W: Sink, B: Book>(
+pub fn serve_request<S: Source, W: Sink, B: Book>(
     alloc: Global,
     routes: &Routes,
     source: &mut S,
@@ -131,7 +133,7 @@ pub fn serve_with<S: Source, W: Sink, B: Book>(
     }
 }
 
-/// The same with routes of its own. A server makes them once and calls `serve_with`.
+/// The same with routes of its own. A server makes them once and calls `serve_request`.
 pub fn serve_one<S: Source, W: Sink, B: Book>(
     alloc: Global,
     source: &mut S,
@@ -149,7 +151,7 @@ pub fn serve_one<S: Source, W: Sink, B: Book>(
     ensures worked { OnOk result (W.failed sink.new ≡ W.failed sink.old) }
 {
     match Routes::new(alloc) {
-        Ok(routes) => serve_with(alloc, &routes, source, sink, book),
+        Ok(routes) => serve_request(alloc, &routes, source, sink, book),
         Err(_) => Err(WireFault::NoMemory),
     }
 }

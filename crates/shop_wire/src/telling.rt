@@ -1,3 +1,5 @@
+//! The bytes of an answer to a request: its status, its fields and its body.
+
 ghost use Rattle.std.specs.Prelude.{◌≡◌, ◌≤◌, ◌<◌, IfOk, decimal, string_bytes};
 ghost use Rattle.shop_wire.specs.AnswerBytes.{answer_bytes, fault_answer, fault_fields, fault_status, phrase, refusal_status, reply_answer, status_in, telling_answer, text_answer, unfound};
 ghost use Rattle.shop_wire.specs.Tellings.{telling_of};

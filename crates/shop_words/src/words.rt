@@ -1,3 +1,5 @@
+//! The words of the command line: what `clap` is told of them, and what they ask for.
+
 ghost use Rattle.std.specs.Prelude.{◌≡◌, ◌≤◌, ℕ, [], is_some, IfOk, IfErr, MatchOption, map, string_bytes};
 ghost use Rattle.clap.specs.Words.{app_of, first_of, rows_of, found_of, subcommand_of, subcommand_rows_of};
 ghost use Rattle.clap.specs.Kinds.{HasKind};

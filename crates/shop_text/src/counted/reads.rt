@@ -1,3 +1,5 @@
+//! A reader as a source: what a read brings, and when it counts as failed.
+
 use crate::counted::{Counted, MOST_TRIES};
 use crate::streams::{Failed, Source};
 use std::io::{ErrorKind, Read};

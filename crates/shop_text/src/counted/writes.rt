@@ -1,3 +1,5 @@
+//! A writer as a sink: what a write takes, and when it counts as failed.
+
 use crate::counted::{Counted, MOST_TRIES};
 use crate::streams::{Failed, Sink};
 use std::io::{ErrorKind, Write};

@@ -1,6 +1,6 @@
 use Rattle.std.proofs.Common.{refl, [], ◌∷◌, pos}
 use Rattle.shop_machine.specs.Content.{kept_at}
-use Rattle.shop_machine.specs.declared.kept_texts.Kept.{Kept}
+use Rattle.shop_machine.specs.declared.texts.Kept.{Kept}
 use Rattle.shop_tables.specs.Rows.{kept_columns}
 use Rattle.shop_tables.proofs.Reading.{read_as, none_as}
 use Rattle.shop_tables.proofs.UnderKeys.{read_under}

@@ -7,12 +7,12 @@ use Rattle.shop_wire.proofs.answers.reply_to.Goals as goal
 
 pub returns-in-Ok-clause-step : goal.returns-in-Ok-clause-step
 returns-in-Ok-clause-step g c = λ honest m held sound.
-    let l = c.handle_told.ensures.step honest m held sound in
-    message_answered g.B.Book c.args.book.now c.handle_told.new.book m (view c.args.value.now) c.in-Ok.message c.handle_told.result.0 l.next c.in-Ok.ensures.ok c.handle_told.ensures.message l.step l.held l.sound
-    (c.handle_told.ensures.store_fault honest m held sound)
+    let l = c.handle_with_text.ensures.step honest m held sound in
+    message_answered g.B.Book c.args.book.now c.handle_with_text.new.book m (view c.args.value.now) c.in-Ok.message c.handle_with_text.result.0 l.next c.in-Ok.ensures.ok c.handle_with_text.ensures.message l.step l.held l.sound
+    (c.handle_with_text.ensures.store_fault honest m held sound)
 
 pub returns-in-Ok-clause-failures : goal.returns-in-Ok-clause-failures
-returns-in-Ok-clause-failures g c = up_answer (g.B.Book.failed c.args.book.now) (g.B.Book.failed c.handle_told.new.book) c.handle_told.result.0 c.handle_told.ensures.failures
+returns-in-Ok-clause-failures g c = up_answer (g.B.Book.failed c.args.book.now) (g.B.Book.failed c.handle_with_text.new.book) c.handle_with_text.result.0 c.handle_with_text.ensures.failures
 
 pub returns-in-NoMemory-clause-step : goal.returns-in-NoMemory-clause-step
 returns-in-NoMemory-clause-step g c = λ honest m held sound.

@@ -58,8 +58,8 @@ returns-in_err-hold_reply-clause-err g c =
     for_the_fault c.from_residual-in_err-hold_reply.result _ exit.0 exit.1
     (so_far.0 ++ part.0, first.0, first.1, stopped.3, (λ is. not_read c.in_err-hold_reply.field-0.0 stopped.3 (inl c.in_err-hold_reply.ensures.fault) (sym exit.2 ∙ is)), all)
 
-pub returns-in_err-pass_on_in_time-clause-err : goal.returns-in_err-pass_on_in_time-clause-err
-returns-in_err-pass_on_in_time-clause-err g c =
+pub returns-in_err-flush_if_due-clause-err : goal.returns-in_err-flush_if_due-clause-err
+returns-in_err-flush_if_due-clause-err g c =
     let so_far = c.loop-line.invariant in
     let left = g.S.Source.left c.args.source.now in
     let now = prepend_known (pending c.loop-line.reader.buffer c.loop-line.reader.start c.loop-line.reader.end) (g.S.Source.left c.loop-line.source) in
@@ -71,18 +71,18 @@ returns-in_err-pass_on_in_time-clause-err g c =
     let held = subst (IsReplayed g.B.Book c.args.book.now c.hold_reply.new.book (g.W.Sink.held c.args.sink.now) (g.W.Sink.held c.loop-line.sink) (so_far.0 ++ line.0 ∷ [])) (append-nil c.hold_reply.new.held.items)
     (more_held g.B.Book c.args.book.now c.loop-line.book c.hold_reply.new.book (g.W.Sink.held c.args.sink.now) (g.W.Sink.held c.loop-line.sink)
     so_far.0 (line.0 ∷ []) c.loop-line.held.items c.hold_reply.new.held.items [] c.hold_reply.ensures.honest so_far.5 c.hold_reply.ensures.failures so_far.3 one) in
-    let part = c.in_err-pass_on_in_time.ensures.err in
-    let all = passed_on g.B.Book c.args.book.now c.hold_reply.new.book (g.W.Sink.held c.args.sink.now) (g.W.Sink.held c.loop-line.sink) (g.W.Sink.held c.pass_on_in_time.new.sink)
+    let part = c.in_err-flush_if_due.ensures.err in
+    let all = passed_on g.B.Book c.args.book.now c.hold_reply.new.book (g.W.Sink.held c.args.sink.now) (g.W.Sink.held c.loop-line.sink) (g.W.Sink.held c.flush_if_due.new.sink)
     (so_far.0 ++ line.0 ∷ []) c.hold_reply.new.held.items part.0 part.1 part.2 part.3 held in
     let read = some_read left next (so_far.0 ++ line.0 ∷ []) (line_read left now next so_far.0 line.0 so_far.1 line.2) in
-    let exit = err_from_is_err_and c.from_residual-in_err-pass_on_in_time.result c.from_residual-in_err-pass_on_in_time.ensures.1 in
-    for_the_fault c.from_residual-in_err-pass_on_in_time.result _ exit.0 exit.1 (
+    let exit = err_from_is_err_and c.from_residual-in_err-flush_if_due.result c.from_residual-in_err-flush_if_due.ensures.1 in
+    for_the_fault c.from_residual-in_err-flush_if_due.result _ exit.0 exit.1 (
       so_far.0 ++ line.0 ∷ [],
       read.0,
       read.1,
       part.1,
-      (λ is. not_read c.in_err-pass_on_in_time.field-0.0 part.1 (inr c.in_err-pass_on_in_time.ensures.fault.0) (sym exit.2 ∙ is)),
-      subst (λ l. IsReplayed g.B.Book c.args.book.now c.hold_reply.new.book (g.W.Sink.held c.args.sink.now) (g.W.Sink.held c.pass_on_in_time.new.sink) (so_far.0 ++ line.0 ∷ []) (l ++ part.1)) (sym c.in_err-pass_on_in_time.ensures.none) all,
+      (λ is. not_read c.in_err-flush_if_due.field-0.0 part.1 (inr c.in_err-flush_if_due.ensures.fault.0) (sym exit.2 ∙ is)),
+      subst (λ l. IsReplayed g.B.Book c.args.book.now c.hold_reply.new.book (g.W.Sink.held c.args.sink.now) (g.W.Sink.held c.flush_if_due.new.sink) (so_far.0 ++ line.0 ∷ []) (l ++ part.1)) (sym c.in_err-flush_if_due.ensures.none) all,
     )
 
 pub loop-line-preserved : goal.loop-line-preserved
@@ -100,12 +100,12 @@ loop-line-preserved g c =
     let held = subst (IsReplayed g.B.Book c.args.book.now c.hold_reply.new.book (g.W.Sink.held c.args.sink.now) (g.W.Sink.held c.loop-line.sink) (so_far.0 ++ line.0 ∷ [])) (append-nil c.hold_reply.new.held.items)
     (more_held g.B.Book c.args.book.now c.loop-line.book c.hold_reply.new.book (g.W.Sink.held c.args.sink.now) (g.W.Sink.held c.loop-line.sink)
     so_far.0 (line.0 ∷ []) c.loop-line.held.items c.hold_reply.new.held.items [] c.hold_reply.ensures.honest so_far.5 c.hold_reply.ensures.failures so_far.3 one) in
-    let part = c.in_ok-pass_on_in_time.ensures.ok in (
+    let part = c.in_ok-flush_if_due.ensures.ok in (
       so_far.0 ++ line.0 ∷ [],
       line_read left now next so_far.0 line.0 so_far.1 line.2,
       ap (λ n. n + 1) so_far.2 ∙ sym (length-append so_far.0 (line.0 ∷ [])),
-      passed_on g.B.Book c.args.book.now c.hold_reply.new.book (g.W.Sink.held c.args.sink.now) (g.W.Sink.held c.loop-line.sink) (g.W.Sink.held c.pass_on_in_time.new.sink)
-          (so_far.0 ++ line.0 ∷ []) c.hold_reply.new.held.items part.0 c.pass_on_in_time.new.held.items part.1 part.2 held,
+      passed_on g.B.Book c.args.book.now c.hold_reply.new.book (g.W.Sink.held c.args.sink.now) (g.W.Sink.held c.loop-line.sink) (g.W.Sink.held c.flush_if_due.new.sink)
+          (so_far.0 ++ line.0 ∷ []) c.hold_reply.new.held.items part.0 c.flush_if_due.new.held.items part.1 part.2 held,
       (λ honest. so_far.4 (c.hold_reply.ensures.honest honest)),
       up_more (g.B.Book.failed c.args.book.now) (g.B.Book.failed c.loop-line.book) (g.B.Book.failed c.hold_reply.new.book) so_far.5 c.hold_reply.ensures.failures,
       c.next_line.ensures.most,
@@ -115,6 +115,6 @@ loop-line-preserved g c =
           took_more 0 mid.reads new.reads left (g.S.Source.left c.loop-line.source) (g.S.Source.left c.next_line.new.source) (so_far.8 took.0) took.1),
       together_more 0 mid.reads new.reads (g.S.Source.reads c.args.source.now) (g.S.Source.reads c.loop-line.source) (g.S.Source.reads c.next_line.new.source) so_far.9 c.next_line.ensures.together,
       c.in_ok-next_line.ensures.failures ∙ so_far.10,
-      c.in_ok-pass_on_in_time.ensures.worked ∙ so_far.11,
+      c.in_ok-flush_if_due.ensures.worked ∙ so_far.11,
       omega (arith, so_far.12, c.in_ok-next_line.ensures.shorter (ap Ok c.if-branch.true)),
     )

@@ -3,7 +3,7 @@ use Rattle.std.specs.Prelude.{IsSome}
 use Rattle.std.specs.FinMap.{get-from_sorted}
 use Rattle.shop_machine.specs.Content.{pair_cmp}
 use Rattle.shop_machine.specs.Listing.{IsLastNumber}
-use Rattle.shop_machine.specs.declared.kept_texts.Kept.{Kept}
+use Rattle.shop_machine.specs.declared.texts.Kept.{Kept}
 use Rattle.shop_rows.proofs.Places.{tested}
 use Rattle.shop_book.specs.Memory.{MemoryBook}
 use Rattle.shop_book.proofs.memory.MemBookBook.last_number.Goals as goal

@@ -4,8 +4,8 @@ use Rattle.shop_store.proofs.sql.SqlBookBook.visit_parts.Goals as goal
 
 pub returns-clause-visit : goal.returns-clause-visit
 returns-clause-visit g c =
-    visit_told _ _ _ _ _ _ _ c.tell.ensures.answer
-    (λ P Q f says clean m was. f _ (says_of g.S.Store _ c.args.self.now.conn c.lend_parts-answer.new.conn _ c.tell.ensures.conn says clean m was)) c.lend_parts-answer.ensures.visit
+    visit_told _ _ _ _ _ _ _ c.count_fault.ensures.answer
+    (λ P Q f says clean m was. f _ (says_of g.S.Store _ c.args.self.now.conn c.lend_parts-answer.new.conn _ c.count_fault.ensures.conn says clean m was)) c.lend_parts-answer.ensures.visit
 
 pub returns-clause-keeps : goal.returns-clause-keeps
-returns-clause-keeps g c = keeps_reading g.S.Store (λ b. b.conn) (λ b. b.failures) _ _ _ _ c.tell.ensures.conn c.lend_parts-answer.ensures.leaves c.tell.ensures.failures
+returns-clause-keeps g c = keeps_reading g.S.Store (λ b. b.conn) (λ b. b.failures) _ _ _ _ c.count_fault.ensures.conn c.lend_parts-answer.ensures.leaves c.count_fault.ensures.failures

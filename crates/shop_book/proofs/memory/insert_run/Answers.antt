@@ -14,7 +14,7 @@ use Rattle.shop_machine.specs.declared.records.Part.{Part}
 use Rattle.shop_rows.specs.Open.{finds_with_all}
 use Rattle.shop_rows.specs.Rows.{row_at}
 use Rattle.shop_rows.proofs.Listed.{found_put_each, keep_one, lists_same}
-use Rattle.shop_book.proofs.memory.put_together.Goals as goal
+use Rattle.shop_book.proofs.memory.insert_run.Goals as goal
 
 pub with_all-requires : goal.with_all-requires
 with_all-requires c = λ column.

@@ -1,3 +1,5 @@
+//! JSON of making a part scrap and of returning a unit: their commands and replies, read and written.
+
 ghost use Rattle.std.specs.Prelude.{◌≡◌, OnOk, codes};
 ghost use Rattle.serde_json.specs.Data.{object, no_members};
 ghost use Rattle.serde_json.specs.View.{view};

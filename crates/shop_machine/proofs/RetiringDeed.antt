@@ -15,13 +15,13 @@ use Rattle.shop_machine.specs.declared.messages.Reply.TheVariants as reply
 use Rattle.shop_machine.specs.Messages.{Texts}
 use Rattle.shop_machine.specs.Readings.{Reading}
 use Rattle.shop_machine.specs.Content.{Content, part_at, totals_of, totals_for}
-use Rattle.shop_machine.specs.Turning.{scrap_refusal, return_refusal, turn_change}
+use Rattle.shop_machine.specs.Retiring.{scrap_refusal, return_refusal, turn_change}
 use Rattle.shop_machine.specs.Soundness.{IsSound}
 use Rattle.shop_machine.specs.History.{Deed, deeds, Turns, turned_owner, acts_of, owner_of, is_cut, standing_as}
 use Rattle.shop_machine.proofs.Cells.{turned}
 use Rattle.shop_machine.proofs.Accounts.{Follows, stands_yes, stands_no}
 use Rattle.shop_machine.proofs.Steps.{After, AfterAll, named, rows_restated, whole_restated}
-use Rattle.shop_machine.proofs.TurningStep.{scrap_stands, returned_stands}
+use Rattle.shop_machine.proofs.RetiringStep.{scrap_stands, returned_stands}
 
 module _ (texts : Texts) (message : Message) (earlier : List Deed) (old : Content) (sound : IsSound texts old) (f : Follows earlier old) where
   -- a standing part as a whole gets a state that stays

@@ -1,10 +1,12 @@
+//! A standing part becomes scrap as a whole, or a unit goes back to its supplier: what is decided on it.
+
 ghost use Rattle.std.specs.Prelude.{◌≡◌, IfOk, IsTrue, MatchOption};
 ghost use Rattle.shop_machine.specs.declared.messages.Reply.TheVariants as reply;
 ghost use Rattle.shop_machine.specs.declared.records.State.TheVariants as state;
 ghost use Rattle.shop_machine.specs.Messages.{is_accepted};
 ghost use Rattle.shop_machine.specs.Decisions.{Decides};
 ghost use Rattle.shop_machine.specs.Moving.{has_cells};
-ghost use Rattle.shop_machine.specs.Turning.{scrap_refusal, return_refusal, turn_change};
+ghost use Rattle.shop_machine.specs.Retiring.{scrap_refusal, return_refusal, turn_change};
 
 use crate::changes::{Change, MaterialTotals};
 use crate::decisions::no_change;

@@ -1,3 +1,5 @@
+//! JSON of a job that breaks off: which cuts were made and which one went wrong, and the reply.
+
 ghost use Rattle.std.specs.Prelude.{◌≡◌, IfOk, OnOk, All, codes};
 ghost use Rattle.serde_json.specs.View.{view};
 ghost use Rattle.shop_machine.specs.declared.messages.Command.TheVariants.{Break};

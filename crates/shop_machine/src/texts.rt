@@ -1,3 +1,5 @@
+//! Texts, and what is kept of an accepted message under its terminal and number.
+
 use std::alloc::{AllocError, Global};
 use std::marker::Model;
 

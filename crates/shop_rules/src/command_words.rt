@@ -1,11 +1,13 @@
+//! The words of `do` and `ok` in JSON, by which a command and its reply are known.
+
 ghost use Rattle.std.specs.Prelude.{◌≡◌, IfSome, IfNone, None};
 ghost use Rattle.serde_json.specs.Data.{Data};
-ghost use Rattle.shop_rules.specs.Deeds.{deed_text};
+ghost use Rattle.shop_rules.specs.CommandWords.{command_word_text};
 ghost use Rattle.shop_rules.specs.Forms.{command_of, made_of};
 
 // What a command does.
 #[derive(Clone, Copy)]
-pub(crate) enum Deed {
+pub(crate) enum CommandWord {
     Material,
     Receive,
     Order,
@@ -19,30 +21,30 @@ pub(crate) enum Deed {
 }
 
 // What a word of `do` asks for, and a word of `ok` tells of.
-pub(crate) fn deed_of(word: &str) -> Option<Deed>
-    ensures some { IfSome result (λ deed. word.now ≡ deed_text deed) }
+pub(crate) fn command_word_of(word: &str) -> Option<CommandWord>
+    ensures some { IfSome result (λ command_word. word.now ≡ command_word_text command_word) }
     ensures none { IfNone result ((d : Data) → (command_of word.now d ≡ None) × (made_of word.now d ≡ None)) }
 {
     if word == "material" {
-        Some(Deed::Material)
+        Some(CommandWord::Material)
     } else if word == "receive" {
-        Some(Deed::Receive)
+        Some(CommandWord::Receive)
     } else if word == "order" {
-        Some(Deed::Order)
+        Some(CommandWord::Order)
     } else if word == "reserve" {
-        Some(Deed::Reserve)
+        Some(CommandWord::Reserve)
     } else if word == "done" {
-        Some(Deed::Done)
+        Some(CommandWord::Done)
     } else if word == "break" {
-        Some(Deed::Break)
+        Some(CommandWord::Break)
     } else if word == "release" {
-        Some(Deed::Release)
+        Some(CommandWord::Release)
     } else if word == "scrap" {
-        Some(Deed::Scrap)
+        Some(CommandWord::Scrap)
     } else if word == "return" {
-        Some(Deed::GiveBack)
+        Some(CommandWord::GiveBack)
     } else if word == "import" {
-        Some(Deed::Import)
+        Some(CommandWord::Import)
     } else {
         None
     }

@@ -4,7 +4,7 @@ use Rattle.shop_machine.specs.Messages.{pair_of}
 use Rattle.shop_machine.specs.Content.{kept_at}
 use Rattle.shop_rules.specs.Forms.{json_texts}
 use Rattle.shop_desk.proofs.Steps.{left_more, faulted, repeated, is_fault}
-use Rattle.shop_desk.proofs.desk_calls.handle_told.Goals as goal
+use Rattle.shop_desk.proofs.desk_calls.handle_with_text.Goals as goal
 
 pub returns-in_default-clause-step : goal.returns-in_default-clause-step
 returns-in_default-clause-step g c =

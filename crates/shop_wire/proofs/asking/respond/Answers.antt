@@ -5,7 +5,7 @@ use Rattle.shop_wire.specs.AnswerBytes.{replied}
 use Rattle.shop_wire.specs.Serves.{HasServed}
 use Rattle.shop_wire.specs.Tellings.{telling_of}
 use Rattle.shop_wire.proofs.Acted.{asked_served, ticket_served, yield_served}
-use Rattle.shop_wire.proofs.asking.tell.Goals as goal
+use Rattle.shop_wire.proofs.asking.respond.Goals as goal
 
 pub returns-in-Message-clause-served : goal.returns-in-Message-clause-served
 returns-in-Message-clause-served g c = λ honest m held sound.

@@ -18,7 +18,7 @@ use Rattle.shop_machine.specs.Messages.{Texts, pair_of}
 use Rattle.shop_machine.specs.Columns.{is_whole, is_there, is_free, is_piece_for}
 use Rattle.shop_machine.specs.Content.{Content, material_at, part_at, kept_at, changed, in_state, totals_of, totals_for}
 use Rattle.shop_machine.specs.Moving.{has_cells, tally}
-use Rattle.shop_machine.specs.Turning.{scrap_refusal, return_refusal, turn_change}
+use Rattle.shop_machine.specs.Retiring.{scrap_refusal, return_refusal, turn_change}
 use Rattle.shop_machine.specs.Machine.{keeping}
 use Rattle.shop_machine.specs.History.{IsIn}
 use Rattle.shop_machine.specs.Soundness.{IsPlaced, IsWaiting, IsNewPart, Fits, made_in}
