@@ -17,7 +17,7 @@ use Rattle.shop_book.specs.declared.books.BookFault.{BookFault}
 use Rattle.shop_book.specs.declared.books.BookFault.TheVariants as store
 use Rattle.shop_book.specs.Kept.{Unchanged, OnContent}
 use Rattle.shop_text.specs.Printing.{CountsPrint, IsPrinted}
-use Rattle.shop_text.specs.Streams.{HasFailed}
+use Rattle.shop_streams.specs.Streams.{HasFailed}
 use Rattle.shop_text.specs.declared.printing.PrintFault.{PrintFault}
 use Rattle.shop_text.specs.declared.printing.PrintFault.TheVariants as print
 use Rattle.shop_commands.specs.declared.faults.Fault.{Fault}

@@ -4,7 +4,7 @@ use Rattle.std.specs.Prelude.{◌||◌, ◌==◌, IfErr, if◌then◌else◌}
 use Rattle.std.specs.List.{list_any, prefix_len}
 use Rattle.std.proofs.Math.Seq.{drop-cons}
 use Rattle.std.proofs.lemmas.Bool.{eq-eqb, ne_eqb}
-use Rattle.shop_text.specs.Streams.{HasFailed}
+use Rattle.shop_streams.specs.Streams.{HasFailed}
 use Rattle.shop_words.specs.declared.words.ImportAs.{ImportAs}
 use Rattle.shop_commands.specs.Orders.{first_line_has, IsOrdersLine, IsOrdersStopped}
 use Rattle.shop_commands.specs.Written.{AppendsFront}

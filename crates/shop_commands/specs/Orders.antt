@@ -11,7 +11,7 @@ use Rattle.shop_files.specs.declared.orders.OrdersFault.TheVariants as orders
 use Rattle.shop_machine.specs.declared.imports.Form.TheVariants.{Csv}
 use Rattle.shop_machine.specs.declared.messages.Command.TheVariants.{Import}
 use Rattle.shop_rules.specs.Forms.{json_texts}
-use Rattle.shop_text.specs.Streams.{HasFailed}
+use Rattle.shop_streams.specs.Streams.{HasFailed}
 use Rattle.shop_words.specs.declared.words.ImportAs.{ImportAs}
 use Rattle.shop_commands.specs.declared.faults.Fault.{Fault}
 use Rattle.shop_commands.specs.declared.faults.Fault.TheVariants.{File, Order, NoMemory, Write}

@@ -1,7 +1,7 @@
 -- What was written of a text.
 use Rattle.std.specs.Prelude.{◌≡◌, ◌⊎◌, ℕ, List, ◌++◌, Option}
 use Rattle.std.specs.Io.KnownBytes.{Appends}
-use Rattle.shop_text.specs.Streams.{HasFailed}
+use Rattle.shop_streams.specs.Streams.{HasFailed}
 
 -- the first bytes of a text were written, or all
 abbrev pub AppendsFront : Option (List ℕ) → Option (List ℕ) → List ℕ → Type 0

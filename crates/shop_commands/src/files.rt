@@ -2,7 +2,7 @@
 
 ghost use Rattle.std.specs.Prelude.{◌≡◌, ◌⊎◌, ◌≤◌, IfOk, IfErr, OnOk, length};
 ghost use Rattle.std.specs.Io.KnownBytes.{Appends};
-ghost use Rattle.shop_text.specs.Streams.{HasFailed};
+ghost use Rattle.shop_streams.specs.Streams.{HasFailed};
 ghost use Rattle.shop_commands.specs.declared.faults.Fault.TheVariants as fault;
 ghost use Rattle.shop_commands.specs.declared.files.TheConstants.{LONGEST_PAGE};
 ghost use Rattle.shop_commands.specs.Written.{AppendsFront, IsWritten};

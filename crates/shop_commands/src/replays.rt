@@ -1,7 +1,7 @@
 //! `cutshop replay`: lines are answered over a fresh book in memory.
 
 ghost use Rattle.std.specs.Prelude.{◌≡◌, ◌+◌, ◌≤◌, ◌++◌, [], ℕ, List, IfOk, IfErr, Err, length};
-ghost use Rattle.shop_text.specs.Streams.{HasFailed};
+ghost use Rattle.shop_streams.specs.Streams.{HasFailed};
 ghost use Rattle.shop_wire.specs.Lines.{AreLines};
 ghost use Rattle.shop_wire.specs.Replays.{IsReplayedFresh};
 ghost use Rattle.shop_wire.specs.Streams.{most_reads};

@@ -1,7 +1,7 @@
 //! The head of a request: read from a source, and parsed into its method, its target and its fields.
 
 ghost use Rattle.std.specs.Prelude.{◌≡◌, ◌⊎◌, ◌+◌, ◌≤◌, ℕ, List, length, IfOk, IfErr, OnOk, []};
-ghost use Rattle.shop_text.specs.Streams.{HasFailed};
+ghost use Rattle.shop_streams.specs.Streams.{HasFailed};
 ghost use Rattle.shop_request.specs.Heads.{front, most_head};
 ghost use Rattle.shop_request.specs.Reading.{IsFaultOf, IsHeadRead, IsParsed};
 ghost use Rattle.shop_request.specs.declared.faults.StreamFault.TheVariants.{Read, NoMemory};
@@ -10,7 +10,7 @@ use crate::faults::{Fault, StreamFault};
 use crate::pieces::read_piece;
 use httparse::spans::{HeaderSpan, RequestSpans, parse_request};
 use httparse::{Error, Status};
-use shop_text::Source;
+use shop_streams::Source;
 
 pub(crate) const LONGEST_HEAD: usize = 8192;
 

@@ -2,11 +2,11 @@
 
 ghost use Rattle.std.specs.Prelude.{◌≡◌, ◌⊎◌, ◌+◌, ◌++◌, ◌<◌, ◌≤◌, ℕ, List, length, IfErr, OnOk, Ok, [], true, false};
 ghost use Rattle.std.specs.Io.KnownBytes.{Consumes, IsAtEnd};
-ghost use Rattle.shop_text.specs.Streams.{HasFailed};
+ghost use Rattle.shop_streams.specs.Streams.{HasFailed};
 ghost use Rattle.shop_request.specs.declared.faults.StreamFault.TheVariants.{Read, NoMemory};
 
 use crate::faults::StreamFault;
-use shop_text::Source;
+use shop_streams::Source;
 
 const ROOM: usize = 8192;
 

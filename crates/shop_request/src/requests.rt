@@ -3,7 +3,7 @@
 ghost use Rattle.std.specs.Prelude.{◌≡◌, ◌⊎◌, ◌+◌, ◌≤◌, ◌<◌, ◌-◌, length, true, false, Ok, IfOk, IfSome, IfErr, OnOk};
 ghost use Rattle.std.specs.Io.KnownBytes.{IsAtEnd};
 ghost use Rattle.shop_request.specs.Reading.{IsReadOn};
-ghost use Rattle.shop_text.specs.Streams.{HasFailed};
+ghost use Rattle.shop_streams.specs.Streams.{HasFailed};
 ghost use Rattle.shop_request.specs.Requests.{HasSense, most_request_reads, sense_of};
 ghost use Rattle.shop_request.specs.declared.faults.StreamFault.TheVariants.{Read, NoMemory};
 
@@ -13,7 +13,7 @@ use crate::judging::judge;
 use crate::pieces::read_piece;
 use crate::routes::{Route, Routes};
 use httparse::spans::EMPTY_HEADER_SPAN;
-use shop_text::Source;
+use shop_streams::Source;
 use std::alloc::Global;
 
 /// What an input stands for.

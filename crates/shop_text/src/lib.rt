@@ -1,18 +1,13 @@
-//! Where bytes come from and where they go, with their failures counted; tickets and yield reports.
+//! Tickets and yield reports, over any book and sink; and what they are written by.
 #![tactic(auto)]
 
-mod counted;
 mod laws;
 mod printing;
-mod streams;
 mod tickets;
-mod writer;
 mod yields;
 
-pub use counted::Counted;
 pub use laws::texts_are_told;
 pub use printing::PrintFault;
-pub use streams::{Failed, Sink, Source};
+pub use shop_streams::{Counted, Failed, Sink, Source, write_all};
 pub use tickets::{ticket, ticket_text};
-pub use writer::write_all;
 pub use yields::{report_text, yield_report};

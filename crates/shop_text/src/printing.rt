@@ -5,12 +5,11 @@ ghost use Rattle.std.specs.Fmt.{decimal};
 ghost use Rattle.std.specs.Io.KnownBytes.{Appends};
 ghost use Rattle.shop_text.specs.Printing.{part_start, place_text, size_text, to_the_right};
 ghost use Rattle.shop_text.specs.declared.printing.PrintFault.TheVariants.{Write};
-ghost use Rattle.shop_text.specs.Streams.{HasFailed};
+ghost use Rattle.shop_streams.specs.Streams.{HasFailed};
 
-use crate::streams::Sink;
-use crate::writer::write_all;
 use cut_measure::{Kind, PartName, write_mm};
 use shop_machine::Refusal;
+use shop_streams::{Sink, write_all};
 use std::alloc::AllocError;
 use std::error::Error;
 use std::fmt;

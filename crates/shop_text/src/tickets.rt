@@ -9,15 +9,15 @@ ghost use Rattle.shop_text.specs.declared.printing.PrintFault.TheVariants.{Refus
 ghost use Rattle.shop_book.specs.Kept.{Unchanged, OnContent};
 ghost use Rattle.shop_book.specs.Failures.{CountsFailure};
 ghost use Rattle.shop_text.specs.Printing.{IsTold, IsPrinted, CountsRefusal, CountsPrint};
-ghost use Rattle.shop_text.specs.Streams.{HasFailed};
+ghost use Rattle.shop_streams.specs.Streams.{HasFailed};
 ghost use Rattle.shop_text.specs.Tickets.{AddsLine, AreNodesFound, IsMade, cut_text, demand_for, demand_text, job_line, job_state_text, node_line, node_lines, node_text, piece_text, rest_text, spot_text, steps_in, ticket_end, ticket_of, ticket_with, unit_line};
 
 use crate::printing::{PrintFault, print, push_number, push_part_start, push_place, push_size};
-use crate::streams::Sink;
 use cut_measure::{Axis, Kind, write_mm};
 use cut_tree::{Plan, Step, Token};
 use shop_book::{Book, BookFault};
 use shop_machine::{Demand, Job, JobState, Material, Part, Refusal};
+use shop_streams::Sink;
 use std::alloc::{AllocError, Global};
 
 /// A node of a plan, with the row of its demand where it is a piece.

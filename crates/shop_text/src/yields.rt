@@ -7,14 +7,14 @@ ghost use Rattle.shop_machine.specs.Content.{totals_of, parts_of};
 ghost use Rattle.shop_book.specs.Kept.{Unchanged, OnContent};
 ghost use Rattle.shop_text.specs.declared.printing.PrintFault.TheVariants.{Refused, Write};
 ghost use Rattle.shop_text.specs.Printing.{IsTold, IsPrinted, CountsRefusal, CountsPrint};
-ghost use Rattle.shop_text.specs.Streams.{HasFailed};
+ghost use Rattle.shop_streams.specs.Streams.{HasFailed};
 ghost use Rattle.shop_text.specs.Yields.{TakesLine, kind_text, line_end, part_line, per_mille, standing_text, total_line, total_lines, yield_head, yield_of};
 
 use crate::printing::{PrintFault, print, push_number, push_part_start, push_size};
-use crate::streams::Sink;
 use cut_measure::{Code, Kind};
 use shop_book::Book;
 use shop_machine::{Part, PartVisitor, Refusal, State, Totals};
+use shop_streams::Sink;
 use std::alloc::{AllocError, Global};
 
 fn kind_word(kind: Kind) -> &'static str

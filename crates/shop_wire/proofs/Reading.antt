@@ -6,7 +6,7 @@ use Rattle.std.specs.Prelude.{not, nat_lt, if◌then◌else◌}
 use Rattle.std.specs.Io.KnownBytes.{Consumes, IsAtEnd, prepend_known}
 use Rattle.std.proofs.KnownBytes.{Consumes-trans, Consumes-nil}
 use Rattle.shop_wire.specs.Lines.{lines_of, HasNoFeed, GivesLine, kept_of, longest_line}
-use Rattle.shop_text.specs.Streams.{most_counted, one_more}
+use Rattle.shop_streams.specs.Streams.{most_counted, one_more}
 use Rattle.shop_wire.specs.declared.limits.TheConstants.{ROOM}
 use Rattle.shop_wire.specs.Streams.{AreReads, CountTogether, TookBytes, IsLong, most_reads, work}
 use Rattle.shop_wire.proofs.LineLemmas.{first_line, last_line, HasNoFeed-append, kept_of-append}

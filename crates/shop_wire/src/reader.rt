@@ -3,7 +3,7 @@
 ghost use Rattle.std.specs.Prelude.{◌≡◌, ◌+◌, ◌-◌, ◌*◌, ◌≤◌, ◌<◌, ◌⊎◌, ◌++◌, ◌∷◌, [], ℕ, List, Option, IfOk, OnOk, IfErr, OnErr, IfSome, Ok, Err, true, false, length, take, if◌then◌else◌};
 ghost use Rattle.std.specs.Io.KnownBytes.{Consumes, Keeps, IsAtEnd, prepend_known};
 ghost use Rattle.shop_wire.specs.Lines.{HasNoFeed, GivesLine, kept_of, longest_line, pending};
-ghost use Rattle.shop_text.specs.Streams.{HasFailed};
+ghost use Rattle.shop_streams.specs.Streams.{HasFailed};
 ghost use Rattle.shop_wire.specs.Streams.{CountTogether, TookBytes, IsLong, most_reads, work};
 ghost use Rattle.shop_wire.specs.declared.limits.TheConstants.{ROOM};
 ghost use Rattle.shop_wire.specs.declared.faults.ReplayFault.TheVariants.{Read, NoMemory};

@@ -3,7 +3,7 @@
 ghost use Rattle.std.specs.Prelude.{◌≡◌, ◌≢◌, ◌⊎◌, ◌≤◌, ◌+◌, ◌++◌, [], ℕ, List, OnOk, OnErr, Err, IfOk, IfErr, IfSome, IsErrOf, string_bytes};
 ghost use Rattle.std.specs.Io.KnownBytes.{Appends};
 ghost use Rattle.shop_desk.specs.Faults.{CountsUp};
-ghost use Rattle.shop_text.specs.Streams.{HasFailed};
+ghost use Rattle.shop_streams.specs.Streams.{HasFailed};
 ghost use Rattle.shop_request.specs.Requests.{HasSense, asking, most_request_reads, sense_of};
 ghost use Rattle.shop_wire.specs.AnswerBytes.{answer_bytes, fault_answer};
 ghost use Rattle.shop_wire.specs.Serves.{IsServed, IsServedAs};

@@ -1,6 +1,6 @@
 use Rattle.std.proofs.Common.{◌≡◌, ℕ, List, Option, Result, Ok, Err, subst, sym}
 use Rattle.std.specs.Prelude.{IfErr}
-use Rattle.shop_text.specs.Streams.{HasFailed}
+use Rattle.shop_streams.specs.Streams.{HasFailed}
 use Rattle.shop_commands.specs.declared.faults.Fault.{Fault}
 use Rattle.shop_commands.specs.declared.faults.Fault.TheVariants.{Write}
 use Rattle.shop_commands.specs.Performs.{IsPlanStopped}

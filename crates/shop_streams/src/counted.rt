@@ -1,7 +1,7 @@
 //! A source over any reader and a sink over any writer, which count what fails.
 
 ghost use Rattle.std.specs.Prelude.{◌≡◌};
-ghost use Rattle.shop_text.specs.Streams.{one_more};
+ghost use Rattle.shop_streams.specs.Streams.{one_more};
 
 mod reads;
 mod writes;
@@ -22,7 +22,7 @@ pub struct Counted<T> {
 }
 
 impl<T> Model for Counted<T> {
-    ghost use Rattle.shop_text.specs.Streams.{Tally};
+    ghost use Rattle.shop_streams.specs.Streams.{Tally};
 
     ghost Value = { Tally T };
 

@@ -1,6 +1,6 @@
 use Rattle.std.proofs.Common.{◌≡◌}
 use Rattle.std.specs.Io.KnownBytes.{Keeps}
-use Rattle.shop_text.proofs.counted.writes.CountedSink.write.Given as goal
+use Rattle.shop_streams.proofs.counted.writes.CountedSink.write.Given as goal
 
 abbrev pub invariant-loop : goal.invariant-loop
 invariant-loop g l =

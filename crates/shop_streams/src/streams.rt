@@ -24,7 +24,7 @@ impl Error for Failed {}
 
 /// Where bytes come from.
 pub trait Source {
-    ghost use Rattle.shop_text.specs.Streams.{TalliesFailure, one_more};
+    ghost use Rattle.shop_streams.specs.Streams.{TalliesFailure, one_more};
 
     /// The bytes that are left, where the source tells them.
     ghost left: { Self → Option (List ℕ) };
@@ -51,7 +51,7 @@ pub trait Source {
 
 /// Where bytes go.
 pub trait Sink {
-    ghost use Rattle.shop_text.specs.Streams.{TalliesFailure};
+    ghost use Rattle.shop_streams.specs.Streams.{TalliesFailure};
 
     /// The bytes that were written, where the sink tells them.
     ghost held: { Self → Option (List ℕ) };

@@ -1,7 +1,7 @@
 use Rattle.std.proofs.Common.{◌≡◌}
 use Rattle.std.specs.Io.KnownBytes.{Keeps}
-use Rattle.shop_text.specs.Streams.{one_more}
-use Rattle.shop_text.proofs.counted.reads.CountedSource.read.Given as goal
+use Rattle.shop_streams.specs.Streams.{one_more}
+use Rattle.shop_streams.proofs.counted.reads.CountedSource.read.Given as goal
 
 abbrev pub invariant-loop : goal.invariant-loop
 invariant-loop g l =

@@ -2,7 +2,7 @@ use Rattle.std.proofs.Common.{◌≡◌, ◌++◌, ◌-◌, List, ℕ, length, t
 use Rattle.std.proofs.Math.Seq.{take-length}
 use Rattle.std.proofs.lemmas.List.{take-append-drop}
 use Rattle.std.proofs.KnownBytes.{Appends-trans}
-use Rattle.shop_text.proofs.writer.write_all.Goals as goal
+use Rattle.shop_streams.proofs.writer.write_all.Goals as goal
 
 rest_whole : (n : ℕ) (text : List ℕ) → take (length text - n) (drop n text) ≡ drop n text
 rest_whole n text = ap (λ m. take m (drop n text)) (sym (length-drop {A = ℕ} n text)) ∙ take-length (drop n text)

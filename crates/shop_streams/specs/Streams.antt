@@ -1,6 +1,6 @@
 -- How reads and failures of a source or a sink are counted.
 use Rattle.std.specs.Prelude.{◌≡◌, ℕ, ◌+◌, ◌<◌, ◌≤◌, ◌⊎◌, nat_lt, if◌then◌else◌, Result, Ok, Err}
-use Rattle.shop_text.specs.declared.streams.Failed.{Failed}
+use Rattle.shop_streams.specs.declared.streams.Failed.{Failed}
 
 abbrev pub most_counted : ℕ
 most_counted = 18446744073709551615
