@@ -201,6 +201,17 @@ def not_utf8(trial):
 
 
 @case(
+    "the last row of an order file",
+    "A bad field of the 200th row is told as what it is, and not as a row too many.",
+)
+def last_row(trial):
+    path = trial.write("orders.csv", HEADER + ROW * 199 + ROW.replace("STEEL", "steel"))
+    for options in ((), MESSAGE):
+        ran = trial.run("orders", path, *options)
+        trial.ended(ran, 1, err=f"fault order row 200 field 1: {OF_FIELD[1]}\n", sent="the 200th row")
+
+
+@case(
     "the longest order file as a message",
     "An order file of 65536 bytes and 200 rows is counted, and its message is one line that the shop takes.",
 )
