@@ -1,6 +1,6 @@
 //! The head of a request: read from a source, and parsed into its method, its target and its fields.
 
-ghost use Rattle.std.specs.Prelude.{◌≡◌, ◌⊎◌, ◌+◌, ◌≤◌, ℕ, List, length, IfOk, IfErr, OnOk, []};
+ghost use Rattle.std.specs.Prelude.{◌≡◌, ◌⊎◌, ◌+◌, ◌≤◌, ℕ, List, length, Err, IfOk, IfErr, OnOk, []};
 ghost use Rattle.shop_streams.specs.Streams.{HasFailed};
 ghost use Rattle.shop_request.specs.Heads.{front, most_head};
 ghost use Rattle.shop_request.specs.Reading.{IsFaultOf, IsHeadRead, IsParsed};
@@ -73,6 +73,7 @@ pub(crate) fn read_head<S: Source>(
     requires { came.old.items ≡ [] }
     ensures read { IfOk result (λ read. IsHeadRead (S.left source.old) (S.left source.new) came.new.items headers.new read) }
     ensures fault { IfErr result (λ fault. (fault ≡ NoMemory) ⊎ (fault ≡ Read) × HasFailed (S.failed source.old) (S.failed source.new)) }
+    ensures memory { result ≡ Err NoMemory → S.failed source.new ≡ S.failed source.old }
     ensures worked { OnOk result (S.failed source.new ≡ S.failed source.old) }
     ensures reads { S.reads source.new ≤ S.reads source.old + most_head }
 {

@@ -1,6 +1,6 @@
 //! One more piece of a request, read from a source.
 
-ghost use Rattle.std.specs.Prelude.{◌≡◌, ◌⊎◌, ◌+◌, ◌++◌, ◌<◌, ◌≤◌, ℕ, List, length, IfErr, OnOk, Ok, [], true, false};
+ghost use Rattle.std.specs.Prelude.{◌≡◌, ◌⊎◌, ◌+◌, ◌++◌, ◌<◌, ◌≤◌, ℕ, List, length, IfErr, OnOk, Ok, Err, [], true, false};
 ghost use Rattle.std.specs.Io.KnownBytes.{Consumes, IsAtEnd};
 ghost use Rattle.shop_streams.specs.Streams.{HasFailed};
 ghost use Rattle.shop_request.specs.declared.faults.StreamFault.TheVariants.{Read, NoMemory};
@@ -16,6 +16,7 @@ pub(crate) fn read_piece<S: Source>(source: &mut S, came: &mut Vec<u8>) -> Resul
     ensures more { result ≡ Ok true → (piece : List ℕ) × (0 < length piece) × (came.new.items ≡ came.old.items ++ piece) × Consumes (S.left source.old) (S.left source.new) piece }
     ensures none { result ≡ Ok false → (came.new.items ≡ came.old.items) × IsAtEnd (S.left source.new) × Consumes (S.left source.old) (S.left source.new) [] }
     ensures fault { IfErr result (λ fault. (fault ≡ NoMemory) ⊎ (fault ≡ Read) × HasFailed (S.failed source.old) (S.failed source.new)) }
+    ensures memory { result ≡ Err NoMemory → S.failed source.new ≡ S.failed source.old }
     ensures worked { OnOk result (S.failed source.new ≡ S.failed source.old) }
     ensures reads { S.reads source.new ≤ S.reads source.old + 1 }
 {

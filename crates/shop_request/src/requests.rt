@@ -1,6 +1,6 @@
 //! A whole request, read from a source in whatever pieces it comes.
 
-ghost use Rattle.std.specs.Prelude.{◌≡◌, ◌⊎◌, ◌+◌, ◌≤◌, ◌<◌, ◌-◌, length, true, false, Ok, IfOk, IfSome, IfErr, OnOk};
+ghost use Rattle.std.specs.Prelude.{◌≡◌, ◌⊎◌, ◌+◌, ◌≤◌, ◌<◌, ◌-◌, length, true, false, Ok, Err, IfOk, IfSome, IfErr, OnOk};
 ghost use Rattle.std.specs.Io.KnownBytes.{IsAtEnd};
 ghost use Rattle.shop_request.specs.Reading.{IsReadOn};
 ghost use Rattle.shop_streams.specs.Streams.{HasFailed};
@@ -40,6 +40,7 @@ fn read_to<S: Source>(
     ensures all { result ≡ Ok true → count ≤ length came.new.items - start }
     ensures short { result ≡ Ok false → (length came.new.items - start < count) × IsAtEnd (S.left source.new) }
     ensures fault { IfErr result (λ fault. (fault ≡ NoMemory) ⊎ (fault ≡ Read) × HasFailed (S.failed source.old) (S.failed source.new)) }
+    ensures memory { result ≡ Err NoMemory → S.failed source.new ≡ S.failed source.old }
     ensures worked { OnOk result (S.failed source.new ≡ S.failed source.old) }
     ensures reads { S.reads source.new ≤ S.reads source.old + count }
 {
@@ -54,8 +55,8 @@ fn read_to<S: Source>(
 /// Reads a request. What it stands for depends on the bytes alone, and not on the pieces in which they come.
 ///
 /// The first fault in this order is answered: a bad head, or a large one; the hosts; a transfer coding; the lengths that are
-/// said; the path; the method; no length; a large body; a body that ends early. An `Err` is want of memory, or comes where
-/// the source failed. At most 139264 reads are made.
+/// said; the path; the method; no length; a large body; a body that ends early. An `Err` is want of memory, and then the
+/// source didn't fail, or comes where it failed. At most 139264 reads are made.
 pub fn read_request<S: Source>(
     alloc: Global,
     routes: &Routes,
@@ -63,6 +64,7 @@ pub fn read_request<S: Source>(
 ) -> Result<Inbound, StreamFault>
     ensures sense { IfOk result (λ inbound. IfSome (S.left source.old) (λ input. HasSense input (sense_of inbound))) }
     ensures fault { IfErr result (λ fault. (fault ≡ NoMemory) ⊎ (fault ≡ Read) × HasFailed (S.failed source.old) (S.failed source.new)) }
+    ensures memory { result ≡ Err NoMemory → S.failed source.new ≡ S.failed source.old }
     ensures worked { OnOk result (S.failed source.new ≡ S.failed source.old) }
     ensures reads { S.reads source.new ≤ S.reads source.old + most_request_reads }
 {
