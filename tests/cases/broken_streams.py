@@ -159,6 +159,21 @@ def answer_writes_fail(trial):
 
 
 @case(
+    "a connection interrupted once",
+    "Where a read or a write of a connection is interrupted once, at each place in turn, it is made again: the POST gets its "
+    "whole answer.",
+)
+def connection_interrupted(trial):
+    request, wanted = request_of(DONE), answer(200, DONE_REPLY)
+    for of, first, count in (("read", 0, len(request)), ("write", first_write(trial), len(wanted))):
+        for at in trial.places(count, 41):
+            faults = Faults(trial, of, at=first + at + 1, by=1, error=errno.EINTR)
+            shop = trial.shop(waiting(trial, f"{of}-{at}.db"), environment=faults.environment)
+            trial.equal(shop.exchange(request, ends=False), wanted, f"{of} {at + 1}")
+            shop.kill()
+
+
+@case(
     "a connection interrupted for ever",
     "Where each read of connections from some on is interrupted, a POST gets no answer and its message isn't done; where each "
     "write is, a first part of the answer comes. The shop goes on, and sent again to a new start the message gets its reply.",

@@ -24,6 +24,8 @@ class Terminal:
         self.number, self.code = number, f"M-{number}"
         # Of each of its messages the text and the reply that was read whole, or None.
         self.told = []
+        # How many seconds its slowest answer took.
+        self.slowest = 0
 
     def message(self, index):
         """Its message of an index, of which later ones name the acts and demands that earlier replies gave."""
@@ -53,10 +55,12 @@ class Terminal:
         from an earlier one."""
         for index in range(count):
             line = self.message(index)
+            begin = time.monotonic()
             try:
                 head, _, body = shop.exchange(request_of(line)).partition(b"\r\n\r\n")
             except OSError:
                 return None
+            self.slowest = max(self.slowest, time.monotonic() - begin)
             if f"Content-Length: {len(body)}".encode() not in head.split(b"\r\n") or not body:
                 return None
             if b'"ok"' not in body:
@@ -88,7 +92,8 @@ def independent(path):
     found = tables.rows(path)
     names = {}
     for act, _, material, *_ in found["parts"]:
-        names.setdefault(("act", act), (material, sum(key[0] == "act" and it[0] == material for key, it in names.items())))
+        if ("act", act) not in names:
+            names[("act", act)] = (material, sum(key[0] == "act" and it[0] == material for key, it in names.items()))
     for number, order, line, *_ in found["demands"]:
         names[("demand", number)] = (order, line)
     kind_of = {1: "act", 2: "act", 3: "demand"}

@@ -17,4 +17,4 @@ pub use guards::{Guard, Ruling};
 pub use laws::{one_ruling, one_sense};
 pub use requests::{Inbound, read_request};
 pub use routes::{Route, Routes};
-pub use wholes::is_whole;
+pub use wholes::{is_whole, least_bytes};

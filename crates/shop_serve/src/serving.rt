@@ -61,7 +61,7 @@ fn opened(
     registry: &Registry,
     stream: TcpStream,
     now: Instant,
-    lines: &mut Slab<Line>,
+    lines: &mut Slab<Line<Stream>>,
 ) -> Option<usize> {
     if stream.set_nonblocking(true).is_err() {
         return None;
@@ -77,6 +77,7 @@ fn opened(
         stream,
         since: now,
         came: Vec::new(alloc),
+        needed: 0,
         answer: None,
         sent: 0,
     };
@@ -94,7 +95,7 @@ fn receive<B: Book>(
     registry: &Registry,
     stream: TcpStream,
     now: Instant,
-    lines: &mut Slab<Line>,
+    lines: &mut Slab<Line<Stream>>,
     accepted: u32,
     served: &mut u32,
     book: &mut B,
@@ -142,7 +143,7 @@ fn accept_waiting<B: Book>(
     listener: &TcpListener,
     now: Instant,
     limit: u32,
-    lines: &mut Slab<Line>,
+    lines: &mut Slab<Line<Stream>>,
     accepted: &mut u32,
     served: &mut u32,
     book: &mut B,
@@ -180,7 +181,7 @@ fn attend_reported<B: Book>(
     site: &Site,
     events: &Events,
     now: Instant,
-    lines: &mut Slab<Line>,
+    lines: &mut Slab<Line<Stream>>,
     accepted: u32,
     served: &mut u32,
     book: &mut B,
@@ -222,7 +223,7 @@ fn turn<B: Book>(
     events: &Events,
     now: Instant,
     limit: u32,
-    lines: &mut Slab<Line>,
+    lines: &mut Slab<Line<Stream>>,
     accepted: &mut u32,
     served: &mut u32,
     book: &mut B,

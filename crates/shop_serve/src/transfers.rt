@@ -1,23 +1,71 @@
 //! Bytes taken from a connection until they are a whole request, and the bytes of its answer handed over.
 
-ghost use Rattle.std.specs.Prelude.{◌≡◌, ◌≢◌, ◌⊎◌, ◌<◌, ◌≤◌, ◌++◌, ℕ, List, Option, [], length, take, IfSome};
-ghost use Rattle.std.specs.Io.KnownBytes.{Appends, Consumes, IsAtEnd};
+ghost use Rattle.std.specs.Prelude.{◌≡◌, ◌≢◌, ◌⊎◌, ◌<◌, ◌≤◌, ◌++◌, ℕ, List, Option, [], length, take, IfOk};
+ghost use Rattle.std.specs.Io.KnownBytes.{Appends, Consumes, IsAtEnd, ReadConsumes, WriteAppends};
 ghost use Rattle.shop_request.specs.Reading.{IsReadOn};
 ghost use Rattle.shop_request.specs.Senses.{IsSettled};
 ghost use Rattle.shop_serve.specs.declared.transfers.Piece.TheVariants as piece;
 ghost use Rattle.shop_serve.specs.declared.transfers.Given.TheVariants as given;
 ghost use Rattle.shop_serve.specs.declared.transfers.Taken.TheVariants as taken;
 
-use shop_request::{Routes, is_whole};
+use shop_request::{Routes, is_whole, least_bytes};
 use std::io::{ErrorKind, Read, Write};
 
 const ROOM: usize = 8192;
+
+// How often a call is made that is interrupted each time.
+const MOST_TRIES: u32 = 1000;
 
 // More than any request takes: each but the last brings a byte of fewer than 139264.
 const MOST_READS: u32 = 150_000;
 
 // How often is read at once of what is dropped: more than a socket keeps.
 const MOST_DROPS: u32 = 1024;
+
+// Why a call moved no byte.
+#[derive(Clone, Copy, PartialEq, Eq)]
+enum Halt {
+    Waits,
+    Lost,
+}
+
+// Reads some bytes, and tries again where that is interrupted.
+fn read_some<R: Read>(reader: &mut R, room: &mut [u8]) -> Result<usize, Halt>
+    ensures within { IfOk result (λ count. count ≤ length room.old) }
+    ensures long { length room.new ≡ length room.old }
+    ensures bytes { ReadConsumes (R.remaining reader.old) (R.remaining reader.new) result room.new }
+{
+    for _ in 0..MOST_TRIES {
+        match reader.read(room) {
+            Ok(count) => return Ok(count),
+            Err(error) => match error.kind() {
+                ErrorKind::Interrupted => (),
+                ErrorKind::WouldBlock => return Err(Halt::Waits),
+                _ => return Err(Halt::Lost),
+            },
+        }
+    }
+    Err(Halt::Lost)
+}
+
+// Writes the first of some bytes, and tries again where that is interrupted. A writer that takes none of them is lost.
+fn write_some<W: Write>(writer: &mut W, bytes: &[u8]) -> Result<usize, Halt>
+    ensures within { IfOk result (λ count. count ≤ length bytes.now) }
+    ensures bytes { WriteAppends (W.contents writer.old) (W.contents writer.new) result bytes.now }
+{
+    for _ in 0..MOST_TRIES {
+        match writer.write(bytes) {
+            Ok(0) => return Err(Halt::Lost),
+            Ok(count) => return Ok(count),
+            Err(error) => match error.kind() {
+                ErrorKind::Interrupted => (),
+                ErrorKind::WouldBlock => return Err(Halt::Waits),
+                _ => return Err(Halt::Lost),
+            },
+        }
+    }
+    Err(Halt::Lost)
+}
 
 /// What a read brought.
 #[derive(Clone, Copy, PartialEq, Eq)]
@@ -43,14 +91,10 @@ fn take_piece<R: Read>(reader: &mut R, came: &mut Vec<u8>) -> Piece
     ensures waits { result ≡ piece.Waits → (came.new.items ≡ came.old.items) × Consumes (R.remaining reader.old) (R.remaining reader.new) [] }
 {
     let mut room = [0; ROOM];
-    let count = match reader.read(&mut room) {
+    let count = match read_some(reader, &mut room) {
         Ok(count) => count,
-        Err(error) => {
-            if error.kind() == ErrorKind::WouldBlock {
-                return Piece::Waits;
-            }
-            return Piece::Lost;
-        }
+        Err(Halt::Waits) => return Piece::Waits,
+        Err(Halt::Lost) => return Piece::Lost,
     };
     if count == 0 {
         return Piece::End;
@@ -72,8 +116,14 @@ fn at_end(came: &[u8]) -> Taken
     Taken::Whole
 }
 
-/// Takes the bytes that have come, until they make a whole request or a fault, or end.
-pub(crate) fn take_bytes<R: Read>(routes: &Routes, reader: &mut R, came: &mut Vec<u8>) -> Taken
+/// Takes the bytes that have come, until they make a whole request or a fault, or end. `needed` is how many that takes at
+/// least, as far as it is known: with fewer the head isn't read again.
+pub(crate) fn take_bytes<R: Read>(
+    routes: &Routes,
+    reader: &mut R,
+    came: &mut Vec<u8>,
+    needed: &mut usize,
+) -> Taken
     ensures bytes { result ≢ taken.Lost → IsReadOn (R.remaining reader.old) (R.remaining reader.new) came.old.items came.new.items }
     ensures some { result ≡ taken.Whole → 0 < length came.new.items }
     ensures whole { result ≡ taken.Whole → IsSettled came.new.items ⊎ IsAtEnd (R.remaining reader.new) }
@@ -85,9 +135,13 @@ pub(crate) fn take_bytes<R: Read>(routes: &Routes, reader: &mut R, came: &mut Ve
             Piece::End => return at_end(came),
             Piece::More => (),
         }
+        if came.len() < *needed {
+            continue;
+        }
         if is_whole(routes, came) {
             return Taken::Whole;
         }
+        *needed = least_bytes(routes, came);
     }
     Taken::Lost
 }
@@ -98,23 +152,6 @@ pub(crate) enum Given {
     Whole,
     Waits,
     Lost,
-}
-
-// Hands over the first of some bytes, as many as are taken at once. `None` where the writer takes no more for good.
-fn give_bytes<W: Write>(writer: &mut W, bytes: &[u8]) -> Option<usize>
-    ensures within { IfSome result (λ count. count ≤ length bytes.now) }
-    ensures bytes { IfSome result (λ count. Appends (W.contents writer.old) (W.contents writer.new) (take count bytes.now)) }
-{
-    match writer.write(bytes) {
-        Ok(0) => None,
-        Ok(count) => Some(count),
-        Err(error) => {
-            if error.kind() == ErrorKind::WouldBlock {
-                return Some(0);
-            }
-            None
-        }
-    }
 }
 
 /// Hands over what is left of an answer, as far as it is taken: behind what was handed over before come the next of its
@@ -131,10 +168,10 @@ pub(crate) fn hand_over<W: Write>(writer: &mut W, answer: &[u8], sent: &mut usiz
         if rest.is_empty() {
             return Given::Whole;
         }
-        match give_bytes(writer, rest) {
-            None => return Given::Lost,
-            Some(0) => return Given::Waits,
-            Some(count) => *sent += count,
+        match write_some(writer, rest) {
+            Ok(count) => *sent += count,
+            Err(Halt::Waits) => return Given::Waits,
+            Err(Halt::Lost) => return Given::Lost,
         }
     }
     Given::Waits
@@ -144,10 +181,10 @@ pub(crate) fn hand_over<W: Write>(writer: &mut W, answer: &[u8], sent: &mut usiz
 pub(crate) fn drop_rest<R: Read>(reader: &mut R) -> bool {
     let mut room = [0; ROOM];
     for _ in 0..MOST_DROPS {
-        match reader.read(&mut room) {
+        match read_some(reader, &mut room) {
             Ok(0) => return false,
             Ok(_) => (),
-            Err(error) => return error.kind() == ErrorKind::WouldBlock,
+            Err(halt) => return halt == Halt::Waits,
         }
     }
     true

@@ -8,14 +8,14 @@ pub loop-preserved : goal.loop-preserved
 loop-preserved g c =
     let answer = c.args.answer.now in
     let sent = c.loop.sent in
-    let count = c.in-Some.count in
+    let count = c.in-Ok.count in
     let whole : take (length answer - sent) (drop sent answer) ≡ drop sent answer = rest_whole sent answer in
     let more : take sent answer ++ take count (take (length answer - sent) (drop sent answer)) ≡ take (sent + count) answer =
     ap (λ l. take sent answer ++ take count l) whole ∙ sym (take-add sent count answer) in
     record {
-      within = omega (arith, c.loop.invariant.within, c.in-Some.ensures.within, ap length whole, length-drop {A = ℕ} sent answer);
+      within = omega (arith, c.loop.invariant.within, c.in-Ok.ensures.within, ap length whole, length-drop {A = ℕ} sent answer);
       bytes = λ before so_far.
-          subst (Appends before (g.W.Write.contents c.give_bytes.new.writer)) more
-          (Appends-trans before (g.W.Write.contents c.loop.writer) (g.W.Write.contents c.give_bytes.new.writer) (take sent answer)
-          (take count (take (length answer - sent) (drop sent answer))) (c.loop.invariant.bytes before so_far) c.in-Some.ensures.bytes);
+          subst (Appends before (g.W.Write.contents c.write_some.new.writer)) more
+          (Appends-trans before (g.W.Write.contents c.loop.writer) (g.W.Write.contents c.write_some.new.writer) (take sent answer)
+          (take count (take (length answer - sent) (drop sent answer))) (c.loop.invariant.bytes before so_far) c.in-Ok.ensures.bytes);
     }

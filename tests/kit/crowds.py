@@ -1,0 +1,93 @@
+"""Connections beside which terminals work: silent ones, slow ones, ones that go away, and many at once."""
+
+import socket
+import struct
+import threading
+from contextlib import ExitStack, contextmanager, suppress
+
+from kit.shop import request_of
+
+QUESTION = '{"ask":"materials"}'
+
+
+@contextmanager
+def silent(shop, count):
+    """So many connections that say nothing."""
+    with ExitStack() as stack:
+        yield [stack.enter_context(shop.connect()) for _ in range(count)]
+
+
+@contextmanager
+def halves(shop, count, line=QUESTION):
+    """So many connections that stop within their request, by which this line is sent."""
+    with silent(shop, count) as held:
+        for it in held:
+            it.sendall(request_of(line)[:-5])
+        yield held
+
+
+@contextmanager
+def beside(work):
+    """Works in a thread of its own until it is done, or the event that it gets is set."""
+    ends = threading.Event()
+    thread = threading.Thread(target=work, args=(ends,))
+    thread.start()
+    try:
+        yield
+    finally:
+        ends.set()
+        thread.join()
+
+
+@contextmanager
+def dripping(shop, count, pause=0.1):
+    """So many silent connections, and one that sends a byte now and then."""
+
+    def drip(ends):
+        with shop.connect() as it, suppress(OSError):
+            for byte in request_of(QUESTION):
+                if ends.wait(pause):
+                    return
+                it.sendall(bytes([byte]))
+
+    with silent(shop, count), beside(drip):
+        yield
+
+
+@contextmanager
+def unread(shop, path):
+    """A connection that asks for what is at a path and never reads it."""
+    with shop.connect() as it:
+        it.setsockopt(socket.SOL_SOCKET, socket.SO_RCVBUF, 4096)
+        it.sendall(f"GET {path} HTTP/1.1\r\nHost: shop\r\n\r\n".encode())
+        yield
+
+
+@contextmanager
+def resetting(shop):
+    """One connection after the other that is reset, before its request, within it and behind it."""
+
+    def reset(ends):
+        while not ends.is_set():
+            for end in (0, 10, None):
+                it = shop.connect()
+                it.setsockopt(socket.SOL_SOCKET, socket.SO_LINGER, struct.pack("ii", 1, 0))
+                it.sendall(request_of(QUESTION)[:end])
+                it.close()
+            ends.wait(0.001)
+
+    with beside(reset):
+        yield
+
+
+@contextmanager
+def asking(shop, count, answers):
+    """So many questions one after the other, each over a connection of its own, and all of them are asked. Their answers
+    are added to `answers`."""
+
+    def ask(_):
+        for _ in range(count):
+            answers.append(shop.exchange(request_of(QUESTION)))
+
+    with beside(ask):
+        yield
