@@ -24,6 +24,12 @@ def documents():
     return [os.path.relpath(it, TOP) for it in [*glob.glob(f"{TOP}/*.md"), *glob.glob(f"{TOP}/docs/*.md")]]
 
 
+def file_names():
+    """The names of the files of the crates and of tests/, without their folders."""
+    paths = [it for kind in ("src", "specs", "proofs") for it in glob.glob(f"{TOP}/crates/*/{kind}/**/*.*", recursive=True)]
+    return {os.path.basename(it) for it in [*paths, *glob.glob(f"{TOP}/tests/*/*.*")]}
+
+
 def is_there(name):
     """Whether a file has this name, below the top, docs/ or crates/, or at the end of a path in a crate."""
     return any(
@@ -41,7 +47,10 @@ def names(trial):
 @case("cited files are there", "Each file that a document cites is in the repository.")
 def files(trial):
     lost = []
+    there = file_names()
     for document in documents():
+        bare = re.findall(r"`(\w+\.(?:rt|antt|py))`", text_of(document))
+        lost += [f"{document}: {it}" for it in bare if it not in there]
         cited = re.findall(r"`([\w./-]+/[\w.-]+\.(?:rt|antt|py|md|edit|toml|txt|c))`", text_of(document))
         cited += [it for it in re.findall(r"\]\(([^)#:]+)(?:#[^)]*)?\)", text_of(document)) if not it.startswith("http")]
         lost += [f"{document}: {it}" for it in cited if not is_there(it)]
@@ -75,7 +84,10 @@ def names_in(span):
     return []
 
 
-@case("cited names are there", "Each function, clause, definition, type and crate that a document names stands in the code of a crate.")
+@case(
+    "cited names are there",
+    "Each function, clause, definition, type and crate that a document names stands in the code of a crate.",
+)
 def words(trial):
     there = set(re.findall(r"\w+", code_of("*"))) | set(os.listdir(f"{TOP}/crates")) | edit_names() | NOT_CODE
     lost = []
@@ -83,6 +95,20 @@ def words(trial):
         prose = re.sub(r"(?ms)^```.*?^```", "", text_of(document))
         cited = {it for span in re.findall(r"`([^`\n]+)`", prose) for it in names_in(span)}
         lost += [f"{document}: {it}" for it in sorted(cited - there)]
+    trial.equal(lost, [])
+
+
+@case(
+    "cited crates have what is cited",
+    "Where a document names functions or definitions with their crate behind them, that crate has them or hands them on.",
+)
+def crates_of_names(trial):
+    there = {it: set(re.findall(r"\w+", code_of(it, "src specs"))) for it in os.listdir(f"{TOP}/crates")}
+    lost = []
+    for document in documents():
+        for names, crate in re.findall(r"((?:`[\w:]+`(?:, | and | or )?)+) \(`(\w+)`\)", text_of(document)):
+            told = set(re.findall(r"(\w+)`", names))
+            lost += [f"{document}: {it} in {crate}" for it in sorted(told - there.get(crate, told))]
     trial.equal(lost, [])
 
 
