@@ -1,5 +1,6 @@
 """What the documents name is there: cases, files, edits, names of the code, crates, and clauses."""
 
+import functools
 import glob
 import os
 import re
@@ -15,6 +16,7 @@ NOT_CODE = {"Lts", "RT_JOBS", "StemDecision", "StemStep", "StemDeed"}
 OF_STD = {"Display", "From"}
 
 
+@functools.cache
 def text_of(name):
     with open(os.path.join(TOP, name), encoding="utf-8") as file:
         return file.read()
