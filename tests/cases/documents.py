@@ -1,5 +1,6 @@
-"""What the documents name is there: cases, files, and edits."""
+"""What the documents name is there: cases, files, edits, names of the code, crates, and clauses."""
 
+import functools
 import glob
 import os
 import re
@@ -8,7 +9,14 @@ from kit.case import CASES, case
 
 TOP = os.path.join(os.path.dirname(os.path.abspath(__file__)), "..", "..")
 
+# Names in backticks that look like code of the crates and are the toolchain's, or patterns of names.
+NOT_CODE = {"Lts", "RT_JOBS", "StemDecision", "StemStep", "StemDeed"}
 
+# Traits of std that the crates' types meet.
+OF_STD = {"Display", "From"}
+
+
+@functools.cache
 def text_of(name):
     with open(os.path.join(TOP, name), encoding="utf-8") as file:
         return file.read()
@@ -16,6 +24,12 @@ def text_of(name):
 
 def documents():
     return [os.path.relpath(it, TOP) for it in [*glob.glob(f"{TOP}/*.md"), *glob.glob(f"{TOP}/docs/*.md")]]
+
+
+def file_names():
+    """The names of the files of the crates and of tests/, without their folders."""
+    paths = [it for kind in ("src", "specs", "proofs") for it in glob.glob(f"{TOP}/crates/*/{kind}/**/*.*", recursive=True)]
+    return {os.path.basename(it) for it in [*paths, *glob.glob(f"{TOP}/tests/*/*.*")]}
 
 
 def is_there(name):
@@ -35,7 +49,10 @@ def names(trial):
 @case("cited files are there", "Each file that a document cites is in the repository.")
 def files(trial):
     lost = []
+    there = file_names()
     for document in documents():
+        bare = re.findall(r"`(\w+\.(?:rt|antt|py))`", text_of(document))
+        lost += [f"{document}: {it}" for it in bare if it not in there]
         cited = re.findall(r"`([\w./-]+/[\w.-]+\.(?:rt|antt|py|md|edit|toml|txt|c))`", text_of(document))
         cited += [it for it in re.findall(r"\]\(([^)#:]+)(?:#[^)]*)?\)", text_of(document)) if not it.startswith("http")]
         lost += [f"{document}: {it}" for it in cited if not is_there(it)]
@@ -44,9 +61,91 @@ def files(trial):
 
 @case("cited edits are there", "Each edit that docs/PROMISES.md tells as refused is in must-fail/ or more-edits/ of a crate.")
 def edits(trial):
-    there = {os.path.basename(it).removesuffix(".edit") for it in glob.glob(f"{TOP}/crates/*/m*/*.edit")}
+    there = edit_names()
     cited = set()
     for passage in re.findall(r"Refused[^\n]*", text_of("docs/PROMISES.md")):
         cited |= {it for it in re.findall(r"`([a-z_0-9]+)`", passage) if "_" in it}
     crates = set(os.listdir(f"{TOP}/crates"))
     trial.equal(sorted(cited - there - crates), [])
+
+
+def code_of(crate, kinds="src specs proofs"):
+    """The text of a crate, or of all crates for '*', without its comments."""
+    paths = [it for kind in kinds.split() for it in glob.glob(f"{TOP}/crates/{crate}/{kind}/**/*.*t*", recursive=True)]
+    return re.sub(r"(?://|--).*", "", "\n".join(text_of(it) for it in paths))
+
+
+def edit_names():
+    return {os.path.basename(it).removesuffix(".edit") for it in glob.glob(f"{TOP}/crates/*/m*/*.edit")}
+
+
+def names_in(span):
+    """The names in a span of code that look like the code's own: with a bar below, or with a capital and a small letter."""
+    if re.fullmatch(r"[A-Za-z_]\w*(::\w+)*( [\w. ]+)?", span):
+        return [it for it in re.findall(r"\w+", span) if "_" in it or re.match(r"[A-Z]+[a-z]", it)]
+    return []
+
+
+@case(
+    "cited names are there",
+    "Each function, clause, definition, type and crate that a document names stands in the code of a crate.",
+)
+def words(trial):
+    there = set(re.findall(r"\w+", code_of("*"))) | set(os.listdir(f"{TOP}/crates")) | edit_names() | NOT_CODE
+    lost = []
+    for document in documents():
+        prose = re.sub(r"(?ms)^```.*?^```", "", text_of(document))
+        cited = {it for span in re.findall(r"`([^`\n]+)`", prose) for it in names_in(span)}
+        lost += [f"{document}: {it}" for it in sorted(cited - there)]
+    trial.equal(lost, [])
+
+
+@case(
+    "cited crates have what is cited",
+    "Where a document names functions or definitions with their crate behind them, that crate has them or hands them on.",
+)
+def crates_of_names(trial):
+    there = {it: set(re.findall(r"\w+", code_of(it, "src specs"))) for it in os.listdir(f"{TOP}/crates")}
+    lost = []
+    for document in documents():
+        for names, crate in re.findall(r"((?:`[\w:]+`(?:, | and | or )?)+) \(`(\w+)`\)", text_of(document)):
+            told = set(re.findall(r"(\w+)`", names))
+            lost += [f"{document}: {it} in {crate}" for it in sorted(told - there.get(crate, told))]
+    trial.equal(lost, [])
+
+
+def contracts_of(crates):
+    """What the crates declare: each name of a function, a type or a trait with the names of the clauses under it."""
+    told = {}
+    for crate in crates:
+        parts = re.split(r"\b(?:fn|struct|enum|trait|type) (\w+)", code_of(crate, "src"))
+        for name, text in zip(parts[1::2], parts[2::2]):
+            told.setdefault(name, set()).update(re.findall(r"^ *(?:ensures|requires) (\w+) ", text, re.MULTILINE))
+    return told
+
+
+def promises():
+    """The rows of docs/PROMISES.md that tell of calls: a section's crates, the first cell, and the second."""
+    for head, body in re.findall(r"(?ms)^## ([^\n]*)\n(.*?)(?=^## |\Z)", text_of("docs/PROMISES.md")):
+        own = re.findall(r"`(\w+)`", head)
+        for first, second in re.findall(r"^\| (`.*?) \| (.*?) \|$", body if own else "", re.MULTILINE):
+            yield own, first, second
+
+
+@case(
+    "cited contracts are there",
+    "In docs/PROMISES.md the calls of a row are declared in the crates of its section, and the clauses that it names stand under one of them.",
+)
+def contracts(trial):
+    crates = set(os.listdir(f"{TOP}/crates"))
+    told = {}
+    lost = []
+    for own, first, second in promises():
+        named = [it for it in re.findall(r"\(`(\w+)`\)", first) if it in crates] or own
+        there = told.setdefault(tuple(named), contracts_of(named))
+        calls = set(re.findall(r"`(?:\w+::)?(\w+)`", re.sub(r"\([^)]*\)", "", first))) - OF_STD
+        lost += [f"{first}: {it} in {named}" for it in sorted(calls - there.keys())]
+        clauses = re.findall(r"(?:^|[;.] )`([a-z_]+)`(?: \([^)]*\))?:", second)
+        met = set().union(*(there.get(it, set()) for it in calls))
+        lost += [f"{first}: clause {it}" for it in clauses if it not in met]
+    trial.equal(lost, [])
