@@ -187,7 +187,7 @@ class Browser:
     def pick(self, find, path):
         """Picks a file for a file field."""
         found = self.call("Runtime.evaluate", expression=find)["result"]["objectId"]
-        self.call("DOM.setFileInputFiles", files=[path], objectId=found)
+        self.call("DOM.setFileInputFiles", files=[os.path.realpath(path)], objectId=found)
 
     def shot(self, name):
         """Leaves a picture of the whole page in OUT."""

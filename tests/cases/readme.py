@@ -159,6 +159,7 @@ def first_screen(trial):
         it.says("4 lines ordered, demands from 1 on")
         it.propose("GLASS")
         trial.equal(it.text("reserve"), "Reserve 1/0")
+        it.at_widths("first-plan")
         trial.equal(it.reserve(), 2)
         trial.equal(it.sheets("first-ticket"), 1)
         it.click(by_id("done"))
