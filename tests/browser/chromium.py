@@ -13,7 +13,7 @@ from contextlib import suppress
 from kit.case import Failed, Skipped
 
 # What a page is to show comes within so many seconds.
-SECONDS = 40
+SECONDS = 120
 
 # A click, a typed text and a key are Chromium's own input events, so that what can't be seen or reached isn't clicked.
 KEYS = {"Enter": 13, "Tab": 9, "Escape": 27, " ": 32, "ArrowDown": 40, "ArrowUp": 38}
