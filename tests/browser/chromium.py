@@ -13,7 +13,7 @@ from contextlib import suppress
 from kit.case import Failed, Skipped
 
 # What a page is to show comes within so many seconds.
-SECONDS = 40
+SECONDS = 120
 
 # A click, a typed text and a key are Chromium's own input events, so that what can't be seen or reached isn't clicked.
 KEYS = {"Enter": 13, "Tab": 9, "Escape": 27, " ": 32, "ArrowDown": 40, "ArrowUp": 38}
@@ -187,7 +187,7 @@ class Browser:
     def pick(self, find, path):
         """Picks a file for a file field."""
         found = self.call("Runtime.evaluate", expression=find)["result"]["objectId"]
-        self.call("DOM.setFileInputFiles", files=[path], objectId=found)
+        self.call("DOM.setFileInputFiles", files=[os.path.realpath(path)], objectId=found)
 
     def shot(self, name):
         """Leaves a picture of the whole page in OUT."""

@@ -13,22 +13,9 @@ from browser.chromium import Browser
 TOP = os.path.join(os.path.dirname(os.path.abspath(__file__)), "..", "..")
 PAGE = os.path.join(TOP, "page", "terminal.html")
 
-# A bar and a sheet of a workshop's sizes: lengths in tenths of a millimetre.
-SHOP_FILE = """
-[[material]]
-code = "STEEL"
-kind = "bar"
-kerf = "2.5"
-min_long = "300.0"
-min_short = "0.1"
-
-[[material]]
-code = "GLASS"
-kind = "sheet"
-kerf = "3.0"
-min_long = "300.0"
-min_short = "100.0"
-"""
+# A bar and a sheet of a workshop's sizes, as README opens the shop with.
+with open(os.path.join(TOP, "docs", "workshop.toml"), encoding="utf-8") as shop_file:
+    SHOP_FILE = shop_file.read()
 
 WIDTHS = (1280, 400)
 

@@ -2,8 +2,9 @@
 
 import json
 import re
+import subprocess
 
-from kit.case import case
+from kit.case import SECONDS, case
 
 HEADER = "line,material,length,width,turn,count,worth\n"
 
@@ -126,6 +127,11 @@ def unread(trial):
     for name in ("no.csv", "."):
         for options in ((), MESSAGE):
             trial.ended(trial.run("orders", name, *options), 1, err="fault file\n", sent=name)
+    path = trial.write("orders.csv", HEADER)
+    for options in ((), MESSAGE):
+        with open("/dev/full", "wb") as full:
+            ran = subprocess.run([trial.program, "orders", path, *options], stdout=full, stderr=subprocess.PIPE, timeout=SECONDS)
+        trial.equal((ran.returncode, ran.stderr), (1, b"fault write\n"))
 
 
 @case(

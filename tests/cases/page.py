@@ -1,5 +1,6 @@
 """The terminal's page, in a real browser where one is installed."""
 
+import concurrent.futures
 import json
 import re
 
@@ -409,7 +410,7 @@ def reach(it, found):
 
 @case(
     "lists of the page behind their first hundred",
-    "With over 100 demands, waiting jobs and parts the page shows what lies behind the first 100 on demand, remnants first, "
+    "With over 100 demands, waiting jobs and parts the page shows what lies behind the first 100 when asked, remnants first, "
     "and a ticket of over 100 cuts is printed on one sheet.",
 )
 def hundreds(trial):
@@ -426,10 +427,12 @@ def hundreds(trial):
         line = {"material": "STEEL", "w": 1000, "h": 1, "turn": False, "count": 1, "worth": 100}
         for order_code in ("A-1", "A-2"):
             send(do="order", order=order_code, lines=[{**line, "line": number} for number in range(1, 121)])
-        small = {"line": 1, "material": "GLASS", "w": 1200, "h": 1000, "turn": True, "count": 70, "worth": 120}
+        small = {"line": 1, "material": "GLASS", "w": 1000, "h": 600, "turn": False, "count": 132, "worth": 60}
         send(do="order", order="A-3", lines=[small])
         for place in range(105):
             send(do="reserve", part=f"1/{place}" if place < 100 else f"2/{place - 100}", tree=f"x1000 p{place + 1} r")
+        columns = f"x1000 {'y600 p241 ' * 12}r " * 11
+        trial.equal(send(do="reserve", part="3/0", tree=f"{columns}r"), {"cuts": 143, "job": 109, "ok": "reserve"})
         send(do="done", job=4)
         it.begin(7)
         it.until(f"{by_id('jobCount')}.textContent === '100+'")
@@ -442,14 +445,55 @@ def hundreds(trial):
         it.view("saw")
         it.until("document.querySelectorAll('#jobList button.row').length === 100")
         it.click("document.querySelector('#jobList [data-key=jobPages]')")
-        it.until("document.querySelectorAll('#jobList button.row').length === 104")
-        it.view("tocut")
-        it.choose("document.querySelector('#tocut .materials select')", "GLASS")
-        it.until(f"shop.partsOf === 'GLASS' && toCut.part && {by_id('wanted')}.textContent.includes('Order A-3')")
-        it.click(by_id("propose"))
-        it.until("!toCut.planning && chosenPlan()")
-        it.reserve()
-        trial.holds(it.value("atSaw.told.root.cuts > 100"), "the ticket has fewer cuts")
+        it.until("document.querySelectorAll('#jobList button.row').length === 105")
+        it.type(by_id("jobNumber"), "109")
+        it.key("Enter")
+        it.until("document.querySelectorAll('#cutList li').length === 143")
         trial.equal(it.sheets("ticket-of-many-cuts"), 1)
         it.at_widths("many")
+        is_quiet(it)
+
+
+@case(
+    "a ticket and a report while eight terminals post",
+    "A browser opens a ticket, a report and a trace while eight terminals post receipts: each message is answered, and the "
+    "page comes to show what the books then hold.",
+)
+def crowd(trial):
+    shop = open_shop(trial)
+    line = {"count": 2, "h": 1, "line": 1, "material": "STEEL", "turn": False, "w": 10000, "worth": 100}
+    for number, keys in enumerate(
+        (
+            {"batch": "S-1", "count": 1, "do": "receive", "h": 1, "material": "STEEL", "w": 60000},
+            {"do": "order", "lines": [line], "order": "A-1"},
+            {"do": "reserve", "part": "1/0", "tree": "x10000 p1 x10000 p1 r"},
+        )
+    ):
+        trial.holds("ok" in exchange(shop, "/message", {**keys, "number": number, "terminal": 8}), keys)
+
+    def posted(terminal):
+        bar = {"batch": "S-2", "count": 1, "do": "receive", "h": 1, "material": "STEEL", "w": 30000, "terminal": terminal}
+        return [exchange(shop, "/message", {**bar, "number": number}) for number in range(6)]
+
+    with Terminal(trial, shop) as it, concurrent.futures.ThreadPoolExecutor(8) as pool:
+        it.begin(7)
+        running = [pool.submit(posted, terminal) for terminal in range(11, 19)]
+        it.view("saw")
+        it.until("atSaw.told && document.querySelectorAll('#cutList li').length === 2")
+        it.view("yield")
+        it.click("document.querySelector('#yieldBars [data-key=ySTEEL]')")
+        it.until("document.querySelector('#report table')")
+        it.view("stock")
+        it.material("stock", "STEEL")
+        it.click("document.querySelector('#stockList [data-key=\"t1/0\"]')")
+        it.until("document.querySelector('#tracePicture svg')")
+        acts = [reply.get("act") for replies in running for reply in replies.result()]
+        trial.equal(sorted(acts), list(range(3, 51)), "each is received once")
+        it.view("yield")
+        received = 60000 + 48 * 30000
+        it.until(f"shop.totals.get('STEEL')?.received === {received}")
+        it.click("document.querySelector('#yieldBars [data-key=ySTEEL]')")
+        it.until(f"{by_id('report')}.textContent.includes('49 parts')")
+        trial.equal(it.ask("/totals/STEEL")["received"], received)
+        trial.holds("150\u202f000.0\u00a0mm" in it.text("report"), "the report has other totals")
         is_quiet(it)

@@ -3,9 +3,13 @@
 import json
 import os
 import re
-import shlex
+import shutil
+import signal
+import subprocess
 
-from kit.case import Failed, case
+from browser.terminal import Terminal, by_id
+from kit.case import SECONDS, Failed, Skipped, case
+from kit.shop import free_port
 
 TOP = os.path.join(os.path.dirname(os.path.abspath(__file__)), "..", "..")
 
@@ -61,22 +65,104 @@ def plans(trial):
         trial.equal((ran.status, ran.out.decode().split("\n")[:3]), (0, wanted[:3]), f"step {step}")
 
 
+# What a typed line begins with; other blocks of README are what is printed.
+TYPED = ("export", "cutshop", "curl", "mkdir", "cp")
+
+
+class Typist:
+    """Types lines into a shell, at the top of a repository whose program is built; `8017` is a port of the case's own."""
+
+    def __init__(self, trial):
+        self.trial, self.port, self.before, self.served = trial, free_port(), "", None
+        os.makedirs(trial.path("crates/cutshop/out"))
+        os.symlink(trial.program, trial.path("crates/cutshop/out/cutshop"))
+        for name in ("docs", "page"):
+            os.symlink(os.path.join(TOP, name), trial.path(name))
+
+    def __enter__(self):
+        return self
+
+    def __exit__(self, *_):
+        if self.served:
+            self.served.kill()
+            self.served.communicate()
+
+    def type(self, line):
+        """What a line prints. One that sets a variable holds for those behind it; a shop is left open."""
+        line = line.replace("8017", str(self.port))
+        if line.startswith("export "):
+            self.before += f"{line}; "
+        elif "cutshop serve " in line:
+            self.open(line)
+        else:
+            ran = subprocess.run(
+                ["sh", "-c", self.before + line], cwd=self.trial.folder, capture_output=True, text=True, timeout=SECONDS
+            )
+            self.trial.equal(ran.returncode, 0, f"{line}\n  {ran.stderr}")
+            return ran.stdout
+        return ""
+
+    def open(self, line):
+        shell = ["sh", "-c", f"{self.before}exec {line}"]
+        self.served = subprocess.Popen(shell, cwd=self.trial.folder, stdout=subprocess.PIPE, stderr=subprocess.PIPE)
+        told = self.served.stdout.readline().decode()
+        self.trial.equal(told, f"listening on 127.0.0.1:{self.port}\n", line)
+
+    def close(self):
+        """Ctrl-C in the window of the shop."""
+        self.served.send_signal(signal.SIGINT)
+        self.served.communicate(timeout=SECONDS)
+        self.served = None
+
+
 @case(
     "the shop's day as typed",
-    "README's curl lines get the replies that stand behind them, and its ticket and report are served.",
+    "README's lines of a shop's day, typed into a shell from the first to the last beside the built program, print what "
+    "stands behind them, and the copy of the store holds the day.",
 )
 def day(trial):
+    if not shutil.which("curl"):
+        raise Skipped("no curl is installed (apt-get install curl)")
     shown = blocks("README.md", "\n## A shop's day\n", "\n## What is proved\n")
-    shop = trial.shop(shop_file=os.path.join(TOP, "docs/shop.toml"))
-    posts, replies = next((it, behind) for it, behind in zip(shown, shown[1:]) if it[0].startswith("curl -d"))
-    ticket, report = [next(it for it in shown if it[0].startswith(word)) for word in ("job 2", "yield GLASS")]
-    for post, wanted in zip(posts, replies):
-        _, _, body, address = shlex.split(post)
-        request = (
-            f"POST {re.sub('^http://[^/]*', '', address)} HTTP/1.1\r\nHost: shop\r\nContent-Length: {len(body)}\r\n\r\n{body}"
-        )
-        got = shop.exchange(request.encode()).partition(b"\r\n\r\n")[2].decode()
-        trial.equal(got, wanted, post)
-        if '"reserve"' in post:
-            trial.equal(shop.get("/ticket/2").partition(b"\r\n\r\n")[2].decode().split("\n")[:-1], ticket, "/ticket/2")
-    trial.equal(shop.get("/yield/GLASS").partition(b"\r\n\r\n")[2].decode().split("\n")[:-1], report, "/yield/GLASS")
+    with Typist(trial) as typist:
+        for block, behind in zip(shown, [*shown[1:], ["cutshop"]]):
+            if block[0].split()[0] not in TYPED:
+                continue
+            if block[0].startswith("mkdir"):
+                typist.close()
+            printed = [typist.type(line).rstrip("\n") for line in block]
+            wanted = [] if behind[0].split()[0] in TYPED else behind
+            trial.equal("\n".join(it for it in printed if it), "\n".join(wanted), "\n".join(block))
+        with open(trial.path("ticket.txt"), encoding="utf-8") as file:
+            trial.equal(file.readline(), "job 2 done\n")
+
+
+@case(
+    "the first screen as told",
+    "In a browser README's five steps, from the typed line on, receive, order, plan, reserve, print and end a job.",
+)
+def first_screen(trial):
+    lines = blocks("README.md", "\n## Open the shop\n", "\n## Two commands\n")[0]
+    with Typist(trial) as typist, Terminal(trial, typist) as it:
+        typist.type(lines[-1])
+        it.go(it.address)
+        it.until(f"{by_id('terminalDialog')}.open && {by_id('terminalNumber')}.value === '1'")
+        it.key("Enter")
+        it.until(f"!{by_id('terminalDialog')}.open")
+        it.receive("GLASS", "G-7", "2400.0", "1300.0", 4)
+        it.says("4 units received, 1/0 to 1/3")
+        it.view("orders")
+        it.type(by_id("fileCode"), "HALL-12")
+        it.pick(by_id("csvFile"), os.path.join(TOP, "docs", "order.csv"))
+        it.until(f"{by_id('csvPreview')}.textContent.includes('Order 4 lines')")
+        it.click(by_id("sendCsv"))
+        it.says("4 lines ordered, demands from 1 on")
+        it.propose("GLASS")
+        trial.equal(it.text("reserve"), "Reserve 1/0")
+        it.at_widths("first-plan")
+        trial.equal(it.reserve(), 2)
+        trial.equal(it.sheets("first-ticket"), 1)
+        it.click(by_id("done"))
+        it.confirm()
+        it.says("Job 2 done: pieces")
+        trial.equal(it.value("ask('/job/2').then(reply => reply.state)"), "done")
