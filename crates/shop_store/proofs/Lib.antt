@@ -8,3 +8,7 @@ pub mod Checked
 pub mod EarlierContents
 pub mod Renewals
 pub mod Commits
+-- parts that are found under their names
+pub mod Weights
+pub mod Whole
+pub mod Noted

@@ -1,13 +1,19 @@
 -- Parts that are taken in turn.
-use Rattle.std.proofs.Common.{◌≡◌, List, [], ◌∷◌, ◌++◌, Bool, true, Ok, sym, ap, subst, ◌∙◌, append-nil}
+use Rattle.std.proofs.Common.{◌≡◌, ◌+◌, ◌<◌, ◌≤◌, ℕ, List, [], ◌∷◌, ◌++◌, Bool, true, false, true≢false, Ok, Err, length, filter, take, drop, get_or, refl, sym, ap, subst, ◌∙◌, append-nil}
 use Rattle.std.specs.Prelude.{Result}
-use Rattle.std.proofs.lemmas.List.{append_assoc}
+use Rattle.std.specs.Result.{IsErr}
+use Rattle.std.proofs.lemmas.Fn.{FoldsTo-push}
+use Rattle.std.proofs.lemmas.List.{append_assoc, take_all, take_more, take-append-drop}
+use Rattle.std.proofs.lemmas.List.Elements.{filter-append}
+use Rattle.shop_machine.specs.Content.{Content}
 use Rattle.shop_machine.specs.declared.records.Part.{Part}
 use Rattle.shop_machine.specs.Visits.{GoesOn, HasSeen, IsVisit}
 use Rattle.shop_store.specs.declared.takers.PartTaker.{PartTaker}
 use Rattle.shop_store.specs.SqlBooks.{told}
+use Rattle.shop_store.specs.NamedParts.{AreStanding, IsTaken}
 use Rattle.shop_store.specs.Takers.{TakesPart}
 use Rattle.shop_book.specs.declared.books.BookFault.{BookFault}
+use Rattle.shop_book.proofs.Handed.{take_front}
 use Rattle.shop_store.proofs.Telling.{as_told}
 use Rattle.shop_tables.specs.declared.faults.TableFault.{TableFault}
 
@@ -37,3 +43,67 @@ visit_told looks says more old new r answer same lift visit = record {
   answer = as_told _ r answer same visit.answer;
   begins = lift _ _ (λ list begins. (begins.0, begins.1, as_told _ r answer same begins.2)) visit.begins;
 }
+
+-- what is said of a list of which more is known
+pub visit_of : {V Fault : Type 0} (looks : V → Part → Bool → V → Type 0) (says more : (List Part → Type 0) → Type 0) (old new : V) (r : Result Bool Fault)
+    → ((what : List Part → Type 0) → says what → more what) → IsVisit looks says old r new → IsVisit looks more old r new
+visit_of looks says more old new r lift visit = record { parts = visit.parts; on = visit.on; visitor = visit.visitor; answer = visit.answer; begins = lift _ visit.begins }
+
+-- ---- parts that are found under their names
+
+pub one_more_stands : (m : Content) (code : List ℕ) (old new : List Part) → AreStanding m code old → IsTaken m code old new → AreStanding m code new
+one_more_stands m code old new standing taken = subst (AreStanding m code) (sym taken.1) (behind old standing)
+  where
+    behind : (parts : List Part) → AreStanding m code parts → AreStanding m code (parts ++ taken.0 ∷ [])
+    behind [] h = (taken.2, tt)
+    behind (p ∷ parts) h = (h.0, behind parts h.1)
+
+-- ---- parts that are handed out
+
+module _ {V : Type 0} (looks : V → Part → Bool → V → Type 0) (parts : List Part) (i : ℕ) (part : Part) (old mid new : V) (within : i < length parts) (is : part ≡ get_or parts i part) (seen : GoesOn looks (take i parts) old mid) where
+  next : take (i + 1) parts ≡ take i parts ++ part ∷ []
+  next = take_more parts i part within ∙ ap (λ (p : Part). take i parts ++ p ∷ []) (sym is)
+
+  pub one_more_seen : looks mid part true new → GoesOn looks (take (i + 1) parts) old new
+  one_more_seen look = subst (λ ps. GoesOn looks ps old new) (sym next) (FoldsTo-push (λ v p w. looks v p true w) old (take i parts) mid part new seen look)
+
+  pub stopped_seen : looks mid part false new → IsVisit looks {Fault = TableFault} (λ what. what parts) old (Ok false) new
+  stopped_seen look = record {
+    parts = take (i + 1) parts;
+    on = false;
+    visitor = (take i parts, part, mid, next, seen, look);
+    answer = refl;
+    begins = (drop (i + 1) parts, sym (take-append-drop (i + 1) parts), λ h. absurd (true≢false (sym h)));
+  }
+
+pub all_seen : {V : Type 0} (looks : V → Part → Bool → V → Type 0) (parts : List Part) (i : ℕ) (old new : V) → length parts ≤ i → GoesOn looks (take i parts) old new → IsVisit looks {Fault = TableFault} (λ what. what parts) old (Ok true) new
+all_seen looks parts i old new all seen = record {
+  parts = parts;
+  on = true;
+  visitor = subst (λ ps. GoesOn looks ps old new) (take_all i parts all) seen;
+  answer = refl;
+  begins = ([], sym (append-nil parts), λ _. refl);
+}
+
+-- ---- the first parts that pass
+
+module _ (test : Part → Bool) (parts : List Part) (i : ℕ) where
+  pub passed_so_far : (part : Part) → i < length parts → part ≡ get_or parts i part → filter test (take (i + 1) parts) ≡ filter test (take i parts) ++ filter test (part ∷ [])
+  passed_so_far part within is = ap (filter test) (take_more parts i part within ∙ ap (λ (p : Part). take i parts ++ p ∷ []) (sym is)) ∙ filter-append test (take i parts) (part ∷ [])
+
+  -- as many passed so far as are wanted
+  pub enough_passed : (most : ℕ) (rows : List Part) → rows ≡ filter test (take i parts) → most ≡ length rows → rows ≡ take most (filter test parts)
+  enough_passed most rows is full =
+      sym (ap (take most) (ap (filter test) (sym (take-append-drop i parts)) ∙ filter-append test (take i parts) (drop i parts) ∙ ap (λ ps. ps ++ filter test (drop i parts)) (sym is))
+      ∙ take_front most rows (filter test (drop i parts)) full)
+
+  -- all were looked at, and no more passed than are wanted
+  pub all_passed : (most : ℕ) (rows : List Part) → rows ≡ filter test (take i parts) → length parts ≤ i → length rows ≤ most → rows ≡ take most (filter test parts)
+  all_passed most rows is all fits =
+      let whole : rows ≡ filter test parts = is ∙ ap (filter test) (take_all i parts all) in
+      sym (ap (take most) (sym whole) ∙ take_all most rows fits)
+
+-- nothing was handed out, and there is no answer
+pub no_visit : {V Fault : Type 0} (looks : V → Part → Bool → V → Type 0) (says : (List Part → Type 0) → Type 0) (old : V) (r : Result Bool Fault) → IsErr r → ((what : List Part → Type 0) → ((list : List Part) → what list) → says what) → IsVisit looks says old r old
+no_visit looks says old (Ok on) is any = absurd (true≢false (sym is))
+no_visit looks says old (Err fault) is any = record { parts = []; on = true; visitor = refl; answer = tt; begins = any _ (λ list. (list, refl, tt)) }

@@ -3,3 +3,4 @@ pub mod EarlierBooks
 pub mod Takers
 pub mod Checking
 pub mod Crashes
+pub mod NamedParts

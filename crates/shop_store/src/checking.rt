@@ -10,12 +10,14 @@ ghost use Rattle.shop_tables.specs.Earlier.{OnBooksEarlier};
 ghost use Rattle.shop_tables.specs.Shown.{Leaves, OnBooks};
 ghost use Rattle.shop_rows.specs.Adding.{has_sums};
 ghost use Rattle.shop_store.specs.Checking.{AddsPart, AreNarrow, AreSumsIn, IsListOf, are_totals_for};
+ghost use Rattle.shop_rows.specs.Open.{own_key, open_cmp};
 ghost use Rattle.shop_rows.specs.Rows.{rise};
 ghost use Rattle.shop_rows.specs.Sums.{sum_at, sums_key, total_in};
 
 use crate::adders::PartAdder;
+use crate::names::note_part;
 use shop_machine::{MaterialTotals, Part, PartVisitor, Totals};
-use shop_rows::{Sums, count_part, has_totals, no_sums, put};
+use shop_rows::{OpenPart, Sums, count_part, has_totals, no_sums, put};
 use shop_tables::{Lent, TableFault, lend_all_parts, list_earlier_totals, list_totals};
 use sqlite::{Alter, Connection};
 use std::alloc::{AllocError, Global};
@@ -24,6 +26,7 @@ impl PartVisitor for PartAdder {
     ghost looks = { AddsPart };
 
     fn part(&mut self, part: &Part) -> bool {
+        note_part(&mut self.names, part);
         count_part(&mut self.sums, part)
     }
 }
@@ -48,7 +51,10 @@ fn adder_for(alloc: Global, totals: &[MaterialTotals]) -> Result<PartAdder, Allo
         let _ = put(&mut sums, no_sums(row.material));
     }
     sums.reserve(1)?;
-    Ok(PartAdder { sums })
+    Ok(PartAdder {
+        sums,
+        names: Vec::new(alloc),
+    })
 }
 
 // Whether these totals are the sums.
@@ -65,12 +71,25 @@ fn are_sums(sums: &[Sums], totals: &[MaterialTotals]) -> bool
     true
 }
 
-// Goes through all parts once, and tells whether these are their sums.
+// Whether these are the sums of all parts, whose names are handed over.
+fn conclude(adder: PartAdder, totals: &[MaterialTotals], names: &mut Vec<OpenPart>) -> bool
+    ensures sums { Decides result (AreSumsIn adder.sums.items totals.now) }
+    ensures rising { IsTrue (rise own_key open_cmp names.new.items) }
+{
+    let PartAdder { sums, names: found } = adder;
+    *names = found;
+    are_sums(&sums, totals)
+}
+
+// Goes through all parts once, and tells whether these are their sums; the names are those of the parts that stand.
 fn are_sums_of_parts<S: Alter>(
     alloc: Global,
     conn: &mut Connection<S>,
     totals: &[MaterialTotals],
+    names: &mut Vec<OpenPart>,
 ) -> Result<bool, TableFault>
+    requires rising { IsTrue (rise own_key open_cmp names.old.items) }
+    ensures rising { IsTrue (rise own_key open_cmp names.new.items) }
     ensures sums { OnBooks (state S.Store conn.old) (state S.Store conn.new) (λ books. IsListOf books totals.now → IfOk result (λ good. Decides good (HasSums books))) }
     ensures earlier { OnBooksEarlier (state S.Store conn.old) (state S.Store conn.new) (λ books. IsListOf books totals.now → IfOk result (λ good. Decides good (HasSums books))) }
     ensures leaves { Leaves (state S.Store conn.old) (state S.Store conn.new) }
@@ -78,14 +97,21 @@ fn are_sums_of_parts<S: Alter>(
 {
     let mut adder = adder_for(alloc, totals)?;
     match lend_all_parts(conn, &mut adder)? {
-        Lent::All => Ok(are_sums(&adder.sums, totals)),
+        Lent::All => Ok(conclude(adder, totals, names)),
         Lent::Stopped => Ok(false),
         Lent::Strange => Ok(false),
     }
 }
 
-/// Goes through all parts once, and tells whether the totals are their sums: those of each material, and of nothing else.
-pub fn have_sums<S: Alter>(alloc: Global, conn: &mut Connection<S>) -> Result<bool, TableFault>
+/// Goes through all parts once, and tells whether the totals are their sums: those of each material, and of nothing else. The
+/// names are those of the parts that stand.
+pub fn have_sums<S: Alter>(
+    alloc: Global,
+    conn: &mut Connection<S>,
+    names: &mut Vec<OpenPart>,
+) -> Result<bool, TableFault>
+    requires rising { IsTrue (rise own_key open_cmp names.old.items) }
+    ensures rising { IsTrue (rise own_key open_cmp names.new.items) }
     ensures sums { OnBooks (state S.Store conn.old) (state S.Store conn.new) (λ books. IfOk result (λ good. Decides good (HasSums books))) }
     ensures leaves { Leaves (state S.Store conn.old) (state S.Store conn.new) }
     ensures mode { conn.old.in_transaction ≡ false → conn.new.in_transaction ≡ false }
@@ -93,14 +119,17 @@ pub fn have_sums<S: Alter>(alloc: Global, conn: &mut Connection<S>) -> Result<bo
     let Some(totals) = list_totals(alloc, conn)? else {
         return Ok(false);
     };
-    are_sums_of_parts(alloc, conn, &totals)
+    are_sums_of_parts(alloc, conn, &totals, names)
 }
 
 /// The same of tables of version 1.
 pub fn have_earlier_sums<S: Alter>(
     alloc: Global,
     conn: &mut Connection<S>,
+    names: &mut Vec<OpenPart>,
 ) -> Result<bool, TableFault>
+    requires rising { IsTrue (rise own_key open_cmp names.old.items) }
+    ensures rising { IsTrue (rise own_key open_cmp names.new.items) }
     ensures sums { OnBooksEarlier (state S.Store conn.old) (state S.Store conn.new) (λ books. IfOk result (λ good. Decides good (HasSums books))) }
     ensures leaves { Leaves (state S.Store conn.old) (state S.Store conn.new) }
     ensures mode { conn.old.in_transaction ≡ false → conn.new.in_transaction ≡ false }
@@ -108,5 +137,5 @@ pub fn have_earlier_sums<S: Alter>(
     let Some(totals) = list_earlier_totals(alloc, conn)? else {
         return Ok(false);
     };
-    are_sums_of_parts(alloc, conn, &totals)
+    are_sums_of_parts(alloc, conn, &totals, names)
 }

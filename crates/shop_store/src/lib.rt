@@ -3,6 +3,8 @@
 
 mod adders;
 mod checking;
+mod named_parts;
+mod names;
 mod reopening;
 mod sql;
 mod takers;

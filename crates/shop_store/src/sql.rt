@@ -13,23 +13,26 @@ ghost use Rattle.shop_tables.specs.Layout.{no_schema, IsShop};
 ghost use Rattle.shop_tables.specs.Changing.{HasSums};
 ghost use Rattle.shop_tables.specs.Shown.{Books, HasShopSchema, Holds, IsSettled, Leaves, OnBooks};
 ghost use Rattle.shop_store.specs.EarlierBooks.{HoldsEarlierContent, IsSettledEarlierAt};
+ghost use Rattle.shop_rows.specs.Open.{own_key, open_cmp};
+ghost use Rattle.shop_rows.specs.Rows.{rise};
 ghost use Rattle.shop_book.specs.Failures.{CountsFailure};
 ghost use Rattle.shop_store.specs.SqlBooks.{adopt_fault, book_fault, told as as_told, EitherWay};
 ghost use Rattle.shop_book.specs.declared.books.BookFault.TheVariants.{WrongVersion};
 
 use crate::checking::{have_earlier_sums, have_sums};
-use crate::takers::PartTaker;
+use crate::named_parts::{first_listed, listed_parts, visit_listed};
+use crate::names::commit_listed;
 use cut_measure::{Code, PartName};
 use shop_book::{Book, BookFault};
 use shop_machine::{
     Change, Demand, DemandList, ImportRow, Job, Kept, Material, MaterialList, NumberList, Pair,
     Part, PartList, PartVisitor, Totals, no_totals,
 };
+use shop_rows::{OpenPart, names_behind};
 use shop_tables::{
-    AdoptFault, Adopted, TableFault, adopt_tables, commit_change, find_demand, find_import,
-    find_job, find_kept, find_last_act, find_last_demand, find_last_number, find_material,
-    find_order, find_part, find_totals, lend_parts, list_first_parts, list_materials,
-    list_open_demands, list_waiting_jobs, renew_shop,
+    AdoptFault, Adopted, TableFault, adopt_tables, find_demand, find_import, find_job, find_kept,
+    find_last_act, find_last_demand, find_last_number, find_material, find_order, find_part,
+    find_totals, list_materials, list_open_demands, list_waiting_jobs, renew_shop,
 };
 use sqlite::{Alter, Connection, MemStore};
 use std::alloc::Global;
@@ -40,7 +43,9 @@ pub struct SqlBook<S: Alter> {
     alloc: Global,
     conn: Connection<S>,
     failures: u64,
+    names: Vec<OpenPart>,
     ghost outside: { conn.in_transaction ≡ false },
+    ghost rising: { IsTrue (rise own_key open_cmp names.items) },
 }
 
 // The number behind the last act's.
@@ -71,8 +76,8 @@ fn next_demand<S: Alter>(conn: &mut Connection<S>) -> Result<u32, TableFault>
     }
 }
 
-// A code's totals, which are zeros where it has no row.
-fn totals_of<S: Alter>(conn: &mut Connection<S>, code: Code) -> Result<Totals, TableFault>
+/// A code's totals, which are zeros where it has no row.
+pub fn totals_of<S: Alter>(conn: &mut Connection<S>, code: Code) -> Result<Totals, TableFault>
     ensures row { OnBooks (state S.Store conn.old) (state S.Store conn.new) (λ books. IfOk result (λ totals. totals ≡ unwrap_or (get books.totals code) nothing)) }
     ensures leaves { Leaves (state S.Store conn.old) (state S.Store conn.new) }
     ensures mode { conn.old.in_transaction ≡ false → conn.new.in_transaction ≡ false }
@@ -80,27 +85,6 @@ fn totals_of<S: Alter>(conn: &mut Connection<S>, code: Code) -> Result<Totals, T
     match find_totals(conn, code)? {
         Some(totals) => Ok(totals),
         None => Ok(no_totals()),
-    }
-}
-
-// The listed parts of a material.
-fn listed_parts<S: Alter>(
-    alloc: Global,
-    conn: &mut Connection<S>,
-    material: Code,
-) -> Result<PartList, TableFault>
-    ensures rows { OnBooks (state S.Store conn.old) (state S.Store conn.new) (λ books. IfOk result (λ rows. rows ≡ parts_of books.content material)) }
-    ensures leaves { Leaves (state S.Store conn.old) (state S.Store conn.new) }
-    ensures mode { conn.old.in_transaction ≡ false → conn.new.in_transaction ≡ false }
-{
-    let mut taker = PartTaker {
-        parts: PartList::new(alloc),
-    };
-    let all = lend_parts(conn, material, &mut taker)?;
-    if all {
-        Ok(taker.parts)
-    } else {
-        Err(TableFault::NoMemory)
     }
 }
 
@@ -140,8 +124,14 @@ fn fresh_book<S: Alter + Drop>(alloc: Global, conn: Connection<S>) -> Result<Sql
 }
 
 // Brings tables of version 1 to version 2 in one transaction, where their totals are the sums of their parts.
-fn renew<S: Alter>(alloc: Global, conn: &mut Connection<S>) -> Result<(), BookFault>
+fn renew<S: Alter>(
+    alloc: Global,
+    conn: &mut Connection<S>,
+    names: &mut Vec<OpenPart>,
+) -> Result<(), BookFault>
     requires outside { conn.old.in_transaction ≡ false }
+    requires rising { IsTrue (rise own_key open_cmp names.old.items) }
+    ensures rising { IsTrue (rise own_key open_cmp names.new.items) }
     ensures mode { conn.new.in_transaction ≡ false }
     ensures earlier { HasCleanDisk (state S.Store conn.new) → HasCleanDisk (state S.Store conn.old) }
     ensures renewed { (m : Content) → HoldsEarlierContent (state S.Store conn.old) m → OnOk result (HoldsContent (state S.Store conn.new) m) }
@@ -152,7 +142,7 @@ fn renew<S: Alter>(alloc: Global, conn: &mut Connection<S>) -> Result<(), BookFa
     ensures unwritten { result ≡ Err WrongVersion → Leaves (state S.Store conn.old) (state S.Store conn.new) }
     ensures neither { result ≡ Err WrongVersion → HasCleanDisk (state S.Store conn.new) → (m : Content) → HoldsEarlierContent (state S.Store conn.old) m → ⊥ }
 {
-    match have_earlier_sums(alloc, conn) {
+    match have_earlier_sums(alloc, conn, names) {
         Ok(true) => {}
         Ok(false) => return Err(BookFault::WrongVersion),
         Err(fault) => return Err(fault_of_tables(fault)),
@@ -215,7 +205,7 @@ impl<S: Alter> SqlBook<S> {
         ensures free { names_are_free conn.schema ≡ true → IfErr result (λ back. back.0 ≢ WrongVersion) }
     {
         match adopt_tables(&mut conn) {
-            Ok(Adopted::Made) => Ok(SqlBook::over(alloc, conn)),
+            Ok(Adopted::Made) => Ok(SqlBook::over(alloc, conn, Vec::new(alloc))),
             Ok(Adopted::Found) => SqlBook::checked(alloc, conn),
             Ok(Adopted::Earlier) => SqlBook::renewed(alloc, conn),
             Err(fault) => Err((fault_of_adopt(fault), conn)),
@@ -234,8 +224,9 @@ impl<S: Alter> SqlBook<S> {
         ensures sums { IfOk result (λ book. HasCleanDisk (state S.Store book.conn) → (b : Books) → Holds (state S.Store conn) b → HasSums b) }
         ensures neither { IfErr result (λ back. back.0 ≡ WrongVersion → HasCleanDisk (state S.Store back.1) → (b : Books) → Holds (state S.Store conn) b → ¬ HasSums b) }
     {
-        match have_sums(alloc, &mut conn) {
-            Ok(true) => Ok(SqlBook::over(alloc, conn)),
+        let mut names = Vec::new(alloc);
+        match have_sums(alloc, &mut conn, &mut names) {
+            Ok(true) => Ok(SqlBook::over(alloc, conn, names)),
             Ok(false) => Err((BookFault::WrongVersion, conn)),
             Err(fault) => Err((fault_of_tables(fault), conn)),
         }
@@ -258,15 +249,17 @@ impl<S: Alter> SqlBook<S> {
         ensures unwritten { IfErr result (λ back. back.0 ≡ WrongVersion → Leaves (state S.Store conn) (state S.Store back.1)) }
         ensures neither { IfErr result (λ back. back.0 ≡ WrongVersion → HasCleanDisk (state S.Store back.1) → (m : Content) → HoldsEarlierContent (state S.Store conn) m → ⊥) }
     {
-        match renew(alloc, &mut conn) {
-            Ok(()) => Ok(SqlBook::over(alloc, conn)),
+        let mut names = Vec::new(alloc);
+        match renew(alloc, &mut conn, &mut names) {
+            Ok(()) => Ok(SqlBook::over(alloc, conn, names)),
             Err(fault) => Err((fault, conn)),
         }
     }
 
     // Over a connection outside a transaction; no failure is counted yet.
-    fn over(alloc: Global, conn: Connection<S>) -> SqlBook<S>
-        requires { conn.in_transaction ≡ false }
+    fn over(alloc: Global, conn: Connection<S>, names: Vec<OpenPart>) -> SqlBook<S>
+        requires outside { conn.in_transaction ≡ false }
+        requires rising { IsTrue (rise own_key open_cmp names.items) }
         ensures conn { result.conn ≡ conn }
         ensures failures { result.failures ≡ 0 }
     {
@@ -274,6 +267,7 @@ impl<S: Alter> SqlBook<S> {
             alloc,
             conn,
             failures: 0,
+            names,
         }
     }
 
@@ -285,6 +279,7 @@ impl<S: Alter> SqlBook<S> {
             alloc: _,
             conn,
             failures: _,
+            names: _,
         } = self;
         conn
     }
@@ -381,7 +376,8 @@ impl<S: Alter> Book for SqlBook<S> {
     }
 
     fn parts_of(&mut self, alloc: Global, material: Code) -> Result<PartList, BookFault> {
-        let answer = listed_parts(alloc, &mut self.conn, material);
+        let keys = names_behind(&self.names, material, None);
+        let answer = listed_parts(alloc, &mut self.conn, material, keys);
         self.count_fault(answer)
     }
 
@@ -390,7 +386,8 @@ impl<S: Alter> Book for SqlBook<S> {
         material: Code,
         visitor: &mut V,
     ) -> Result<bool, BookFault> {
-        let answer = lend_parts(&mut self.conn, material, visitor);
+        let keys = names_behind(&self.names, material, None);
+        let answer = visit_listed(self.alloc, &mut self.conn, material, keys, visitor);
         self.count_fault(answer)
     }
 
@@ -406,7 +403,8 @@ impl<S: Alter> Book for SqlBook<S> {
         after: Option<PartName>,
         most: usize,
     ) -> Result<PartList, BookFault> {
-        let answer = list_first_parts(alloc, &mut self.conn, material, after, most);
+        let keys = names_behind(&self.names, material, None);
+        let answer = first_listed(alloc, &mut self.conn, material, keys, after, most);
         self.count_fault(answer)
     }
 
@@ -437,7 +435,7 @@ impl<S: Alter> Book for SqlBook<S> {
     }
 
     fn commit(&mut self, change: Change) -> Result<(), BookFault> {
-        let answer = commit_change(self.alloc, &mut self.conn, &change);
+        let answer = commit_listed(self.alloc, &mut self.conn, &mut self.names, &change);
         self.count_fault(answer)
     }
 

@@ -14,16 +14,16 @@ returns-in_err-adder-clause-leaves g c = leaves_itself (state g.S.Store c.args.c
 pub returns-in-All-clause-sums : goal.returns-in-All-clause-sums
 returns-in-All-clause-sums g c clean b was list =
     let v = c.lend_all_parts.ensures.visit in
-    added_all b c.args.totals.now c.in_ok-adder.adder c.lend_all_parts.new.visitor (gone_through c.lend_all_parts.result) c.are_sums.result list c.in_ok-adder.ensures.none c.in_ok-adder.ensures.there
+    added_all b c.args.totals.now c.in_ok-adder.adder c.lend_all_parts.new.visitor (gone_through c.lend_all_parts.result) c.conclude.result list c.in_ok-adder.ensures.none c.in_ok-adder.ensures.there
     (ap gone_through (c.in_ok-lend_all_parts.was ∙ ap Ok c.in-All.is)) (record { parts = v.parts; on = v.on; visitor = v.visitor; answer = v.answer; begins = v.begins clean b was })
-    (subst (λ s. Decides c.are_sums.result (AreSumsIn s c.args.totals.now)) c.deref.ensures.value c.are_sums.ensures)
+    c.conclude.ensures.sums
 
 pub returns-in-All-clause-earlier : goal.returns-in-All-clause-earlier
 returns-in-All-clause-earlier g c clean b was list =
     let v = c.lend_all_parts.ensures.earlier in
-    added_all b c.args.totals.now c.in_ok-adder.adder c.lend_all_parts.new.visitor (gone_through c.lend_all_parts.result) c.are_sums.result list c.in_ok-adder.ensures.none c.in_ok-adder.ensures.there
+    added_all b c.args.totals.now c.in_ok-adder.adder c.lend_all_parts.new.visitor (gone_through c.lend_all_parts.result) c.conclude.result list c.in_ok-adder.ensures.none c.in_ok-adder.ensures.there
     (ap gone_through (c.in_ok-lend_all_parts.was ∙ ap Ok c.in-All.is)) (record { parts = v.parts; on = v.on; visitor = v.visitor; answer = v.answer; begins = v.begins clean b was })
-    (subst (λ s. Decides c.are_sums.result (AreSumsIn s c.args.totals.now)) c.deref.ensures.value c.are_sums.ensures)
+    c.conclude.ensures.sums
 
 pub returns-in-Stopped-clause-sums : goal.returns-in-Stopped-clause-sums
 returns-in-Stopped-clause-sums g c clean b was list =
@@ -31,8 +31,8 @@ returns-in-Stopped-clause-sums g c clean b was list =
     stopped_at b c.args.totals.now c.in_ok-adder.adder c.lend_all_parts.new.visitor (gone_through c.lend_all_parts.result) list c.in_ok-adder.ensures.narrow c.in_ok-adder.ensures.none c.in_ok-adder.ensures.there
     (ap gone_through (c.in_ok-lend_all_parts.was ∙ ap Ok c.in-Stopped.is)) (record { parts = v.parts; on = v.on; visitor = v.visitor; answer = v.answer; begins = v.begins clean b was })
 
-pub returns-clause-sums : goal.returns-clause-sums
-returns-clause-sums g c clean b was list =
+pub returns-in-Strange-clause-sums : goal.returns-in-Strange-clause-sums
+returns-in-Strange-clause-sums g c clean b was list =
     absurd (subst (λ r. IfOk r (λ how. ¬ (how ≡ Strange))) (c.in_ok-lend_all_parts.was ∙ ap Ok c.in-Strange.is) (c.lend_all_parts.ensures.strange clean b was) refl)
 
 pub returns-in-Stopped-clause-earlier : goal.returns-in-Stopped-clause-earlier
@@ -41,6 +41,6 @@ returns-in-Stopped-clause-earlier g c clean b was list =
     stopped_at b c.args.totals.now c.in_ok-adder.adder c.lend_all_parts.new.visitor (gone_through c.lend_all_parts.result) list c.in_ok-adder.ensures.narrow c.in_ok-adder.ensures.none c.in_ok-adder.ensures.there
     (ap gone_through (c.in_ok-lend_all_parts.was ∙ ap Ok c.in-Stopped.is)) (record { parts = v.parts; on = v.on; visitor = v.visitor; answer = v.answer; begins = v.begins clean b was })
 
-pub returns-clause-earlier : goal.returns-clause-earlier
-returns-clause-earlier g c clean b was list =
+pub returns-in-Strange-clause-earlier : goal.returns-in-Strange-clause-earlier
+returns-in-Strange-clause-earlier g c clean b was list =
     absurd (subst (λ r. IfOk r (λ how. ¬ (how ≡ Strange))) (c.in_ok-lend_all_parts.was ∙ ap Ok c.in-Strange.is) (c.lend_all_parts.ensures.earlier_strange clean b was) refl)

@@ -35,6 +35,14 @@ returns-in_err-next_line-clause-err g c =
     let kept = subst (IsReplayed g.B.Book c.args.book.now c.loop-line.book (g.W.Sink.held c.args.sink.now) (g.W.Sink.held c.loop-line.sink) so_far.0) (sym (append-nil c.loop-line.held.items)) so_far.3 in
     for_each_fault c.from_residual.result _ (λ fault. (so_far.0, read.0, read.1, [], (λ _. refl), kept))
 
+pub returns-in_default-clause-err : goal.returns-in_default-clause-err
+returns-in_default-clause-err g c =
+    let left = g.S.Source.left c.args.source.now in
+    let read = some_read left (prepend_known [] left) [] (none_read left) in
+    let held = g.W.Sink.held c.args.sink.now in
+    let none = subst (IsReplayed g.B.Book c.args.book.now c.args.book.now held held []) (sym c.requires ∙ sym (append-nil c.args.held.now.items)) (none_replayed g.B.Book c.args.book.now held) in
+    ([], read.0, read.1, [], (λ _. refl), none)
+
 pub returns-clause-ok : goal.returns-clause-ok
 returns-clause-ok g c =
     let so_far = c.loop-line.invariant in

@@ -1,6 +1,6 @@
 use Rattle.shop_machine.specs.Content.{parts_of}
 use Rattle.shop_store.proofs.Taking.{all_taken}
-use Rattle.shop_store.proofs.sql.listed_parts.Goals as goal
+use Rattle.shop_store.proofs.named_parts.searched_parts.Goals as goal
 
 pub returns-then-all-clause-rows : goal.returns-then-all-clause-rows
 returns-then-all-clause-rows g c clean b was =

@@ -1,0 +1,13 @@
+use Rattle.std.proofs.Common.{◌≡◌, false}
+use Rattle.sqlite.specs.Held.{state}
+use Rattle.shop_tables.specs.Shown.{Leaves, OnBooks}
+use Rattle.shop_store.specs.NamedParts.{AreStanding}
+use Rattle.shop_store.proofs.named_parts.named_parts.Given as goal
+
+abbrev pub invariant-loop-key : goal.invariant-loop-key
+invariant-loop-key g l =
+    record {
+      leaves : Leaves (state g.S.Store l.fn.conn) (state g.S.Store l.conn);
+      mode : l.fn.conn.in_transaction ≡ false → l.conn.in_transaction ≡ false;
+      standing : OnBooks (state g.S.Store l.fn.conn) (state g.S.Store l.conn) (λ books. AreStanding books.content l.material l.parts);
+    }

@@ -1,0 +1,251 @@
+//! The standing parts of a material, found under their names. The names are a hint alone: what they find is all exactly
+//! where it has the cells of the material's totals, and else all rows are gone through.
+
+ghost use Rattle.std.specs.Prelude.{◌≡◌, ◌++◌, [], ◌∷◌, false, filter, take, Ok, IfOk, IfSome, IsTrue, OnOk};
+ghost use Rattle.cut_measure.specs.Names.{name_cmp};
+ghost use Rattle.sqlite.specs.Held.{state};
+ghost use Rattle.shop_machine.specs.Content.{parts_of};
+ghost use Rattle.shop_machine.specs.Listing.{is_behind, parts_behind};
+ghost use Rattle.shop_machine.specs.Visits.{IsVisit};
+ghost use Rattle.shop_machine.specs.declared.records.Part.{Part as PartOf};
+ghost use Rattle.shop_tables.specs.Changing.{HasSums};
+ghost use Rattle.shop_tables.specs.Shown.{Leaves, OnBooks};
+ghost use Rattle.shop_rows.specs.Keys.{part_key};
+ghost use Rattle.shop_rows.specs.Rows.{rise};
+ghost use Rattle.shop_tables.specs.declared.faults.TableFault.{TableFault as Fault};
+ghost use Rattle.shop_store.specs.NamedParts.{AreStanding, HaveCells, IsTaken};
+
+use crate::sql::totals_of;
+use crate::takers::PartTaker;
+use cut_measure::{Code, PartName};
+use shop_machine::{Part, PartList, PartVisitor, Totals};
+use shop_rows::{OpenPart, no_sums, with_all};
+use shop_tables::{TableFault, find_part, lend_parts, list_first_parts};
+use sqlite::{Alter, Connection};
+use std::alloc::{AllocError, Global};
+use std::cmp::Ordering;
+
+// Takes the part of a name, where it stands for the material.
+fn take_named<S: Alter>(
+    conn: &mut Connection<S>,
+    material: Code,
+    name: PartName,
+    parts: &mut PartList,
+) -> Result<bool, TableFault>
+    ensures taken { OnBooks (state S.Store conn.old) (state S.Store conn.new) (λ books. IfOk result (λ there. IsTrue there → IsTaken books.content material parts.old parts.new)) }
+    ensures leaves { Leaves (state S.Store conn.old) (state S.Store conn.new) }
+    ensures mode { conn.old.in_transaction ≡ false → conn.new.in_transaction ≡ false }
+{
+    let Some(part) = find_part(conn, name)? else {
+        return Ok(false);
+    };
+    if !part.is_listed(&material) {
+        return Ok(false);
+    }
+    parts.push(part)?;
+    Ok(true)
+}
+
+// The parts of these names; none where one of them doesn't stand for the material.
+fn named_parts<S: Alter>(
+    alloc: Global,
+    conn: &mut Connection<S>,
+    material: Code,
+    keys: &[OpenPart],
+) -> Result<Option<PartList>, TableFault>
+    ensures standing { OnBooks (state S.Store conn.old) (state S.Store conn.new) (λ books. IfOk result (λ found. IfSome found (AreStanding books.content material))) }
+    ensures leaves { Leaves (state S.Store conn.old) (state S.Store conn.new) }
+    ensures mode { conn.old.in_transaction ≡ false → conn.new.in_transaction ≡ false }
+{
+    let mut parts = PartList::new(alloc);
+    for key in keys {
+        if !take_named(conn, material, key.name, &mut parts)? {
+            return Ok(None);
+        }
+    }
+    Ok(Some(parts))
+}
+
+// Whether parts rise by their names.
+fn rise(parts: &[Part]) -> bool
+    ensures { IsTrue result → IsTrue (rise part_key name_cmp parts.now) }
+{
+    for i in 1..parts.len() {
+        if !matches!(parts[i - 1].name.order(&parts[i].name), Ordering::Less) {
+            return false;
+        }
+    }
+    true
+}
+
+// Whether a sum is the total.
+fn is_total(sum: u128, total: u64) -> bool
+    ensures { IsTrue result → sum ≡ total }
+{
+    sum == u128::from(total)
+}
+
+// Whether parts of a material rise by their names, and have the cells that its totals have in stock and on the rack.
+fn have_cells(parts: &[Part], material: Code, totals: &Totals) -> bool
+    ensures { IsTrue result → HaveCells material totals.now parts.now }
+{
+    let _len = parts.len();
+    let Some(sums) = with_all(no_sums(material), parts) else {
+        return false;
+    };
+    if !rise(parts) {
+        return false;
+    }
+    if !is_total(sums.stock, totals.stock) {
+        return false;
+    }
+    is_total(sums.rack, totals.rack)
+}
+
+// The standing parts of a material, where these names are theirs.
+fn whole_parts<S: Alter>(
+    alloc: Global,
+    conn: &mut Connection<S>,
+    material: Code,
+    keys: &[OpenPart],
+) -> Result<Option<PartList>, TableFault>
+    ensures rows { OnBooks (state S.Store conn.old) (state S.Store conn.new) (λ books. HasSums books → IfOk result (λ found. IfSome found (λ parts. parts ≡ parts_of books.content material))) }
+    ensures leaves { Leaves (state S.Store conn.old) (state S.Store conn.new) }
+    ensures mode { conn.old.in_transaction ≡ false → conn.new.in_transaction ≡ false }
+{
+    let Some(parts) = named_parts(alloc, conn, material, keys)? else {
+        return Ok(None);
+    };
+    let totals = totals_of(conn, material)?;
+    if !have_cells(parts.as_slice(), material, &totals) {
+        return Ok(None);
+    }
+    Ok(Some(parts))
+}
+
+// The standing parts of a material, among all rows.
+fn searched_parts<S: Alter>(
+    alloc: Global,
+    conn: &mut Connection<S>,
+    material: Code,
+) -> Result<PartList, TableFault>
+    ensures rows { OnBooks (state S.Store conn.old) (state S.Store conn.new) (λ books. IfOk result (λ rows. rows ≡ parts_of books.content material)) }
+    ensures leaves { Leaves (state S.Store conn.old) (state S.Store conn.new) }
+    ensures mode { conn.old.in_transaction ≡ false → conn.new.in_transaction ≡ false }
+{
+    let mut taker = PartTaker {
+        parts: PartList::new(alloc),
+    };
+    let all = lend_parts(conn, material, &mut taker)?;
+    if all {
+        Ok(taker.parts)
+    } else {
+        Err(TableFault::NoMemory)
+    }
+}
+
+/// The standing parts of a material, looked for first under these names.
+pub fn listed_parts<S: Alter>(
+    alloc: Global,
+    conn: &mut Connection<S>,
+    material: Code,
+    keys: &[OpenPart],
+) -> Result<PartList, TableFault>
+    ensures rows { OnBooks (state S.Store conn.old) (state S.Store conn.new) (λ books. HasSums books → IfOk result (λ rows. rows ≡ parts_of books.content material)) }
+    ensures leaves { Leaves (state S.Store conn.old) (state S.Store conn.new) }
+    ensures mode { conn.old.in_transaction ≡ false → conn.new.in_transaction ≡ false }
+{
+    match whole_parts(alloc, conn, material, keys)? {
+        Some(parts) => Ok(parts),
+        None => searched_parts(alloc, conn, material),
+    }
+}
+
+// Hands out parts, for as long as the visitor answers true.
+fn hand_out<V: PartVisitor>(parts: &[Part], visitor: &mut V) -> bool
+    ensures { IsVisit V.looks {Fault = Fault} (λ what. what parts.now) visitor.old (Ok result) visitor.new }
+{
+    for part in parts {
+        if !visitor.part(part) {
+            return false;
+        }
+    }
+    true
+}
+
+/// Hands out the standing parts of a material, looked for first under these names, for as long as the visitor answers true.
+pub fn visit_listed<S: Alter, V: PartVisitor>(
+    alloc: Global,
+    conn: &mut Connection<S>,
+    material: Code,
+    keys: &[OpenPart],
+    visitor: &mut V,
+) -> Result<bool, TableFault>
+    ensures visit { IsVisit V.looks (λ what. OnBooks (state S.Store conn.old) (state S.Store conn.new) (λ books. HasSums books → what (parts_of books.content material))) visitor.old result visitor.new }
+    ensures leaves { Leaves (state S.Store conn.old) (state S.Store conn.new) }
+    ensures mode { conn.old.in_transaction ≡ false → conn.new.in_transaction ≡ false }
+{
+    match whole_parts(alloc, conn, material, keys)? {
+        Some(parts) => Ok(hand_out(parts.as_slice(), visitor)),
+        None => lend_parts(conn, material, visitor),
+    }
+}
+
+// Whether a name comes behind another one, or there is no other.
+fn is_behind(after: &Option<PartName>, name: PartName) -> bool
+    ensures { result ≡ is_behind after.now name }
+{
+    match after {
+        Some(after) => matches!(after.order(&name), Ordering::Less),
+        None => true,
+    }
+}
+
+// Appends a part, where it is behind a name.
+fn push_behind(rows: &mut PartList, part: &Part, after: &Option<PartName>) -> Result<(), AllocError>
+    ensures { OnOk result (rows.new ≡ rows.old ++ filter (λ (part : PartOf). is_behind after.now part.name) (part.now ∷ [])) }
+{
+    if !is_behind(after, part.name) {
+        return Ok(());
+    }
+    rows.push(*part)
+}
+
+// The first of these parts that are behind a name: at most so many.
+fn first_behind(
+    alloc: Global,
+    parts: &[Part],
+    after: &Option<PartName>,
+    most: usize,
+) -> Result<PartList, AllocError>
+    ensures { IfOk result (λ rows. rows ≡ take most (filter (λ (part : PartOf). is_behind after.now part.name) parts.now)) }
+{
+    let mut rows = PartList::new(alloc);
+    for part in parts {
+        if most <= rows.as_slice().len() {
+            return Ok(rows);
+        }
+        push_behind(&mut rows, part, after)?;
+    }
+    Ok(rows)
+}
+
+/// The first standing parts of a material behind a name, looked for first under these names: at most so many.
+pub fn first_listed<S: Alter>(
+    alloc: Global,
+    conn: &mut Connection<S>,
+    material: Code,
+    keys: &[OpenPart],
+    after: Option<PartName>,
+    most: usize,
+) -> Result<PartList, TableFault>
+    ensures rows { OnBooks (state S.Store conn.old) (state S.Store conn.new) (λ books. HasSums books → IfOk result (λ rows. rows ≡ take most (parts_behind books.content material after))) }
+    ensures leaves { Leaves (state S.Store conn.old) (state S.Store conn.new) }
+    ensures mode { conn.old.in_transaction ≡ false → conn.new.in_transaction ≡ false }
+{
+    let Some(parts) = whole_parts(alloc, conn, material, keys)? else {
+        return list_first_parts(alloc, conn, material, after, most);
+    };
+    let rows = first_behind(alloc, parts.as_slice(), &after, most)?;
+    Ok(rows)
+}
