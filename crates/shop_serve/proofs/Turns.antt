@@ -98,7 +98,7 @@ module _ (site : Site) {B : Type 0} (book : Ghosts B) where
         held = held;
         sound = sound;
         failures = inl refl;
-        blame = λ t i e. elim i [ inl is ↦ subst (λ (t : Turn). TellsFailure t.handling) is e | inr none ↦ absurd none ];
+        blame = λ t i e. elim i [ inl is ↦ absurd (subst (λ (t : Turn). TellsFailure t.handling) is e) | inr none ↦ absurd none ];
         account = account_same json_texts m m refl;
       }
 
