@@ -155,7 +155,7 @@ fn version_line(alloc: Global) -> Result<String, AllocError>
 
 // Tells the version.
 fn version<W: Sink, E: Sink>(alloc: Global, sink: &mut W, errors: &mut E) -> u8
-    ensures { IsTold (W.held sink.old) (W.held sink.new) (E.held errors.old) (E.held errors.new) kind.DisplayVersion result }
+    ensures { IsTold (W.held sink.old) (W.held sink.new) (E.held errors.old) (E.held errors.new) (E.failed errors.old) (E.failed errors.new) kind.DisplayVersion result }
 {
     let Ok(line) = version_line(alloc) else {
         return report_fault(alloc, Fault::NoMemory, errors);
