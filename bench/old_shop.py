@@ -194,7 +194,7 @@ def over_tables(program, parts, times, root):
         child.kill()
         child.wait()
         begin = time.perf_counter()
-        subprocess.run([program, "ticket", "--store", store, "3"], stdout=subprocess.DEVNULL, check=True)
+        subprocess.run([program, "ticket", "--store", store, "2"], stdout=subprocess.DEVNULL, check=True)
         took["cutshop ticket"] = (time.perf_counter() - begin) * 1e6
         return took
 
