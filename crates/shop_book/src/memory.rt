@@ -26,9 +26,9 @@ use shop_machine::{
     Part, PartList, PartVisitor, RowList, Totals,
 };
 use shop_rows::{
-    OpenPart, OpenRows, Sums, add_part, at, find, list_all, list_demands, list_job, list_part,
-    names_behind, numbers_behind, put, put_all, put_run, put_some, sums_of, take_replaced,
-    totals_in, with_all,
+    OpenPart, OpenRows, Sums, add_part, at, copy_rows, find, first_rows, list_all, list_demands,
+    list_job, list_part, names_behind, numbers_behind, put, put_all, put_run, put_some, sums_of,
+    take_replaced, totals_in, with_all,
 };
 use std::alloc::{AllocError, Global};
 use std::cmp::Ordering;
@@ -198,17 +198,6 @@ fn visit<V: PartVisitor>(parts: &[Part], keys: &[OpenPart], visitor: &mut V) -> 
     true
 }
 
-// The same rows.
-fn copied<R: Copy + Drop>(alloc: Global, rows: &[R]) -> Result<RowList<R>, AllocError>
-    ensures { IfOk result (λ list. list ≡ rows.now) }
-{
-    let mut list = RowList::new(alloc);
-    for row in rows {
-        list.push(*row)?;
-    }
-    Ok(list)
-}
-
 // Whether a material is asked for.
 fn is_asked_for(asked: &Option<Code>, code: Code) -> bool
     ensures { result ≡ is_asked_for asked.now code }
@@ -255,17 +244,6 @@ fn first_asked(
         push_asked(&mut rows, find(demands, *key), asked)?;
     }
     Ok(rows)
-}
-
-// At most so many, from the first on.
-fn first<T>(items: &[T], most: usize) -> &[T]
-    ensures { result.now ≡ take most items.now }
-{
-    if most < items.len() {
-        &items[..most]
-    } else {
-        items
-    }
 }
 
 // A copy of the job of a number.
@@ -884,7 +862,7 @@ impl Book for MemBook {
         ensures memory { IfErr result (λ fault. fault ≡ NoMemory) }
         ensures same { self.new ≡ self.old }
     {
-        let rows = copied(alloc, &self.materials)?;
+        let rows = copy_rows(alloc, &self.materials)?;
         Ok(rows)
     }
 
@@ -900,7 +878,7 @@ impl Book for MemBook {
         ensures same { self.new ≡ self.old }
     {
         let keys = names_behind(&self.lists.parts, material, after);
-        let rows = listed(alloc, &self.parts, first(keys, most))?;
+        let rows = listed(alloc, &self.parts, first_rows(keys, most))?;
         Ok(rows)
     }
 
@@ -931,7 +909,7 @@ impl Book for MemBook {
         ensures same { self.new ≡ self.old }
     {
         let keys = numbers_behind(&self.lists.jobs, after);
-        let rows = copied(alloc, first(keys, most))?;
+        let rows = copy_rows(alloc, first_rows(keys, most))?;
         Ok(rows)
     }
 

@@ -24,7 +24,7 @@ use Rattle.shop_rows.proofs.Places.{lesser, pair_of, tested}
 use Rattle.shop_rows.proofs.Listed.{tie, code_turned, entries_filter, filter_filter, rise-filter}
 
 -- what is below all keys is none of them
-missed : {K X : Type 0} (cmp : K → K → Ordering) (q : K) (es : List (K × X)) → T (below_all cmp q es) → find cmp q es ≡ None
+pub missed : {K X : Type 0} (cmp : K → K → Ordering) (q : K) (es : List (K × X)) → T (below_all cmp q es) → find cmp q es ≡ None
 missed cmp q [] h = refl
 missed cmp q (e ∷ es) h = ap (λ r. cond (is_eq r) (Some e.1) (find cmp q es)) (less _ (first _ _ h)) ∙ missed cmp q es (second _ _ h)
 
@@ -99,7 +99,7 @@ module _ {X K : Type 0} (key_of : X → K) (cmp : K → K → Ordering) (o : IsT
         by_test later true e = passes later keys refl up e
         by_test later false e = later keys up (rest keys (names (key_of x) ∙ own ∙ e) (λ key apart. refl))
 
-    below_filter : (q : K) (rows : List X) → T (below_all cmp q (entries_of key_of cmp rows)) → T (below_all cmp q (entries_of key_of cmp (filter test rows)))
+    pub below_filter : (q : K) (rows : List X) → T (below_all cmp q (entries_of key_of cmp rows)) → T (below_all cmp q (entries_of key_of cmp (filter test rows)))
     below_filter q [] h = tt
     below_filter q (x ∷ xs) h =
         elim (test x) as (λ b. T (below_all cmp q (entries_of key_of cmp (cond b (x ∷ filter test xs) (filter test xs))))) [

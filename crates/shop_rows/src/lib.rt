@@ -9,7 +9,9 @@ mod sums;
 pub use open::{
     OpenPart, OpenRows, list_all, list_demands, list_job, list_part, names_behind, numbers_behind,
 };
-pub use rows::{Row, at, find, put, put_all, put_run, put_some, settle, take_row};
+pub use rows::{
+    Row, at, copy_rows, find, first_rows, put, put_all, put_run, put_some, rises, settle, take_row,
+};
 pub use sums::{
     Sums, add_part, count_part, has_totals, no_sums, sums_of, take_replaced, totals_in, with_all,
 };

@@ -2,12 +2,14 @@
 
 ghost use Rattle.std.specs.declared.cmp.Ordering.{Ordering};
 ghost use Rattle.std.specs.declared.cmp.Ordering.TheVariants.{Equal, Greater};
-ghost use Rattle.std.specs.Prelude.{◌≡◌, ◌+◌, ◌++◌, ◌<◌, ◌≤◌, ℕ, All, List, IfSome, IsSome, IsTrue, None, Err, false, length, option_copied, vec_len, vec_capacity};
+ghost use Rattle.std.specs.Prelude.{◌≡◌, ◌+◌, ◌++◌, ◌<◌, ◌≤◌, ℕ, All, List, IfOk, IfSome, IsSome, IsTrue, None, Err, false, length, take, option_copied, vec_len, vec_capacity};
 ghost use Rattle.std.specs.List.{HoldsAt, insert_slice};
 ghost use Rattle.std.specs.List.Sorted.{IsBinarySearchResult, IsSearchInRange};
 ghost use Rattle.std.specs.Option.{option_to_list};
 ghost use Rattle.shop_rows.specs.Rows.{rise, row_at, IsPut, IsSettled, IsTaken, ArePut};
 
+use shop_machine::RowList;
+use std::alloc::{AllocError, Global};
 use std::cmp::Ordering;
 use std::mem::replace;
 
@@ -75,8 +77,8 @@ fn place<R: Row>(rows: &[R], key: R::Key) -> Result<usize, usize>
     rows.binary_search_by(|row| row.compare(key))
 }
 
-// Whether rows rise by their keys.
-fn rises<R: Row>(rows: &[R]) -> bool
+/// Whether rows rise by their keys.
+pub fn rises<R: Row>(rows: &[R]) -> bool
     ensures { IsTrue result → IsTrue (rise R.key_of R.cmp rows.now) }
 {
     for i in 1..rows.len() {
@@ -270,4 +272,26 @@ pub fn put_all<R: Row + Copy>(rows: &mut Vec<R>, added: &[R])
         return;
     }
     put_each(rows, added);
+}
+
+/// The first of these rows, at most so many.
+pub fn first_rows<R>(rows: &[R], most: usize) -> &[R]
+    ensures { result.now ≡ take most rows.now }
+{
+    if most < rows.len() {
+        &rows[..most]
+    } else {
+        rows
+    }
+}
+
+/// The same rows.
+pub fn copy_rows<R: Copy + Drop>(alloc: Global, rows: &[R]) -> Result<RowList<R>, AllocError>
+    ensures { IfOk result (λ list. list ≡ rows.now) }
+{
+    let mut list = RowList::new(alloc);
+    for row in rows {
+        list.push(*row)?;
+    }
+    Ok(list)
 }

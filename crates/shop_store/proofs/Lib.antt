@@ -12,3 +12,6 @@ pub mod Commits
 pub mod Weights
 pub mod Whole
 pub mod Noted
+-- jobs and demands that are listed
+pub mod PassingRows
+pub mod Work

@@ -85,23 +85,23 @@ all_seen looks parts i old new all seen = record {
   begins = ([], sym (append-nil parts), λ _. refl);
 }
 
--- ---- the first parts that pass
+-- ---- the first rows that pass
 
-module _ (test : Part → Bool) (parts : List Part) (i : ℕ) where
-  pub passed_so_far : (part : Part) → i < length parts → part ≡ get_or parts i part → filter test (take (i + 1) parts) ≡ filter test (take i parts) ++ filter test (part ∷ [])
-  passed_so_far part within is = ap (filter test) (take_more parts i part within ∙ ap (λ (p : Part). take i parts ++ p ∷ []) (sym is)) ∙ filter-append test (take i parts) (part ∷ [])
+module _ {X : Type 0} (test : X → Bool) (rows : List X) (i : ℕ) where
+  pub passed_so_far : (row : X) → i < length rows → row ≡ get_or rows i row → filter test (take (i + 1) rows) ≡ filter test (take i rows) ++ filter test (row ∷ [])
+  passed_so_far row within is = ap (filter test) (take_more rows i row within ∙ ap (λ (x : X). take i rows ++ x ∷ []) (sym is)) ∙ filter-append test (take i rows) (row ∷ [])
 
   -- as many passed so far as are wanted
-  pub enough_passed : (most : ℕ) (rows : List Part) → rows ≡ filter test (take i parts) → most ≡ length rows → rows ≡ take most (filter test parts)
-  enough_passed most rows is full =
-      sym (ap (take most) (ap (filter test) (sym (take-append-drop i parts)) ∙ filter-append test (take i parts) (drop i parts) ∙ ap (λ ps. ps ++ filter test (drop i parts)) (sym is))
-      ∙ take_front most rows (filter test (drop i parts)) full)
+  pub enough_passed : (most : ℕ) (found : List X) → found ≡ filter test (take i rows) → most ≡ length found → found ≡ take most (filter test rows)
+  enough_passed most found is full =
+      sym (ap (take most) (ap (filter test) (sym (take-append-drop i rows)) ∙ filter-append test (take i rows) (drop i rows) ∙ ap (λ xs. xs ++ filter test (drop i rows)) (sym is))
+      ∙ take_front most found (filter test (drop i rows)) full)
 
   -- all were looked at, and no more passed than are wanted
-  pub all_passed : (most : ℕ) (rows : List Part) → rows ≡ filter test (take i parts) → length parts ≤ i → length rows ≤ most → rows ≡ take most (filter test parts)
-  all_passed most rows is all fits =
-      let whole : rows ≡ filter test parts = is ∙ ap (filter test) (take_all i parts all) in
-      sym (ap (take most) (sym whole) ∙ take_all most rows fits)
+  pub all_passed : (most : ℕ) (found : List X) → found ≡ filter test (take i rows) → length rows ≤ i → length found ≤ most → found ≡ take most (filter test rows)
+  all_passed most found is all fits =
+      let whole : found ≡ filter test rows = is ∙ ap (filter test) (take_all i rows all) in
+      sym (ap (take most) (sym whole) ∙ take_all most found fits)
 
 -- nothing was handed out, and there is no answer
 pub no_visit : {V Fault : Type 0} (looks : V → Part → Bool → V → Type 0) (says : (List Part → Type 0) → Type 0) (old : V) (r : Result Bool Fault) → IsErr r → ((what : List Part → Type 0) → ((list : List Part) → what list) → says what) → IsVisit looks says old r old

@@ -114,24 +114,29 @@ module _ (m : Content) (keyed : IsKeyed m) (code : List ℕ) where
 
 -- ---- a connection whose answer depends on what it holds is open
 
+pub open_by : (s : State) (P : Books → Type 0) → ((b : Books) → Holds s b → P b) → (one other : Books) → (P one → P other → ⊥) → IsTrue s.is_open
+open_by s P told one other differ = by_state s.is_open refl
+  where
+    by_state : (up : Bool) → s.is_open ≡ up → IsTrue s.is_open
+    by_state true is = is
+    by_state false is =
+        let anything : (b : Books) → Holds s b = λ b clean up. absurd (true≢false (sym up ∙ is)) in
+        absurd (differ (told one (anything one)) (told other (anything other)))
+
 module _ (s : State) (code : List ℕ) (totals : Totals) (told : (b : Books) → Holds s b → totals ≡ unwrap_or (get b.totals code) no_totals) where
   abbrev one_received : Totals
   one_received = record no_totals { received = 1 }
 
-  shut : s.is_open ≡ false → ⊥
-  shut closed =
-      let anything : (b : Books) → Holds s b = λ b clean up. absurd (true≢false (sym up ∙ closed)) in
-      let nothing : totals ≡ no_totals = told (books fresh empty) (anything (books fresh empty)) ∙ ap (λ r. unwrap_or r no_totals) (get-empty code_cmp code) in
-      let one : totals ≡ one_received =
-      told (books fresh (insert empty code one_received)) (anything (books fresh (insert empty code one_received)))
-      ∙ ap (λ r. unwrap_or r no_totals) (get-insert code_total empty code one_received code ∙ ap (λ r. cond (is_eq r) (Some one_received) (get (empty {K = List ℕ} {X = Totals} {R = code_cmp}) code)) (tied_itself code_total code)) in
-      let same = ap (λ (t : Totals). t.received) (sym nothing ∙ one) in
-      omega (arith, same)
-
-  is_up : (b : Bool) → s.is_open ≡ b → IsTrue s.is_open
-  is_up true e = e
-  is_up false e = absurd (shut e)
-
   -- so the books that it holds are shown
   pub keyed_then : HasCleanDisk s → (b : Books) → Holds s b → IsKeyed b.content
-  keyed_then clean b was = (was clean (is_up s.is_open refl)).shows.keyed
+  keyed_then clean b was = (was clean up).shows.keyed
+    where
+      up : IsTrue s.is_open
+      up =
+          open_by s (λ b. totals ≡ unwrap_or (get b.totals code) no_totals) told (books fresh empty) (books fresh (insert empty code one_received))
+          (λ nothing one.
+          let none : totals ≡ no_totals = nothing ∙ ap (λ r. unwrap_or r no_totals) (get-empty code_cmp code) in
+          let some : totals ≡ one_received =
+          one ∙ ap (λ r. unwrap_or r no_totals) (get-insert code_total empty code one_received code ∙ ap (λ r. cond (is_eq r) (Some one_received) (get (empty {K = List ℕ} {X = Totals} {R = code_cmp}) code)) (tied_itself code_total code)) in
+          let same = ap (λ (t : Totals). t.received) (sym none ∙ some) in
+          omega (arith, same))

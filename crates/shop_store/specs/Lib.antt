@@ -4,3 +4,4 @@ pub mod Takers
 pub mod Checking
 pub mod Crashes
 pub mod NamedParts
+pub mod OpenWork

@@ -5,6 +5,8 @@ mod adders;
 mod checking;
 mod named_parts;
 mod names;
+mod open_work;
+mod passing;
 mod reopening;
 mod sql;
 mod takers;

@@ -15,14 +15,15 @@ ghost use Rattle.shop_rows.specs.Rows.{rise};
 ghost use Rattle.shop_tables.specs.declared.faults.TableFault.{TableFault as Fault};
 ghost use Rattle.shop_store.specs.NamedParts.{AreStanding, HaveCells, IsTaken};
 
+use crate::passing::{Test, first_passing};
 use crate::sql::totals_of;
 use crate::takers::PartTaker;
 use cut_measure::{Code, PartName};
 use shop_machine::{Part, PartList, PartVisitor, Totals};
-use shop_rows::{OpenPart, no_sums, with_all};
+use shop_rows::{OpenPart, no_sums, rises, with_all};
 use shop_tables::{TableFault, find_part, lend_parts, list_first_parts};
 use sqlite::{Alter, Connection};
-use std::alloc::{AllocError, Global};
+use std::alloc::Global;
 use std::cmp::Ordering;
 
 // Takes the part of a name, where it stands for the material.
@@ -66,18 +67,6 @@ fn named_parts<S: Alter>(
     Ok(Some(parts))
 }
 
-// Whether parts rise by their names.
-fn rise(parts: &[Part]) -> bool
-    ensures { IsTrue result → IsTrue (rise part_key name_cmp parts.now) }
-{
-    for i in 1..parts.len() {
-        if !matches!(parts[i - 1].name.order(&parts[i].name), Ordering::Less) {
-            return false;
-        }
-    }
-    true
-}
-
 // Whether a sum is the total.
 fn is_total(sum: u128, total: u64) -> bool
     ensures { IsTrue result → sum ≡ total }
@@ -93,7 +82,7 @@ fn have_cells(parts: &[Part], material: Code, totals: &Totals) -> bool
     let Some(sums) = with_all(no_sums(material), parts) else {
         return false;
     };
-    if !rise(parts) {
+    if !rises(parts) {
         return false;
     }
     if !is_total(sums.stock, totals.stock) {
@@ -191,43 +180,25 @@ pub fn visit_listed<S: Alter, V: PartVisitor>(
     }
 }
 
-// Whether a name comes behind another one, or there is no other.
-fn is_behind(after: &Option<PartName>, name: PartName) -> bool
-    ensures { result ≡ is_behind after.now name }
-{
-    match after {
-        Some(after) => matches!(after.order(&name), Ordering::Less),
-        None => true,
-    }
+// A part whose name comes behind another one, or any where there is no other.
+#[derive(Drop)]
+struct IsBehind {
+    after: Option<PartName>,
 }
 
-// Appends a part, where it is behind a name.
-fn push_behind(rows: &mut PartList, part: &Part, after: &Option<PartName>) -> Result<(), AllocError>
-    ensures { OnOk result (rows.new ≡ rows.old ++ filter (λ (part : PartOf). is_behind after.now part.name) (part.now ∷ [])) }
-{
-    if !is_behind(after, part.name) {
-        return Ok(());
-    }
-    rows.push(*part)
-}
+impl Test for IsBehind {
+    ghost use Rattle.shop_machine.specs.Listing.{is_behind};
 
-// The first of these parts that are behind a name: at most so many.
-fn first_behind(
-    alloc: Global,
-    parts: &[Part],
-    after: &Option<PartName>,
-    most: usize,
-) -> Result<PartList, AllocError>
-    ensures { IfOk result (λ rows. rows ≡ take most (filter (λ (part : PartOf). is_behind after.now part.name) parts.now)) }
-{
-    let mut rows = PartList::new(alloc);
-    for part in parts {
-        if most <= rows.as_slice().len() {
-            return Ok(rows);
+    type Row = Part;
+
+    ghost test = { λ behind part. is_behind behind.after part.name };
+
+    fn passes(&self, part: &Part) -> bool {
+        match self.after {
+            Some(after) => matches!(after.order(&part.name), Ordering::Less),
+            None => true,
         }
-        push_behind(&mut rows, part, after)?;
     }
-    Ok(rows)
 }
 
 /// The first standing parts of a material behind a name, looked for first under these names: at most so many.
@@ -246,6 +217,6 @@ pub fn first_listed<S: Alter>(
     let Some(parts) = whole_parts(alloc, conn, material, keys)? else {
         return list_first_parts(alloc, conn, material, after, most);
     };
-    let rows = first_behind(alloc, parts.as_slice(), &after, most)?;
+    let rows = first_passing(alloc, parts.as_slice(), &IsBehind { after }, most)?;
     Ok(rows)
 }

@@ -16,12 +16,13 @@ ghost use Rattle.shop_store.specs.EarlierBooks.{HoldsEarlierContent, IsSettledEa
 ghost use Rattle.shop_rows.specs.Open.{own_key, open_cmp};
 ghost use Rattle.shop_rows.specs.Rows.{rise};
 ghost use Rattle.shop_book.specs.Failures.{CountsFailure};
+ghost use Rattle.shop_store.specs.OpenWork.{WorkRises};
 ghost use Rattle.shop_store.specs.SqlBooks.{adopt_fault, book_fault, told as as_told, EitherWay};
 ghost use Rattle.shop_book.specs.declared.books.BookFault.TheVariants.{WrongVersion};
 
 use crate::checking::{have_earlier_sums, have_sums};
 use crate::named_parts::{first_listed, listed_parts, visit_listed};
-use crate::names::commit_listed;
+use crate::open_work::{OpenWork, commit_open, first_open, first_waiting};
 use cut_measure::{Code, PartName};
 use shop_book::{Book, BookFault};
 use shop_machine::{
@@ -32,7 +33,7 @@ use shop_rows::{OpenPart, names_behind};
 use shop_tables::{
     AdoptFault, Adopted, TableFault, adopt_tables, find_demand, find_import, find_job, find_kept,
     find_last_act, find_last_demand, find_last_number, find_material, find_order, find_part,
-    find_totals, list_materials, list_open_demands, list_waiting_jobs, renew_shop,
+    find_totals, list_materials, renew_shop,
 };
 use sqlite::{Alter, Connection, MemStore};
 use std::alloc::Global;
@@ -44,8 +45,10 @@ pub struct SqlBook<S: Alter> {
     conn: Connection<S>,
     failures: u64,
     names: Vec<OpenPart>,
+    work: OpenWork,
     ghost outside: { conn.in_transaction ≡ false },
     ghost rising: { IsTrue (rise own_key open_cmp names.items) },
+    ghost work_rising: { WorkRises work },
 }
 
 // The number behind the last act's.
@@ -115,6 +118,7 @@ fn fresh_book<S: Alter + Drop>(alloc: Global, conn: Connection<S>) -> Result<Sql
     ensures fresh { IfOk result (λ book. HoldsContent (state S.Store book.conn) fresh) }
     ensures after { IfOk result (λ book. LeavesOnly (state S.Store book.conn) fresh) }
     ensures failures { IfOk result (λ book. book.failures ≡ 0) }
+    ensures unlisted { IfOk result (λ book. book.work.is_listed ≡ false) }
     ensures version { IfErr result (λ fault. fault ≢ WrongVersion) }
 {
     match SqlBook::adopt(alloc, conn) {
@@ -159,6 +163,7 @@ impl SqlBook<MemStore> {
         ensures fresh { IfOk result (λ book. HoldsContent (state over_memory book.conn) fresh) }
         ensures after { IfOk result (λ book. LeavesOnly (state over_memory book.conn) fresh) }
         ensures failures { IfOk result (λ book. book.failures ≡ 0) }
+        ensures unlisted { IfOk result (λ book. book.work.is_listed ≡ false) }
         ensures version { IfErr result (λ fault. fault ≢ WrongVersion) }
     {
         let conn = Connection::open_in_memory(alloc)?;
@@ -179,6 +184,7 @@ impl<S: Alter> SqlBook<S> {
         requires outside { conn.in_transaction ≡ false }
         ensures mode { IfErr result (λ back. back.1.in_transaction ≡ false) }
         ensures failures { IfOk result (λ book. book.failures ≡ 0) }
+        ensures unlisted { IfOk result (λ book. book.work.is_listed ≡ false) }
         ensures earlier { EitherWay (λ book. book.conn) (λ after. HasCleanDisk (state S.Store after) → HasCleanDisk (state S.Store conn)) result }
         ensures fresh { conn.schema ≡ no_schema → IfOk result (λ book. HoldsContent (state S.Store book.conn) fresh) }
         ensures vacant { conn.schema ≡ no_schema → IfErr result (λ back. IsVacant (state S.Store back.1)) }
@@ -220,6 +226,7 @@ impl<S: Alter> SqlBook<S> {
         requires outside { conn.in_transaction ≡ false }
         ensures mode { IfErr result (λ back. back.1.in_transaction ≡ false) }
         ensures failures { IfOk result (λ book. book.failures ≡ 0) }
+        ensures unlisted { IfOk result (λ book. book.work.is_listed ≡ false) }
         ensures leaves { EitherWay (λ book. book.conn) (λ after. Leaves (state S.Store conn) (state S.Store after)) result }
         ensures sums { IfOk result (λ book. HasCleanDisk (state S.Store book.conn) → (b : Books) → Holds (state S.Store conn) b → HasSums b) }
         ensures neither { IfErr result (λ back. back.0 ≡ WrongVersion → HasCleanDisk (state S.Store back.1) → (b : Books) → Holds (state S.Store conn) b → ¬ HasSums b) }
@@ -240,6 +247,7 @@ impl<S: Alter> SqlBook<S> {
         requires outside { conn.in_transaction ≡ false }
         ensures mode { IfErr result (λ back. back.1.in_transaction ≡ false) }
         ensures failures { IfOk result (λ book. book.failures ≡ 0) }
+        ensures unlisted { IfOk result (λ book. book.work.is_listed ≡ false) }
         ensures earlier { EitherWay (λ book. book.conn) (λ after. HasCleanDisk (state S.Store after) → HasCleanDisk (state S.Store conn)) result }
         ensures renewed { (m : Content) → HoldsEarlierContent (state S.Store conn) m → IfOk result (λ book. HoldsContent (state S.Store book.conn) m) }
         ensures as_before { (m : Content) → HoldsEarlierContent (state S.Store conn) m → IfErr result (λ back. HoldsEarlierContent (state S.Store back.1) m) }
@@ -262,12 +270,14 @@ impl<S: Alter> SqlBook<S> {
         requires rising { IsTrue (rise own_key open_cmp names.items) }
         ensures conn { result.conn ≡ conn }
         ensures failures { result.failures ≡ 0 }
+        ensures unlisted { result.work.is_listed ≡ false }
     {
         SqlBook {
             alloc,
             conn,
             failures: 0,
             names,
+            work: OpenWork::new(alloc),
         }
     }
 
@@ -280,6 +290,7 @@ impl<S: Alter> SqlBook<S> {
             conn,
             failures: _,
             names: _,
+            work: _,
         } = self;
         conn
     }
@@ -287,6 +298,7 @@ impl<S: Alter> SqlBook<S> {
     // What the tables answered, where a failure of the store is counted.
     fn count_fault<T: Drop>(&mut self, answer: Result<T, TableFault>) -> Result<T, BookFault>
         ensures conn { self.new.conn ≡ self.old.conn }
+        ensures work { self.new.work ≡ self.old.work }
         ensures answer { result ≡ as_told answer }
         ensures failures { CountsFailure result self.old.failures self.new.failures }
     {
@@ -306,7 +318,8 @@ impl<S: Alter> Book for SqlBook<S> {
     ghost use Rattle.sqlite_trees.specs.Tree.{Trees};
     ghost use Rattle.sqlite.specs.State.{HasCleanDisk};
     ghost use Rattle.sqlite.specs.Held.{state};
-    ghost use Rattle.shop_tables.specs.Held.{HoldsContent, StandsFor};
+    ghost use Rattle.shop_tables.specs.Held.{StandsFor};
+    ghost use Rattle.shop_store.specs.OpenWork.{HoldsListed};
 
     ghost Left = { Trees };
 
@@ -314,7 +327,7 @@ impl<S: Alter> Book for SqlBook<S> {
 
     ghost may_leave = { λ book db. (state S.Store book.conn).may_leave db };
 
-    ghost holds = { λ book m. HoldsContent (state S.Store book.conn) m };
+    ghost holds = { λ book m. HoldsListed (state S.Store book.conn) book.work m };
 
     ghost is_honest = { λ book. HasCleanDisk (state S.Store book.conn) };
 
@@ -415,7 +428,7 @@ impl<S: Alter> Book for SqlBook<S> {
         material: Option<Code>,
         most: usize,
     ) -> Result<DemandList, BookFault> {
-        let answer = list_open_demands(alloc, &mut self.conn, after, material, most);
+        let answer = first_open(alloc, &mut self.conn, &mut self.work, after, material, most);
         self.count_fault(answer)
     }
 
@@ -425,7 +438,7 @@ impl<S: Alter> Book for SqlBook<S> {
         after: u32,
         most: usize,
     ) -> Result<NumberList, BookFault> {
-        let answer = list_waiting_jobs(alloc, &mut self.conn, after, most);
+        let answer = first_waiting(alloc, &mut self.conn, &mut self.work, after, most);
         self.count_fault(answer)
     }
 
@@ -435,7 +448,13 @@ impl<S: Alter> Book for SqlBook<S> {
     }
 
     fn commit(&mut self, change: Change) -> Result<(), BookFault> {
-        let answer = commit_listed(self.alloc, &mut self.conn, &mut self.names, &change);
+        let answer = commit_open(
+            self.alloc,
+            &mut self.conn,
+            &mut self.names,
+            &mut self.work,
+            &change,
+        );
         self.count_fault(answer)
     }
 

@@ -58,7 +58,7 @@ module _ {K X : Type 0} {R : K → K → Ordering} (o : IsTotalOrder R) (same : 
 
   module _ (m : FinMap R X) (key : X → K) (own : (k : K) (x : X) → get m k ≡ Some x → key x ≡ k) where
     -- each value stands under its own key
-    rekeyed : entries m ≡ map (λ x. (key x, x)) (values m)
+    pub rekeyed : entries m ≡ map (λ x. (key x, x)) (values m)
     rekeyed = go (entries m) (each_entry m (λ e. key e.1 ≡ e.0) own)
       where
         go : (es : List (K × X)) → AllByRecursion (λ (e : K × X). key e.1 ≡ e.0) es → es ≡ map (λ x. (key x, x)) (map (λ (e : K × X). e.1) es)

@@ -7,7 +7,7 @@ pub returns : goal.returns
 returns c = λ is.
     let own = c.no_sums.ensures.code in
     record {
-      rising = c.rise.ensures c.if-not-rise.false;
+      rising = c.rises.ensures c.if-not-rises.false;
       stock =
           let more = c.in-Some.ensures.sums Stock in
           let none = c.no_sums.ensures.none Stock in

@@ -11,8 +11,8 @@ returns-clause-rows c =
     let after = c.args.after in
     let most = c.args.most in
     let book = c.self.inside in
-    let keys : c.first.result.now ≡ take most (filter (is_after code after) book.lists.parts.items) =
-    c.first.ensures ∙ ap (take most) (c.names_behind-keys.ensures ∙ ap (filter (is_after code after)) c.deref.ensures.value) in
+    let keys : c.first_rows.result.now ≡ take most (filter (is_after code after) book.lists.parts.items) =
+    c.first_rows.ensures ∙ ap (take most) (c.names_behind-keys.ensures ∙ ap (filter (is_after code after)) c.deref.ensures.value) in
     c.in_ok-rows.ensures ∙ (λ i. parts_named (keys i) (c.deref-2.ensures.value i))
     ∙ first_named code book.lists.parts.items book.parts.items c.self.invariant.keys c.self.invariant.parts c.self.invariant.listed after most
     ∙ ap (λ book. take most (parts_behind book.content code after)) c.self.view_is

@@ -1,8 +1,16 @@
-use Rattle.shop_store.proofs.Telling.{as_told, says_of, keeps_reading}
+use Rattle.shop_store.specs.OpenWork.{KnowsWork}
+use Rattle.std.proofs.Common.{arith, sym, subst}
+use Rattle.sqlite.specs.State.{HasCleanDisk}
+use Rattle.sqlite.specs.Held.{state}
+use Rattle.shop_store.proofs.Telling.{as_told, keeps_listing}
 use Rattle.shop_store.proofs.sql.SqlBookBook.first_jobs.Goals as goal
 
 pub returns-clause-rows : goal.returns-clause-rows
-returns-clause-rows g c clean m was = as_told _ _ _ c.count_fault.ensures.answer (says_of g.S.Store _ c.args.self.now.conn c.list_waiting_jobs-answer.new.conn _ c.count_fault.ensures.conn c.list_waiting_jobs-answer.ensures.numbers clean m was)
+returns-clause-rows g c clean m was =
+    let read = subst (λ h. HasCleanDisk (state g.S.Store h)) c.count_fault.ensures.conn clean in
+    as_told _ _ _ c.count_fault.ensures.answer (c.first_waiting-answer.ensures.numbers read m was.0 (was.1 (let l = c.first_waiting-answer.ensures.leaves.survives.clean in omega (arith, l, read))))
 
 pub returns-clause-keeps : goal.returns-clause-keeps
-returns-clause-keeps g c = keeps_reading g.S.Store (λ b. b.conn) (λ b. b.failures) _ _ _ _ c.count_fault.ensures.conn c.list_waiting_jobs-answer.ensures.leaves c.count_fault.ensures.failures
+returns-clause-keeps g c =
+    keeps_listing g.S.Store (λ b. b.conn) (λ b. b.work) (λ b. b.failures) _ _ _ _ c.count_fault.ensures.conn
+    (λ clean m was knows. subst (λ w. KnowsWork w m) (sym c.count_fault.ensures.work) (c.first_waiting-answer.ensures.work clean m was knows)) c.first_waiting-answer.ensures.leaves c.count_fault.ensures.failures
