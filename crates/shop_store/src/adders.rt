@@ -7,16 +7,17 @@ ghost use Rattle.shop_rows.specs.Open.{own_key, open_cmp};
 ghost use Rattle.shop_rows.specs.Rows.{rise};
 ghost use Rattle.shop_rows.specs.Sums.{sum_at, sums_key};
 
-use shop_rows::{OpenPart, Sums};
+use crate::names::PartNames;
+use shop_rows::Sums;
 
 /// Adds up the parts that are handed out, for the materials that it was made for. It stops at a part of another material
 /// that a column counts, and where 64 bits don't hold a sum. It lists those that stand.
 #[derive(Drop)]
 pub struct PartAdder {
     pub sums: Vec<Sums>,
-    pub names: Vec<OpenPart>,
+    pub names: PartNames,
     ghost rising: { IsTrue (rise sums_key code_cmp sums.items) },
-    ghost names_rising: { IsTrue (rise own_key open_cmp names.items) },
+    ghost names_rising: { IsTrue (rise own_key open_cmp names.keys.items) },
     ghost room: { vec_len sums < vec_capacity sums },
     ghost small: { (column : Column) (code : List ℕ) → sum_at column code sums.items < 2 ^ 64 },
 }

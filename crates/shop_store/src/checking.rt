@@ -15,9 +15,9 @@ ghost use Rattle.shop_rows.specs.Rows.{rise};
 ghost use Rattle.shop_rows.specs.Sums.{sum_at, sums_key, total_in};
 
 use crate::adders::PartAdder;
-use crate::names::note_part;
+use crate::names::{PartNames, note_part};
 use shop_machine::{MaterialTotals, Part, PartVisitor, Totals};
-use shop_rows::{OpenPart, Sums, count_part, has_totals, no_sums, put};
+use shop_rows::{Sums, count_part, has_totals, no_sums, put};
 use shop_tables::{Lent, TableFault, lend_all_parts, list_earlier_totals, list_totals};
 use sqlite::{Alter, Connection};
 use std::alloc::{AllocError, Global};
@@ -53,7 +53,7 @@ fn adder_for(alloc: Global, totals: &[MaterialTotals]) -> Result<PartAdder, Allo
     sums.reserve(1)?;
     Ok(PartAdder {
         sums,
-        names: Vec::new(alloc),
+        names: PartNames::new(alloc),
     })
 }
 
@@ -72,9 +72,9 @@ fn are_sums(sums: &[Sums], totals: &[MaterialTotals]) -> bool
 }
 
 // Whether these are the sums of all parts, whose names are handed over.
-fn conclude(adder: PartAdder, totals: &[MaterialTotals], names: &mut Vec<OpenPart>) -> bool
+fn conclude(adder: PartAdder, totals: &[MaterialTotals], names: &mut PartNames) -> bool
     ensures sums { Decides result (AreSumsIn adder.sums.items totals.now) }
-    ensures rising { IsTrue (rise own_key open_cmp names.new.items) }
+    ensures rising { IsTrue (rise own_key open_cmp names.new.keys.items) }
 {
     let PartAdder { sums, names: found } = adder;
     *names = found;
@@ -86,10 +86,10 @@ fn are_sums_of_parts<S: Alter>(
     alloc: Global,
     conn: &mut Connection<S>,
     totals: &[MaterialTotals],
-    names: &mut Vec<OpenPart>,
+    names: &mut PartNames,
 ) -> Result<bool, TableFault>
-    requires rising { IsTrue (rise own_key open_cmp names.old.items) }
-    ensures rising { IsTrue (rise own_key open_cmp names.new.items) }
+    requires rising { IsTrue (rise own_key open_cmp names.old.keys.items) }
+    ensures rising { IsTrue (rise own_key open_cmp names.new.keys.items) }
     ensures sums { OnBooks (state S.Store conn.old) (state S.Store conn.new) (λ books. IsListOf books totals.now → IfOk result (λ good. Decides good (HasSums books))) }
     ensures earlier { OnBooksEarlier (state S.Store conn.old) (state S.Store conn.new) (λ books. IsListOf books totals.now → IfOk result (λ good. Decides good (HasSums books))) }
     ensures leaves { Leaves (state S.Store conn.old) (state S.Store conn.new) }
@@ -108,10 +108,10 @@ fn are_sums_of_parts<S: Alter>(
 pub fn have_sums<S: Alter>(
     alloc: Global,
     conn: &mut Connection<S>,
-    names: &mut Vec<OpenPart>,
+    names: &mut PartNames,
 ) -> Result<bool, TableFault>
-    requires rising { IsTrue (rise own_key open_cmp names.old.items) }
-    ensures rising { IsTrue (rise own_key open_cmp names.new.items) }
+    requires rising { IsTrue (rise own_key open_cmp names.old.keys.items) }
+    ensures rising { IsTrue (rise own_key open_cmp names.new.keys.items) }
     ensures sums { OnBooks (state S.Store conn.old) (state S.Store conn.new) (λ books. IfOk result (λ good. Decides good (HasSums books))) }
     ensures leaves { Leaves (state S.Store conn.old) (state S.Store conn.new) }
     ensures mode { conn.old.in_transaction ≡ false → conn.new.in_transaction ≡ false }
@@ -126,10 +126,10 @@ pub fn have_sums<S: Alter>(
 pub fn have_earlier_sums<S: Alter>(
     alloc: Global,
     conn: &mut Connection<S>,
-    names: &mut Vec<OpenPart>,
+    names: &mut PartNames,
 ) -> Result<bool, TableFault>
-    requires rising { IsTrue (rise own_key open_cmp names.old.items) }
-    ensures rising { IsTrue (rise own_key open_cmp names.new.items) }
+    requires rising { IsTrue (rise own_key open_cmp names.old.keys.items) }
+    ensures rising { IsTrue (rise own_key open_cmp names.new.keys.items) }
     ensures sums { OnBooksEarlier (state S.Store conn.old) (state S.Store conn.new) (λ books. IfOk result (λ good. Decides good (HasSums books))) }
     ensures leaves { Leaves (state S.Store conn.old) (state S.Store conn.new) }
     ensures mode { conn.old.in_transaction ≡ false → conn.new.in_transaction ≡ false }

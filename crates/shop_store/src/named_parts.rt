@@ -91,17 +91,20 @@ fn have_cells(parts: &[Part], material: Code, totals: &Totals) -> bool
     is_total(sums.rack, totals.rack)
 }
 
-// The standing parts of a material, where these names are theirs.
+// The standing parts of a material, where names are given and are theirs.
 fn whole_parts<S: Alter>(
     alloc: Global,
     conn: &mut Connection<S>,
     material: Code,
-    keys: &[OpenPart],
+    keys: Option<&[OpenPart]>,
 ) -> Result<Option<PartList>, TableFault>
     ensures rows { OnBooks (state S.Store conn.old) (state S.Store conn.new) (λ books. HasSums books → IfOk result (λ found. IfSome found (λ parts. parts ≡ parts_of books.content material))) }
     ensures leaves { Leaves (state S.Store conn.old) (state S.Store conn.new) }
     ensures mode { conn.old.in_transaction ≡ false → conn.new.in_transaction ≡ false }
 {
+    let Some(keys) = keys else {
+        return Ok(None);
+    };
     let Some(parts) = named_parts(alloc, conn, material, keys)? else {
         return Ok(None);
     };
@@ -133,12 +136,12 @@ fn searched_parts<S: Alter>(
     }
 }
 
-/// The standing parts of a material, looked for first under these names.
+/// The standing parts of a material, looked for first under these names, if any are given.
 pub fn listed_parts<S: Alter>(
     alloc: Global,
     conn: &mut Connection<S>,
     material: Code,
-    keys: &[OpenPart],
+    keys: Option<&[OpenPart]>,
 ) -> Result<PartList, TableFault>
     ensures rows { OnBooks (state S.Store conn.old) (state S.Store conn.new) (λ books. HasSums books → IfOk result (λ rows. rows ≡ parts_of books.content material)) }
     ensures leaves { Leaves (state S.Store conn.old) (state S.Store conn.new) }
@@ -162,12 +165,12 @@ fn hand_out<V: PartVisitor>(parts: &[Part], visitor: &mut V) -> bool
     true
 }
 
-/// Hands out the standing parts of a material, looked for first under these names, for as long as the visitor answers true.
+/// Hands out the standing parts of a material, looked for first under these names, if any are given, for as long as the visitor answers true.
 pub fn visit_listed<S: Alter, V: PartVisitor>(
     alloc: Global,
     conn: &mut Connection<S>,
     material: Code,
-    keys: &[OpenPart],
+    keys: Option<&[OpenPart]>,
     visitor: &mut V,
 ) -> Result<bool, TableFault>
     ensures visit { IsVisit V.looks (λ what. OnBooks (state S.Store conn.old) (state S.Store conn.new) (λ books. HasSums books → what (parts_of books.content material))) visitor.old result visitor.new }
@@ -201,12 +204,12 @@ impl Test for IsBehind {
     }
 }
 
-/// The first standing parts of a material behind a name, looked for first under these names: at most so many.
+/// The first standing parts of a material behind a name, looked for first under these names, if any are given: at most so many.
 pub fn first_listed<S: Alter>(
     alloc: Global,
     conn: &mut Connection<S>,
     material: Code,
-    keys: &[OpenPart],
+    keys: Option<&[OpenPart]>,
     after: Option<PartName>,
     most: usize,
 ) -> Result<PartList, TableFault>

@@ -18,11 +18,11 @@ ghost use Rattle.shop_tables.specs.Shown.{Leaves, OnBooks};
 ghost use Rattle.shop_store.specs.OpenWork.{FindsOpen, HasNoNumber0, HasWork, KnowsWork, WorkRises};
 ghost use Rattle.shop_store.specs.declared.open_work.TheConstants.{TOO_MANY};
 
-use crate::names::commit_listed;
+use crate::names::{PartNames, commit_listed};
 use crate::passing::{Test, first_passing};
 use cut_measure::Code;
 use shop_machine::{Change, Demand, DemandList, Job, NumberList};
-use shop_rows::{OpenPart, copy_rows, first_rows, list_job, numbers_behind, put, rises, take_row};
+use shop_rows::{copy_rows, first_rows, list_job, numbers_behind, put, rises, take_row};
 use shop_tables::{TableFault, find_demand, find_job, list_open_demands, list_waiting_jobs};
 use sqlite::{Alter, Connection};
 use std::alloc::{AllocError, Global};
@@ -292,14 +292,14 @@ fn reserve_work(work: &mut OpenWork, demands: &[Demand]) -> Result<(), AllocErro
 pub fn commit_open<S: Alter>(
     alloc: Global,
     conn: &mut Connection<S>,
-    names: &mut Vec<OpenPart>,
+    names: &mut PartNames,
     work: &mut OpenWork,
     change: &Change,
 ) -> Result<(), TableFault>
     requires outside { conn.old.in_transaction ≡ false }
-    requires rising { IsTrue (rise own_key open_cmp names.old.items) }
+    requires rising { IsTrue (rise own_key open_cmp names.old.keys.items) }
     requires work_rising { WorkRises work.old }
-    ensures rising { IsTrue (rise own_key open_cmp names.new.items) }
+    ensures rising { IsTrue (rise own_key open_cmp names.new.keys.items) }
     ensures work_rising { WorkRises work.new }
     ensures mode { conn.new.in_transaction ≡ false }
     ensures ok { (m : Content) → HoldsContent (state S.Store conn.old) m → Fits m change.now → OnOk result (HoldsContent (state S.Store conn.new) (changed m change.now)) }

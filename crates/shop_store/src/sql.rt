@@ -22,6 +22,7 @@ ghost use Rattle.shop_book.specs.declared.books.BookFault.TheVariants.{WrongVers
 
 use crate::checking::{have_earlier_sums, have_sums};
 use crate::named_parts::{first_listed, listed_parts, visit_listed};
+use crate::names::PartNames;
 use crate::open_work::{OpenWork, commit_open, first_open, first_waiting};
 use cut_measure::{Code, PartName};
 use shop_book::{Book, BookFault};
@@ -29,7 +30,6 @@ use shop_machine::{
     Change, Demand, DemandList, ImportRow, Job, Kept, Material, MaterialList, NumberList, Pair,
     Part, PartList, PartVisitor, Totals, no_totals,
 };
-use shop_rows::{OpenPart, names_behind};
 use shop_tables::{
     AdoptFault, Adopted, TableFault, adopt_tables, find_demand, find_import, find_job, find_kept,
     find_last_act, find_last_demand, find_last_number, find_material, find_order, find_part,
@@ -44,10 +44,10 @@ pub struct SqlBook<S: Alter> {
     alloc: Global,
     conn: Connection<S>,
     failures: u64,
-    names: Vec<OpenPart>,
+    names: PartNames,
     work: OpenWork,
     ghost outside: { conn.in_transaction ≡ false },
-    ghost rising: { IsTrue (rise own_key open_cmp names.items) },
+    ghost rising: { IsTrue (rise own_key open_cmp names.keys.items) },
     ghost work_rising: { WorkRises work },
 }
 
@@ -131,11 +131,11 @@ fn fresh_book<S: Alter + Drop>(alloc: Global, conn: Connection<S>) -> Result<Sql
 fn renew<S: Alter>(
     alloc: Global,
     conn: &mut Connection<S>,
-    names: &mut Vec<OpenPart>,
+    names: &mut PartNames,
 ) -> Result<(), BookFault>
     requires outside { conn.old.in_transaction ≡ false }
-    requires rising { IsTrue (rise own_key open_cmp names.old.items) }
-    ensures rising { IsTrue (rise own_key open_cmp names.new.items) }
+    requires rising { IsTrue (rise own_key open_cmp names.old.keys.items) }
+    ensures rising { IsTrue (rise own_key open_cmp names.new.keys.items) }
     ensures mode { conn.new.in_transaction ≡ false }
     ensures earlier { HasCleanDisk (state S.Store conn.new) → HasCleanDisk (state S.Store conn.old) }
     ensures renewed { (m : Content) → HoldsEarlierContent (state S.Store conn.old) m → OnOk result (HoldsContent (state S.Store conn.new) m) }
@@ -211,7 +211,7 @@ impl<S: Alter> SqlBook<S> {
         ensures free { names_are_free conn.schema ≡ true → IfErr result (λ back. back.0 ≢ WrongVersion) }
     {
         match adopt_tables(&mut conn) {
-            Ok(Adopted::Made) => Ok(SqlBook::over(alloc, conn, Vec::new(alloc))),
+            Ok(Adopted::Made) => Ok(SqlBook::over(alloc, conn, PartNames::new(alloc))),
             Ok(Adopted::Found) => SqlBook::checked(alloc, conn),
             Ok(Adopted::Earlier) => SqlBook::renewed(alloc, conn),
             Err(fault) => Err((fault_of_adopt(fault), conn)),
@@ -231,7 +231,7 @@ impl<S: Alter> SqlBook<S> {
         ensures sums { IfOk result (λ book. HasCleanDisk (state S.Store book.conn) → (b : Books) → Holds (state S.Store conn) b → HasSums b) }
         ensures neither { IfErr result (λ back. back.0 ≡ WrongVersion → HasCleanDisk (state S.Store back.1) → (b : Books) → Holds (state S.Store conn) b → ¬ HasSums b) }
     {
-        let mut names = Vec::new(alloc);
+        let mut names = PartNames::new(alloc);
         match have_sums(alloc, &mut conn, &mut names) {
             Ok(true) => Ok(SqlBook::over(alloc, conn, names)),
             Ok(false) => Err((BookFault::WrongVersion, conn)),
@@ -257,7 +257,7 @@ impl<S: Alter> SqlBook<S> {
         ensures unwritten { IfErr result (λ back. back.0 ≡ WrongVersion → Leaves (state S.Store conn) (state S.Store back.1)) }
         ensures neither { IfErr result (λ back. back.0 ≡ WrongVersion → HasCleanDisk (state S.Store back.1) → (m : Content) → HoldsEarlierContent (state S.Store conn) m → ⊥) }
     {
-        let mut names = Vec::new(alloc);
+        let mut names = PartNames::new(alloc);
         match renew(alloc, &mut conn, &mut names) {
             Ok(()) => Ok(SqlBook::over(alloc, conn, names)),
             Err(fault) => Err((fault, conn)),
@@ -265,9 +265,9 @@ impl<S: Alter> SqlBook<S> {
     }
 
     // Over a connection outside a transaction; no failure is counted yet.
-    fn over(alloc: Global, conn: Connection<S>, names: Vec<OpenPart>) -> SqlBook<S>
+    fn over(alloc: Global, conn: Connection<S>, names: PartNames) -> SqlBook<S>
         requires outside { conn.in_transaction ≡ false }
-        requires rising { IsTrue (rise own_key open_cmp names.items) }
+        requires rising { IsTrue (rise own_key open_cmp names.keys.items) }
         ensures conn { result.conn ≡ conn }
         ensures failures { result.failures ≡ 0 }
         ensures unlisted { result.work.is_listed ≡ false }
@@ -389,7 +389,7 @@ impl<S: Alter> Book for SqlBook<S> {
     }
 
     fn parts_of(&mut self, alloc: Global, material: Code) -> Result<PartList, BookFault> {
-        let keys = names_behind(&self.names, material, None);
+        let keys = self.names.few_of(material);
         let answer = listed_parts(alloc, &mut self.conn, material, keys);
         self.count_fault(answer)
     }
@@ -399,7 +399,7 @@ impl<S: Alter> Book for SqlBook<S> {
         material: Code,
         visitor: &mut V,
     ) -> Result<bool, BookFault> {
-        let keys = names_behind(&self.names, material, None);
+        let keys = self.names.few_of(material);
         let answer = visit_listed(self.alloc, &mut self.conn, material, keys, visitor);
         self.count_fault(answer)
     }
@@ -416,7 +416,7 @@ impl<S: Alter> Book for SqlBook<S> {
         after: Option<PartName>,
         most: usize,
     ) -> Result<PartList, BookFault> {
-        let keys = names_behind(&self.names, material, None);
+        let keys = self.names.few_of(material);
         let answer = first_listed(alloc, &mut self.conn, material, keys, after, most);
         self.count_fault(answer)
     }

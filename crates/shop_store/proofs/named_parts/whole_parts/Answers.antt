@@ -21,5 +21,5 @@ returns-clause-rows g c clean b was sums =
     let before : HasCleanDisk mid = let l = c.totals_of.ensures.leaves.survives.clean in omega (arith, l, clean) in
     let held = c.named_parts.ensures.leaves.stays b was in
     let keyed = keyed_then mid c.args.material c.in_ok-totals.totals (c.in_ok-totals.ensures.row clean) before b held in
-    all_standing b.content keyed c.args.material c.in_ok-totals.totals (c.in_ok-totals.ensures.row clean b held ∙ sums.sums c.args.material) c.in-Some.parts
-    (rw c.in-Some.is at (c.in_ok-parts.ensures.standing before b was)) (subst (HaveCells c.args.material c.in_ok-totals.totals) c.as_slice.ensures (c.have_cells.ensures c.if-not-have_cells.false))
+    all_standing b.content keyed c.args.material c.in_ok-totals.totals (c.in_ok-totals.ensures.row clean b held ∙ sums.sums c.args.material) c.in-Some-2.parts
+    (rw c.in-Some-2.is at (c.in_ok-parts.ensures.standing before b was)) (subst (HaveCells c.args.material c.in_ok-totals.totals) c.as_slice.ensures (c.have_cells.ensures c.if-not-have_cells.false))
