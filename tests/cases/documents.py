@@ -59,7 +59,10 @@ def files(trial):
     trial.equal(lost, [])
 
 
-@case("cited edits are there", "Each edit that docs/PROMISES.md tells as refused is in must-fail/ or more-edits/ of a crate.")
+@case(
+    "cited edits are there",
+    "Each edit that docs/PROMISES.md tells as refused is in must-fail/ or more-edits/ of a crate, and it tells each of them.",
+)
 def edits(trial):
     there = edit_names()
     cited = set()
@@ -67,6 +70,7 @@ def edits(trial):
         cited |= {it for it in re.findall(r"`([a-z_0-9]+)`", passage) if "_" in it}
     crates = set(os.listdir(f"{TOP}/crates"))
     trial.equal(sorted(cited - there - crates), [])
+    trial.equal(sorted(there - cited), [])
 
 
 def code_of(crate, kinds="src specs proofs"):

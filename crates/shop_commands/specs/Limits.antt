@@ -6,11 +6,14 @@ use Rattle.cut_table.specs.declared.bar.TheConstants.{LONGEST_BAR}
 use Rattle.cut_table.specs.declared.sheet.TheConstants.{MOST_STEPS}
 use Rattle.cut_plan.specs.declared.faults.TheConstants.{MOST_WANTS}
 use Rattle.shop_files.specs.declared.limits.TheConstants.{LONGEST_TEXT, MOST_PIECES, MOST_LINES, MOST_ENTRIES}
+use Rattle.shop_machine.specs.declared.listing.TheConstants.{MOST_TOLD}
 use Rattle.shop_machine.specs.declared.receiving.TheConstants.{MOST_RECEIVED, MOST_UNITS}
 use Rattle.shop_book.specs.declared.books.TheConstants.{MOST_FAILURES}
 use Rattle.shop_request.specs.Heads.{most_head, most_fields, most_body}
 use Rattle.shop_wire.specs.Lines.{longest_line}
 use Rattle.shop_wire.specs.Streams.{most_reads}
+use Rattle.shop_words.specs.declared.words.TheConstants.{LONGEST_STEP, LAST_PORT, MOST_CONNECTIONS, MOST_PAIR}
+use Rattle.shop_commands.specs.declared.files.TheConstants.{LONGEST_PAGE}
 
 -- sides of a unit or a piece, a kerf, in tenths of a millimetre, and a code's characters
 pub record AreMeasures : Type 0 where
@@ -26,20 +29,23 @@ pub record ArePlans : Type 0 where
   pub bar : LONGEST_BAR ≡ 150000
   pub steps : MOST_STEPS ≡ 500
 
--- bytes of a problem, order or shop text, pieces of a problem, lines of an order, entries of a shop
+-- bytes of a problem, order or shop text, pieces of a problem, lines of an order, entries of a shop, and bytes of a page
 pub record AreFiles : Type 0 where
   pub text : LONGEST_TEXT ≡ 65536
   pub pieces : MOST_PIECES ≡ 200
   pub lines : MOST_LINES ≡ 200
   pub entries : MOST_ENTRIES ≡ 1000
+  pub page : LONGEST_PAGE ≡ 1048576
 
--- acts and demands, units of a receipt, cells received of a material, count and worth of a line, and counted failures
+-- acts and demands, units of a receipt, cells received of a material, count and worth of a line, rows that a list tells, and
+-- counted failures
 pub record AreCounts : Type 0 where
   pub numbers : MOST_NUMBERS ≡ 2147483647
   pub units : MOST_UNITS ≡ 100
   pub received : MOST_RECEIVED ≡ 1000000000000000
   pub count : MOST_COUNT ≡ 1000000
   pub worth : MOST_WORTH ≡ 1000000000
+  pub told : MOST_TOLD ≡ 100
   pub failures : MOST_FAILURES ≡ 18446744073709551615
 
 -- reads of a replay and bytes of a line; bytes and fields of a head, bytes of a body
@@ -49,3 +55,10 @@ pub record AreRequests : Type 0 where
   pub head : most_head ≡ 8192
   pub fields : most_fields ≡ 64
   pub body : most_body ≡ 131072
+
+-- of the command line: a step, a port, connections, and the terminal and the number of a message
+pub record AreWords : Type 0 where
+  pub step : LONGEST_STEP ≡ 200000
+  pub port : LAST_PORT ≡ 65535
+  pub connections : MOST_CONNECTIONS ≡ 1000000
+  pub pair : MOST_PAIR ≡ 4294967295

@@ -2,6 +2,7 @@
 use Rattle.std.specs.Prelude.{◌≡◌, ◌⊎◌, ℕ, zero, suc, ◌==◌, ◌&&◌, not, Bool, List, [], ◌∷◌, ◌++◌, length, nat_lt, nat_le, Option, Some, None, codes, if◌then◌else◌}
 use Rattle.std.specs.Fmt.{decimal}
 use Rattle.std.specs.List.{before_first, list_any}
+use Rattle.std.specs.Str.{IsUtf8}
 use Rattle.std.specs.Io.KnownBytes.{Appends}
 use Rattle.shop_files.specs.Orders.{IsOrders, HasOrdersFault}
 use Rattle.shop_files.specs.declared.limits.TheConstants.{LONGEST_TEXT, MOST_LINES}
@@ -80,9 +81,13 @@ orders_line (Some told) text count = import_line told text
 abbrev pub IsOrdersLine : Option ImportAs → List ℕ → List ℕ → Type 0
 IsOrdersLine told text line = (count : ℕ) × HasLines text count × (line ≡ orders_line told text count)
 
--- the bytes have this first fault; or memory ran out, or the bytes, whose lines are good, are no text
+-- the line of good bytes can't be made: memory ran out, or they are no text
+abbrev pub IsUnsaid : List ℕ → Fault → Type 0
+IsUnsaid text fault = (fault ≡ NoMemory) ⊎ ((fault ≡ File) × (IsUtf8 text → ⊥))
+
+-- the bytes have this first fault; or they have lines, and memory ran out or they are no text
 abbrev pub IsOrdersFault : List ℕ → Fault → Type 0
-IsOrdersFault text fault = IsUnordered text fault ⊎ (((count : ℕ) × HasLines text count) × ((fault ≡ NoMemory) ⊎ (fault ≡ File)))
+IsOrdersFault text fault = IsUnordered text fault ⊎ (((count : ℕ) × HasLines text count) × IsUnsaid text fault)
 
 -- the line of a file's bytes was written
 abbrev pub IsOrdersDone : Option ImportAs → (held_old held_new : Option (List ℕ)) → Type 0

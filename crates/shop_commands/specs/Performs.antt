@@ -90,18 +90,18 @@ module _ {B : Type 0} (book : Ghosts B) (gives : List ℕ → B → Type 0) wher
       ((status ≡ 0) × IsDone request left out_old out_new × (err_new ≡ err_old))
       ⊎ ((status ≡ 1) × ((fault : Fault) × IsStopped request fault left out_old out_new failed_old failed_new × TellsFault fault err_old err_new unsaid_old unsaid_new))
 
-module _ (out_old out_new err_old err_new : Option (List ℕ)) (unsaid_old unsaid_new : ℕ) where
-  -- help was written and nothing was told, with status 0; or that it couldn't be written was told, with status 1
+module _ (out_old out_new : Option (List ℕ)) (failed_old failed_new : ℕ) (err_old err_new : Option (List ℕ)) (unsaid_old unsaid_new : ℕ) where
+  -- help was written and nothing was told, with status 0; or the output failed, and that was told, with status 1
   abbrev pub IsHelped : ℕ → Type 0
   IsHelped status =
       ((status ≡ 0) × AppendsSome out_old out_new × (err_new ≡ err_old))
-      ⊎ ((status ≡ 1) × AppendsSome out_old out_new × TellsFault Write err_old err_new unsaid_old unsaid_new)
+      ⊎ ((status ≡ 1) × AppendsSome out_old out_new × HasFailed failed_old failed_new × TellsFault Write err_old err_new unsaid_old unsaid_new)
 
-  -- the version was written and nothing was told, with status 0; or that it couldn't be written was told
+  -- the version was written and nothing was told, with status 0; or the output failed, and that was told
   abbrev pub IsVersionTold : ℕ → Type 0
   IsVersionTold status =
       ((status ≡ 0) × Appends out_old out_new version_line × (err_new ≡ err_old))
-      ⊎ ((status ≡ 1) × AppendsFront out_old out_new version_line × TellsFault Write err_old err_new unsaid_old unsaid_new)
+      ⊎ ((status ≡ 1) × AppendsFront out_old out_new version_line × HasFailed failed_old failed_new × TellsFault Write err_old err_new unsaid_old unsaid_new)
 
   -- What `clap` said of this kind was told: help, the version, or a mistake, with status 2 and nothing as output; or that memory
   -- ran out.
@@ -122,5 +122,5 @@ abbrev pub IsPerformed : {B : Type 0} → Ghosts B → (List ℕ → B → Type 
 IsPerformed book gives words left out_old out_new failed_old failed_new err_old err_new unsaid_old unsaid_new status =
     ((request : Request) × (faults_of words ≡ []) × Asks (subcommand_of shop_app words) request
     × IsAnswered book gives left out_old out_new failed_old failed_new err_old err_new unsaid_old unsaid_new request status)
-    ⊎ ((kind : ErrorKind) × ((kind ≡ OutOfMemory) ⊎ IsAmong kind (faults_of words)) × IsTold out_old out_new err_old err_new unsaid_old unsaid_new kind status)
+    ⊎ ((kind : ErrorKind) × ((kind ≡ OutOfMemory) ⊎ IsAmong kind (faults_of words)) × IsTold out_old out_new failed_old failed_new err_old err_new unsaid_old unsaid_new kind status)
     ⊎ ((faults_of words ≡ []) × AsksNothing (subcommand_of shop_app words) × (status ≡ 2) × (out_new ≡ out_old) × AppendsSome err_old err_new)

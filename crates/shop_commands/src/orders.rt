@@ -1,9 +1,8 @@
 //! `cutshop orders`: an order file is checked, or becomes a message.
 
-ghost use Rattle.std.specs.Prelude.{◌≡◌, ◌⊎◌, IfOk, IfErr, OnOk, length, string_bytes, decimal};
+ghost use Rattle.std.specs.Prelude.{◌≡◌, IfOk, IfErr, OnOk, string_bytes};
 ghost use Rattle.std.specs.Io.KnownBytes.{Appends};
 ghost use Rattle.shop_files.specs.declared.orders.OrdersFault.{OrdersFault as OrdersFaultOf};
-ghost use Rattle.shop_commands.specs.declared.faults.Fault.TheVariants as fault;
 ghost use Rattle.shop_commands.specs.Orders as spec;
 
 use crate::faults::{Fault, OrderCause, OrderFault};
@@ -137,7 +136,7 @@ fn line_of(
     count: usize,
 ) -> Result<String, Fault>
     ensures ok { IfOk result (λ line. string_bytes line ≡ spec.orders_line told text.now count) }
-    ensures err { IfErr result (λ f. (f ≡ fault.NoMemory) ⊎ (f ≡ fault.File)) }
+    ensures err { IfErr result (spec.IsUnsaid text.now) }
 {
     let Some(told) = told else {
         let line = count_line(alloc, count)?;

@@ -138,7 +138,7 @@ fn error_text(alloc: Global, error: &Error) -> Result<String, AllocError> {
 
 // Writes help.
 fn help<W: Sink, E: Sink>(alloc: Global, text: &str, sink: &mut W, errors: &mut E) -> u8
-    ensures { IsHelped (W.held sink.old) (W.held sink.new) (E.held errors.old) (E.held errors.new) (E.failed errors.old) (E.failed errors.new) result }
+    ensures { IsHelped (W.held sink.old) (W.held sink.new) (W.failed sink.old) (W.failed sink.new) (E.held errors.old) (E.held errors.new) (E.failed errors.old) (E.failed errors.new) result }
 {
     match write_text(sink, text) {
         Ok(()) => 0,
@@ -155,7 +155,7 @@ fn version_line(alloc: Global) -> Result<String, AllocError>
 
 // Tells the version.
 fn version<W: Sink, E: Sink>(alloc: Global, sink: &mut W, errors: &mut E) -> u8
-    ensures { IsTold (W.held sink.old) (W.held sink.new) (E.held errors.old) (E.held errors.new) (E.failed errors.old) (E.failed errors.new) kind.DisplayVersion result }
+    ensures { IsTold (W.held sink.old) (W.held sink.new) (W.failed sink.old) (W.failed sink.new) (E.held errors.old) (E.held errors.new) (E.failed errors.old) (E.failed errors.new) kind.DisplayVersion result }
 {
     let Ok(line) = version_line(alloc) else {
         return report_fault(alloc, Fault::NoMemory, errors);
@@ -168,7 +168,7 @@ fn version<W: Sink, E: Sink>(alloc: Global, sink: &mut W, errors: &mut E) -> u8
 
 // Says what `clap` says where the words ask for nothing.
 fn explain<W: Sink, E: Sink>(alloc: Global, error: &Error, sink: &mut W, errors: &mut E) -> u8
-    ensures { IsTold (W.held sink.old) (W.held sink.new) (E.held errors.old) (E.held errors.new) (E.failed errors.old) (E.failed errors.new) (kind_of error.now) result }
+    ensures { IsTold (W.held sink.old) (W.held sink.new) (W.failed sink.old) (W.failed sink.new) (E.held errors.old) (E.held errors.new) (E.failed errors.old) (E.failed errors.new) (kind_of error.now) result }
 {
     let Ok(text) = error_text(alloc, error) else {
         return report_fault(alloc, Fault::NoMemory, errors);
