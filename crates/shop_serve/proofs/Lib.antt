@@ -1,1 +1,4 @@
 pub mod Turns
+pub mod Slots
+pub mod Attending
+pub mod Gathered

@@ -1,5 +1,5 @@
 -- Requests one after another.
-use Rattle.std.proofs.Common.{◌≡◌, ◌≢◌, ◌∙◌, ℕ, ◌+◌, ◌<◌, ◌≤◌, List, [], ◌∷◌, ◌++◌, true, false, inl, inr, length, map, refl, sym, ap, subst, arith}
+use Rattle.std.proofs.Common.{◌≡◌, ◌≢◌, ◌∙◌, ℕ, suc, ◌+◌, ◌<◌, ◌≤◌, List, [], ◌∷◌, ◌++◌, true, false, inl, inr, length, map, refl, sym, ap, subst, arith}
 use Rattle.std.proofs.lemmas.List.{append_assoc, append-nil, length-append}
 use Rattle.std.specs.Prelude.{◌⊎◌, Option, Some}
 use Rattle.shop_desk.specs.Handled.{HasAccount}
@@ -15,7 +15,7 @@ use Rattle.shop_book.specs.declared.books.Book.{Ghosts}
 use Rattle.shop_wire.specs.Serves.{exchanged, IsServed}
 use Rattle.shop_serve.specs.declared.sites.Site.{Site}
 use Rattle.shop_serve.specs.Sites.{is_routed, own_bytes}
-use Rattle.shop_serve.specs.Serving.{Turn, Handling, routed, ruled, InTurn, exchange_of, exchanges, TellsFailure, TellOfFailures, HasServed, Advances}
+use Rattle.shop_serve.specs.Serving.{Turn, routed, ruled, InTurn, exchange_of, exchanges, TellsFailure, TellOfFailures, HasServed, Advances}
 
 -- what goes to its route, and what doesn't
 pub is_route : (r : Ruling) → is_routed r ≡ true → r ≡ Routed
@@ -136,12 +136,22 @@ module _ (site : Site) {B : Type 0} (book : Ghosts B) where
         account = done.account;
       }
 
-  pub stays : (here : B) (count : ℕ) → Advances site book here here count count
-  stays here count = (0, omega arith, none_served here 0)
+  -- nothing was served, though a number fell
+  pub stays : (here : B) (from to : ℕ) → to ≤ from → Advances site book here here from to
+  stays here from to within = (0, omega (arith, within), none_served here 0)
 
-  pub advances_more : (before mid after : B) (from over to : ℕ) → (book.is_honest after → book.is_honest mid) → Advances site book before mid from over → Advances site book mid after over to → Advances site book before after from to
-  advances_more before mid after from over to back first second =
-      (first.0 + second.0, omega (arith, first.1, second.1), more_served before mid after first.0 second.0 back first.2 second.2)
+  -- one was served at most, as a number fell by one
+  pub one_advances : (before after : B) (from to : ℕ) → suc to ≤ from → HasServed site book before after 1 → Advances site book before after from to
+  one_advances before after from to within one = (1, omega (arith, within), one)
 
-  pub advanced : (before after : B) (to limit : ℕ) → to ≤ limit → Advances site book before after 0 to → HasServed site book before after limit
-  advanced before after to limit within run = few_served before after run.0 limit (omega (arith, run.1, within)) run.2
+  -- a number fell, and then another: the third falls by as much as both at least
+  pub advances_more : (before mid after : B) (over under over2 under2 from to : ℕ) → over + over2 + to ≤ under + under2 + from → (book.is_honest after → book.is_honest mid)
+      → Advances site book before mid over under → Advances site book mid after over2 under2 → Advances site book before after from to
+  advances_more before mid after over under over2 under2 from to within back first second =
+      (first.0 + second.0, omega (arith, within, first.1, second.1), more_served before mid after first.0 second.0 back first.2 second.2)
+
+  pub advances_within : (before after : B) (over under from to : ℕ) → over + to ≤ under + from → Advances site book before after over under → Advances site book before after from to
+  advances_within before after over under from to within run = (run.0, omega (arith, within, run.1), run.2)
+
+  pub advanced : (before after : B) (from to limit : ℕ) → from ≤ limit → Advances site book before after from to → HasServed site book before after limit
+  advanced before after from to limit within run = few_served before after run.0 limit (omega (arith, run.1, within)) run.2

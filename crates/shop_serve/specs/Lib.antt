@@ -1,2 +1,4 @@
 pub mod Sites
 pub mod Serving
+pub mod Lines
+pub mod Rounds

@@ -93,9 +93,9 @@ pub record HasServedTurns (site : Site) {B : Type 0} (book : Ghosts B) (before a
 abbrev pub HasServed : Site → {B : Type 0} → Ghosts B → B → B → ℕ → Type 0
 HasServed site book before after count = OnContent book before after (λ m. IsSound json_texts m → HasServedTurns site book before after m count)
 
--- a count rose from one number to another, and at most that many requests were served
+-- a number fell from one to another, and at most as many requests were served as it fell by
 abbrev pub Advances : Site → {B : Type 0} → Ghosts B → B → B → ℕ → ℕ → Type 0
-Advances site book before after from to = (n : ℕ) × (to ≡ from + n) × HasServed site book before after n
+Advances site book before after from to = (n : ℕ) × (n + to ≤ from) × HasServed site book before after n
 
 -- memory was wanting before the first connection, or at most as many as the limit says were served
 abbrev pub IsUnserved : Site → {B : Type 0} → Ghosts B → B → B → ℕ → ServeFault → Type 0

@@ -1,10 +1,10 @@
 -- What a site answers by itself: to requests of other sites, and for its page.
-use Rattle.std.specs.Prelude.{◌≡◌, ℕ, List, [], ◌∷◌, ◌++◌, length, Option, Some, None, Bool, true, false, codes, decimal}
+use Rattle.std.specs.Prelude.{◌≡◌, ℕ, List, [], ◌++◌, length, Option, Some, None, Bool, true, false, codes, decimal}
 use Rattle.shop_request.specs.declared.faults.Fault.TheVariants as faults
 use Rattle.shop_request.specs.declared.guards.Ruling.{Ruling}
 use Rattle.shop_request.specs.declared.guards.Ruling.TheVariants.{Routed, Forbidden, Page, OnlyGet}
 use Rattle.shop_serve.specs.declared.sites.Site.{Site}
-use Rattle.shop_wire.specs.AnswerBytes.{answer_bytes, fault_answer, head_line_end}
+use Rattle.shop_wire.specs.AnswerBytes.{answer_bytes, fault_answer}
 
 -- its page has these bytes, or it has none
 abbrev pub HasPage : Site → Option (List ℕ) → Type 0

@@ -3,8 +3,10 @@
 #![tactic(auto)]
 
 mod answers;
+mod connections;
 mod faults;
 mod lines;
+mod ports;
 mod serving;
 mod sites;
 mod transfers;

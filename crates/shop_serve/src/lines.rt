@@ -1,21 +1,22 @@
 //! The open connections: how long each has, what came of it, and how much of its answer was handed over.
 
-ghost use Rattle.std.specs.Prelude.{◌≡◌, ◌≢◌, ◌≤◌, ◌<◌, ℕ, List, Option, length, take, Some, None, IfSome, IsSome};
-ghost use Rattle.std.specs.Io.KnownBytes.{Appends};
+ghost use Rattle.std.specs.Prelude.{◌≡◌, ◌≢◌, ◌⊎◌, ◌≤◌, ◌+◌, length, None, IfSome, IsSome, IsSomeAnd, true};
+ghost use Rattle.std.specs.Io.KnownBytes.{IsAtEnd};
 ghost use Rattle.shop_request.specs.Reading.{IsReadOn};
-ghost use Rattle.shop_serve.specs.Serving.{Advances, IsAnswered};
+ghost use Rattle.shop_request.specs.Senses.{IsSettled};
+ghost use Rattle.shop_serve.specs.Lines.{ClosesLate, IsAttended, IsAttendedAt, IsOpened, MakesRoom, TakesAnswer, is_late, unanswered};
+ghost use Rattle.shop_serve.specs.Serving.{Advances, HasServed, IsAnswered};
 ghost use Rattle.shop_serve.specs.declared.transfers.Given.TheVariants as given;
 ghost use Rattle.shop_serve.specs.declared.transfers.Taken.TheVariants as taken;
 
 use crate::answers::answer_of;
+use crate::connections::Connection;
+use crate::ports::Port;
 use crate::sites::Site;
 use crate::transfers::{Given, Taken, drop_rest, hand_over, take_bytes};
-use mio::net::TcpStream;
 use shop_book::Book;
 use slab::Slab;
 use std::alloc::Global;
-use std::io::{Read, Write};
-use std::net::Shutdown;
 use std::time::{Duration, Instant};
 
 // How many seconds a connection has to send its request, from when it was accepted, and then to take its answer.
@@ -30,8 +31,8 @@ pub(crate) const MOST_LINES: usize = 256;
 /// An open connection: when it was accepted or its answer was made, the bytes that came, how many are needed at least, and
 /// the answer with how much of it was handed over.
 #[derive(Drop)]
-pub(crate) struct Line<T> {
-    pub(crate) stream: T,
+pub(crate) struct Line<C> {
+    pub(crate) stream: C,
     pub(crate) since: Instant,
     pub(crate) came: Vec<u8>,
     pub(crate) needed: usize,
@@ -40,11 +41,11 @@ pub(crate) struct Line<T> {
 }
 
 // Hands over what is left of the answer, as far as it is taken.
-fn answer_on<T: Write>(line: &mut Line<T>) -> Given
+fn answer_on<C: Connection>(line: &mut Line<C>) -> Given
     ensures kept { (line.new.came ≡ line.old.came) × (line.new.answer ≡ line.old.answer) }
-    ensures bytes { result ≢ given.Lost → IfSome line.old.answer (λ answer. (before : Option (List ℕ))
-        → Appends before (T.contents line.old.stream) (take line.old.sent answer.items) → Appends before (T.contents line.new.stream) (take line.new.sent answer.items)) }
-    ensures whole { result ≡ given.Whole → IfSome line.new.answer (λ answer. line.new.sent ≡ length answer.items) }
+    ensures takes { result ≢ given.Lost → IfSome line.old.answer (λ answer. TakesAnswer C.Connection answer.items line.old.stream line.old.sent line.new.stream line.new.sent) }
+    ensures whole { result ≡ given.Whole → IsSomeAnd line.new.answer (λ answer. line.new.sent ≡ length answer.items) }
+    ensures full { result ≡ given.Waits → IsSome line.old.answer → C.is_full line.new.stream }
 {
     let Some(answer) = &line.answer else {
         return Given::Waits;
@@ -55,47 +56,22 @@ fn answer_on<T: Write>(line: &mut Line<T>) -> Given
     hand_over(&mut line.stream, answer, &mut line.sent)
 }
 
-// Serves what came, unless as many were served as were accepted.
-fn serve_came<B: Book>(
-    alloc: Global,
-    site: &Site,
-    came: &[u8],
-    accepted: u32,
-    served: &mut u32,
-    book: &mut B,
-) -> Option<Vec<u8>>
-    requires some { 0 < length came.now }
-    requires few { served.old ≤ accepted }
-    ensures told { IfSome result (λ answer. IsAnswered site.now B.Book book.old book.new came.now answer.items) }
-    ensures run { Advances site.now B.Book book.old book.new served.old served.new }
-    ensures few { served.new ≤ accepted }
-    ensures honest { B.is_honest book.new → B.is_honest book.old }
-{
-    if *served >= accepted {
-        return None;
-    }
-    *served += 1;
-    answer_of(alloc, site, came, book)
-}
-
 // Takes what has come of a request, and has it answered once it is whole.
-#[tactic(auto, using(crate::proofs::Turns::stays))]
-fn ask<T: Read, B: Book>(
+fn ask<C: Connection, B: Book>(
     alloc: Global,
     site: &Site,
-    line: &mut Line<T>,
+    line: &mut Line<C>,
     now: Instant,
-    accepted: u32,
-    served: &mut u32,
     book: &mut B,
 ) -> Taken
-    requires few { served.old ≤ accepted }
     requires waits { line.old.answer ≡ None }
-    ensures read { result ≢ taken.Lost → IsReadOn (T.remaining line.old.stream) (T.remaining line.new.stream) line.old.came.items line.new.came.items }
-    ensures own { IfSome line.new.answer (λ answer. IsAnswered site.now B.Book book.old book.new line.new.came.items answer.items) }
+    ensures read { result ≢ taken.Lost → IsReadOn (C.remaining line.old.stream) (C.remaining line.new.stream) line.old.came.items line.new.came.items }
+    ensures kept { C.contents line.new.stream ≡ C.contents line.old.stream }
+    ensures waits { result ≡ taken.Waits → (line.new.answer ≡ None) × (book.new ≡ book.old) × C.is_drained line.new.stream }
     ensures begins { result ≡ taken.Whole → IsSome line.new.answer × (line.new.sent ≡ 0) }
-    ensures run { Advances site.now B.Book book.old book.new served.old served.new }
-    ensures few { served.new ≤ accepted }
+    ensures whole { result ≡ taken.Whole → IsSettled line.new.came.items ⊎ IsAtEnd (C.remaining line.new.stream) }
+    ensures own { IfSome line.new.answer (λ answer. IsAnswered site.now B.Book book.old book.new line.new.came.items answer.items) }
+    ensures one { HasServed site.now B.Book book.old book.new 1 }
     ensures honest { B.is_honest book.new → B.is_honest book.old }
 {
     match take_bytes(
@@ -108,7 +84,7 @@ fn ask<T: Read, B: Book>(
         Taken::Waits => return Taken::Waits,
         Taken::Whole => (),
     }
-    let Some(answer) = serve_came(alloc, site, &line.came, accepted, served, book) else {
+    let Some(answer) = answer_of(alloc, site, &line.came, book) else {
         return Taken::Lost;
     };
     line.answer = Some(answer);
@@ -118,28 +94,23 @@ fn ask<T: Read, B: Book>(
 }
 
 // Takes what has come of a request, has it answered once it is whole, and hands over its answer as far as it is taken.
-#[tactic(auto, using(crate::proofs::Turns::stays))]
-fn attend<T: Read + Write, B: Book>(
+fn attend<C: Connection, B: Book>(
     alloc: Global,
     site: &Site,
-    line: &mut Line<T>,
+    line: &mut Line<C>,
     now: Instant,
-    accepted: u32,
-    served: &mut u32,
     book: &mut B,
 ) -> Given
-    requires few { served.old ≤ accepted }
-    ensures own { line.old.answer ≡ None → IfSome line.new.answer (λ answer. IsAnswered site.now B.Book book.old book.new line.new.came.items answer.items) }
-    ensures kept { IsSome line.old.answer → (line.new.came ≡ line.old.came) × (line.new.answer ≡ line.old.answer) × (book.new ≡ book.old) }
-    ensures whole { result ≡ given.Whole → IfSome line.new.answer (λ answer. line.new.sent ≡ length answer.items) }
-    ensures run { Advances site.now B.Book book.old book.new served.old served.new }
-    ensures few { served.new ≤ accepted }
+    ensures attended { result ≢ given.Lost → IsAttended C.Connection site.now B.Book line.old line.new book.old book.new }
+    ensures whole { result ≡ given.Whole → IsSomeAnd line.new.answer (λ answer. line.new.sent ≡ length answer.items) }
+    ensures once { IsSome line.old.answer → book.new ≡ book.old }
+    ensures one { HasServed site.now B.Book book.old book.new 1 }
     ensures honest { B.is_honest book.new → B.is_honest book.old }
 {
     if line.answer.is_some() {
         return answer_on(line);
     }
-    match ask(alloc, site, line, now, accepted, served, book) {
+    match ask(alloc, site, line, now, book) {
         Taken::Lost => return Given::Lost,
         Taken::Waits => return Given::Waits,
         Taken::Whole => (),
@@ -149,8 +120,11 @@ fn attend<T: Read + Write, B: Book>(
 
 // Ends an answer that was handed over, and drops what still comes. Tells whether more of the request may come: to close
 // before its end would lose the answer.
-fn finish(line: &mut Line<TcpStream>) -> bool {
-    let _ = line.stream.shutdown(Shutdown::Write);
+fn finish<C: Connection>(line: &mut Line<C>) -> bool
+    ensures kept { (line.new.came ≡ line.old.came) × (line.new.answer ≡ line.old.answer) × (line.new.sent ≡ line.old.sent) }
+    ensures contents { C.contents line.new.stream ≡ C.contents line.old.stream }
+{
+    line.stream.end_writing();
     if !drop_rest(&mut line.stream) {
         return false;
     }
@@ -160,38 +134,49 @@ fn finish(line: &mut Line<TcpStream>) -> bool {
     }
 }
 
-/// Attends to the connection of a key, and closes it when it is done with.
-#[tactic(auto, using(crate::proofs::Turns::stays))]
-pub(crate) fn attend_at<B: Book>(
+// Attends to a connection. Tells whether it stays open.
+fn attend_once<C: Connection, B: Book>(
     alloc: Global,
     site: &Site,
-    lines: &mut Slab<Line<TcpStream>>,
+    line: &mut Line<C>,
+    now: Instant,
+    book: &mut B,
+) -> bool
+    ensures attended { result ≡ true → IsAttended C.Connection site.now B.Book line.old line.new book.old book.new }
+    ensures once { IsSome line.old.answer → book.new ≡ book.old }
+    ensures one { HasServed site.now B.Book book.old book.new 1 }
+    ensures honest { B.is_honest book.new → B.is_honest book.old }
+{
+    match attend(alloc, site, line, now, book) {
+        Given::Waits => true,
+        Given::Lost => false,
+        Given::Whole => finish(line),
+    }
+}
+
+/// Attends to the connection of a key, and closes it when it is done with.
+pub(crate) fn attend_at<C: Connection + Drop, B: Book>(
+    alloc: Global,
+    site: &Site,
+    lines: &mut Slab<Line<C>>,
     key: usize,
     now: Instant,
-    accepted: u32,
-    served: &mut u32,
     book: &mut B,
 )
-    requires few { served.old ≤ accepted }
-    ensures run { Advances site.now B.Book book.old book.new served.old served.new }
-    ensures few { served.new ≤ accepted }
+    ensures at { IsAttendedAt C.Connection site.now B.Book key lines.old lines.new book.old book.new }
+    ensures run { Advances site.now B.Book book.old book.new (unanswered lines.old) (unanswered lines.new) }
     ensures honest { B.is_honest book.new → B.is_honest book.old }
 {
     let Some(line) = lines.get_mut(key) else {
         return;
     };
-    let stays = match attend(alloc, site, line, now, accepted, served, book) {
-        Given::Waits => true,
-        Given::Lost => false,
-        Given::Whole => finish(line),
-    };
-    if !stays {
+    if !attend_once(alloc, site, line, now, book) {
         let _ = lines.try_remove(key);
     }
 }
 
 // Whether a connection may be closed for another: its answer isn't on its way.
-fn may_go<T>(line: &Line<T>) -> bool {
+fn may_go<C>(line: &Line<C>) -> bool {
     match &line.answer {
         None => true,
         Some(answer) => line.sent >= answer.len(),
@@ -199,7 +184,7 @@ fn may_go<T>(line: &Line<T>) -> bool {
 }
 
 // The key of the oldest connection whose answer isn't on its way.
-fn oldest(lines: &Slab<Line<TcpStream>>) -> Option<usize> {
+fn oldest<C>(lines: &Slab<Line<C>>) -> Option<usize> {
     let mut found: Option<(usize, Instant)> = None;
     for (key, line) in lines.iter() {
         if !may_go(line) {
@@ -220,12 +205,15 @@ fn oldest(lines: &Slab<Line<TcpStream>>) -> Option<usize> {
 }
 
 /// Whether one connection more may be open, be it in another's place.
-pub(crate) fn has_room(lines: &Slab<Line<TcpStream>>) -> bool {
+pub(crate) fn has_room<C>(lines: &Slab<Line<C>>) -> bool {
     lines.len() < MOST_LINES || oldest(lines).is_some()
 }
 
 /// Closes the oldest connection whose answer isn't on its way, where there are as many as may be.
-pub(crate) fn make_room(lines: &mut Slab<Line<TcpStream>>) {
+fn make_room<C: Drop>(lines: &mut Slab<Line<C>>)
+    ensures room { MakesRoom lines.old lines.new }
+    ensures fewer { unanswered lines.new ≤ unanswered lines.old }
+{
     if lines.len() < MOST_LINES {
         return;
     }
@@ -234,7 +222,47 @@ pub(crate) fn make_room(lines: &mut Slab<Line<TcpStream>>) {
     }
 }
 
+/// Opens a connection, be it in another's place, and gives its key. One that can't be watched is closed.
+pub(crate) fn open_line<C: Drop, P: Port<C>>(
+    alloc: Global,
+    port: &mut P,
+    stream: C,
+    now: Instant,
+    lines: &mut Slab<Line<C>>,
+) -> Option<usize>
+    ensures opened { IfSome result (λ key. IsOpened now stream key lines.old lines.new) }
+    ensures closed { result ≡ None → MakesRoom lines.old lines.new }
+    ensures fewer { unanswered lines.new ≤ unanswered lines.old + 1 }
+    ensures told { P.told port.new ≡ P.told port.old }
+    ensures given { P.given port.new ≡ P.given port.old }
+{
+    make_room(lines);
+    let mut stream = stream;
+    if !port.watch(&mut stream, lines.vacant_key()) {
+        return None;
+    }
+    let line = Line {
+        stream,
+        since: now,
+        came: Vec::new(alloc),
+        needed: 0,
+        answer: None,
+        sent: 0,
+    };
+    lines.insert(line).ok()
+}
+
+// Whether a connection has had its time.
+fn is_late<C>(line: &Line<C>, now: Instant) -> bool
+    ensures { result ≡ is_late now line.now }
+{
+    now.duration_since(line.since) >= Duration::from_secs(PATIENCE)
+}
+
 /// Closes the connections that have had their time.
-pub(crate) fn close_late(lines: &mut Slab<Line<TcpStream>>, now: Instant) {
-    lines.retain(|_, line| now.duration_since(line.since) < Duration::from_secs(PATIENCE));
+pub(crate) fn close_late<C: Drop>(lines: &mut Slab<Line<C>>, now: Instant)
+    ensures late { ClosesLate now lines.old lines.new }
+    ensures fewer { unanswered lines.new ≤ unanswered lines.old }
+{
+    lines.retain(|_, line| !is_late(line, now));
 }

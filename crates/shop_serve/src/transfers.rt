@@ -1,71 +1,23 @@
 //! Bytes taken from a connection until they are a whole request, and the bytes of its answer handed over.
 
-ghost use Rattle.std.specs.Prelude.{◌≡◌, ◌≢◌, ◌⊎◌, ◌<◌, ◌≤◌, ◌++◌, ℕ, List, Option, [], length, take, IfOk};
-ghost use Rattle.std.specs.Io.KnownBytes.{Appends, Consumes, IsAtEnd, ReadConsumes, WriteAppends};
+ghost use Rattle.std.specs.Prelude.{◌≡◌, ◌≢◌, ◌⊎◌, ◌<◌, ◌≤◌, ◌++◌, ℕ, List, Option, [], length, take};
+ghost use Rattle.std.specs.Io.KnownBytes.{Appends, Consumes, IsAtEnd};
 ghost use Rattle.shop_request.specs.Reading.{IsReadOn};
 ghost use Rattle.shop_request.specs.Senses.{IsSettled};
 ghost use Rattle.shop_serve.specs.declared.transfers.Piece.TheVariants as piece;
 ghost use Rattle.shop_serve.specs.declared.transfers.Given.TheVariants as given;
 ghost use Rattle.shop_serve.specs.declared.transfers.Taken.TheVariants as taken;
 
+use crate::connections::{Connection, Halt};
 use shop_request::{Routes, is_whole, least_bytes};
-use std::io::{ErrorKind, Read, Write};
 
 const ROOM: usize = 8192;
-
-// How often a call is made that is interrupted each time.
-const MOST_TRIES: u32 = 1000;
 
 // More than any request takes: each but the last brings a byte of fewer than 139264.
 const MOST_READS: u32 = 150_000;
 
 // How often is read at once of what is dropped: more than a socket keeps.
 const MOST_DROPS: u32 = 1024;
-
-// Why a call moved no byte.
-#[derive(Clone, Copy, PartialEq, Eq)]
-enum Halt {
-    Waits,
-    Lost,
-}
-
-// Reads some bytes, and tries again where that is interrupted.
-fn read_some<R: Read>(reader: &mut R, room: &mut [u8]) -> Result<usize, Halt>
-    ensures within { IfOk result (λ count. count ≤ length room.old) }
-    ensures long { length room.new ≡ length room.old }
-    ensures bytes { ReadConsumes (R.remaining reader.old) (R.remaining reader.new) result room.new }
-{
-    for _ in 0..MOST_TRIES {
-        match reader.read(room) {
-            Ok(count) => return Ok(count),
-            Err(error) => match error.kind() {
-                ErrorKind::Interrupted => (),
-                ErrorKind::WouldBlock => return Err(Halt::Waits),
-                _ => return Err(Halt::Lost),
-            },
-        }
-    }
-    Err(Halt::Lost)
-}
-
-// Writes the first of some bytes, and tries again where that is interrupted. A writer that takes none of them is lost.
-fn write_some<W: Write>(writer: &mut W, bytes: &[u8]) -> Result<usize, Halt>
-    ensures within { IfOk result (λ count. count ≤ length bytes.now) }
-    ensures bytes { WriteAppends (W.contents writer.old) (W.contents writer.new) result bytes.now }
-{
-    for _ in 0..MOST_TRIES {
-        match writer.write(bytes) {
-            Ok(0) => return Err(Halt::Lost),
-            Ok(count) => return Ok(count),
-            Err(error) => match error.kind() {
-                ErrorKind::Interrupted => (),
-                ErrorKind::WouldBlock => return Err(Halt::Waits),
-                _ => return Err(Halt::Lost),
-            },
-        }
-    }
-    Err(Halt::Lost)
-}
 
 /// What a read brought.
 #[derive(Clone, Copy, PartialEq, Eq)]
@@ -85,13 +37,15 @@ pub(crate) enum Taken {
 }
 
 // Takes a piece more, where there is one.
-fn take_piece<R: Read>(reader: &mut R, came: &mut Vec<u8>) -> Piece
-    ensures more { result ≡ piece.More → (p : List ℕ) × (0 < length p) × (came.new.items ≡ came.old.items ++ p) × Consumes (R.remaining reader.old) (R.remaining reader.new) p }
-    ensures end { result ≡ piece.End → (came.new.items ≡ came.old.items) × IsAtEnd (R.remaining reader.new) × Consumes (R.remaining reader.old) (R.remaining reader.new) [] }
-    ensures waits { result ≡ piece.Waits → (came.new.items ≡ came.old.items) × Consumes (R.remaining reader.old) (R.remaining reader.new) [] }
+fn take_piece<C: Connection>(stream: &mut C, came: &mut Vec<u8>) -> Piece
+    ensures more { result ≡ piece.More → (p : List ℕ) × (0 < length p) × (came.new.items ≡ came.old.items ++ p) × Consumes (C.remaining stream.old) (C.remaining stream.new) p }
+    ensures end { result ≡ piece.End → (came.new.items ≡ came.old.items) × IsAtEnd (C.remaining stream.new) × Consumes (C.remaining stream.old) (C.remaining stream.new) [] }
+    ensures waits { result ≡ piece.Waits → (came.new.items ≡ came.old.items) × Consumes (C.remaining stream.old) (C.remaining stream.new) [] }
+    ensures drained { result ≡ piece.Waits → C.is_drained stream.new }
+    ensures kept { C.contents stream.new ≡ C.contents stream.old }
 {
     let mut room = [0; ROOM];
-    let count = match read_some(reader, &mut room) {
+    let count = match stream.read_some(&mut room) {
         Ok(count) => count,
         Err(Halt::Waits) => return Piece::Waits,
         Err(Halt::Lost) => return Piece::Lost,
@@ -118,18 +72,20 @@ fn at_end(came: &[u8]) -> Taken
 
 /// Takes the bytes that have come, until they make a whole request or a fault, or end. `needed` is how many that takes at
 /// least, as far as it is known: with fewer the head isn't read again.
-pub(crate) fn take_bytes<R: Read>(
+pub(crate) fn take_bytes<C: Connection>(
     routes: &Routes,
-    reader: &mut R,
+    stream: &mut C,
     came: &mut Vec<u8>,
     needed: &mut usize,
 ) -> Taken
-    ensures bytes { result ≢ taken.Lost → IsReadOn (R.remaining reader.old) (R.remaining reader.new) came.old.items came.new.items }
+    ensures bytes { result ≢ taken.Lost → IsReadOn (C.remaining stream.old) (C.remaining stream.new) came.old.items came.new.items }
     ensures some { result ≡ taken.Whole → 0 < length came.new.items }
-    ensures whole { result ≡ taken.Whole → IsSettled came.new.items ⊎ IsAtEnd (R.remaining reader.new) }
+    ensures whole { result ≡ taken.Whole → IsSettled came.new.items ⊎ IsAtEnd (C.remaining stream.new) }
+    ensures drained { result ≡ taken.Waits → C.is_drained stream.new }
+    ensures kept { C.contents stream.new ≡ C.contents stream.old }
 {
     for _ in 0..MOST_READS {
-        match take_piece(reader, came) {
+        match take_piece(stream, came) {
             Piece::Lost => return Taken::Lost,
             Piece::Waits => return Taken::Waits,
             Piece::End => return at_end(came),
@@ -156,32 +112,35 @@ pub(crate) enum Given {
 
 /// Hands over what is left of an answer, as far as it is taken: behind what was handed over before come the next of its
 /// bytes, and no others.
-pub(crate) fn hand_over<W: Write>(writer: &mut W, answer: &[u8], sent: &mut usize) -> Given
+pub(crate) fn hand_over<C: Connection>(stream: &mut C, answer: &[u8], sent: &mut usize) -> Given
     requires { sent.old ≤ length answer.now }
     ensures within { sent.new ≤ length answer.now }
-    ensures bytes { result ≢ given.Lost → (before : Option (List ℕ)) → Appends before (W.contents writer.old) (take sent.old answer.now)
-        → Appends before (W.contents writer.new) (take sent.new answer.now) }
+    ensures bytes { result ≢ given.Lost → (before : Option (List ℕ)) → Appends before (C.contents stream.old) (take sent.old answer.now)
+        → Appends before (C.contents stream.new) (take sent.new answer.now) }
     ensures whole { result ≡ given.Whole → sent.new ≡ length answer.now }
+    ensures full { result ≡ given.Waits → C.is_full stream.new }
 {
     for _ in 0..answer.len().saturating_add(1) {
         let rest = &answer[*sent..];
         if rest.is_empty() {
             return Given::Whole;
         }
-        match write_some(writer, rest) {
+        match stream.write_some(rest) {
             Ok(count) => *sent += count,
             Err(Halt::Waits) => return Given::Waits,
             Err(Halt::Lost) => return Given::Lost,
         }
     }
-    Given::Waits
+    Given::Lost
 }
 
 /// Reads what still comes and drops it. Tells whether more may come.
-pub(crate) fn drop_rest<R: Read>(reader: &mut R) -> bool {
+pub(crate) fn drop_rest<C: Connection>(stream: &mut C) -> bool
+    ensures kept { C.contents stream.new ≡ C.contents stream.old }
+{
     let mut room = [0; ROOM];
     for _ in 0..MOST_DROPS {
-        match read_some(reader, &mut room) {
+        match stream.read_some(&mut room) {
             Ok(0) => return false,
             Ok(_) => (),
             Err(halt) => return halt == Halt::Waits,

@@ -1,6 +1,5 @@
-use Rattle.std.proofs.Common.{◌∙◌, sym, subst, inl, inr, refl}
-use Rattle.shop_request.specs.Guards.{HasRuling}
-use Rattle.shop_serve.proofs.Turns.{is_route, no_route, none_served, one_ruled}
+use Rattle.std.proofs.Common.{◌∙◌, sym}
+use Rattle.shop_serve.proofs.Turns.{no_route, none_served, one_ruled}
 use Rattle.shop_serve.proofs.answers.answer_of.Goals as goal
 
 pub returns-in-Ok-clause-step : goal.returns-in-Ok-clause-step

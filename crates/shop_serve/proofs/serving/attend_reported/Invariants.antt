@@ -1,11 +1,16 @@
-use Rattle.std.proofs.Common.{◌≤◌}
+use Rattle.std.proofs.Common.{drop}
+use Rattle.slab.specs.Slab.{Slab}
+use Rattle.shop_serve.specs.declared.lines.Line.{Line}
+use Rattle.shop_serve.specs.Lines.{AreAttended, unanswered}
 use Rattle.shop_serve.specs.Serving.{Advances}
 use Rattle.shop_serve.proofs.serving.attend_reported.Given as goal
 
-abbrev pub invariant-loop-event : goal.invariant-loop-event
-invariant-loop-event g l =
+-- what is still to be done completes what was done
+abbrev pub invariant-loop-key : goal.invariant-loop-key
+invariant-loop-key g l =
     record {
-      run : Advances l.site g.B.Book l.fn.book l.book l.fn.served l.served;
-      few : l.served ≤ l.accepted;
+      each : (lines : Slab (Line _)) (book : _) → AreAttended g.C.Connection l.site g.B.Book (drop l.key-index l.keys) l.lines lines l.book book
+          → AreAttended g.C.Connection l.site g.B.Book l.keys l.fn.lines lines l.fn.book book;
+      run : Advances l.site g.B.Book l.fn.book l.book (unanswered l.fn.lines) (unanswered l.lines);
       honest : g.B.Book.is_honest l.book → g.B.Book.is_honest l.fn.book;
     }

@@ -1,7 +1,27 @@
+use Rattle.std.proofs.Common.{◌+◌, subst, arith}
+use Rattle.shop_serve.specs.Lines.{AreAttended, unanswered}
 use Rattle.shop_serve.proofs.Turns.{advances_more}
 use Rattle.shop_serve.proofs.serving.turn.Goals as goal
 
+pub returns-clause-round : goal.returns-clause-round
+returns-clause-round g c =
+    let came = c.accept_waiting.ensures.each in (
+      came.0,
+      came.1,
+      came.2,
+      record {
+        attended = c.attend_reported.new.lines;
+        mid = c.attend_reported.new.book;
+        each = subst (λ keys. AreAttended g.C.Connection c.args.site.now g.B.Book keys c.args.lines.now c.attend_reported.new.lines c.args.book.now c.attend_reported.new.book) c.keys.ensures c.attend_reported.ensures.each;
+        kept = c.close_late.new.lines;
+        late = c.close_late.ensures.late;
+        received = came.3;
+      },
+    )
+
 pub returns-clause-run : goal.returns-clause-run
 returns-clause-run g c =
-    advances_more c.args.site.now g.B.Book c.args.book.now c.attend_reported.new.book c.accept_waiting.new.book c.args.served.now c.attend_reported.new.served c.accept_waiting.new.served
-    c.accept_waiting.ensures.honest c.attend_reported.ensures.run c.accept_waiting.ensures.run
+    advances_more c.args.site.now g.B.Book c.args.book.now c.attend_reported.new.book c.accept_waiting.new.book (unanswered c.args.lines.now) (unanswered c.attend_reported.new.lines)
+    (unanswered c.close_late.new.lines + c.accept_waiting.new.accepted) (unanswered c.accept_waiting.new.lines + c.args.accepted.now)
+    (unanswered c.args.lines.now + c.accept_waiting.new.accepted) (unanswered c.accept_waiting.new.lines + c.args.accepted.now)
+    (omega (arith, c.close_late.ensures.fewer)) c.accept_waiting.ensures.honest c.attend_reported.ensures.run c.accept_waiting.ensures.run

@@ -15,7 +15,7 @@ loop-preserved g c =
     record {
       within = omega (arith, c.loop.invariant.within, c.in-Ok.ensures.within, ap length whole, length-drop {A = ℕ} sent answer);
       bytes = λ before so_far.
-          subst (Appends before (g.W.Write.contents c.write_some.new.writer)) more
-          (Appends-trans before (g.W.Write.contents c.loop.writer) (g.W.Write.contents c.write_some.new.writer) (take sent answer)
+          subst (Appends before (g.C.Connection.contents c.write_some.new.self)) more
+          (Appends-trans before (g.C.Connection.contents c.loop.stream) (g.C.Connection.contents c.write_some.new.self) (take sent answer)
           (take count (take (length answer - sent) (drop sent answer))) (c.loop.invariant.bytes before so_far) c.in-Ok.ensures.bytes);
     }

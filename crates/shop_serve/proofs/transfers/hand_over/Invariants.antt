@@ -7,5 +7,5 @@ abbrev pub invariant-loop : goal.invariant-loop
 invariant-loop g l =
     record {
       within : l.sent ≤ length l.answer;
-      bytes : (before : Option (List ℕ)) → Appends before (g.W.Write.contents l.fn.writer) (take l.fn.sent l.answer) → Appends before (g.W.Write.contents l.writer) (take l.sent l.answer);
+      bytes : (before : Option (List ℕ)) → Appends before (g.C.Connection.contents l.fn.stream) (take l.fn.sent l.answer) → Appends before (g.C.Connection.contents l.stream) (take l.sent l.answer);
     }

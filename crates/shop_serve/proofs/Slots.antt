@@ -1,0 +1,169 @@
+-- How many open connections have no answer, as one of them changes.
+use Rattle.std.proofs.Common.{◌≡◌, ◌≢◌, ◌∙◌, ℕ, zero, suc, ◌+◌, ◌≤◌, Bool, true, false, not, is_some, cond, MutBor, List, [], ◌∷◌, get_or, count_by, inl, inr, refl, sym, ap, subst, arith}
+use Rattle.std.proofs.lemmas.List.Sums.{sum_by-cons}
+use Rattle.std.specs.Prelude.{Option, Some, None, Result, Ok, Err, IfOk, IfSome, OnErr, if◌then◌else◌}
+use Rattle.std.specs.Result.{result_ok}
+use Rattle.slab.specs.Slab.{Slab, get, Updates, CalledAt, RetainsFrom}
+use Rattle.shop_serve.specs.declared.lines.Line.{Line}
+use Rattle.std.specs.declared.time.Instant.{Instant}
+use Rattle.shop_serve.specs.Lines.{ClosesLate, IsFresh, IsOpened, MakesRoom, in_time, is_late, is_unanswered, unanswered}
+
+suc-differs : (a b : ℕ) → a ≢ b → suc a ≢ suc b
+suc-differs a b differs same = differs (omega (arith, same))
+
+suc-zero : (a : ℕ) → suc a ≢ 0
+suc-zero a same = omega (arith, same)
+
+module _ {C : Type 0} where
+  -- one for a connection without an answer
+  abbrev pub one_of : Option (Line C) → ℕ
+  one_of slot = cond (is_unanswered slot) 1 0
+
+  count : List (Option (Line C)) → ℕ
+  count slots = count_by is_unanswered slots
+
+  count-cons : (slot : Option (Line C)) (rest : List (Option (Line C))) → count (slot ∷ rest) ≡ one_of slot + count rest
+  unfolding count
+  count-cons slot rest = sum_by-cons one_of slot rest
+
+  -- the same connections at every key
+  abbrev Same : List (Option (Line C)) → List (Option (Line C)) → Type 0
+  Same old new = (key : ℕ) → get_or new key None ≡ get_or old key None
+
+  count-same : (old new : List (Option (Line C))) → Same old new → count new ≡ count old
+  count-same [] [] same = refl
+  count-same [] (n ∷ new) same =
+      omega (arith, count-cons n new, count-same [] new (λ key. same (suc key)), ap one_of (same 0))
+  count-same (o ∷ old) [] same =
+      omega (arith, count-cons o old, count-same old [] (λ key. same (suc key)), ap one_of (same 0))
+  count-same (o ∷ old) (n ∷ new) same =
+      omega (arith, count-cons o old, count-cons n new, count-same old new (λ key. same (suc key)), ap one_of (same 0))
+
+  -- the same connections but at one key
+  abbrev SameBut : ℕ → List (Option (Line C)) → List (Option (Line C)) → Type 0
+  SameBut key old new = (other : ℕ) → other ≢ key → get_or new other None ≡ get_or old other None
+
+  count-but : (key : ℕ) (old new : List (Option (Line C))) → SameBut key old new
+      → count new + one_of (get_or old key None) ≡ count old + one_of (get_or new key None)
+  count-but zero [] [] same = refl
+  count-but zero [] (n ∷ new) same = omega (arith, count-cons n new, count-same [] new (λ key. same (suc key) (suc-zero key)))
+  count-but zero (o ∷ old) [] same = omega (arith, count-cons o old, count-same old [] (λ key. same (suc key) (suc-zero key)))
+  count-but zero (o ∷ old) (n ∷ new) same =
+      omega (arith, count-cons o old, count-cons n new, count-same old new (λ key. same (suc key) (suc-zero key)))
+  count-but (suc key) [] [] same = refl
+  count-but (suc key) [] (n ∷ new) same =
+      omega (arith, count-cons n new, count-but key [] new (λ other differs. same (suc other) (suc-differs other key differs)), ap one_of (same 0 (λ e. suc-zero key (sym e))))
+  count-but (suc key) (o ∷ old) [] same =
+      omega (arith, count-cons o old, count-but key old [] (λ other differs. same (suc other) (suc-differs other key differs)), ap one_of (same 0 (λ e. suc-zero key (sym e))))
+  count-but (suc key) (o ∷ old) (n ∷ new) same =
+      omega (
+        arith,
+        count-cons o old,
+        count-cons n new,
+        count-but key old new (λ other differs. same (suc other) (suc-differs other key differs)),
+        ap one_of (same 0 (λ e. suc-zero key (sym e))),
+      )
+
+  -- one of them changes
+  pub unanswered-updates : (old new : Slab (Line C)) (key : ℕ) (slot : Option (Line C)) → Updates old new key slot
+      → unanswered new + one_of (get old key) ≡ unanswered old + one_of slot
+  unfolding count
+  unanswered-updates old new key slot updates =
+      omega (arith, count-but key old.slots new.slots updates.others, ap one_of updates.changed)
+
+  pub one-most : (slot : Option (Line C)) → one_of slot ≤ 1
+  one-most None = omega arith
+  one-most (Some line) = by_test (is_unanswered (Some line))
+    where
+      by_test : (b : Bool) → cond b 1 0 ≤ 1
+      by_test true = omega arith
+      by_test false = omega arith
+
+  pub unanswered-empty : (lines : Slab (Line C)) → lines.slots ≡ [] → unanswered lines ≡ 0
+  unanswered-empty lines e = rw e refl
+
+  room-same : (old room new : Slab (Line C)) → new.slots ≡ room.slots → MakesRoom old room → MakesRoom old new
+  room-same old room new same (inl is) = inl (same ∙ is)
+  room-same old room new same (inr made) =
+      inr (made.0, made.1, record { changed = rw same made.2.changed; others = λ other differs. rw same (made.2.others other differs) })
+
+  module _ {E : Type 0} (now : Instant) (stream : C) (old room new : Slab (Line C)) (line : Line C) where
+    -- it was put under a free key
+    pub opened-so : (r : Result ℕ E) (key : Option ℕ) → key ≡ result_ok r → IfOk r (λ k. get room k ≡ None) → IfOk r (λ k. Updates room new k (Some line))
+        → MakesRoom old room → IsFresh now stream line → IfSome key (λ k. IsOpened now stream k old new)
+    opened-so (Ok k) key e free there made fresh =
+        subst (λ key. IfSome key (λ k. IsOpened now stream k old new)) (sym e) (record { room = room; made = made; line = line; fresh = fresh; free = free; there = there })
+    opened-so (Err f) key e free there made fresh = subst (λ key. IfSome key (λ k. IsOpened now stream k old new)) (sym e) tt
+
+    -- or there was no memory for it
+    pub closed-so : (r : Result ℕ E) (key : Option ℕ) → key ≡ result_ok r → OnErr r (new ≡ record room { capacity = new.capacity }) → MakesRoom old room
+        → key ≡ None → MakesRoom old new
+    closed-so (Ok k) key e err made none = absurd (cc (e, none))
+    closed-so (Err f) key e err made none = room-same old room new (ap (λ s. s.slots) err) made
+
+  -- one more is opened, or there was no memory for it
+  pub unanswered-inserted : {E : Type 0} (old new : Slab (Line C)) (line : Line C) (key : Result ℕ E) → IfOk key (λ k. Updates old new k (Some line))
+      → OnErr key (new ≡ record old { capacity = new.capacity }) → unanswered new ≤ unanswered old + 1
+  unanswered-inserted old new line (Ok key) updates err =
+      omega (arith, unanswered-updates old new key (Some line) updates, one-most (Some line))
+  unanswered-inserted old new line (Err e) updates err = omega (arith, ap unanswered err)
+
+  module _ {F : Type 0} (step : F → ℕ → MutBor (Line C) → Bool → MutBor (Line C) → F → Type 0) (now : Instant) (At : F → Type 0)
+      (keeps : (f : F) (key : ℕ) (shown : MutBor (Line C)) (keep : Bool) (left : MutBor (Line C)) (next : F) → At f → step f key shown keep left next
+      → (left.now ≡ shown.now) × (keep ≡ not (is_late now shown.now)) × At next) where
+    unchanged : (f : F) (key : ℕ) (line : Line C) (keep : Bool) (new : Line C) (next : F) → At f → CalledAt step f key line keep new next → new ≡ line
+    unchanged f key line keep new next at called = sym called.leaves ∙ (keeps f key called.shown keep called.left next at called.called).0 ∙ called.shows
+
+    later : (f : F) (key : ℕ) (line : Line C) (keep : Bool) (new : Line C) (next : F) → At f → CalledAt step f key line keep new next → At next
+    later f key line keep new next at called = (keeps f key called.shown keep called.left next at called.called).2
+
+    one-kept : (keep : Bool) (old new : Line C) → new ≡ old → one_of (if keep then Some new else None) ≤ one_of (Some old)
+    one-kept true old new same = omega (arith, ap (λ l. one_of (Some l)) same)
+    one-kept false old new same = omega arith
+
+    count-retained : (f : F) (key : ℕ) (old new : List (Option (Line C))) → At f → RetainsFrom step f key old new → count new ≤ count old
+    count-retained f key [] new at run = omega (arith, ap count run)
+    count-retained f key (None ∷ old) new at run =
+        omega (arith, count-cons None old, count-cons None run.0, ap count run.1, count-retained f (key + 1) old run.0 at run.2)
+    count-retained f key (Some line ∷ old) new at run =
+        omega (
+          arith,
+          count-cons (Some line) old,
+          count-cons (if run.0 then Some run.1 else None) run.4,
+          ap count run.5,
+          one-kept run.0 line run.1 (unchanged f key line run.0 run.1 run.2 at run.3),
+          count-retained run.2 (key + 1) old run.4 (later f key line run.0 run.1 run.2 at run.3) run.6,
+        )
+
+    -- some are closed
+    pub unanswered-retained : (f : F) (old new : Slab (Line C)) → At f → RetainsFrom step f 0 old.slots new.slots → unanswered new ≤ unanswered old
+    unfolding count
+    unanswered-retained f old new at run = count-retained f 0 old.slots new.slots at run
+
+    kept-slot : (late keep : Bool) (line new : Line C) → keep ≡ not late → new ≡ line
+        → (if keep then Some new else None) ≡ (if late then None else Some line)
+    kept-slot true keep line new e same = rw e refl
+    kept-slot false keep line new e same = rw (e, same) refl
+
+    late-slots : (f : F) (first : ℕ) (old new : List (Option (Line C))) → At f → RetainsFrom step f first old new → (key : ℕ)
+        → get_or new key None ≡ in_time now (get_or old key None)
+    late-slots f first [] new at run key = rw run refl
+    late-slots f first (None ∷ old) new at run zero = rw run.1 refl
+    late-slots f first (None ∷ old) new at run (suc key) = rw run.1 (late-slots f (first + 1) old run.0 at run.2 key)
+    late-slots f first (Some line ∷ old) new at run zero =
+        let called = run.3 in
+        let same = unchanged f first line run.0 run.1 run.2 at called in
+        let keep = (keeps f first called.shown run.0 called.left run.2 at called.called).1 ∙ ap (λ l. not (is_late now l)) called.shows in
+        rw run.5 (kept-slot (is_late now line) run.0 line run.1 keep same)
+    late-slots f first (Some line ∷ old) new at run (suc key) = rw run.5 (late-slots run.2 (first + 1) old run.4 (later f first line run.0 run.1 run.2 at run.3) run.6 key)
+
+    -- those that had their time
+    pub closes-late : (f : F) (old new : Slab (Line C)) → At f → RetainsFrom step f 0 old.slots new.slots → ClosesLate now old new
+    closes-late f old new at run = late-slots f 0 old.slots new.slots at run
+
+-- none is open
+pub none-open : {C : Type 0} (slots : List (Option (Line C))) → count_by is_some slots ≡ 0 → (key : ℕ) → get_or slots key None ≡ None
+none-open [] none key = refl
+none-open (None ∷ slots) none zero = refl
+none-open (None ∷ slots) none (suc key) = none-open slots (omega (arith, none, sum_by-cons (λ o. cond (is_some o) 1 0) None slots)) key
+none-open (Some line ∷ slots) none key = absurd (omega (arith, none, sum_by-cons (λ o. cond (is_some o) 1 0) (Some line) slots))

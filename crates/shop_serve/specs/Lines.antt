@@ -1,0 +1,107 @@
+-- Open connections: which have no answer yet, and what it is to attend to one.
+use Rattle.std.specs.Prelude.{◌≡◌, ◌≢◌, ◌⊎◌, ◌≤◌, ◌-◌, ◌*◌, leb, if◌then◌else◌, ℕ, List, [], ◌∷◌, length, take, Option, Some, None, IfSome, IsSome, Bool, false, is_none, count_by}
+use Rattle.std.specs.Io.KnownBytes.{Appends, IsAtEnd}
+use Rattle.std.specs.Time.{instant_nanos}
+use Rattle.std.specs.declared.time.Instant.{Instant}
+use Rattle.slab.specs.Slab.{Slab, get, slab_len, Updates}
+use Rattle.shop_book.specs.declared.books.Book.{Ghosts}
+use Rattle.shop_request.specs.Reading.{IsReadOn}
+use Rattle.shop_request.specs.Senses.{IsSettled}
+use Rattle.shop_serve.specs.declared.connections.Connection.{Ghosts as ConnectionGhosts}
+use Rattle.shop_serve.specs.declared.lines.Line.{Line}
+use Rattle.shop_serve.specs.declared.lines.TheConstants.{PATIENCE, MOST_LINES}
+use Rattle.shop_serve.specs.declared.sites.Site.{Site}
+use Rattle.shop_serve.specs.Serving.{HasServed, IsAnswered}
+
+module _ {C : Type 0} where
+  -- a connection that is open and has no answer yet
+  abbrev pub is_unanswered : Option (Line C) → Bool
+  is_unanswered None = false
+  is_unanswered (Some line) = is_none line.answer
+
+  -- how many of these connections have no answer yet
+  abbrev pub unanswered : Slab (Line C) → ℕ
+  unanswered lines = count_by is_unanswered lines.slots
+
+  -- it had its seconds, from when it was accepted or its answer was made
+  abbrev pub is_late : Instant → Line C → Bool
+  is_late now line = leb (PATIENCE * 1000000000) (instant_nanos now - instant_nanos line.since)
+
+  -- a connection, unless it had its time
+  abbrev pub in_time : Instant → Option (Line C) → Option (Line C)
+  in_time now None = None
+  in_time now (Some line) = if is_late now line then None else Some line
+
+  -- those that had their time are closed, and no others
+  abbrev pub ClosesLate : Instant → Slab (Line C) → Slab (Line C) → Type 0
+  ClosesLate now old new = (key : ℕ) → get new key ≡ in_time now (get old key)
+
+  -- one is closed at most, and none but where as many as may be are open
+  abbrev pub MakesRoom : Slab (Line C) → Slab (Line C) → Type 0
+  MakesRoom old new = (new.slots ≡ old.slots) ⊎ ((MOST_LINES ≤ slab_len old) × (key : ℕ) × Updates old new key None)
+
+  -- it was accepted now: nothing came of it, and it has no answer
+  pub record IsFresh (now : Instant) (stream : C) (line : Line C) : Type 0 where
+    pub own : line.stream ≡ stream
+    pub since : line.since ≡ now
+    pub came : line.came.items ≡ []
+    pub waits : line.answer ≡ None
+
+  -- it is open under a key that was free, and another was closed for it at most
+  pub record IsOpened (now : Instant) (stream : C) (key : ℕ) (old new : Slab (Line C)) : Type 0 where
+    pub room : Slab (Line C)
+    pub made : MakesRoom old room
+    pub line : Line C
+    pub fresh : IsFresh now stream line
+    pub free : get room key ≡ None
+    pub there : Updates room new key (Some line)
+
+-- a connection took the bytes of its answer from one place to another, and no others
+abbrev pub TakesAnswer : {C : Type 0} → ConnectionGhosts C → List ℕ → C → ℕ → C → ℕ → Type 0
+TakesAnswer connection answer old sent new more =
+    (before : Option (List ℕ)) → Appends before (connection.contents old) (take sent answer) → Appends before (connection.contents new) (take more answer)
+
+module _ {C : Type 0} (connection : ConnectionGhosts C) (site : Site) {B : Type 0} (book : Ghosts B) where
+  -- A connection with an answer: it keeps it, takes more of it, to its end or until it takes no more, and nothing else is done.
+  pub record IsHandedOn (old new : Line C) (before after : B) (answer : List ℕ) : Type 0 where
+    pub same : after ≡ before
+    pub came : new.came ≡ old.came
+    pub kept : new.answer ≡ old.answer
+    pub takes : TakesAnswer connection answer old.stream old.sent new.stream new.sent
+    pub stops : (new.sent ≡ length answer) ⊎ connection.is_full new.stream
+
+  -- The answer to all that came of a connection, once that was whole or at its end. It took all of it, or its first bytes, until
+  -- it took no more.
+  pub record IsAnsweredWhole (old new : Line C) (rest : Option (List ℕ)) (before after : B) (answer : List ℕ) : Type 0 where
+    pub whole : IsSettled new.came.items ⊎ IsAtEnd rest
+    pub answered : IsAnswered site book before after new.came.items answer
+    pub takes : TakesAnswer connection answer old.stream 0 new.stream new.sent
+    pub stops : (new.sent ≡ length answer) ⊎ connection.is_full new.stream
+
+  -- A connection without an answer: what came of it goes on by what it gave. It still has none, took nothing, nothing is done,
+  -- and nothing more came of it; or it is answered.
+  pub record IsHeard (old new : Line C) (before after : B) : Type 0 where
+    pub rest : Option (List ℕ)
+    pub read : IsReadOn (connection.remaining old.stream) rest old.came.items new.came.items
+    pub waits : new.answer ≡ None → (after ≡ before) × (connection.contents new.stream ≡ connection.contents old.stream) × connection.is_drained new.stream
+    pub answered : IfSome new.answer (λ answer. IsAnsweredWhole old new rest before after answer.items)
+
+  -- a connection was attended to, and stays open
+  abbrev pub IsAttended : Line C → Line C → B → B → Type 0
+  IsAttended old new before after =
+      IfSome old.answer (λ answer. IsHandedOn old new before after answer.items) × (old.answer ≡ None → IsHeard old new before after)
+
+  -- The connection of a key was attended to, if there is one, and is closed or stays; no other was. At most one request was
+  -- served, and none where it had an answer.
+  pub record IsAttendedAt (key : ℕ) (old new : Slab (Line C)) (before after : B) : Type 0 where
+    pub others : (other : ℕ) → other ≢ key → get new other ≡ get old other
+    pub absent : get old key ≡ None → (get new key ≡ None) × (after ≡ before)
+    pub there : (line : Line C) → get old key ≡ Some line → IfSome (get new key) (λ left. IsAttended line left before after)
+    pub once : (line : Line C) → get old key ≡ Some line → IsSome line.answer → after ≡ before
+    pub one : HasServed site book before after 1
+
+  -- the connections of these keys were attended to, one after another
+  abbrev pub AreAttended : List ℕ → Slab (Line C) → Slab (Line C) → B → B → Type 0
+  AreAttended [] old new before after = (new ≡ old) × (after ≡ before)
+  AreAttended (key ∷ keys) old new before after =
+      (lines : Slab (Line C)) × (mid : B) × IsAttendedAt key old lines before mid × AreAttended keys lines new mid after

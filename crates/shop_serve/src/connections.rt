@@ -1,0 +1,98 @@
+//! What a server reads from and writes to, as far as it goes without waiting: a connection, and that of a socket.
+
+ghost use Rattle.std.specs.Prelude.{◌≡◌, ◌≤◌, ℕ, List, Option, None, Err, length, IfOk, ⊤};
+ghost use Rattle.shop_serve.specs.declared.connections.Halt.TheVariants.{Waits};
+ghost use Rattle.std.specs.Io.KnownBytes.{ReadConsumes, WriteAppends};
+
+use mio::net::TcpStream;
+use std::io::{ErrorKind, Read, Write};
+use std::net::Shutdown;
+
+// How often a call is made that is interrupted each time.
+const MOST_TRIES: u32 = 1000;
+
+/// Why a call moved no byte.
+#[derive(Clone, Copy, PartialEq, Eq)]
+pub(crate) enum Halt {
+    Waits,
+    Lost,
+}
+
+/// A connection: bytes come of it, and it takes bytes, as far as that goes without waiting.
+pub(crate) trait Connection {
+    /// What still comes of it, where that is known.
+    ghost remaining: { Self → Option (List ℕ) };
+
+    /// What it took, where that is known.
+    ghost contents: { Self → Option (List ℕ) };
+
+    /// Nothing more came of it so far.
+    ghost is_drained: { Self → Type 0 };
+
+    /// It takes no more now.
+    ghost is_full: { Self → Type 0 };
+
+    /// Reads the next bytes that came of it, or none at their end.
+    fn read_some(&mut self, room: &mut [u8]) -> Result<usize, Halt>
+        ensures within { IfOk result (λ count. count ≤ length room.old) }
+        ensures long { length room.new ≡ length room.old }
+        ensures bytes { ReadConsumes (remaining self.old) (remaining self.new) result room.new }
+        ensures drained { result ≡ Err Waits → is_drained self.new }
+        ensures kept { contents self.new ≡ contents self.old };
+
+    /// Has it take the first of some bytes.
+    fn write_some(&mut self, bytes: &[u8]) -> Result<usize, Halt>
+        ensures within { IfOk result (λ count. count ≤ length bytes.now) }
+        ensures bytes { WriteAppends (contents self.old) (contents self.new) result bytes.now }
+        ensures full { result ≡ Err Waits → is_full self.new }
+        ensures kept { remaining self.new ≡ remaining self.old };
+
+    /// Ends what it takes.
+    fn end_writing(&mut self)
+        ensures kept { contents self.new ≡ contents self.old };
+}
+
+impl Connection for TcpStream {
+    ghost remaining = { λ _. None };
+
+    ghost contents = { λ _. None };
+
+    ghost is_drained = { λ _. ⊤ };
+
+    ghost is_full = { λ _. ⊤ };
+
+    // A call that is interrupted is made again.
+    fn read_some(&mut self, room: &mut [u8]) -> Result<usize, Halt> {
+        for _ in 0..MOST_TRIES {
+            match self.read(room) {
+                Ok(count) => return Ok(count),
+                Err(error) => match error.kind() {
+                    ErrorKind::Interrupted => (),
+                    ErrorKind::WouldBlock => return Err(Halt::Waits),
+                    _ => return Err(Halt::Lost),
+                },
+            }
+        }
+        Err(Halt::Lost)
+    }
+
+    // A call that is interrupted is made again. A socket that takes none of the bytes is lost.
+    fn write_some(&mut self, bytes: &[u8]) -> Result<usize, Halt> {
+        for _ in 0..MOST_TRIES {
+            match self.write(bytes) {
+                Ok(0) => return Err(Halt::Lost),
+                Ok(count) => return Ok(count),
+                Err(error) => match error.kind() {
+                    ErrorKind::Interrupted => (),
+                    ErrorKind::WouldBlock => return Err(Halt::Waits),
+                    _ => return Err(Halt::Lost),
+                },
+            }
+        }
+        Err(Halt::Lost)
+    }
+
+    fn end_writing(&mut self) {
+        let _ = self.shutdown(Shutdown::Write);
+    }
+}

@@ -1,0 +1,177 @@
+//! What connections come by: a port, and a listener that is watched.
+
+ghost use Rattle.std.specs.Prelude.{◌≡◌, ℕ, List, Option, None, OnOk, map};
+ghost use Rattle.mio.specs.Events.{items};
+ghost use Rattle.shop_serve.specs.Rounds.{Adds, given_by, key_of};
+
+use crate::faults::ServeFault;
+use mio::net::TcpStream as Stream;
+use mio::unix::SourceFd;
+use mio::{Events, Interest, Poll, Token};
+use std::alloc::{AllocError, Global};
+use std::io::{self, ErrorKind};
+use std::net::{Net, TcpListener};
+use std::os::fd::AsRawFd;
+use std::time::Duration;
+
+// How many are reported at once.
+const MOST_EVENTS: usize = 256;
+
+// How often it is tried to accept one, where those that waited went away.
+const MOST_TRIES: u32 = 1000;
+
+// The token of the listener. No connection has it.
+const LISTENER: Token = Token(usize::MAX);
+
+/// What connections come by: it reports which of them have something, and gives those that come.
+pub(crate) trait Port<C> {
+    /// The keys that it reported so far, where they are known.
+    ghost told: { Self → Option (List ℕ) };
+
+    /// The connections that it gave so far, where they are known.
+    ghost given: { Self → Option (List C) };
+
+    /// The keys that the last wait reported.
+    ghost reported: { Self → List ℕ };
+
+    /// Waits until something is reported, or for so long.
+    fn wait(&mut self, wait: Duration) -> Result<(), ServeFault>
+        ensures told { OnOk result (Adds (told self.old) (told self.new) (reported self.new)) }
+        ensures given { given self.new ≡ given self.old };
+
+    /// The keys that the last wait reported.
+    fn keys(&self) -> &[usize]
+        ensures { result.now ≡ reported self.now };
+
+    /// The next connection, where one waits and can be accepted now.
+    fn accept(&mut self) -> Result<Option<C>, ServeFault>
+        ensures given { Adds (given self.old) (given self.new) (given_by result) }
+        ensures told { told self.new ≡ told self.old };
+
+    /// Has a connection reported under a key from now on.
+    fn watch(&mut self, stream: &mut C, key: usize) -> bool
+        ensures same { stream.new ≡ stream.old }
+        ensures told { told self.new ≡ told self.old }
+        ensures given { given self.new ≡ given self.old };
+}
+
+/// A listener that is watched beside the connections that it gave.
+#[derive(Drop)]
+pub(crate) struct Door<'a> {
+    listener: &'a TcpListener,
+    poll: Poll,
+    events: Events,
+    keys: Vec<usize>,
+}
+
+impl<'a> Door<'a> {
+    /// Watches a listener, which no longer blocks from then on.
+    pub(crate) fn new<R: Net>(
+        rt: &R,
+        alloc: Global,
+        listener: &'a TcpListener,
+    ) -> Result<Door<'a>, ServeFault> {
+        let events = Events::with_capacity(alloc, MOST_EVENTS)?;
+        let keys = Vec::with_capacity(alloc, MOST_EVENTS)?;
+        let poll = watched(rt, listener)?;
+        Ok(Door {
+            listener,
+            poll,
+            events,
+            keys,
+        })
+    }
+}
+
+// Waits for what comes to a listener.
+fn watched<R: Net>(rt: &R, listener: &TcpListener) -> Result<Poll, ServeFault> {
+    let Ok(poll) = Poll::new(rt) else {
+        return Err(ServeFault::Port);
+    };
+    if listener.set_nonblocking(true).is_err() {
+        return Err(ServeFault::Port);
+    }
+    let descriptor = listener.as_raw_fd();
+    let mut source = SourceFd(&descriptor);
+    if poll
+        .registry()
+        .register(&mut source, LISTENER, Interest::READABLE)
+        .is_err()
+    {
+        return Err(ServeFault::Port);
+    }
+    Ok(poll)
+}
+
+// Puts the keys of what is reported into a list.
+fn note_keys(events: &Events, keys: &mut Vec<usize>) -> Result<(), AllocError>
+    ensures { OnOk result (keys.new.items ≡ map key_of (items events.now)) }
+{
+    keys.clear();
+    for event in events.iter() {
+        keys.push(event.token().0)?;
+    }
+    Ok(())
+}
+
+// Whether an error says that no connection can be accepted for good: EBADF, EINVAL, ENOTSOCK and EOPNOTSUPP. Any other, as
+// the want of descriptors or of memory, passes.
+fn is_gone(error: &io::Error) -> bool {
+    match error.raw_os_error() {
+        Some(number) => number == 9 || number == 22 || number == 88 || number == 95,
+        None => false,
+    }
+}
+
+// The next connection that a listener has, where one waits and can be accepted now.
+fn next_stream(listener: &TcpListener) -> Result<Option<Stream>, ServeFault> {
+    for _ in 0..MOST_TRIES {
+        match listener.accept() {
+            Ok((stream, _)) => {
+                if stream.set_nonblocking(true).is_ok() {
+                    return Ok(Some(Stream::from_std(stream)));
+                }
+            }
+            Err(error) => match error.kind() {
+                ErrorKind::Interrupted | ErrorKind::ConnectionAborted => (),
+                _ if is_gone(&error) => return Err(ServeFault::Port),
+                _ => return Ok(None),
+            },
+        }
+    }
+    Ok(None)
+}
+
+impl<'a> Port<Stream> for Door<'a> {
+    ghost told = { λ _. None };
+
+    ghost given = { λ _. None };
+
+    ghost reported = { λ door. door.keys.items };
+
+    fn wait(&mut self, wait: Duration) -> Result<(), ServeFault> {
+        if self.poll.poll(&mut self.events, Some(wait)).is_err() {
+            return Err(ServeFault::Port);
+        }
+        match note_keys(&self.events, &mut self.keys) {
+            Ok(()) => Ok(()),
+            Err(_) => Err(ServeFault::Port),
+        }
+    }
+
+    fn keys(&self) -> &[usize] {
+        &self.keys
+    }
+
+    fn accept(&mut self) -> Result<Option<Stream>, ServeFault> {
+        next_stream(self.listener)
+    }
+
+    fn watch(&mut self, stream: &mut Stream, key: usize) -> bool {
+        let both = Interest::READABLE.add(Interest::WRITABLE);
+        self.poll
+            .registry()
+            .register(stream, Token(key), both)
+            .is_ok()
+    }
+}
