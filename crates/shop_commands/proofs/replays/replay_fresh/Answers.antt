@@ -17,7 +17,7 @@ returns-in-Ok-clause-ok g c =
     let p = c.in-Ok.ensures.ok in
     (p.0, p.1, from_fresh mem.ghosts c.new-book.result c.replay.new.book tt c.new-book.ensures never (g.W.Sink.held c.args.sink.now) (g.W.Sink.held c.replay.new.sink) p.0 [] p.3)
 
-pub returns-clause-err : goal.returns-in-Err-clause-err
+pub returns-clause-err : goal.returns-clause-err
 returns-clause-err g c =
     let p = c.in-Err.ensures.err in
     let fresh = from_fresh mem.ghosts c.new-book.result c.replay.new.book tt c.new-book.ensures never (g.W.Sink.held c.args.sink.now) (g.W.Sink.held c.replay.new.sink) p.0 p.3 p.5 in
