@@ -1,3 +1,4 @@
 pub mod Demands
 pub mod Opened
 pub mod OrderFiles
+pub mod Replayed

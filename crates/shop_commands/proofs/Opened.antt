@@ -15,14 +15,12 @@ use Rattle.shop_serve.specs.declared.faults.ServeFault.TheVariants as serve
 use Rattle.shop_book.specs.declared.books.Book.{Ghosts}
 use Rattle.shop_book.specs.declared.books.BookFault.{BookFault}
 use Rattle.shop_book.specs.declared.books.BookFault.TheVariants as store
-use Rattle.shop_book.specs.Kept.{Unchanged, OnContent}
-use Rattle.shop_text.specs.Printing.{CountsPrint, IsPrinted}
-use Rattle.shop_streams.specs.Streams.{HasFailed}
 use Rattle.shop_text.specs.declared.printing.PrintFault.{PrintFault}
 use Rattle.shop_text.specs.declared.printing.PrintFault.TheVariants as print
 use Rattle.shop_commands.specs.declared.faults.Fault.{Fault}
 use Rattle.shop_commands.specs.Faults.{store_fault, add_fault, print_fault, serve_fault}
-use Rattle.shop_commands.specs.Stored.{IsUnopened, AddFailed, IsUnaccepted, IsTextDone, IsTextStopped}
+use Rattle.shop_commands.specs.Stored.{IsUnopened, AddFailed, IsUnaccepted, IsTextDone, IsTextStopped, Prints}
+use Rattle.shop_commands.specs.Sinks.{SinkChange}
 
 -- what is said of a result that is known
 pub of_ok : (A : Type 0) (result : Result (Unit {0}) Fault) → result ≡ Ok tt → OnOk result A → A
@@ -52,28 +50,18 @@ module _ {B : Type 0} (book : Ghosts B) where
   unaccepted site before after limit serve.NoMemory f is unserved = inl (is, unserved)
   unaccepted site before after limit serve.Port f is unserved = inr (is, unserved)
 
-  module _ (gives : B → Type 0) (said : Content → Result (List ℕ) Refusal) (before after : B) (old new : Option (List ℕ)) (given : gives before) where
-    pub text_done : (result : Result (Unit {0}) PrintFault) → OnContent book before after (λ m. IsPrinted (book.failed before) (book.failed after) old new result (said m))
-        → Unchanged book (CountsPrint result) before after → result ≡ Ok tt → IsTextDone book gives said old new
-    text_done result printed keeps is = record {
-      before = before;
-      after = after;
-      given = given;
-      printed = subst (λ r. OnContent book before after (λ m. IsPrinted (book.failed before) (book.failed after) old new r (said m))) is printed;
-      keeps = subst (λ r. Unchanged book (CountsPrint r) before after) is keeps;
-    }
+  module _ (gives : B → Type 0) (said : Content → Result (List ℕ) Refusal) (before after : B) (out : SinkChange) (given : gives before) where
+    pub text_done : (result : Result (Unit {0}) PrintFault) → Prints book before after said out result → result ≡ Ok tt → IsTextDone book gives said out
+    text_done result prints is =
+        let done = subst (Prints book before after said out) is prints in
+        record { before = before; after = after; given = given; printed = done.printed; keeps = done.keeps }
 
-    stopped : (failed_old failed_new : ℕ) (fault : PrintFault) (f : Fault) → OnContent book before after (λ m. IsPrinted (book.failed before) (book.failed after) old new (Err fault) (said m))
-        → Unchanged book (CountsPrint (Err fault)) before after → f ≡ print_fault fault
-        → ((r : Refusal) → fault ≡ print.Refused r → new ≡ old) → (fault ≡ print.Write → HasFailed failed_old failed_new) → IsTextStopped book gives said f old new failed_old failed_new
-    stopped failed_old failed_new (print.Refused r) f printed keeps is refused failed = inr (inl (r, is, record { before = before; after = after; given = given; printed = printed; keeps = keeps }, refused r refl))
-    stopped failed_old failed_new print.Write f printed keeps is refused failed = inr (inr (is, record { before = before; after = after; given = given; printed = printed; keeps = keeps }, failed refl))
+    stopped : (fault : PrintFault) (f : Fault) → Prints book before after said out (Err fault) → f ≡ print_fault fault → IsTextStopped book gives said f out
+    stopped (print.Refused r) f prints is =
+        inr (inl (r, is, record { before = before; after = after; given = given; printed = prints.printed; keeps = prints.keeps }, prints.refused r refl))
+    stopped print.Write f prints is =
+        inr (inr (is, record { before = before; after = after; given = given; printed = prints.printed; keeps = prints.keeps }, prints.write refl))
 
-    pub text_stopped : (failed_old failed_new : ℕ) (result : Result (Unit {0}) PrintFault) (fault : PrintFault) (f : Fault)
-        → OnContent book before after (λ m. IsPrinted (book.failed before) (book.failed after) old new result (said m))
-        → Unchanged book (CountsPrint result) before after → result ≡ Err fault → f ≡ print_fault fault
-        → ((r : Refusal) → result ≡ Err (print.Refused r) → new ≡ old) → (result ≡ Err print.Write → HasFailed failed_old failed_new) → IsTextStopped book gives said f old new failed_old failed_new
-    text_stopped failed_old failed_new result fault f printed keeps result_is is refused failed =
-        stopped failed_old failed_new fault f (subst (λ r. OnContent book before after (λ m. IsPrinted (book.failed before) (book.failed after) old new r (said m))) result_is printed)
-        (subst (λ r. Unchanged book (CountsPrint r) before after) result_is keeps) is
-        (λ r e. refused r (subst (λ g. result ≡ Err g) e result_is)) (λ e. failed (subst (λ g. result ≡ Err g) e result_is))
+    pub text_stopped : (result : Result (Unit {0}) PrintFault) → Prints book before after said out result → (fault : PrintFault) (f : Fault) → result ≡ Err fault
+        → f ≡ print_fault fault → IsTextStopped book gives said f out
+    text_stopped result prints fault f is told = stopped fault f (subst (Prints book before after said out) is prints) told

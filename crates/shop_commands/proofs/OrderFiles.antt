@@ -4,10 +4,9 @@ use Rattle.std.specs.Prelude.{◌||◌, ◌==◌, IfErr, if◌then◌else◌}
 use Rattle.std.specs.List.{list_any, prefix_len}
 use Rattle.std.proofs.Math.Seq.{drop-cons}
 use Rattle.std.proofs.lemmas.Bool.{eq-eqb, ne_eqb}
-use Rattle.shop_streams.specs.Streams.{HasFailed}
 use Rattle.shop_words.specs.declared.words.ImportAs.{ImportAs}
 use Rattle.shop_commands.specs.Orders.{first_line_has, IsOrdersLine, IsOrdersStopped}
-use Rattle.shop_commands.specs.Written.{AppendsFront}
+use Rattle.shop_commands.specs.Sinks.{SinkChange, AddsFront, SinkFailed}
 use Rattle.shop_commands.specs.declared.faults.Fault.{Fault}
 use Rattle.shop_commands.specs.declared.faults.Fault.TheVariants.{Write}
 
@@ -57,9 +56,7 @@ module _ (wanted : ℕ) (text : List ℕ) (i d : ℕ) (within : i < length text)
 
 -- ---- a line that isn't written to its end
 
-pub unwritten : {X : Type 0} (told : Option ImportAs) (bytes line : List ℕ) (old new : Option (List ℕ)) (failed_old failed_new : ℕ)
-    → IsOrdersLine told bytes line → AppendsFront old new line
-    → (result : Result X Fault) → IfErr result (λ fault. (fault ≡ Write) × HasFailed failed_old failed_new)
-    → IfErr result (λ fault. IsOrdersStopped told fault old new failed_old failed_new)
-unwritten told bytes line old new failed_old failed_new made front (Ok x) is = tt
-unwritten told bytes line old new failed_old failed_new made front (Err fault) is = inr (inr (bytes, line, made, is.0, front, is.1))
+pub unwritten : {X : Type 0} (told : Option ImportAs) (bytes line : List ℕ) (out : SinkChange) → IsOrdersLine told bytes line → AddsFront out line
+    → (result : Result X Fault) → IfErr result (λ fault. (fault ≡ Write) × SinkFailed out) → IfErr result (λ fault. IsOrdersStopped told fault out)
+unwritten told bytes line out made front (Ok x) is = tt
+unwritten told bytes line out made front (Err fault) is = inr (inr (bytes, line, made, is.0, front, is.1))

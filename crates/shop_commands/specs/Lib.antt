@@ -1,5 +1,5 @@
 pub mod Faults
-pub mod Written
+pub mod Sinks
 pub mod Orders
 pub mod Plans
 pub mod Stored

@@ -3,7 +3,6 @@ use Rattle.std.specs.Prelude.{◌≡◌, ◌⊎◌, ℕ, zero, suc, ◌==◌, �
 use Rattle.std.specs.Fmt.{decimal}
 use Rattle.std.specs.List.{before_first, list_any}
 use Rattle.std.specs.Str.{IsUtf8}
-use Rattle.std.specs.Io.KnownBytes.{Appends}
 use Rattle.shop_files.specs.Orders.{IsOrders, HasOrdersFault}
 use Rattle.shop_files.specs.declared.limits.TheConstants.{LONGEST_TEXT, MOST_LINES}
 use Rattle.shop_files.specs.declared.orders.OrderLine.{OrderLine}
@@ -12,13 +11,12 @@ use Rattle.shop_files.specs.declared.orders.OrdersFault.TheVariants as orders
 use Rattle.shop_machine.specs.declared.imports.Form.TheVariants.{Csv}
 use Rattle.shop_machine.specs.declared.messages.Command.TheVariants.{Import}
 use Rattle.shop_rules.specs.Forms.{json_texts}
-use Rattle.shop_streams.specs.Streams.{HasFailed}
 use Rattle.shop_words.specs.declared.words.ImportAs.{ImportAs}
 use Rattle.shop_commands.specs.declared.faults.Fault.{Fault}
 use Rattle.shop_commands.specs.declared.faults.Fault.TheVariants.{File, Order, NoMemory, Write}
 use Rattle.shop_commands.specs.declared.faults.OrderCause.{OrderCause}
 use Rattle.shop_commands.specs.declared.faults.OrderCause.TheVariants as cause
-use Rattle.shop_commands.specs.Written.{AppendsFront}
+use Rattle.shop_commands.specs.Sinks.{SinkChange, Adds, AddsFront, AddsNone, SinkFailed}
 
 -- ---- what is wrong at the first fault
 
@@ -90,12 +88,12 @@ abbrev pub IsOrdersFault : List ℕ → Fault → Type 0
 IsOrdersFault text fault = IsUnordered text fault ⊎ (((count : ℕ) × HasLines text count) × IsUnsaid text fault)
 
 -- the line of a file's bytes was written
-abbrev pub IsOrdersDone : Option ImportAs → (held_old held_new : Option (List ℕ)) → Type 0
-IsOrdersDone told old new = (bytes line : List ℕ) × IsOrdersLine told bytes line × Appends old new line
+abbrev pub IsOrdersDone : Option ImportAs → (out : SinkChange) → Type 0
+IsOrdersDone told out = (bytes line : List ℕ) × IsOrdersLine told bytes line × Adds out line
 
 -- the file can't be read, or its bytes have a fault, and nothing was written; or a write failed, and a first part was
-abbrev pub IsOrdersStopped : Option ImportAs → Fault → (held_old held_new : Option (List ℕ)) → (failed_old failed_new : ℕ) → Type 0
-IsOrdersStopped told fault old new failed_old failed_new =
-    (((fault ≡ NoMemory) ⊎ (fault ≡ File)) × (new ≡ old))
-    ⊎ ((((bytes : List ℕ) × IsOrdersFault bytes fault) × (new ≡ old))
-    ⊎ ((bytes line : List ℕ) × IsOrdersLine told bytes line × (fault ≡ Write) × AppendsFront old new line × HasFailed failed_old failed_new))
+abbrev pub IsOrdersStopped : Option ImportAs → Fault → (out : SinkChange) → Type 0
+IsOrdersStopped told fault out =
+    (((fault ≡ NoMemory) ⊎ (fault ≡ File)) × AddsNone out)
+    ⊎ ((((bytes : List ℕ) × IsOrdersFault bytes fault) × AddsNone out)
+    ⊎ ((bytes line : List ℕ) × IsOrdersLine told bytes line × (fault ≡ Write) × AddsFront out line × SinkFailed out))

@@ -2,7 +2,6 @@
 -- a store was opened is said of some bytes and of some book that the store's opener may give.
 use Rattle.std.specs.Prelude.{◌≡◌, ◌<◌, ◌≤◌, ◌⊎◌, ⊤, None, Some, length, ℕ, List, ◌++◌, codes, Option, Result, Ok, Err, All}
 use Rattle.std.specs.Fmt.{decimal}
-use Rattle.std.specs.Io.KnownBytes.{Appends}
 use Rattle.shop_files.specs.Shops.{IsShop, IsShopFault}
 use Rattle.shop_files.specs.declared.shops.MaterialEntry.{MaterialEntry}
 use Rattle.shop_files.specs.declared.shops.ShopFault.{ShopFault}
@@ -17,13 +16,16 @@ use Rattle.shop_opening.specs.Shops.{HasShop, IsAccepted, IsFirstRefused}
 use Rattle.shop_book.specs.declared.books.Book.{Ghosts}
 use Rattle.shop_book.specs.Kept.{Unchanged, OnContent}
 use Rattle.shop_text.specs.Printing.{CountsPrint, IsPrinted}
-use Rattle.shop_streams.specs.Streams.{HasFailed}
+use Rattle.shop_text.specs.Tickets.{ticket_of}
+use Rattle.shop_text.specs.Yields.{yield_of}
 use Rattle.shop_text.specs.declared.printing.PrintFault.{PrintFault}
 use Rattle.shop_text.specs.declared.printing.PrintFault.TheVariants as print
 use Rattle.shop_commands.specs.declared.faults.Fault.{Fault}
 use Rattle.shop_commands.specs.declared.faults.Fault.TheVariants.{File, Entry, Refused, Write, NoMemory, Store, Version, Port}
+use Rattle.shop_commands.specs.declared.stored.StoreText.{StoreText}
+use Rattle.shop_commands.specs.declared.stored.StoreText.TheVariants.{Ticket, Yield}
 use Rattle.shop_commands.specs.Faults.{shop_fault}
-use Rattle.shop_commands.specs.Written.{AppendsFront}
+use Rattle.shop_commands.specs.Sinks.{SinkChange, Adds, AddsFront, AddsNone, SinkFailed}
 
 -- a shop file's bytes spell these entries
 abbrev pub IsShopRead : List MaterialEntry → Type 0
@@ -54,39 +56,52 @@ abbrev pub listening_line : ℕ → List ℕ
 listening_line port = codes "listening on 127.0.0.1:" ++ decimal port ++ codes "\n"
 
 -- the port can't be listened to, or memory for its line is wanting, or the line can't be written
-abbrev pub IsUnannounced : ℕ → Fault → (held_old held_new : Option (List ℕ)) → (failed_old failed_new : ℕ) → Type 0
-IsUnannounced port fault old new failed_old failed_new =
-    (((fault ≡ Port) ⊎ (fault ≡ NoMemory)) × (new ≡ old)) ⊎ ((fault ≡ Write) × AppendsFront old new (listening_line port) × HasFailed failed_old failed_new)
+abbrev pub IsUnannounced : ℕ → Fault → (out : SinkChange) → Type 0
+IsUnannounced port fault out =
+    (((fault ≡ Port) ⊎ (fault ≡ NoMemory)) × AddsNone out) ⊎ ((fault ≡ Write) × AddsFront out (listening_line port) × SinkFailed out)
+
+-- the text that is asked for of a content, or why there is none
+abbrev pub text_of : StoreText → Content → Result (List ℕ) Refusal
+text_of (Ticket job) m = ticket_of m job
+text_of (Yield material) m = yield_of m material
 
 module _ {B : Type 0} (book : Ghosts B) where
+  -- What was to be said of a book was printed or not: so it is for each content that it held, if it is still honest; a refusal
+  -- writes nothing, and after `Write` a write had failed. The book is as it was, and a failure is counted only with 99.
+  pub record Prints (before after : B) (said : Content → Result (List ℕ) Refusal) (out : SinkChange) (result : Result (Unit {0}) PrintFault) : Type 0 where
+    pub printed : OnContent book before after (λ m. IsPrinted (book.failed before) (book.failed after) out.old out.new result (said m))
+    pub refused : (refusal : Refusal) → result ≡ Err (print.Refused refusal) → AddsNone out
+    pub write : result ≡ Err print.Write → SinkFailed out
+    pub keeps : Unchanged book (CountsPrint result) before after
+
   -- A book that the opener gave was printed from: on each content that it held, an honest one, this came of what there is to
   -- say. It holds what it held, a crash leaves nothing that it couldn't before, and a failure is counted only with 99.
-  pub record IsPrintedFrom (gives : B → Type 0) (said : Content → Result (List ℕ) Refusal) (old new : Option (List ℕ)) (result : Result (Unit {0}) PrintFault) : Type 0 where
+  pub record IsPrintedFrom (gives : B → Type 0) (said : Content → Result (List ℕ) Refusal) (out : SinkChange) (result : Result (Unit {0}) PrintFault) : Type 0 where
     pub before : B
     pub after : B
     pub given : gives before
-    pub printed : OnContent book before after (λ m. IsPrinted (book.failed before) (book.failed after) old new result (said m))
+    pub printed : OnContent book before after (λ m. IsPrinted (book.failed before) (book.failed after) out.old out.new result (said m))
     pub keeps : Unchanged book (CountsPrint result) before after
 
-  abbrev pub IsTextDone : (B → Type 0) → (Content → Result (List ℕ) Refusal) → (held_old held_new : Option (List ℕ)) → Type 0
-  IsTextDone gives said old new = IsPrintedFrom gives said old new (Ok tt)
+  abbrev pub IsTextDone : (B → Type 0) → (Content → Result (List ℕ) Refusal) → (out : SinkChange) → Type 0
+  IsTextDone gives said out = IsPrintedFrom gives said out (Ok tt)
 
   -- a store that isn't opened and a refusal write nothing, and a failed write leaves a first part
-  abbrev pub IsTextStopped : (B → Type 0) → (Content → Result (List ℕ) Refusal) → Fault → (held_old held_new : Option (List ℕ)) → (failed_old failed_new : ℕ) → Type 0
-  IsTextStopped gives said fault old new failed_old failed_new =
-      (IsUnopened fault × (new ≡ old))
-      ⊎ (((r : Refusal) × (fault ≡ Refused r) × IsPrintedFrom gives said old new (Err (print.Refused r)) × (new ≡ old))
-      ⊎ ((fault ≡ Write) × IsPrintedFrom gives said old new (Err print.Write) × HasFailed failed_old failed_new))
+  abbrev pub IsTextStopped : (B → Type 0) → (Content → Result (List ℕ) Refusal) → Fault → (out : SinkChange) → Type 0
+  IsTextStopped gives said fault out =
+      (IsUnopened fault × AddsNone out)
+      ⊎ (((r : Refusal) × (fault ≡ Refused r) × IsPrintedFrom gives said out (Err (print.Refused r)) × AddsNone out)
+      ⊎ ((fault ≡ Write) × IsPrintedFrom gives said out (Err print.Write) × SinkFailed out))
 
   -- All entries are there, as the machine has it.
   abbrev pub IsShopped : B → B → List MaterialEntry → Type 0
   IsShopped before after entries = HasShop book before after entries (All IsAccepted)
 
   -- the entries are there, the port was told, and at most so many requests were served
-  pub record IsBookServed (site : Site) (before after : B) (entries : List MaterialEntry) (port count : ℕ) (old new : Option (List ℕ)) : Type 0 where
+  pub record IsBookServed (site : Site) (before after : B) (entries : List MaterialEntry) (port count : ℕ) (out : SinkChange) : Type 0 where
     pub mid : B
     pub shop : IsShopped before mid entries
-    pub told : Appends old new (listening_line port)
+    pub told : Adds out (listening_line port)
     pub served : HasServed site book mid after count
 
   -- memory was wanting, and nothing was done, or an entry was refused
@@ -99,32 +114,31 @@ module _ {B : Type 0} (book : Ghosts B) where
   IsUnaccepted site before after limit fault = ((fault ≡ NoMemory) × (after ≡ before)) ⊎ ((fault ≡ Port) × HasServed site book before after limit)
 
   -- the entries are there, the port was told, and then serving stopped
-  pub record IsBookLeft (site : Site) (before after : B) (entries : List MaterialEntry) (port limit : ℕ) (fault : Fault) (old new : Option (List ℕ)) : Type 0 where
+  pub record IsBookLeft (site : Site) (before after : B) (entries : List MaterialEntry) (port limit : ℕ) (fault : Fault) (out : SinkChange) : Type 0 where
     pub mid : B
     pub shop : IsShopped before mid entries
-    pub told : Appends old new (listening_line port)
+    pub told : Adds out (listening_line port)
     pub left : IsUnaccepted site mid after limit fault
 
   -- the entries aren't all there; or they are, and the port isn't told; or it is, and serving stopped
-  abbrev pub IsBookUnserved : Site → (before after : B) → List MaterialEntry → (port limit : ℕ) → Fault → (held_old held_new : Option (List ℕ)) → (failed_old failed_new : ℕ) → Type 0
-  IsBookUnserved site before after entries port limit fault old new failed_old failed_new =
-      (AddFailed before after entries fault × (new ≡ old))
-      ⊎ ((IsShopped before after entries × IsUnannounced port fault old new failed_old failed_new)
-      ⊎ IsBookLeft site before after entries port limit fault old new)
+  abbrev pub IsBookUnserved : Site → (before after : B) → List MaterialEntry → (port limit : ℕ) → Fault → (out : SinkChange) → Type 0
+  IsBookUnserved site before after entries port limit fault out =
+      (AddFailed before after entries fault × AddsNone out)
+      ⊎ ((IsShopped before after entries × IsUnannounced port fault out) ⊎ IsBookLeft site before after entries port limit fault out)
 
   -- a shop file's entries were added to the book of a store, which was served
-  abbrev pub IsServeDone : (B → Type 0) → (port limit : ℕ) → (page : Option (List ℕ)) → (held_old held_new : Option (List ℕ)) → Type 0
-  IsServeDone gives port limit page old new =
+  abbrev pub IsServeDone : (B → Type 0) → (port limit : ℕ) → (page : Option (List ℕ)) → (out : SinkChange) → Type 0
+  IsServeDone gives port limit page out =
       (entries : List MaterialEntry) × IsShopRead entries × (site : Site) × IsSite port page site
-      × (before after : B) × gives before × IsBookServed site before after entries port limit old new
+      × (before after : B) × gives before × IsBookServed site before after entries port limit out
 
   -- the shop file's fault; or its entries were read, and then the page's fault came, or the store's, or what stopped the serving
   -- of its book
-  abbrev pub IsServeStopped : (B → Type 0) → (port limit : ℕ) → (page : Option (List ℕ)) → Fault → (held_old held_new : Option (List ℕ)) → (failed_old failed_new : ℕ) → Type 0
-  IsServeStopped gives port limit page fault old new failed_old failed_new =
-      (IsUnread fault × (new ≡ old))
+  abbrev pub IsServeStopped : (B → Type 0) → (port limit : ℕ) → (page : Option (List ℕ)) → Fault → (out : SinkChange) → Type 0
+  IsServeStopped gives port limit page fault out =
+      (IsUnread fault × AddsNone out)
       ⊎ ((entries : List MaterialEntry) × IsShopRead entries
-      × ((IsPageUnread fault × (new ≡ old))
+      × ((IsPageUnread fault × AddsNone out)
       ⊎ ((site : Site) × IsSite port page site
-      × ((IsUnopened fault × (new ≡ old))
-      ⊎ ((before after : B) × gives before × IsBookUnserved site before after entries port limit fault old new failed_old failed_new)))))
+      × ((IsUnopened fault × AddsNone out)
+      ⊎ ((before after : B) × gives before × IsBookUnserved site before after entries port limit fault out)))))

@@ -1,11 +1,9 @@
 //! Files read whole up to a limit, and texts written to the last byte.
 
 ghost use Rattle.std.specs.Prelude.{◌≡◌, ◌⊎◌, ◌≤◌, IfOk, IfErr, OnOk, length};
-ghost use Rattle.std.specs.Io.KnownBytes.{Appends};
-ghost use Rattle.shop_streams.specs.Streams.{HasFailed};
 ghost use Rattle.shop_commands.specs.declared.faults.Fault.TheVariants as fault;
 ghost use Rattle.shop_commands.specs.declared.files.TheConstants.{LONGEST_PAGE};
-ghost use Rattle.shop_commands.specs.Written.{AppendsFront, IsWritten};
+ghost use Rattle.shop_commands.specs.Sinks.{Adds, AddsFront, IsWritten, SinkFailed, change_of};
 
 use crate::faults::Fault;
 use shop_files::LONGEST_TEXT;
@@ -59,10 +57,10 @@ pub fn read_page<R: Files>(rt: &R, alloc: Global, path: &str) -> Result<Vec<u8>,
 
 /// Writes a text, if the sink takes it to the last byte.
 pub fn write_text<W: Sink>(sink: &mut W, text: &str) -> Result<(), Fault>
-    ensures ok { OnOk result (Appends (W.held sink.old) (W.held sink.new) text.now) }
-    ensures front { AppendsFront (W.held sink.old) (W.held sink.new) text.now }
-    ensures written { IsWritten (W.held sink.old) (W.held sink.new) (W.failed sink.old) (W.failed sink.new) text.now }
-    ensures err { IfErr result (λ f. (f ≡ fault.Write) × HasFailed (W.failed sink.old) (W.failed sink.new)) }
+    ensures ok { OnOk result (Adds (change_of W.Sink sink.old sink.new) text.now) }
+    ensures front { AddsFront (change_of W.Sink sink.old sink.new) text.now }
+    ensures written { IsWritten (change_of W.Sink sink.old sink.new) text.now }
+    ensures err { IfErr result (λ f. (f ≡ fault.Write) × SinkFailed (change_of W.Sink sink.old sink.new)) }
 {
     match write_all(sink, text.as_bytes()) {
         Ok(()) => Ok(()),

@@ -8,6 +8,7 @@ mod orders;
 mod performing;
 mod plans;
 mod replays;
+mod running;
 mod stored;
 mod storeless;
 
@@ -15,3 +16,4 @@ pub use faults::Fault;
 pub use limits::limits_have_numbers;
 pub use performing::perform;
 pub use plans::plan_file;
+pub use running::run;

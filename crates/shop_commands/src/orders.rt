@@ -1,9 +1,9 @@
 //! `cutshop orders`: an order file is checked, or becomes a message.
 
 ghost use Rattle.std.specs.Prelude.{◌≡◌, IfOk, IfErr, OnOk, string_bytes};
-ghost use Rattle.std.specs.Io.KnownBytes.{Appends};
 ghost use Rattle.shop_files.specs.declared.orders.OrdersFault.{OrdersFault as OrdersFaultOf};
 ghost use Rattle.shop_commands.specs.Orders as spec;
+ghost use Rattle.shop_commands.specs.Sinks.{change_of};
 
 use crate::faults::{Fault, OrderCause, OrderFault};
 use crate::files::{read_file, write_text};
@@ -161,16 +161,16 @@ pub fn orders_line(alloc: Global, told: Option<ImportAs>, text: &[u8]) -> Result
     line_of(alloc, told, text, count)
 }
 
-/// Writes it of an order file.
-pub fn orders<R: Files, W: Sink>(
+/// Writes the line that is told of an order file.
+pub fn check_orders<R: Files, W: Sink>(
     rt: &R,
     alloc: Global,
     file: &str,
     told: Option<ImportAs>,
     sink: &mut W,
 ) -> Result<(), Fault>
-    ensures ok { OnOk result (spec.IsOrdersDone told (W.held sink.old) (W.held sink.new)) }
-    ensures err { IfErr result (λ f. spec.IsOrdersStopped told f (W.held sink.old) (W.held sink.new) (W.failed sink.old) (W.failed sink.new)) }
+    ensures ok { OnOk result (spec.IsOrdersDone told (change_of W.Sink sink.old sink.new)) }
+    ensures err { IfErr result (λ f. spec.IsOrdersStopped told f (change_of W.Sink sink.old sink.new)) }
 {
     let bytes = read_file(rt, alloc, file)?;
     let line = orders_line(alloc, told, &bytes)?;

@@ -4,18 +4,18 @@ ghost use Rattle.std.specs.Prelude.{◌≡◌, ◌+◌, ◌≤◌, IfOk, IfErr, 
 ghost use Rattle.cut_measure.specs.declared.ranges.TheConstants.{MOST_KERF};
 ghost use Rattle.clap.specs.Words.{kind_of};
 ghost use Rattle.clap.specs.declared.error.kind.ErrorKind.TheVariants as kind;
-ghost use Rattle.shop_streams.specs.Streams.{HasFailed};
 ghost use Rattle.shop_wire.specs.Streams.{most_reads};
 ghost use Rattle.shop_words.specs.CommandLine.{HasKerf};
 ghost use Rattle.shop_commands.specs.Performs as spec;
-ghost use Rattle.shop_commands.specs.Performs.{Concludes, IsDone, IsHelped, IsPerformed, IsPlanDone, IsPlanStopped, IsReplayDone, IsReplayStopped, IsStopped, IsTold, TellsFault};
+ghost use Rattle.shop_commands.specs.Performs.{Concludes, IsDone, IsHelped, IsPerformed, IsPlanDone, IsPlanStopped, IsStopped, IsTold, TellsFault};
+ghost use Rattle.shop_commands.specs.Sinks.{change_of};
 
 use crate::faults::Fault;
 use crate::files::{read_file, write_text};
-use crate::orders::orders;
+use crate::orders::check_orders;
 use crate::plans::plan_file;
 use crate::replays::replay_fresh;
-use crate::stored::{print_ticket, print_yield, serve};
+use crate::stored::{StoreText, print_stored, serve};
 use clap::Error;
 use clap::error::ErrorKind;
 use shop_opening::Opens;
@@ -39,10 +39,10 @@ fn fault_line(alloc: Global, fault: Fault) -> Result<String, AllocError>
     Ok(text)
 }
 
-// Writes the line of a fault, and gives the status of a program that stopped.
-fn report_fault<E: Sink>(alloc: Global, fault: Fault, errors: &mut E) -> u8
+/// Writes the line of a fault, and gives the status of a program that stopped.
+pub(crate) fn report_fault<E: Sink>(alloc: Global, fault: Fault, errors: &mut E) -> u8
     ensures status { result ≡ 1 }
-    ensures told { TellsFault fault (E.held errors.old) (E.held errors.new) (E.failed errors.old) (E.failed errors.new) }
+    ensures told { TellsFault fault (change_of E.Sink errors.old errors.new) }
 {
     let _ = match fault_line(alloc, fault) {
         Ok(line) => write_text(errors, line.as_str()),
@@ -61,30 +61,16 @@ fn plan<R: Files, W: Sink>(
     sink: &mut W,
 ) -> Result<(), Fault>
     requires { kerf ≤ MOST_KERF }
-    ensures ok { OnOk result (IsPlanDone kerf step (W.held sink.old) (W.held sink.new)) }
-    ensures err { IfErr result (λ f. IsPlanStopped kerf step f (W.held sink.old) (W.held sink.new) (W.failed sink.old) (W.failed sink.new)) }
+    ensures ok { OnOk result (IsPlanDone kerf step (change_of W.Sink sink.old sink.new)) }
+    ensures err { IfErr result (λ f. IsPlanStopped kerf step f (change_of W.Sink sink.old sink.new)) }
 {
     let bytes = read_file(rt, alloc, file)?;
     let lines = plan_file(alloc, &bytes, kerf, step)?;
     write_text(sink, lines.as_str())
 }
 
-// Writes the replies to the lines of the input.
-fn replay_input<S: Source, W: Sink>(
-    alloc: Global,
-    source: &mut S,
-    sink: &mut W,
-) -> Result<(), Fault>
-    ensures ok { OnOk result (IsReplayDone (S.left source.old) (W.held sink.old) (W.held sink.new)) }
-    ensures err { IfErr result (λ f. IsReplayStopped f (S.left source.old) (W.held sink.old) (W.held sink.new) (W.failed sink.old) (W.failed sink.new)) }
-    ensures reads { S.reads source.new ≤ S.reads source.old + most_reads }
-{
-    let _count = replay_fresh(alloc, source, sink)?;
-    Ok(())
-}
-
 // Does what is asked, or stops.
-fn work<
+fn do_request<
     R: Files + Net<Listener = TcpListener, Stream = TcpStream> + Clock,
     B: Book + Drop,
     O: Opens<B>,
@@ -99,14 +85,16 @@ fn work<
     sink: &mut W,
 ) -> Result<(), Fault>
     requires { HasKerf request.now }
-    ensures ok { OnOk result (IsDone B.Book (O.gives stores.now) request.now (S.left source.old) (W.held sink.old) (W.held sink.new)) }
-    ensures err { IfErr result (λ f. IsStopped B.Book (O.gives stores.now) request.now f (S.left source.old) (W.held sink.old) (W.held sink.new) (W.failed sink.old) (W.failed sink.new)) }
+    ensures ok { OnOk result
+        (IsDone B.Book (O.gives stores.now) request.now (S.left source.old) (change_of W.Sink sink.old sink.new)) }
+    ensures err { IfErr result (λ f.
+        IsStopped B.Book (O.gives stores.now) request.now f (S.left source.old) (change_of W.Sink sink.old sink.new)) }
     ensures reads { S.reads source.new ≤ S.reads source.old + most_reads }
 {
     match request {
-        Request::Replay => replay_input(alloc, source, sink),
+        Request::Replay => replay_fresh(alloc, source, sink),
         Request::Plan { file, kerf, step } => plan(rt, alloc, file, *kerf, *step, sink),
-        Request::Orders { file, told } => orders(rt, alloc, file, *told, sink),
+        Request::Orders { file, told } => check_orders(rt, alloc, file, *told, sink),
         Request::Serve {
             port,
             store,
@@ -114,14 +102,18 @@ fn work<
             limit,
             page,
         } => serve(rt, stores, alloc, *port, store, shop, *limit, *page, sink),
-        Request::Ticket { store, job } => print_ticket(stores, alloc, store, *job, sink),
-        Request::Yield { store, material } => print_yield(stores, alloc, store, *material, sink),
+        Request::Ticket { store, job } => {
+            print_stored(stores, alloc, store, StoreText::Ticket(*job), sink)
+        }
+        Request::Yield { store, material } => {
+            print_stored(stores, alloc, store, StoreText::Yield(*material), sink)
+        }
     }
 }
 
 // The status of what was done, or of what stopped, which is told.
 fn conclude<E: Sink>(alloc: Global, outcome: Result<(), Fault>, errors: &mut E) -> u8
-    ensures { Concludes outcome (E.held errors.old) (E.held errors.new) (E.failed errors.old) (E.failed errors.new) result }
+    ensures { Concludes outcome (change_of E.Sink errors.old errors.new) result }
 {
     match outcome {
         Ok(()) => 0,
@@ -137,8 +129,8 @@ fn error_text(alloc: Global, error: &Error) -> Result<String, AllocError> {
 }
 
 // Writes help.
-fn help<W: Sink, E: Sink>(alloc: Global, text: &str, sink: &mut W, errors: &mut E) -> u8
-    ensures { IsHelped (W.held sink.old) (W.held sink.new) (W.failed sink.old) (W.failed sink.new) (E.held errors.old) (E.held errors.new) (E.failed errors.old) (E.failed errors.new) result }
+fn write_help<W: Sink, E: Sink>(alloc: Global, text: &str, sink: &mut W, errors: &mut E) -> u8
+    ensures { IsHelped (change_of W.Sink sink.old sink.new) (change_of E.Sink errors.old errors.new) result }
 {
     match write_text(sink, text) {
         Ok(()) => 0,
@@ -154,8 +146,8 @@ fn version_line(alloc: Global) -> Result<String, AllocError>
 }
 
 // Tells the version.
-fn version<W: Sink, E: Sink>(alloc: Global, sink: &mut W, errors: &mut E) -> u8
-    ensures { IsTold (W.held sink.old) (W.held sink.new) (W.failed sink.old) (W.failed sink.new) (E.held errors.old) (E.held errors.new) (E.failed errors.old) (E.failed errors.new) kind.DisplayVersion result }
+fn write_version<W: Sink, E: Sink>(alloc: Global, sink: &mut W, errors: &mut E) -> u8
+    ensures { IsTold (change_of W.Sink sink.old sink.new) (change_of E.Sink errors.old errors.new) kind.DisplayVersion result }
 {
     let Ok(line) = version_line(alloc) else {
         return report_fault(alloc, Fault::NoMemory, errors);
@@ -168,15 +160,15 @@ fn version<W: Sink, E: Sink>(alloc: Global, sink: &mut W, errors: &mut E) -> u8
 
 // Says what `clap` says where the words ask for nothing.
 fn explain<W: Sink, E: Sink>(alloc: Global, error: &Error, sink: &mut W, errors: &mut E) -> u8
-    ensures { IsTold (W.held sink.old) (W.held sink.new) (W.failed sink.old) (W.failed sink.new) (E.held errors.old) (E.held errors.new) (E.failed errors.old) (E.failed errors.new) (kind_of error.now) result }
+    ensures { IsTold (change_of W.Sink sink.old sink.new) (change_of E.Sink errors.old errors.new) (kind_of error.now) result }
 {
     let Ok(text) = error_text(alloc, error) else {
         return report_fault(alloc, Fault::NoMemory, errors);
     };
     match error.kind() {
         ErrorKind::OutOfMemory => report_fault(alloc, Fault::NoMemory, errors),
-        ErrorKind::DisplayHelp => help(alloc, text.as_str(), sink, errors),
-        ErrorKind::DisplayVersion => version(alloc, sink, errors),
+        ErrorKind::DisplayHelp => write_help(alloc, text.as_str(), sink, errors),
+        ErrorKind::DisplayVersion => write_version(alloc, sink, errors),
         _ => {
             let _ = write_text(errors, text.as_str());
             2
@@ -202,13 +194,13 @@ pub fn perform<
     sink: &mut W,
     errors: &mut E,
 ) -> u8
-    ensures done { IsPerformed B.Book (O.gives stores.now) (map string_bytes words.now) (S.left source.old) (W.held sink.old) (W.held sink.new) (W.failed sink.old) (W.failed sink.new)
-        (E.held errors.old) (E.held errors.new) (E.failed errors.old) (E.failed errors.new) result }
+    ensures done { IsPerformed B.Book (O.gives stores.now) (map string_bytes words.now)
+        (S.left source.old) (change_of W.Sink sink.old sink.new) (change_of E.Sink errors.old errors.new) result }
     ensures reads { S.reads source.new ≤ S.reads source.old + most_reads }
 {
     match request_of(alloc, words) {
         Ok(Some(request)) => {
-            let outcome = work(rt, stores, alloc, &request, source, sink);
+            let outcome = do_request(rt, stores, alloc, &request, source, sink);
             conclude(alloc, outcome, errors)
         }
         Ok(None) => {

@@ -1,30 +1,29 @@
 //! `cutshop replay`: lines are answered over a fresh book in memory.
 
-ghost use Rattle.std.specs.Prelude.{◌≡◌, ◌+◌, ◌≤◌, ◌++◌, [], ℕ, List, IfOk, IfErr, Err, length};
-ghost use Rattle.shop_streams.specs.Streams.{HasFailed};
-ghost use Rattle.shop_wire.specs.Lines.{AreLines};
-ghost use Rattle.shop_wire.specs.Replays.{IsReplayedFresh};
+ghost use Rattle.std.specs.Prelude.{◌+◌, ◌≤◌, IfErr, OnOk};
 ghost use Rattle.shop_wire.specs.Streams.{most_reads};
-ghost use Rattle.shop_wire.specs.declared.faults.ReplayFault.TheVariants.{Read, Write};
+ghost use Rattle.shop_commands.specs.Performs.{IsReplayDone, IsReplayStopped};
+ghost use Rattle.shop_commands.specs.Sinks.{change_of};
 
+use crate::faults::Fault;
 use crate::storeless::StorelessBook;
 use shop_text::{Sink, Source};
-use shop_wire::{ReplayFault, replay};
+use shop_wire::replay;
 use std::alloc::Global;
 
-/// Replays over a fresh book, under which no store can fail.
+/// Writes the replies to the lines of the input, over a fresh book, under which no store can fail.
 pub fn replay_fresh<S: Source, W: Sink>(
     alloc: Global,
     source: &mut S,
     sink: &mut W,
-) -> Result<u64, ReplayFault>
-    ensures ok { IfOk result (λ count. (lines : List (List ℕ)) × AreLines (S.left source.old) lines × (count ≡ length lines)
-        × IsReplayedFresh (W.held sink.old) (W.held sink.new) lines []) }
-    ensures err { IfErr result (λ fault. (lines more : List (List ℕ)) × AreLines (S.left source.old) (lines ++ more)
-        × (unwritten : List ℕ) × (fault ≡ Read → unwritten ≡ []) × IsReplayedFresh (W.held sink.old) (W.held sink.new) lines unwritten) }
+) -> Result<(), Fault>
+    ensures ok { OnOk result (IsReplayDone (S.left source.old) (change_of W.Sink sink.old sink.new)) }
+    ensures err { IfErr result (λ f. IsReplayStopped f (S.left source.old) (change_of W.Sink sink.old sink.new)) }
     ensures reads { S.reads source.new ≤ S.reads source.old + most_reads }
-    ensures write { result ≡ Err Write → HasFailed (W.failed sink.old) (W.failed sink.new) }
 {
     let mut book = StorelessBook::new(alloc);
-    replay(alloc, source, sink, &mut book)
+    match replay(alloc, source, sink, &mut book) {
+        Ok(_) => Ok(()),
+        Err(fault) => Err(Fault::from(fault)),
+    }
 }

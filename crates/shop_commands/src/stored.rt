@@ -2,17 +2,14 @@
 
 ghost use Rattle.std.specs.Prelude.{◌≡◌, ◌≤◌, IfOk, IfErr, OnOk, length, option_map, string_bytes};
 ghost use Rattle.shop_files.specs.declared.limits.TheConstants.{MOST_ENTRIES};
-ghost use Rattle.shop_text.specs.Tickets.{ticket_of};
-ghost use Rattle.shop_text.specs.Yields.{yield_of};
-ghost use Rattle.shop_machine.specs.Content.{Content};
 ghost use Rattle.shop_commands.specs.declared.faults.Fault.TheVariants as fault;
 ghost use Rattle.shop_commands.specs.Faults.{shop_fault};
 ghost use Rattle.shop_commands.specs.Stored as spec;
-ghost use Rattle.shop_commands.specs.Stored.{IsTextDone, IsTextStopped, IsShopRead, IsUnread, IsUnopened, IsShopped, AddFailed, IsUnannounced, IsUnaccepted, IsBookServed, IsBookUnserved, IsPageRead, IsPageUnread, IsServeDone, IsServeStopped, IsSite};
+ghost use Rattle.shop_commands.specs.Stored.{Prints, text_of, IsTextDone, IsTextStopped, IsShopRead, IsUnread, IsUnopened, IsShopped, AddFailed, IsUnannounced, IsUnaccepted, IsBookServed, IsBookUnserved, IsPageRead, IsPageUnread, IsServeDone, IsServeStopped, IsSite};
 ghost use Rattle.shop_files.specs.Shops.{IsShop, IsShopFault};
 ghost use Rattle.shop_files.specs.declared.shops.ShopFault.{ShopFault as ShopFaultOf};
 ghost use Rattle.shop_serve.specs.Serving.{HasServed};
-ghost use Rattle.std.specs.Io.KnownBytes.{Appends};
+ghost use Rattle.shop_commands.specs.Sinks.{Adds, change_of};
 
 use crate::faults::Fault;
 use crate::files::{read_file, read_page, write_text};
@@ -21,7 +18,7 @@ use shop_files::{MaterialEntry, RowList, read_shop};
 use shop_opening::{Opens, add_shop};
 use shop_serve::{Site, serve_on};
 use shop_store::Book;
-use shop_text::{Sink, ticket, yield_report};
+use shop_text::{PrintFault, Sink, ticket, yield_report};
 use std::alloc::{AllocError, Global};
 use std::fs::Files;
 use std::net::{Ipv4Addr, Net, TcpListener, TcpStream};
@@ -42,39 +39,43 @@ fn open_store<B: Book + Drop, O: Opens<B>>(
     }
 }
 
-/// Prints the ticket of a job of a store.
-pub fn print_ticket<B: Book + Drop, O: Opens<B>, W: Sink>(
-    stores: &O,
+/// What is printed of a store: the ticket of a job, or the yield report of a material.
+#[derive(Clone, Copy)]
+pub enum StoreText {
+    Ticket(u32),
+    Yield(Code),
+}
+
+// Prints a text of a book.
+fn print_text<B: Book, W: Sink>(
     alloc: Global,
-    store: &str,
-    job: u32,
+    book: &mut B,
+    text: StoreText,
     sink: &mut W,
-) -> Result<(), Fault>
-    ensures ok { OnOk result (IsTextDone B.Book (O.gives stores.now store.now) (λ m. ticket_of m job) (W.held sink.old) (W.held sink.new)) }
-    ensures err { IfErr result (λ f. IsTextStopped B.Book (O.gives stores.now store.now) (λ m. ticket_of m job) f (W.held sink.old) (W.held sink.new) (W.failed sink.old) (W.failed sink.new)) }
+) -> Result<(), PrintFault>
+    ensures { Prints B.Book book.old book.new (text_of text) (change_of W.Sink sink.old sink.new) result }
 {
-    let mut book = open_store(stores, alloc, store)?;
-    let printed = ticket(alloc, &mut book, job, sink);
-    stores.close(book);
-    match printed {
-        Ok(()) => Ok(()),
-        Err(fault) => Err(Fault::from(fault)),
+    match text {
+        StoreText::Ticket(job) => ticket(alloc, book, job, sink),
+        StoreText::Yield(material) => yield_report(alloc, book, material, sink),
     }
 }
 
-/// Prints the yield report of a material of a store.
-pub fn print_yield<B: Book + Drop, O: Opens<B>, W: Sink>(
+/// Prints a text of a store.
+pub fn print_stored<B: Book + Drop, O: Opens<B>, W: Sink>(
     stores: &O,
     alloc: Global,
     store: &str,
-    material: Code,
+    text: StoreText,
     sink: &mut W,
 ) -> Result<(), Fault>
-    ensures ok { OnOk result (IsTextDone B.Book (O.gives stores.now store.now) (λ m. yield_of m material) (W.held sink.old) (W.held sink.new)) }
-    ensures err { IfErr result (λ f. IsTextStopped B.Book (O.gives stores.now store.now) (λ m. yield_of m material) f (W.held sink.old) (W.held sink.new) (W.failed sink.old) (W.failed sink.new)) }
+    ensures ok { OnOk result
+        (IsTextDone B.Book (O.gives stores.now store.now) (text_of text) (change_of W.Sink sink.old sink.new)) }
+    ensures err { IfErr result (λ f.
+        IsTextStopped B.Book (O.gives stores.now store.now) (text_of text) f (change_of W.Sink sink.old sink.new)) }
 {
     let mut book = open_store(stores, alloc, store)?;
-    let printed = yield_report(alloc, &mut book, material, sink);
+    let printed = print_text(alloc, &mut book, text, sink);
     stores.close(book);
     match printed {
         Ok(()) => Ok(()),
@@ -109,7 +110,8 @@ fn shop_entries<R: Files>(
 
 // The page of a file, where there is one.
 fn page_in<R: Files>(rt: &R, alloc: Global, path: Option<&str>) -> Result<Option<Vec<u8>>, Fault>
-    ensures ok { IfOk result (λ page. IsPageRead (option_map (λ p. p.now) path.entry) (option_map (λ b. b.items) page)) }
+    ensures ok { IfOk result (λ page.
+        IsPageRead (option_map (λ p. p.now) path.entry) (option_map (λ b. b.items) page)) }
     ensures err { IfErr result IsPageUnread }
 {
     match path {
@@ -173,8 +175,8 @@ fn bind_and_announce<R: Net<Listener = TcpListener, Stream = TcpStream>, W: Sink
     port: u32,
     sink: &mut W,
 ) -> Result<TcpListener, Fault>
-    ensures ok { OnOk result (Appends (W.held sink.old) (W.held sink.new) (spec.listening_line port)) }
-    ensures err { IfErr result (λ f. IsUnannounced port f (W.held sink.old) (W.held sink.new) (W.failed sink.old) (W.failed sink.new)) }
+    ensures ok { OnOk result (Adds (change_of W.Sink sink.old sink.new) (spec.listening_line port)) }
+    ensures err { IfErr result (λ f. IsUnannounced port f (change_of W.Sink sink.old sink.new)) }
 {
     let listener = listen(rt, port)?;
     let line = listening_line(alloc, port)?;
@@ -212,8 +214,10 @@ fn serve_book<R: Net<Listener = TcpListener, Stream = TcpStream> + Clock, B: Boo
     book: &mut B,
 ) -> Result<(), Fault>
     requires { length entries.now ≤ MOST_ENTRIES }
-    ensures ok { OnOk result (IsBookServed B.Book site.now book.old book.new entries.now port limit (W.held sink.old) (W.held sink.new)) }
-    ensures err { IfErr result (λ f. IsBookUnserved B.Book site.now book.old book.new entries.now port limit f (W.held sink.old) (W.held sink.new) (W.failed sink.old) (W.failed sink.new)) }
+    ensures ok { OnOk result
+        (IsBookServed B.Book site.now book.old book.new entries.now port limit (change_of W.Sink sink.old sink.new)) }
+    ensures err { IfErr result (λ f.
+        IsBookUnserved B.Book site.now book.old book.new entries.now port limit f (change_of W.Sink sink.old sink.new)) }
 {
     add_entries(alloc, book, entries)?;
     let listener = bind_and_announce(rt, alloc, port, sink)?;
@@ -240,8 +244,10 @@ pub fn serve<
     page: Option<&str>,
     sink: &mut W,
 ) -> Result<(), Fault>
-    ensures ok { OnOk result (IsServeDone B.Book (O.gives stores.now store.now) port limit (option_map (λ p. p.now) page.entry) (W.held sink.old) (W.held sink.new)) }
-    ensures err { IfErr result (λ f. IsServeStopped B.Book (O.gives stores.now store.now) port limit (option_map (λ p. p.now) page.entry) f (W.held sink.old) (W.held sink.new) (W.failed sink.old) (W.failed sink.new)) }
+    ensures ok { OnOk result (IsServeDone B.Book (O.gives stores.now store.now) port limit
+        (option_map (λ p. p.now) page.entry) (change_of W.Sink sink.old sink.new)) }
+    ensures err { IfErr result (λ f. IsServeStopped B.Book (O.gives stores.now store.now) port limit
+        (option_map (λ p. p.now) page.entry) f (change_of W.Sink sink.old sink.new)) }
 {
     let entries = shop_entries(rt, alloc, shop)?;
     let site = site_of(rt, alloc, port, page)?;

@@ -1,5 +1,5 @@
 -- The program's command line, in the words of `clap`: its commands, and what they ask for.
-use Rattle.std.specs.Prelude.{◌≡◌, ◌≤◌, ℕ, List, ◌∷◌, [], Option, Some, None, codes, false, true, pos, ⊤, option_map, is_some, ◌||◌, Bool}
+use Rattle.std.specs.Prelude.{◌≡◌, ◌≤◌, ℕ, List, ◌∷◌, [], Option, Some, None, codes, false, true, pos, ⊤, option_map, is_some, ◌||◌, Bool, MatchOption}
 use Rattle.std.specs.Str.Parse.{IsNumeral, digits_value, without_leading_plus}
 use Rattle.clap.specs.Words.{App, Row, Rule, Text, app_of, new_app, new_rule, rule_of, with_rule, with_subcommand, first_of, one_of}
 use Rattle.clap.specs.declared.builder.arg.Arg.{Arg}
@@ -99,14 +99,6 @@ yield_app = with_rule (with_rule (new_app (codes "yield")) store_rule) (word_rul
 abbrev pub program_app : App
 program_app = on_top (λ s. record s { subcommand_required = true; has_version = true }) (new_app (codes "cutshop"))
 
--- the commands that need no store
-abbrev pub plain_app : App
-plain_app = with_subcommand (with_subcommand (with_subcommand program_app replay_app.top) plan_app.top) orders_app.top
-
--- one of the six commands
-abbrev pub shop_app : App
-shop_app = with_subcommand (with_subcommand (with_subcommand plain_app serve_app.top) ticket_app.top) yield_app.top
-
 -- a form to which each of these was added in turn
 abbrev pub added_in_turn : {X : Type 0} → (App → X → App) → App → List X → App
 added_in_turn add app [] = app
@@ -150,6 +142,10 @@ word_app word.Yield = yield_app
 abbrev pub with_word : App → Word → App
 with_word app w = with_subcommand app (word_app w).top
 
+-- one of the six commands
+abbrev pub shop_app : App
+shop_app = added_in_turn with_word program_app (word.Replay ∷ word.Plan ∷ word.Orders ∷ word.Serve ∷ word.Ticket ∷ word.Yield ∷ [])
+
 -- an argument of this rule that isn't global
 abbrev pub IsArg : Rule → Arg → Type 0
 IsArg rule arg = (rule_of arg ≡ rule) × (arg.global ≡ false)
@@ -171,6 +167,10 @@ HasNumber name rows least most n = IsNumber (one_of name rows) n × (least ≤ n
 abbrev pub IsCode : Option Text → List ℕ → Type 0
 IsCode None code = ⊥
 IsCode (Some text) code = code_of text ≡ Some code
+
+-- this is asked for, or nothing is
+abbrev pub AsAsked : {X : Type 0} → Option X → (X → Type 0) → Type 0
+AsAsked {X} found asked = MatchOption found ((x : X) → asked x → ⊥) asked
 
 -- the values of a plan's words
 abbrev pub IsPlanAsked : List Row → Request → Type 0

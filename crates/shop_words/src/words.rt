@@ -1,6 +1,6 @@
 //! The words of the command line: what `clap` is told of them, and what they ask for.
 
-ghost use Rattle.std.specs.Prelude.{◌≡◌, ◌≤◌, ℕ, [], is_some, IfOk, IfErr, MatchOption, map, string_bytes};
+ghost use Rattle.std.specs.Prelude.{◌≡◌, [], is_some, IfOk, IfErr, map, string_bytes};
 ghost use Rattle.clap.specs.Words.{app_of, first_of, rows_of, found_of, subcommand_of, subcommand_rows_of};
 ghost use Rattle.clap.specs.Kinds.{HasKind};
 ghost use Rattle.clap.specs.Faults.{fault_of};
@@ -421,7 +421,8 @@ fn with_words<'a>(
     program: Command<'a>,
     words: &[Word],
 ) -> Result<Command<'a>, AllocError>
-    ensures { IfOk result (λ command. app_of command ≡ line.added_in_turn line.with_word (app_of program.entry) words.now) }
+    ensures { IfOk result (λ command.
+        app_of command ≡ line.added_in_turn line.with_word (app_of program.entry) words.now) }
 {
     let mut command = program;
     for word in words {
@@ -453,7 +454,7 @@ fn command_of<'a>(alloc: Global) -> Result<Command<'a>, AllocError>
 
 // The number that an option was given, if it is in a range.
 fn number_of(matches: &ArgMatches<'_>, name: &str, least: u32, most: u32) -> Option<u32>
-    ensures { MatchOption result ((n : ℕ) → line.HasNumber name.now (rows_of (found_of matches.now)) least most n → ⊥)
+    ensures { line.AsAsked result
         (line.HasNumber name.now (rows_of (found_of matches.now)) least most) }
 {
     let number = matches.get_one::<u32>(name)?;
@@ -467,7 +468,7 @@ fn number_of(matches: &ArgMatches<'_>, name: &str, least: u32, most: u32) -> Opt
 }
 
 fn plan_request<'a>(plan: &ArgMatches<'a>) -> Option<Request<'a>>
-    ensures { MatchOption result ((request : Request) → line.IsPlanAsked (rows_of (found_of plan.now)) request → ⊥) (line.IsPlanAsked (rows_of (found_of plan.now))) }
+    ensures { line.AsAsked result (line.IsPlanAsked (rows_of (found_of plan.now))) }
 {
     let file = plan.get_str("FILE")?;
     let kerf = number_of(plan, "kerf", 0, MOST_KERF)?;
@@ -477,7 +478,7 @@ fn plan_request<'a>(plan: &ArgMatches<'a>) -> Option<Request<'a>>
 
 // The message that the three options ask for.
 fn import_as(orders: &ArgMatches<'_>) -> Option<ImportAs>
-    ensures { MatchOption result ((told : ImportAs) → line.IsImportAs (rows_of (found_of orders.now)) told → ⊥) (line.IsImportAs (rows_of (found_of orders.now))) }
+    ensures { line.AsAsked result (line.IsImportAs (rows_of (found_of orders.now))) }
 {
     let order = Code::read(orders.get_str("order")?)?;
     let terminal = number_of(orders, "terminal", 1, MOST_PAIR)?;
@@ -504,7 +505,7 @@ fn names_message(orders: &ArgMatches<'_>) -> bool
 }
 
 fn orders_request<'a>(orders: &ArgMatches<'a>) -> Option<Request<'a>>
-    ensures { MatchOption result ((request : Request) → line.IsOrdersAsked (rows_of (found_of orders.now)) request → ⊥) (line.IsOrdersAsked (rows_of (found_of orders.now))) }
+    ensures { line.AsAsked result (line.IsOrdersAsked (rows_of (found_of orders.now))) }
 {
     let file = orders.get_str("FILE")?;
     if !names_message(orders) {
@@ -518,7 +519,7 @@ fn orders_request<'a>(orders: &ArgMatches<'a>) -> Option<Request<'a>>
 }
 
 fn serve_request<'a>(serve: &ArgMatches<'a>) -> Option<Request<'a>>
-    ensures { MatchOption result ((request : Request) → line.IsServeAsked (rows_of (found_of serve.now)) request → ⊥) (line.IsServeAsked (rows_of (found_of serve.now))) }
+    ensures { line.AsAsked result (line.IsServeAsked (rows_of (found_of serve.now))) }
 {
     let port = number_of(serve, "port", 1, LAST_PORT)?;
     let store = serve.get_str("store")?;
@@ -535,7 +536,7 @@ fn serve_request<'a>(serve: &ArgMatches<'a>) -> Option<Request<'a>>
 }
 
 fn ticket_request<'a>(ticket: &ArgMatches<'a>) -> Option<Request<'a>>
-    ensures { MatchOption result ((request : Request) → line.IsTicketAsked (rows_of (found_of ticket.now)) request → ⊥) (line.IsTicketAsked (rows_of (found_of ticket.now))) }
+    ensures { line.AsAsked result (line.IsTicketAsked (rows_of (found_of ticket.now))) }
 {
     let store = ticket.get_str("store")?;
     let job = number_of(ticket, "JOB", 1, MOST_NUMBERS)?;
@@ -543,7 +544,7 @@ fn ticket_request<'a>(ticket: &ArgMatches<'a>) -> Option<Request<'a>>
 }
 
 fn yield_request<'a>(report: &ArgMatches<'a>) -> Option<Request<'a>>
-    ensures { MatchOption result ((request : Request) → line.IsYieldAsked (rows_of (found_of report.now)) request → ⊥) (line.IsYieldAsked (rows_of (found_of report.now))) }
+    ensures { line.AsAsked result (line.IsYieldAsked (rows_of (found_of report.now))) }
 {
     let store = report.get_str("store")?;
     let material = Code::read(report.get_str("MATERIAL")?)?;
@@ -552,7 +553,7 @@ fn yield_request<'a>(report: &ArgMatches<'a>) -> Option<Request<'a>>
 
 // The command of this word.
 fn word_of(name: &str) -> Option<Word>
-    ensures { MatchOption result ((word : Word) → name.now ≡ line.word_text word → ⊥) (λ word. name.now ≡ line.word_text word) }
+    ensures { line.AsAsked result (λ word. name.now ≡ line.word_text word) }
 {
     if name == "replay" {
         Some(Word::Replay)
@@ -573,7 +574,7 @@ fn word_of(name: &str) -> Option<Word>
 
 // What a command asks for with its values.
 fn request_in<'a>(word: Word, values: &ArgMatches<'a>) -> Option<Request<'a>>
-    ensures { MatchOption result ((request : Request) → line.IsAsked word (rows_of (found_of values.now)) request → ⊥) (line.IsAsked word (rows_of (found_of values.now))) }
+    ensures { line.AsAsked result (line.IsAsked word (rows_of (found_of values.now))) }
 {
     match word {
         Word::Replay => Some(Request::Replay),
@@ -587,7 +588,7 @@ fn request_in<'a>(word: Word, values: &ArgMatches<'a>) -> Option<Request<'a>>
 
 // What the command that was read asks for.
 fn request_read<'a>(matches: &ArgMatches<'a>) -> Option<Request<'a>>
-    ensures { MatchOption result (line.AsksNothing (subcommand_rows_of matches.now)) (line.Asks (subcommand_rows_of matches.now)) }
+    ensures { line.AsAsked result (line.Asks (subcommand_rows_of matches.now)) }
 {
     let (name, values) = matches.subcommand()?;
     request_in(word_of(name)?, values)
@@ -595,10 +596,11 @@ fn request_read<'a>(matches: &ArgMatches<'a>) -> Option<Request<'a>>
 
 /// What the words ask for, the program's own name before them. An Err is `clap`'s, for help and for a fault of the words.
 pub fn request_of<'a>(alloc: Global, words: &'a [String]) -> Result<Option<Request<'a>>, Error>
-    ensures ok { IfOk result (λ found. (fault_of line.shop_app (map string_bytes words.entry.now) ≡ [])
-        × MatchOption found (line.AsksNothing (subcommand_of line.shop_app (map string_bytes words.entry.now)))
-        (line.Asks (subcommand_of line.shop_app (map string_bytes words.entry.now)))) }
-    ensures err { IfErr result (HasKind (fault_of line.shop_app (map string_bytes words.entry.now))) }
+    ensures ok { IfOk result (λ found.
+        (fault_of line.shop_app (map string_bytes words.entry.now) ≡ [])
+        × line.AsAsked found (line.Asks (subcommand_of line.shop_app (map string_bytes words.entry.now)))) }
+    ensures err { IfErr result
+        (HasKind (fault_of line.shop_app (map string_bytes words.entry.now))) }
 {
     let command = command_of(alloc)?;
     let matches = command.try_get_matches_from(words)?;

@@ -1,8 +1,10 @@
-use Rattle.std.proofs.Common.{◌≡◌, ◌<◌, inl, inr, arith}
-use Rattle.shop_book.specs.declared.books.TheConstants.{MOST_FAILURES}
+use Rattle.std.proofs.Common.{◌≡◌, ◌<◌, ◌++◌, [], List, ℕ, Ok, Err, inl, inr, subst, sym, ap, ◌∙◌, arith}
+use Rattle.std.specs.Prelude.{IfOk, IfErr}
 use Rattle.shop_desk.specs.Faults.{StoreFailed}
 use Rattle.shop_commands.specs.contracts.storeless.StorelessBookBook.TheImpl as mem
-use Rattle.shop_wire.proofs.Fresh.{ok_from_fresh, err_from_fresh}
+use Rattle.shop_wire.proofs.Fresh.{from_fresh}
+use Rattle.shop_commands.proofs.Replayed.{stopped}
+use Rattle.shop_commands.specs.Sinks.{change_of}
 use Rattle.shop_commands.proofs.replays.replay_fresh.Goals as goal
 
 -- no failure was counted
@@ -10,10 +12,14 @@ never : StoreFailed 0 0 → ⊥
 never (inl rose) = omega (arith, rose)
 never (inr is) = omega (arith, is)
 
-pub returns-clause-ok : goal.returns-clause-ok
-returns-clause-ok g c =
-    ok_from_fresh mem.ghosts c.new-book.result c.replay.new.book tt c.new-book.ensures never (g.S.Source.left c.args.source.now) (g.W.Sink.held c.args.sink.now) (g.W.Sink.held c.replay.new.sink) c.replay.result c.replay.ensures.ok
+pub returns-in-Ok-clause-ok : goal.returns-in-Ok-clause-ok
+returns-in-Ok-clause-ok g c =
+    let p = c.in-Ok.ensures.ok in
+    (p.0, p.1, from_fresh mem.ghosts c.new-book.result c.replay.new.book tt c.new-book.ensures never (g.W.Sink.held c.args.sink.now) (g.W.Sink.held c.replay.new.sink) p.0 [] p.3)
 
 pub returns-clause-err : goal.returns-clause-err
 returns-clause-err g c =
-    err_from_fresh mem.ghosts c.new-book.result c.replay.new.book tt c.new-book.ensures never (g.S.Source.left c.args.source.now) (g.W.Sink.held c.args.sink.now) (g.W.Sink.held c.replay.new.sink) c.replay.result c.replay.ensures.err
+    let p = c.in-Err.ensures.err in
+    let fresh = from_fresh mem.ghosts c.new-book.result c.replay.new.book tt c.new-book.ensures never (g.W.Sink.held c.args.sink.now) (g.W.Sink.held c.replay.new.sink) p.0 p.3 p.5 in
+    stopped (g.S.Source.left c.args.source.now) (change_of g.W.Sink c.args.sink.now c.replay.new.sink) c.in-Err.fault c.from.result c.from.ensures
+    p.0 p.1 p.2 p.3 p.4 fresh (λ is. c.replay.ensures.write (c.in-Err.is ∙ ap Err is))

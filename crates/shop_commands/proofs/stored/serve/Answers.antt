@@ -1,6 +1,7 @@
 use Rattle.std.proofs.Common.{◌≡◌, refl, sym, subst, inl, inr}
 use Rattle.std.proofs.lemmas.Result.{err_from_is_err_and}
 use Rattle.shop_commands.specs.Stored.{IsShopRead, IsBookServed, IsBookUnserved}
+use Rattle.shop_commands.specs.Sinks.{change_of}
 use Rattle.shop_commands.proofs.Opened.{of_ok, of_err}
 use Rattle.shop_commands.proofs.stored.serve.Goals as goal
 
@@ -10,9 +11,8 @@ returns-in-Ok-clause-ok g c =
     let after = c.serve_book-served.new.book in
     let entries = c.as_slice.result.now in
     let site = c.in_ok-site.site in
-    let old = g.W.Sink.held c.args.sink.now in
-    let new = g.W.Sink.held c.serve_book-served.new.sink in
-    let done = of_ok (IsBookServed g.B.Book site before after entries c.args.port c.args.limit old new) c.serve_book-served.result c.in-Ok.is c.serve_book-served.ensures.ok in
+    let out = change_of g.W.Sink c.args.sink.now c.serve_book-served.new.sink in
+    let done = of_ok (IsBookServed g.B.Book site before after entries c.args.port c.args.limit out) c.serve_book-served.result c.in-Ok.is c.serve_book-served.ensures.ok in
     (entries, subst IsShopRead (sym c.as_slice.ensures) c.in_ok-entries.ensures.ok.0, site, c.in_ok-site.ensures.ok, before, after, c.in_ok-book.ensures.ok, done)
 
 pub returns-clause-err : goal.returns-clause-err
@@ -21,9 +21,8 @@ returns-clause-err g c =
     let after = c.serve_book-served.new.book in
     let entries = c.as_slice.result.now in
     let site = c.in_ok-site.site in
-    let old = g.W.Sink.held c.args.sink.now in
-    let new = g.W.Sink.held c.serve_book-served.new.sink in
-    let stopped = of_err (λ f. IsBookUnserved g.B.Book site before after entries c.args.port c.args.limit f old new (g.W.Sink.failed c.args.sink.now) (g.W.Sink.failed c.serve_book-served.new.sink))
+    let out = change_of g.W.Sink c.args.sink.now c.serve_book-served.new.sink in
+    let stopped = of_err (λ f. IsBookUnserved g.B.Book site before after entries c.args.port c.args.limit f out)
     c.serve_book-served.result c.in-Err.fault c.in-Err.is c.serve_book-served.ensures.err in
     inr (entries, subst IsShopRead (sym c.as_slice.ensures) c.in_ok-entries.ensures.ok.0, inr (site, c.in_ok-site.ensures.ok, inr (before, after, c.in_ok-book.ensures.ok, stopped)))
 

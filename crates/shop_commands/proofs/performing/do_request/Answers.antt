@@ -1,7 +1,7 @@
-use Rattle.shop_commands.proofs.performing.work.Goals as goal
+use Rattle.shop_commands.proofs.performing.do_request.Goals as goal
 
 pub returns-in-Orders-clause-err : goal.returns-in-Orders-clause-err
-returns-in-Orders-clause-err g c = rw c.in-Orders.is c.orders.ensures.err
+returns-in-Orders-clause-err g c = rw c.in-Orders.is c.check_orders.ensures.err
 
 pub returns-in-Serve-clause-ok : goal.returns-in-Serve-clause-ok
 returns-in-Serve-clause-ok g c = rw c.in-Serve.is c.serve.ensures.ok
@@ -10,13 +10,13 @@ pub returns-in-Serve-clause-err : goal.returns-in-Serve-clause-err
 returns-in-Serve-clause-err g c = rw c.in-Serve.is c.serve.ensures.err
 
 pub returns-in-Ticket-clause-ok : goal.returns-in-Ticket-clause-ok
-returns-in-Ticket-clause-ok g c = rw c.in-Ticket.is c.print_ticket.ensures.ok
+returns-in-Ticket-clause-ok g c = rw c.in-Ticket.is c.print_stored.ensures.ok
 
 pub returns-in-Ticket-clause-err : goal.returns-in-Ticket-clause-err
-returns-in-Ticket-clause-err g c = rw c.in-Ticket.is c.print_ticket.ensures.err
+returns-in-Ticket-clause-err g c = rw c.in-Ticket.is c.print_stored.ensures.err
 
 pub returns-in-Yield-clause-ok : goal.returns-in-Yield-clause-ok
-returns-in-Yield-clause-ok g c = rw c.in-Yield.is c.print_yield.ensures.ok
+returns-in-Yield-clause-ok g c = rw c.in-Yield.is c.print_stored-in-Yield.ensures.ok
 
 pub returns-in-Yield-clause-err : goal.returns-in-Yield-clause-err
-returns-in-Yield-clause-err g c = rw c.in-Yield.is c.print_yield.ensures.err
+returns-in-Yield-clause-err g c = rw c.in-Yield.is c.print_stored-in-Yield.ensures.err
