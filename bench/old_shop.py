@@ -9,8 +9,8 @@ remnants on the rack, 100 open demands and 100 waiting jobs. Each question is as
 what one takes, in microseconds, by the number of parts of history, and how often as long it takes behind the most parts as
 behind the fewest.
 
-Over the book in memory a question's time is that of a replay with it so many times, less that of the replay without, by
-processor time. Over a book in a file `cutshop serve` is asked by HTTP, a connection each, and told is the time from asking
+Over the book in memory a question's time is that of so many at once to one `cutshop replay` that had the history before,
+from the first byte to the last reply, by the least of five such runs. Over a book in a file `cutshop serve` is asked by HTTP, a connection each, and told is the time from asking
 to the last byte; `/totals` is asked too, whose cost is that of a look-up. Told beside them is how long the program takes
 to its line `listening on`, and `cutshop ticket` from its start to its end.
 """
@@ -23,6 +23,7 @@ import statistics
 import subprocess
 import sys
 import tempfile
+import threading
 import time
 
 HERE = os.path.dirname(os.path.abspath(__file__))
@@ -111,37 +112,30 @@ def shop_after(parts):
     return [compact(it) for it in shop.messages]
 
 
-def replayed(program, lines):
-    """The seconds of processor time of a replay, and its replies."""
-    with tempfile.TemporaryFile() as source, tempfile.TemporaryFile() as taken:
-        source.write(("\n".join(lines) + "\n").encode())
-        source.seek(0)
-        child = subprocess.Popen([program, "replay"], stdin=source, stdout=taken)
-        _, status, usage = os.wait4(child.pid, 0)
-        if status != 0:
-            sys.exit(f"a replay ended with status {status}")
-        taken.seek(0)
-        return usage.ru_utime + usage.ru_stime, taken.read().decode().splitlines()
-
-
-def is_known(program, question):
-    """Whether the program answers such a question."""
-    return '"refused":10' not in replayed(program, [compact(question)])[1][0]
+def asked(child, lines):
+    """The replies to lines, and the seconds from their first byte to the last reply."""
+    text = ("\n".join(lines) + "\n").encode()
+    begin = time.perf_counter()
+    writer = threading.Thread(target=lambda: (child.stdin.write(text), child.stdin.flush()))
+    writer.start()
+    replies = [child.stdout.readline() for _ in lines]
+    writer.join()
+    return replies, time.perf_counter() - begin
 
 
 def over_memory(program, parts, times):
     """What each question takes behind so many parts, in microseconds."""
-    lines = shop_after(parts)
-    plain, replies = min(replayed(program, lines) for _ in range(3))
-    refused = [it for it in replies if "refused" in it]
-    if refused:
-        sys.exit(f"a message of the history was refused: {refused[0]}")
-    took = {}
-    for name, question in QUESTIONS.items():
-        if is_known(program, question):
-            asked = min(replayed(program, lines + [compact(question)] * times)[0] for _ in range(3))
-            took[name] = max(asked - plain, 0) / times * 1e6
-    return took
+    with subprocess.Popen([program, "replay"], stdin=subprocess.PIPE, stdout=subprocess.PIPE) as child:
+        refused = [it for it in asked(child, shop_after(parts))[0] if b"refused" in it]
+        if refused:
+            sys.exit(f"a message of the history was refused: {refused[0]}")
+        took = {}
+        for name, question in QUESTIONS.items():
+            lines = [compact(question)] * times
+            if b'"refused":10' not in asked(child, lines)[0][0]:
+                took[name] = min(asked(child, lines)[1] for _ in range(5)) / times * 1e6
+        child.stdin.close()
+        return took
 
 
 def answer_of(port, request):
