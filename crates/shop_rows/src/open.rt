@@ -1,17 +1,18 @@
 //! Lists of the keys of what is open: standing parts, waiting jobs, and demands that aren't made yet.
 
-ghost use Rattle.std.specs.Prelude.{◌≡◌, ◌+◌, ◌<◌, ◌≤◌, List, ℕ, Option, IsTrue, filter, length, nat_lt, not, vec_len, vec_capacity};
+ghost use Rattle.std.specs.Prelude.{◌≡◌, ◌+◌, ◌++◌, ◌<◌, ◌≤◌, All, List, ℕ, Option, IsTrue, drop, false, filter, length, map, nat_lt, not, take, true, vec_len, vec_capacity};
 ghost use Rattle.cut_measure.specs.Names.{Name, name_cmp};
 ghost use Rattle.shop_machine.specs.declared.records.Part.{Part as PartOf};
 ghost use Rattle.shop_machine.specs.declared.records.Job.{Job as JobOf};
 ghost use Rattle.shop_machine.specs.declared.records.Demand.{Demand as DemandOf};
+ghost use Rattle.shop_machine.specs.Content.{is_listed};
 ghost use Rattle.shop_machine.specs.Listing.{is_open};
 ghost use Rattle.std.specs.Ordering.{nat_cmp};
 ghost use Rattle.shop_rows.specs.Keys.{demand_key, part_key};
-ghost use Rattle.shop_rows.specs.Rows.{rise};
-ghost use Rattle.shop_rows.specs.Open.{own_key, open_cmp, finds_with, finds_with_all, ListsNumbers, ListsParts, ListsOthers, waits, KeepsMaterial, KeepMaterials, is_passed, is_upto, is_after};
+ghost use Rattle.shop_rows.specs.Rows.{rise, ArePut};
+ghost use Rattle.shop_rows.specs.Open.{own_key, open_cmp, open_key, finds_with, finds_with_all, ListsNumbers, ListsParts, ListsOthers, waits, KeepsMaterial, KeepMaterials, is_passed, is_upto, is_after};
 
-use crate::rows::{Row, settle, take_row};
+use crate::rows::{Row, move_to, run_place, settle, take_row};
 use cut_measure::{Code, PartName};
 use shop_machine::{Demand, Job, Part};
 use std::alloc::{AllocError, Global};
@@ -179,8 +180,71 @@ fn list_in_place(keys: &mut Vec<OpenPart>, part: &Part)
     settle(keys, OpenPart::of(part), stands);
 }
 
-/// Lists parts one after another, each where it stands, in place of one of the same material, if there is one.
-pub fn list_all(keys: &mut Vec<OpenPart>, parts: &[Part])
+// Whether each part stands.
+fn all_stand(parts: &[Part]) -> bool
+    ensures { IsTrue result → All (λ part. is_listed part.material part ≡ true) parts.now }
+{
+    for part in parts {
+        if !part.is_listed(&part.material) {
+            return false;
+        }
+    }
+    true
+}
+
+// Appends the keys of parts.
+fn push_keys(keys: &mut Vec<OpenPart>, parts: &[Part])
+    requires { vec_len keys.old + length parts.now ≤ vec_capacity keys.old }
+    ensures items { keys.new.items ≡ keys.old.items ++ map open_key parts.now }
+    ensures capacity { vec_capacity keys.old ≤ vec_capacity keys.new }
+{
+    for part in parts {
+        match keys.push(OpenPart::of(part)) {
+            Ok(()) => (),
+            Err(_) => unreachable!(),
+        }
+    }
+}
+
+// Has keys that were appended stand together between two others, where they do; else they are dropped again.
+fn settle_run(keys: &mut Vec<OpenPart>, from: usize) -> bool
+    requires range { from ≤ length keys.old.items }
+    requires rising { IsTrue (rise own_key open_cmp (take from keys.old.items)) }
+    ensures put { IsTrue result → ArePut own_key open_cmp (drop from keys.old.items) (take from keys.old.items) keys.new.items }
+    ensures rising { IsTrue (rise own_key open_cmp keys.new.items) }
+    ensures same { result ≡ false → keys.new.items ≡ take from keys.old.items }
+    ensures capacity { vec_capacity keys.new ≡ vec_capacity keys.old }
+{
+    let (front, added) = keys.split_at(from);
+    let Some(i) = run_place(front, added) else {
+        keys.truncate(from);
+        return false;
+    };
+    move_to(keys, from, i);
+    true
+}
+
+// Lists parts that all stand, by one move of the keys behind theirs, where these stand together between two others. Tells
+// whether they do; else nothing changes.
+fn list_run(keys: &mut Vec<OpenPart>, parts: &[Part]) -> bool
+    requires rising { IsTrue (rise own_key open_cmp keys.old.items) }
+    requires room { vec_len keys.old + length parts.now ≤ vec_capacity keys.old }
+    ensures lists { IsTrue result → (find : Name → Option PartOf) → ListsParts find keys.old.items → KeepMaterials find parts.now
+        → ListsParts (finds_with_all part_key name_cmp parts.now find) keys.new.items }
+    ensures rising { IsTrue (rise own_key open_cmp keys.new.items) }
+    ensures same { result ≡ false → keys.new.items ≡ keys.old.items }
+    ensures capacity { vec_capacity keys.old ≤ vec_capacity keys.new }
+{
+    if !all_stand(parts) {
+        return false;
+    }
+    let from = keys.len();
+    push_keys(keys, parts);
+    settle_run(keys, from)
+}
+
+// Lists parts one after another, each where it stands, in place of one of the same material, if there is one.
+fn list_each(keys: &mut Vec<OpenPart>, parts: &[Part])
     requires rising { IsTrue (rise own_key open_cmp keys.old.items) }
     requires room { vec_len keys.old + length parts.now ≤ vec_capacity keys.old }
     ensures lists { (find : Name → Option PartOf) → ListsParts find keys.old.items → KeepMaterials find parts.now
@@ -190,6 +254,20 @@ pub fn list_all(keys: &mut Vec<OpenPart>, parts: &[Part])
     for part in parts {
         list_in_place(keys, part);
     }
+}
+
+/// Lists parts as one after another, each where it stands, in place of one of the same material, if there is one.
+pub fn list_all(keys: &mut Vec<OpenPart>, parts: &[Part])
+    requires rising { IsTrue (rise own_key open_cmp keys.old.items) }
+    requires room { vec_len keys.old + length parts.now ≤ vec_capacity keys.old }
+    ensures lists { (find : Name → Option PartOf) → ListsParts find keys.old.items → KeepMaterials find parts.now
+        → ListsParts (finds_with_all part_key name_cmp parts.now find) keys.new.items }
+    ensures rising { IsTrue (rise own_key open_cmp keys.new.items) }
+{
+    if list_run(keys, parts) {
+        return;
+    }
+    list_each(keys, parts);
 }
 
 // The keys from those of a material that are behind a name on.

@@ -99,8 +99,8 @@ fn is_before<R: Row>(rows: &[R], i: usize, key: R::Key) -> bool
     }
 }
 
-// Where rows that rise would stand together between two others.
-fn run_place<R: Row>(rows: &[R], added: &[R]) -> Option<usize>
+/// Where rows that rise would stand together between two others.
+pub(crate) fn run_place<R: Row>(rows: &[R], added: &[R]) -> Option<usize>
     requires { IsTrue (rise R.key_of R.cmp rows.now) }
     ensures range { IfSome result (λ i. i ≤ length rows.now) }
     ensures put { IfSome result (λ i. ArePut R.key_of R.cmp added.now rows.now (insert_slice rows.now i added.now)) }
@@ -218,8 +218,8 @@ pub fn put_some<R: Row>(rows: &mut Vec<R>, row: Option<R>)
     }
 }
 
-// Moves the rows from `from` on to a place before them.
-fn move_to<R: Row>(rows: &mut [R], from: usize, i: usize)
+/// Moves the rows from `from` on to a place before them.
+pub(crate) fn move_to<R: Row>(rows: &mut [R], from: usize, i: usize)
     requires order { i ≤ from }
     requires range { from ≤ length rows.old }
     ensures { (front back : List R) → rows.old ≡ front ++ back → length front ≡ from → rows.new ≡ insert_slice front i back }

@@ -5,7 +5,7 @@ use Rattle.shop_rows.specs.Keys.{part_key}
 use Rattle.shop_machine.specs.declared.records.Part.{Part}
 use Rattle.shop_rows.specs.Open.{own_key, open_cmp, finds_with_all, ListsParts, KeepMaterials}
 use Rattle.shop_rows.specs.Rows.{rise}
-use Rattle.shop_rows.proofs.open.list_all.Given as goal
+use Rattle.shop_rows.proofs.open.list_each.Given as goal
 
 abbrev pub invariant-loop-part : goal.invariant-loop-part
 invariant-loop-part l =

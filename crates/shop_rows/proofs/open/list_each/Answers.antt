@@ -5,7 +5,7 @@ use Rattle.shop_rows.specs.Keys.{part_key}
 use Rattle.shop_machine.specs.declared.records.Part.{Part}
 use Rattle.shop_rows.specs.Open.{finds_with_all, ListsParts}
 use Rattle.shop_rows.proofs.Listed.{finds_more, keep_at}
-use Rattle.shop_rows.proofs.open.list_all.Goals as goal
+use Rattle.shop_rows.proofs.open.list_each.Goals as goal
 
 pub loop-part-preserved : goal.loop-part-preserved
 loop-part-preserved c =
