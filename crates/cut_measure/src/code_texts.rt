@@ -28,9 +28,12 @@ impl Model for Code {
 
     ghost view = { λ c. take c.len c.text };
 
-    ghost invariant = { λ c. (length c.text ≡ LONGEST_CODE) × (c.len ≤ LONGEST_CODE) × (drop c.len c.text ≡ replicate (LONGEST_CODE - c.len) 0) × IsTrue (is_code (take c.len c.text)) };
+    ghost invariant = { λ c. (length c.text ≡ LONGEST_CODE) × (c.len ≤ LONGEST_CODE)
+        × (drop c.len c.text ≡ replicate (LONGEST_CODE - c.len) 0)
+        × IsTrue (is_code (take c.len c.text)) };
 
-    ghost inverse = { λ text. record { text = text ++ replicate (LONGEST_CODE - length text) 0; len = length text } };
+    ghost inverse = { λ text.
+        record { text = text ++ replicate (LONGEST_CODE - length text) 0; len = length text } };
 
     ghost inverse_ok = { λ a h. fields_back a h.0 h.1 h.2 };
 }

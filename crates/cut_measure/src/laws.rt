@@ -6,7 +6,8 @@ ghost use Rattle.cut_measure.specs.Names.{Name, IsName, name_text};
 
 /// A text says one length at most, and what is printed of a length up to 9999999 says that length.
 pub fn lengths_have_one_text()
-    ensures one_length { (text : List ℕ) (m n : ℕ) → IsLengthText text m → IsLengthText text n → m ≡ n }
+    ensures one_length { (text : List ℕ) (m n : ℕ) → IsLengthText text m → IsLengthText text n
+        → m ≡ n }
     ensures printed { (n : ℕ) → n ≤ 9999999 → IsLengthText (mm_text n) n }
 {}
 

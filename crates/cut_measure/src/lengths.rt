@@ -32,7 +32,8 @@ fn read_tenth(digits: &[u8]) -> Option<u32>
 }
 
 fn tenths_of(text: &str) -> Option<u32>
-    ensures { MatchOption result ((n : ℕ) → IsLengthText text.now n → ⊥) (λ n. IsLengthText text.now n) }
+    ensures { MatchOption result ((n : ℕ) → IsLengthText text.now n → ⊥)
+        (λ n. IsLengthText text.now n) }
 {
     match text.split_once('.') {
         None => Some(10 * read_whole(text.as_bytes())?),

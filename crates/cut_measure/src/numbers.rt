@@ -7,7 +7,8 @@ ghost use Rattle.cut_measure.specs.Numbers.{IsNumberOf};
 
 /// The number that decimal digits stand for, leading zeros or none, if it has 32 bits; no digits stand for 0.
 pub fn digits_value_of(digits: &[u8]) -> Option<u32>
-    ensures { SomeIff result (AllDigits 10 digits.now × (digits_value 10 digits.now < 2 ^ 32)) (digits_value 10 digits.now) }
+    ensures { SomeIff result (AllDigits 10 digits.now × (digits_value 10 digits.now < 2 ^ 32))
+        (digits_value 10 digits.now) }
 {
     let mut value: u32 = 0;
     for digit in digits {

@@ -79,7 +79,9 @@ fn proposal_of(
     requires faultless { fault_of Bar size kerf 0 wants.now ≡ None }
     requires best { proposals.AreBestPieces size kerf wants.now best.now }
     ensures ok { IfOk result (proposals.IsBarProposal size kerf wants.now) }
-    ensures err { IfErr result (λ fault. (fault ≡ NoMemory) ⊎ ((fault ≡ TableTooLarge) × proposals.HasManyPieces size kerf wants.now)) }
+    ensures err { IfErr result
+        (λ fault. (fault ≡ NoMemory)
+            ⊎ ((fault ≡ TableTooLarge) × proposals.HasManyPieces size kerf wants.now)) }
 {
     match bar_plan(alloc, size, kerf, &best.pieces) {
         Ok(plan) => Ok(Proposal {
@@ -103,7 +105,9 @@ fn faultless_bar(
     requires demands { proposals.AreDemands wants.now }
     requires faultless { fault_of Bar size kerf 0 wants.now ≡ None }
     ensures ok { IfOk result (proposals.IsBarProposal size kerf wants.now) }
-    ensures err { IfErr result (λ fault. (fault ≡ NoMemory) ⊎ ((fault ≡ TableTooLarge) × proposals.HasManyPieces size kerf wants.now)) }
+    ensures err { IfErr result
+        (λ fault. (fault ≡ NoMemory)
+            ⊎ ((fault ≡ TableTooLarge) × proposals.HasManyPieces size kerf wants.now)) }
 {
     match best_pieces(alloc, size, kerf, wants) {
         Ok(best) => proposal_of(alloc, size, kerf, wants, &best),
@@ -127,9 +131,11 @@ pub fn plan_bar(alloc: Global, size: Size, kerf: u32, wants: &[Want]) -> Result<
     requires kerf { kerf ≤ MOST_KERF }
     requires flat { size.h ≡ 1 }
     requires demands { proposals.AreDemands wants.now }
-    ensures ok { IfOk result (λ p. (fault_of Bar size kerf 0 wants.now ≡ None) × proposals.IsBarProposal size kerf wants.now p) }
+    ensures ok { IfOk result (λ p. (fault_of Bar size kerf 0 wants.now ≡ None)
+            × proposals.IsBarProposal size kerf wants.now p) }
     ensures faulty { IfSome (fault_of Bar size kerf 0 wants.now) (λ fault. result ≡ Err fault) }
-    ensures err { IfErr result (λ fault. (fault ≡ NoMemory) ⊎ (fault_of Bar size kerf 0 wants.now ≡ Some fault)
+    ensures err { IfErr result
+        (λ fault. (fault ≡ NoMemory) ⊎ (fault_of Bar size kerf 0 wants.now ≡ Some fault)
         ⊎ ((fault ≡ TableTooLarge) × proposals.HasManyPieces size kerf wants.now)) }
 {
     match first_fault(Kind::Bar, size, kerf, 0, wants) {

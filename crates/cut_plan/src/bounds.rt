@@ -82,7 +82,8 @@ pub fn least_units(
     requires flat { kind ≡ Bar → size.h ≡ 1 }
     ensures ok { IfOk result (IsBound kind size kerf step wants.now) }
     ensures faulty { IfSome (fault_of kind size kerf step wants.now) (λ fault. result ≡ Err fault) }
-    ensures err { IfErr result (λ fault. (fault ≡ NoMemory) ⊎ (fault_of kind size kerf step wants.now ≡ Some fault)) }
+    ensures err { IfErr result
+        (λ fault. (fault ≡ NoMemory) ⊎ (fault_of kind size kerf step wants.now ≡ Some fault)) }
 {
     match first_fault(kind, size, kerf, step, wants) {
         Some(fault) => Err(fault),

@@ -61,7 +61,8 @@ fn kept_leaves(
     requires small { HaveSidesAndBoundedWorths wants.now }
     requires across { across ≤ MOST_STEPS }
     requires down { down ≤ MOST_STEPS }
-    ensures kept { IfOk result (λ c. spec.IsCutting wants.now across down c.counts.items (tree_of c.kept)) }
+    ensures kept { IfOk result
+        (λ c. spec.IsCutting wants.now across down c.counts.items (tree_of c.kept)) }
     ensures best { IfOk result (λ c. IsBestOf wants.now 0 across down c.best) }
 {
     let table = best_table(alloc, wants, across, down)?;
@@ -106,7 +107,8 @@ fn lay_out(
 ) -> Result<Laid, AllocError>
     requires kerf { kerf ≤ MOST_KERF }
     requires faultless { fault_of Sheet size kerf step wants.now ≡ None }
-    ensures laid { IfOk result (λ l. spec.IsSheetPlan size kerf step wants.now (tree_of l.root) l.worth l.dropped) }
+    ensures laid { IfOk result
+        (λ l. spec.IsSheetPlan size kerf step wants.now (tree_of l.root) l.worth l.dropped) }
     ensures few { IfOk result (λ l. cut_count (tree_of l.root) < 2 ^ 32) }
     ensures ceiling { IfOk result (λ l. spec.IsCeiling size kerf step wants.now l.ceiling) }
 {
@@ -138,11 +140,14 @@ fn proposal_of(
 ) -> Result<SheetProposal, PlanFault>
     requires kerf { kerf ≤ MOST_KERF }
     requires demands { AreDemands wants.now }
-    requires laid { spec.IsSheetPlan size kerf step wants.now (tree_of laid.root) laid.worth laid.dropped }
+    requires laid { spec.IsSheetPlan size kerf step wants.now
+        (tree_of laid.root) laid.worth laid.dropped }
     requires few { cut_count (tree_of laid.root) < 2 ^ 32 }
     requires ceiling { spec.IsCeiling size kerf step wants.now laid.ceiling }
     ensures ok { IfOk result (spec.IsSheetProposal size kerf step wants.now) }
-    ensures err { IfErr result (λ fault. (fault ≡ NoMemory) ⊎ ((fault ≡ TableTooLarge) × spec.HasManyKept size kerf step wants.now)) }
+    ensures err { IfErr result
+        (λ fault. (fault ≡ NoMemory)
+            ⊎ ((fault ≡ TableTooLarge) × spec.HasManyKept size kerf step wants.now)) }
 {
     if count_cuts(&laid.root) > MOST_CUTS {
         return Err(PlanFault::TableTooLarge);
@@ -170,7 +175,9 @@ fn faultless_sheet(
     requires demands { AreDemands wants.now }
     requires faultless { fault_of Sheet size kerf step wants.now ≡ None }
     ensures ok { IfOk result (spec.IsSheetProposal size kerf step wants.now) }
-    ensures err { IfErr result (λ fault. (fault ≡ NoMemory) ⊎ ((fault ≡ TableTooLarge) × spec.HasManyKept size kerf step wants.now)) }
+    ensures err { IfErr result
+        (λ fault. (fault ≡ NoMemory)
+            ⊎ ((fault ≡ TableTooLarge) × spec.HasManyKept size kerf step wants.now)) }
 {
     match lay_out(alloc, size, kerf, step, wants) {
         Ok(laid) => proposal_of(alloc, size, kerf, step, wants, laid),
@@ -191,9 +198,12 @@ pub fn plan_sheet(
 ) -> Result<SheetProposal, PlanFault>
     requires kerf { kerf ≤ MOST_KERF }
     requires demands { AreDemands wants.now }
-    ensures ok { IfOk result (λ p. (fault_of Sheet size kerf step wants.now ≡ None) × spec.IsSheetProposal size kerf step wants.now p) }
-    ensures faulty { IfSome (fault_of Sheet size kerf step wants.now) (λ fault. result ≡ Err fault) }
-    ensures err { IfErr result (λ fault. (fault ≡ NoMemory) ⊎ (fault_of Sheet size kerf step wants.now ≡ Some fault)
+    ensures ok { IfOk result (λ p. (fault_of Sheet size kerf step wants.now ≡ None)
+            × spec.IsSheetProposal size kerf step wants.now p) }
+    ensures faulty { IfSome (fault_of Sheet size kerf step wants.now)
+        (λ fault. result ≡ Err fault) }
+    ensures err { IfErr result
+        (λ fault. (fault ≡ NoMemory) ⊎ (fault_of Sheet size kerf step wants.now ≡ Some fault)
         ⊎ ((fault ≡ TableTooLarge) × spec.HasManyKept size kerf step wants.now)) }
 {
     match first_fault(Kind::Sheet, size, kerf, step, wants) {

@@ -22,7 +22,8 @@ pub const LONGEST_BAR: u32 = 150_000;
 
 /// What no counts at all reach.
 fn none_reached<T: Number>(alloc: Global) -> Result<Level<T>, AllocError>
-    ensures { IfOk result (λ level. (k whole : ℕ) → IsLevel whole level × AreReached k [] whole (Has T.value level)) }
+    ensures { IfOk result (λ level. (k whole : ℕ) → IsLevel whole level
+            × AreReached k [] whole (Has T.value level)) }
 {
     let none = Vec::from_slice(alloc, &[Entry { room: 0, worth: 0 }])?;
     Ok(Level::Listed(none))
@@ -59,7 +60,8 @@ fn entries_of<T: Number>(
     requires size { size ≤ LONGEST_BAR }
     requires kerf { kerf ≤ MOST_KERF }
     ensures rising { IfOk result (λ entries. AreRising entries.items) }
-    ensures reached { IfOk result (λ entries. AreReached kerf wants.now (size + kerf) (Contains entries.items)) }
+    ensures reached { IfOk result
+        (λ entries. AreReached kerf wants.now (size + kerf) (Contains entries.items)) }
 {
     let level: Level<T> = reached_level(alloc, wants, kerf, size + kerf)?;
     level.into_entries(alloc)
@@ -197,8 +199,10 @@ pub fn best_counts(
     requires size { size ≤ LONGEST_BAR }
     requires kerf { kerf ≤ MOST_KERF }
     ensures some { IfOk result (λ _. HaveLength wants.now) }
-    ensures counts { IfOk result (λ counts. AreBestCounts kerf wants.now (size + kerf) counts.items) }
-    ensures best { IfOk result (λ counts. IsBestWithin wants.now kerf size 1 (worth_of_counts wants.now counts.items)) }
+    ensures counts { IfOk result
+        (λ counts. AreBestCounts kerf wants.now (size + kerf) counts.items) }
+    ensures best { IfOk result
+        (λ counts. IsBestWithin wants.now kerf size 1 (worth_of_counts wants.now counts.items)) }
 {
     let mut counts = vec![in alloc; 0u32; wants.len()]?;
     fill_counts(alloc, wants, kerf, size + kerf, &mut counts)?;
@@ -211,7 +215,8 @@ pub fn reach(alloc: Global, wants: &[Want], size: u32, kerf: u32) -> Result<Vec<
     requires size { size ≤ LONGEST_BAR }
     requires kerf { kerf ≤ MOST_KERF }
     ensures rising { IfOk result (λ entries. AreRising entries.items) }
-    ensures reached { IfOk result (λ entries. AreReached kerf wants.now (size + kerf) (Contains entries.items)) }
+    ensures reached { IfOk result
+        (λ entries. AreReached kerf wants.now (size + kerf) (Contains entries.items)) }
 {
     if is_narrow(wants, kerf, size + kerf) {
         entries_of::<u32>(alloc, wants, size, kerf)

@@ -112,8 +112,11 @@ pub fn ceiling(
     requires step { IsStep kerf step wants.now }
     requires wide { steps_down kerf step size.w ≤ MOST_STEPS }
     requires tall { steps_down kerf step size.h ≤ MOST_STEPS }
-    ensures best { IfOk result (IsBestOf (wants_down kerf step wants.now) 0 (steps_down kerf step size.w) (steps_down kerf step size.h)) }
-    ensures most { IfOk result (λ best. (t : Tree) → Legal wants.now kerf t size.w size.h → worth_of wants.now t ≤ best) }
+    ensures best { IfOk result
+        (IsBestOf (wants_down kerf step wants.now) 0 (steps_down kerf step size.w)
+            (steps_down kerf step size.h)) }
+    ensures most { IfOk result
+        (λ best. (t : Tree) → Legal wants.now kerf t size.w size.h → worth_of wants.now t ≤ best) }
     ensures small { IfOk result (λ best. best < 2 ^ 62) }
 {
     let rounded = all_down(alloc, wants, kerf, step)?;
@@ -150,9 +153,13 @@ pub fn ceiling_beside(
     requires step { IsStep kerf step wants.now }
     requires wide { steps_down kerf step size.w ≤ MOST_STEPS }
     requires tall { steps_down kerf step size.h ≤ MOST_STEPS }
-    requires best { IsBestOf (wants_up kerf step wants.now) 0 (steps_down kerf step size.w) (steps_down kerf step size.h) best_up }
-    ensures best { IfOk result (IsBestOf (wants_down kerf step wants.now) 0 (steps_down kerf step size.w) (steps_down kerf step size.h)) }
-    ensures most { IfOk result (λ best. (t : Tree) → Legal wants.now kerf t size.w size.h → worth_of wants.now t ≤ best) }
+    requires best { IsBestOf (wants_up kerf step wants.now) 0 (steps_down kerf step size.w)
+        (steps_down kerf step size.h) best_up }
+    ensures best { IfOk result
+        (IsBestOf (wants_down kerf step wants.now) 0 (steps_down kerf step size.w)
+            (steps_down kerf step size.h)) }
+    ensures most { IfOk result
+        (λ best. (t : Tree) → Legal wants.now kerf t size.w size.h → worth_of wants.now t ≤ best) }
 {
     if are_exact(wants, kerf, step) {
         return Ok(best_up);
@@ -177,7 +184,9 @@ pub fn units(wants: &[Want], best: u64) -> u64
     requires best { 1 ≤ best }
     requires small { worth_left wants.now + best < 2 ^ 64 }
     ensures exact { result ≡ div_up (worth_left wants.now) best }
-    ensures bound { (k w h : ℕ) (trees : List Tree) → ((t : Tree) → Legal wants.now k t w h → IsWithinCounts wants.now t → worth_of wants.now t ≤ best)
+    ensures bound { (k w h : ℕ) (trees : List Tree)
+        → ((t : Tree) → Legal wants.now k t w h → IsWithinCounts wants.now t
+            → worth_of wants.now t ≤ best)
         → Meets wants.now k w h trees → result ≤ length trees }
 {
     let total = total_left(wants);

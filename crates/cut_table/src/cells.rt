@@ -25,7 +25,8 @@ fn offered<T: Number>(cell: T, from: T, gain: u64) -> T
 pub fn raise<T: Number>(cells: &mut [T], step: usize, gain: u64)
     requires step { 1 ≤ step }
     requires fits { AreCellsBelow T.limit (map T.value cells.old) step gain }
-    ensures { IsRaised step gain (map T.value cells.old) (map T.value cells.old) (map T.value cells.new) }
+    ensures { IsRaised step gain (map T.value cells.old) (map T.value cells.old)
+        (map T.value cells.new) }
 {
     for c in (step..cells.len()).rev() {
         cells[c] = offered(cells[c], cells[c - step], gain);
@@ -36,7 +37,8 @@ pub fn raise<T: Number>(cells: &mut [T], step: usize, gain: u64)
 pub fn raise_freely<T: Number>(cells: &mut [T], step: usize, gain: u64)
     requires step { 1 ≤ step }
     requires fits { AreCellsBelow T.limit (map T.value cells.old) step gain }
-    ensures { IsRaised step gain (map T.value cells.new) (map T.value cells.old) (map T.value cells.new) }
+    ensures { IsRaised step gain (map T.value cells.new) (map T.value cells.old)
+        (map T.value cells.new) }
 {
     for c in step..cells.len() {
         cells[c] = offered(cells[c], cells[c - step], gain);
@@ -54,7 +56,8 @@ pub fn table_of<T: Number>(
     requires below { (e : Entry) → Contains entries.now e → e.worth + 1 < T.limit }
     requires whole { whole ≤ 2 ^ 20 }
     ensures len { IfOk result (λ cells. vec_len cells ≡ whole + 1) }
-    ensures same { IfOk result (λ cells. (e : Entry) → HasCell (map T.value cells.items) e ↔ Contains entries.now e) }
+    ensures same { IfOk result
+        (λ cells. (e : Entry) → HasCell (map T.value cells.items) e ↔ Contains entries.now e) }
 {
     let mut cells = T::zeros(alloc, whole as usize + 1)?;
     for entry in entries {
@@ -67,7 +70,8 @@ pub fn table_of<T: Number>(
 pub fn list_of<T: Number>(alloc: Global, cells: &[T]) -> Result<Vec<Entry>, AllocError>
     requires { length cells.now ≤ 2 ^ 21 }
     ensures rising { IfOk result (λ entries. AreRising entries.items) }
-    ensures same { IfOk result (λ entries. (e : Entry) → HasCell (map T.value cells.now) e ↔ Contains entries.items e) }
+    ensures same { IfOk result
+        (λ entries. (e : Entry) → HasCell (map T.value cells.now) e ↔ Contains entries.items e) }
 {
     let mut entries = Vec::new(alloc);
     for i in 0..cells.len() {

@@ -55,7 +55,8 @@ fn divide_tables<T: Number>(front: &[T], back: &[T], whole: u32) -> u32
     requires small_front { HaveSmallWorths T.limit whole (HasCell (map T.value front.now)) }
     requires small_back { HaveSmallWorths T.limit whole (HasCell (map T.value back.now)) }
     requires whole { whole ≤ 2 ^ 20 }
-    ensures { IsBestDivision whole result (HasCell (map T.value front.now)) (HasCell (map T.value back.now)) }
+    ensures { IsBestDivision whole result (HasCell (map T.value front.now))
+        (HasCell (map T.value back.now)) }
 {
     let mut behind = back[0].worth();
     let mut found = Entry {

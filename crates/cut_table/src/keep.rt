@@ -34,7 +34,8 @@ fn join(
     first: Node,
     second: Node,
 ) -> Result<Node, AllocError>
-    ensures { IfOk result (λ node. tree_of node ≡ joined axis place (tree_of first) (tree_of second)) }
+    ensures { IfOk result (λ node. tree_of node
+            ≡ joined axis place (tree_of first) (tree_of second)) }
 {
     if is_rest(&first) {
         return Ok(second);
@@ -53,8 +54,8 @@ fn keep_leaf(wants: &[Scaled], i: usize, turned: bool, counts: &mut [u32]) -> No
     requires len { length counts.old ≡ length wants.now }
     requires fits { slice_index counts.old i + 1 < 2 ^ 32 }
     ensures counted { counts.new ≡ slice_set counts.old i (slice_index counts.old i + 1) }
-    ensures kept { (x : Want) → slice_get wants.now i ≡ Some x →
-        ((slice_index counts.old i < x.left) × (tree_of result ≡ Piece x.demand turned))
+    ensures kept { (x : Want) → slice_get wants.now i ≡ Some x
+        → ((slice_index counts.old i < x.left) × (tree_of result ≡ Piece x.demand turned))
         ⊎ ((x.left ≤ slice_index counts.old i) × (tree_of result ≡ Rest)) }
 {
     let want = &wants[i];
@@ -86,8 +87,11 @@ pub fn keep(
     requires h { h < heights table.now }
     requires len { length counts.old ≡ length wants.now }
     requires fits { (i : ℕ) → i < length counts.old → slice_index counts.old i + w * h < 2 ^ 32 }
-    ensures kept { IfOk result (λ node. KeepsLeaves wants.now w h counts.old counts.new (tree_of node)) }
-    ensures grown { OnOk result ((i : ℕ) → i < length counts.old → slice_index counts.new i ≤ slice_index counts.old i + w * h) }
+    ensures kept { IfOk result
+        (λ node. KeepsLeaves wants.now w h counts.old counts.new (tree_of node)) }
+    ensures grown { OnOk result
+        ((i : ℕ) → i < length counts.old
+            → slice_index counts.new i ≤ slice_index counts.old i + w * h) }
 {
     let best = worth_at(wants, table, places, w, h);
     match choose(wants, table, places, w, h, best) {

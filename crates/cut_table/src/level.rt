@@ -24,7 +24,8 @@ impl<T: Number> Level<T> {
     pub fn into_entries(self, alloc: Global) -> Result<Vec<Entry>, AllocError>
         requires { (whole : ℕ) × (whole ≤ 2 ^ 20) × IsLevel whole self }
         ensures rising { IfOk result (λ entries. AreRising entries.items) }
-        ensures same { IfOk result (λ entries. (e : Entry) → Has T.value self e ↔ Contains entries.items e) }
+        ensures same { IfOk result
+            (λ entries. (e : Entry) → Has T.value self e ↔ Contains entries.items e) }
     {
         match self {
             Level::Listed(entries) => Ok(entries),
@@ -38,7 +39,8 @@ impl<T: Number> Level<T> {
         requires small { HaveSmallWorths T.limit whole (Has T.value self) }
         requires whole { whole ≤ 2 ^ 20 }
         ensures len { IfOk result (λ cells. length cells.items ≡ whole + 1) }
-        ensures same { IfOk result (λ cells. (e : Entry) → HasCell (map T.value cells.items) e ↔ Has T.value self e) }
+        ensures same { IfOk result
+            (λ cells. (e : Entry) → HasCell (map T.value cells.items) e ↔ Has T.value self e) }
     {
         match self {
             Level::Listed(entries) => table_of(alloc, &entries, whole),
@@ -54,7 +56,9 @@ impl<T: Number> Level<T> {
         requires some { 1 ≤ batch.room }
         requires short { batch.room ≤ 2 ^ 20 }
         ensures level { IfOk result (IsLevel whole) }
-        ensures offered { IfOk result (λ offered. AreOffered batch.room batch.worth 1 whole (Has T.value self) (Has T.value offered)) }
+        ensures offered { IfOk result
+            (λ offered. AreOffered batch.room batch.worth 1 whole (Has T.value self)
+                (Has T.value offered)) }
     {
         match self {
             Level::Listed(entries) => {
@@ -80,7 +84,8 @@ pub fn level_of<T: Number>(
     requires below { (e : Entry) → Contains entries.items e → e.worth + 1 < T.limit }
     requires whole { whole ≤ 2 ^ 20 }
     ensures level { IfOk result (IsLevel whole) }
-    ensures same { IfOk result (λ level. (e : Entry) → Has T.value level e ↔ Contains entries.items e) }
+    ensures same { IfOk result
+        (λ level. (e : Entry) → Has T.value level e ↔ Contains entries.items e) }
 {
     if entries.len() <= whole as usize / 32 {
         return Ok(Level::Listed(entries));
@@ -103,7 +108,9 @@ fn offer_batches<T: Number>(
     requires some { 1 ≤ piece.room }
     requires fit { most * piece.room ≤ whole }
     ensures level { IfOk result (IsLevel whole) }
-    ensures offered { IfOk result (λ offered. AreOffered piece.room piece.worth most whole (Has T.value base) (Has T.value offered)) }
+    ensures offered { IfOk result
+        (λ offered. AreOffered piece.room piece.worth most whole (Has T.value base)
+            (Has T.value offered)) }
 {
     let mut offered = base;
     let mut taken = 0;
@@ -122,11 +129,13 @@ fn offer_batches<T: Number>(
 /// What any number of pieces lead to in a table.
 fn offer_freely<T: Number>(mut cells: Vec<T>, piece: Entry, whole: u32) -> Vec<T>
     requires len { length cells.items ≡ whole + 1 }
-    requires below { StayBelow T.limit whole (HasCell (map T.value cells.items)) piece.room piece.worth }
+    requires below { StayBelow T.limit whole
+        (HasCell (map T.value cells.items)) piece.room piece.worth }
     requires whole { whole ≤ 2 ^ 20 - 1 }
     requires some { 1 ≤ piece.room }
     ensures len { length result.items ≡ whole + 1 }
-    ensures offered { AreOffered piece.room piece.worth (whole / piece.room) whole (HasCell (map T.value cells.items)) (HasCell (map T.value result.items)) }
+    ensures offered { AreOffered piece.room piece.worth (whole / piece.room) whole
+        (HasCell (map T.value cells.items)) (HasCell (map T.value result.items)) }
 {
     raise_freely(&mut cells, piece.room as usize, piece.worth);
     cells
@@ -144,7 +153,9 @@ fn offer_any<T: Number>(
     requires whole { whole ≤ 2 ^ 20 - 1 }
     requires some { 1 ≤ piece.room }
     ensures level { IfOk result (IsLevel whole) }
-    ensures offered { IfOk result (λ offered. AreOffered piece.room piece.worth (whole / piece.room) whole (Has T.value base) (Has T.value offered)) }
+    ensures offered { IfOk result
+        (λ offered. AreOffered piece.room piece.worth (whole / piece.room) whole (Has T.value base)
+            (Has T.value offered)) }
 {
     match base {
         Level::Tabled(cells) => Ok(Level::Tabled(offer_freely(cells, piece, whole))),
@@ -165,11 +176,14 @@ pub fn offer_want<T: Number>(
     whole: u32,
 ) -> Result<Level<T>, AllocError>
     requires level { IsLevel whole base }
-    requires below { StayBelow T.limit whole (Has T.value base) (want.now.size.w + kerf) want.now.worth }
+    requires below { StayBelow T.limit whole (Has T.value base)
+        (want.now.size.w + kerf) want.now.worth }
     requires whole { whole ≤ 2 ^ 20 - 1 }
     requires kerf { kerf ≤ MOST_KERF }
     ensures level { IfOk result (IsLevel whole) }
-    ensures offered { IfOk result (λ offered. AreOffered (want.now.size.w + kerf) want.now.worth want.now.left whole (Has T.value base) (Has T.value offered)) }
+    ensures offered { IfOk result
+        (λ offered. AreOffered (want.now.size.w + kerf) want.now.worth want.now.left whole
+            (Has T.value base) (Has T.value offered)) }
 {
     let piece = Entry {
         room: want.size.w() + kerf,

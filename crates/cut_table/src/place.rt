@@ -47,7 +47,8 @@ fn cut_off(
 
 // The size of the want with a demand.
 fn size_of(wants: &[Want], demand: u32) -> Option<Size>
-    ensures found { IfSome result (λ size. (x : Want) × Contains wants.now x × (x.demand ≡ demand) × (x.size ≡ size)) }
+    ensures found { IfSome result
+        (λ size. (x : Want) × Contains wants.now x × (x.demand ≡ demand) × (x.size ≡ size)) }
     ensures none { IfNone result ((x : Want) → Contains wants.now x → x.demand ≡ demand → ⊥) }
 {
     for want in wants {
@@ -70,7 +71,8 @@ fn put(
 ) -> Result<Node, AllocError>
     requires length { length + kerf < 2 ^ 32 }
     requires width { width + kerf < 2 ^ 32 }
-    ensures { IfOk result (λ node. tree_of node ≡ kept.cut_off X length w kerf (kept.cut_off Y width h kerf (tree_of piece))) }
+    ensures { IfOk result (λ node. tree_of node
+            ≡ kept.cut_off X length w kerf (kept.cut_off Y width h kerf (tree_of piece))) }
 {
     let row = cut_off(alloc, Axis::Y, width, h, kerf, piece)?;
     let node = cut_off(alloc, Axis::X, length, w, kerf, row)?;
@@ -120,7 +122,8 @@ pub fn place(
     requires kerf { kerf ≤ MOST_KERF }
     requires pruned { IsPruned (tree_of node.now) }
     requires places { HasPlaces wants.now kerf step (tree_of node.now) w h }
-    ensures { IfOk result (λ placed. Places wants.now kerf (tree_of node.now) w h (tree_of placed)) }
+    ensures { IfOk result (λ placed. Places wants.now kerf (tree_of node.now) w h
+            (tree_of placed)) }
 {
     match node {
         Node::Rest => Ok(Node::Rest),

@@ -31,7 +31,8 @@ fn join(alloc: Global, entries: &[Entry], batch: Entry) -> Result<(Vec<Entry>, u
     requires some { 1 ≤ batch.room }
     requires short { batch.room ≤ 2 ^ 20 }
     requires gain { batch.worth ≤ batch.room * 2 ^ 30 }
-    ensures joined { IfOk result (λ r. AreJoined batch.room batch.worth entries.now (length entries.now) r.1 r.0.items) }
+    ensures joined { IfOk result
+        (λ r. AreJoined batch.room batch.worth entries.now (length entries.now) r.1 r.0.items) }
     ensures inside { IfOk result (λ r. r.1 ≤ length entries.now) }
     ensures up_to { IfOk result (λ r. AreUpTo entries.now r.0.items) }
 {
@@ -66,7 +67,9 @@ pub fn offer_entries(
     requires short { batch.room ≤ 2 ^ 20 }
     requires gain { batch.worth ≤ batch.room * 2 ^ 30 }
     ensures rising { IfOk result (λ offered. AreRising offered.items) }
-    ensures offered { IfOk result (λ offered. AreOffered batch.room batch.worth 1 whole (Contains entries.now) (Contains offered.items)) }
+    ensures offered { IfOk result
+        (λ offered. AreOffered batch.room batch.worth 1 whole (Contains entries.now)
+            (Contains offered.items)) }
 {
     let (mut offered, mut moved) = join(alloc, entries, batch)?;
     while moved < entries.len() && entries[moved].room + batch.room <= whole {

@@ -8,8 +8,10 @@ use crate::number::Number;
 /// A worth at a place of the row, where it is greater than what stands there.
 pub(crate) fn offer<T: Number>(row: &mut [T], at: usize, worth: u64)
     requires { at < length row.old → worth < T.limit }
-    ensures at { at < length row.old → slice_index (map T.value row.new) at ≡ max (slice_index (map T.value row.old) at) worth }
-    ensures others { (p : ℕ) → p ≢ at → slice_index (map T.value row.new) p ≡ slice_index (map T.value row.old) p }
+    ensures at { at < length row.old
+        → slice_index (map T.value row.new) at ≡ max (slice_index (map T.value row.old) at) worth }
+    ensures others { (p : ℕ) → p ≢ at
+        → slice_index (map T.value row.new) p ≡ slice_index (map T.value row.old) p }
 {
     if at < row.len() {
         row[at] = row[at].raised(T::of(0), T::of(worth));
@@ -20,8 +22,10 @@ pub(crate) fn offer<T: Number>(row: &mut [T], at: usize, worth: u64)
 pub(crate) fn stack_rows<T: Number>(row: &mut [T], low: &[T], high: &[T])
     requires low_len { length low.now ≡ length row.old }
     requires high_len { length high.now ≡ length row.old }
-    requires fits { (p : ℕ) → p < length row.old → slice_index (map T.value low.now) p + slice_index (map T.value high.now) p < T.limit }
-    ensures { IsStacked (map T.value row.old) (map T.value low.now) (map T.value high.now) (map T.value row.new) }
+    requires fits { (p : ℕ) → p < length row.old
+        → slice_index (map T.value low.now) p + slice_index (map T.value high.now) p < T.limit }
+    ensures { IsStacked (map T.value row.old) (map T.value low.now) (map T.value high.now)
+        (map T.value row.new) }
 {
     for p in 0..row.len() {
         row[p] = row[p].raised(low[p], high[p]);
@@ -31,9 +35,11 @@ pub(crate) fn stack_rows<T: Number>(row: &mut [T], low: &[T], high: &[T])
 /// Each place is raised to the sum of the part there and one that is always the same.
 fn offer_sums<T: Number>(places: &mut [T], parts: &[T], other: T)
     requires len { length parts.now ≡ length places.old }
-    requires fits { (p : ℕ) → p < length places.old → T.value other + slice_index (map T.value parts.now) p < T.limit }
+    requires fits { (p : ℕ) → p < length places.old
+        → T.value other + slice_index (map T.value parts.now) p < T.limit }
     ensures { (p : ℕ) → p < length places.old → slice_index (map T.value places.new) p
-        ≡ max (slice_index (map T.value places.old) p) (T.value other + slice_index (map T.value parts.now) p) }
+        ≡ max (slice_index (map T.value places.old) p)
+        (T.value other + slice_index (map T.value parts.now) p) }
 {
     for p in 0..places.len() {
         places[p] = places[p].raised(other, parts[p]);
@@ -56,9 +62,12 @@ fn offer_from<T: Number>(row: &mut [T], part: usize)
 fn raise_place<T: Number>(row: &mut [T], at: usize) -> bool
     requires some { 1 ≤ at }
     requires within { at < length row.old }
-    ensures more { IsTrue result ↔ (slice_index (map T.value row.old) (at - 1) < slice_index (map T.value row.old) at) }
-    ensures at { slice_index (map T.value row.new) at ≡ max (slice_index (map T.value row.old) at) (slice_index (map T.value row.old) (at - 1)) }
-    ensures others { (p : ℕ) → p ≢ at → slice_index (map T.value row.new) p ≡ slice_index (map T.value row.old) p }
+    ensures more { IsTrue result
+        ↔ (slice_index (map T.value row.old) (at - 1) < slice_index (map T.value row.old) at) }
+    ensures at { slice_index (map T.value row.new) at
+        ≡ max (slice_index (map T.value row.old) at) (slice_index (map T.value row.old) (at - 1)) }
+    ensures others { (p : ℕ) → p ≢ at
+        → slice_index (map T.value row.new) p ≡ slice_index (map T.value row.old) p }
 {
     let before = row[at - 1];
     if before.is_less(row[at]) {

@@ -22,7 +22,8 @@ pub enum Table {
 
 /// The worth of one want, where it has the height as it stands.
 fn offer_upright<T: Number>(row: &mut [T], want: &Scaled, height: usize)
-    requires { (w : ℕ) → w < length row.old → HasSides want.now false w height → want.now.worth < T.limit }
+    requires { (w : ℕ) → w < length row.old → HasSides want.now false w height
+        → want.now.worth < T.limit }
     ensures { IsOffered want.now false height (map T.value row.old) (map T.value row.new) }
 {
     if want.h as usize == height {
@@ -32,7 +33,8 @@ fn offer_upright<T: Number>(row: &mut [T], want: &Scaled, height: usize)
 
 /// The worth of one want, where it may be turned and then has the height.
 fn offer_turned<T: Number>(row: &mut [T], want: &Scaled, height: usize)
-    requires { (w : ℕ) → w < length row.old → HasSides want.now true w height → want.now.worth < T.limit }
+    requires { (w : ℕ) → w < length row.old → HasSides want.now true w height
+        → want.now.worth < T.limit }
     ensures { IsOffered want.now true height (map T.value row.old) (map T.value row.new) }
 {
     if want.may_turn && want.w as usize == height {
@@ -113,7 +115,8 @@ fn best_row<T: Number>(
     requires table { AreRows T.value wants.now (width + 1) rows.now }
     requires len { length useful.now ≡ length rows.now }
     requires useful { AreUseful wants.now (width + 1) useful.now }
-    ensures { IfOk result (λ row. IsBestRow wants.now (width + 1) (length rows.now) (map T.value row.items)) }
+    ensures { IfOk result (λ row. IsBestRow wants.now (width + 1) (length rows.now)
+            (map T.value row.items)) }
 {
     let mut row = T::zeros(alloc, width + 1)?;
     fill_best(&mut row, wants, rows, useful);
@@ -124,9 +127,12 @@ fn best_row<T: Number>(
 fn is_useful<T: Number>(rows: &[Vec<T>], row: &[T], wants: &[Scaled], places: usize) -> bool
     requires table { AreRows T.value wants.now places rows.now }
     requires row { IsBestRow wants.now places (length rows.now) (map T.value row.now) }
-    ensures no { result ≡ false → (w v : ℕ) → w < places → IsBestOf wants.now 0 w (length rows.now) v → IsBestOf wants.now 0 w (length rows.now - 1) v }
+    ensures no { result ≡ false → (w v : ℕ) → w < places
+        → IsBestOf wants.now 0 w (length rows.now) v
+        → IsBestOf wants.now 0 w (length rows.now - 1) v }
     ensures yes { IsTrue result → 1 ≤ length rows.now
-        → ((w v : ℕ) → w < places → IsBestOf wants.now 0 w (length rows.now) v → IsBestOf wants.now 0 w (length rows.now - 1) v) → ⊥ }
+        → ((w v : ℕ) → w < places → IsBestOf wants.now 0 w (length rows.now) v
+            → IsBestOf wants.now 0 w (length rows.now - 1) v) → ⊥ }
 {
     rows.len() == 0 || !is_same(&rows[rows.len() - 1], row)
 }

@@ -43,7 +43,8 @@ impl Error for BarFault {}
 
 // What is left of a room once each piece has taken its length and a kerf, if the room is enough.
 fn room_behind(pieces: &[(u32, u32)], room: u32, kerf: u32) -> Option<u32>
-    ensures { SomeIff result (sum_by (λ p. p.1 + kerf) pieces.now ≤ room) (room - sum_by (λ p. p.1 + kerf) pieces.now) }
+    ensures { SomeIff result (sum_by (λ p. p.1 + kerf) pieces.now ≤ room)
+        (room - sum_by (λ p. p.1 + kerf) pieces.now) }
 {
     let mut room = room;
     for piece in pieces {

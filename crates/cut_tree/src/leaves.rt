@@ -29,7 +29,8 @@ pub fn add_leaves(
     requires shaped { IsShaped (tree_of node.now) rect.w rect.h kerf }
     requires in_range { FarSidesFit rect }
     requires kerf { kerf ≤ MOST_KERF }
-    ensures { OnOk result (leaves.new.items ≡ leaves.old.items ++ leaves_of (tree_of node.now) rect.w rect.h kerf) }
+    ensures { OnOk result (leaves.new.items ≡ leaves.old.items
+            ++ leaves_of (tree_of node.now) rect.w rect.h kerf) }
 {
     match node {
         Node::Piece(demand, turned) => {

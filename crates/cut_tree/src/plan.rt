@@ -55,9 +55,13 @@ impl Plan {
     pub fn read(alloc: Global, text: &str, size: Size, kerf: u32) -> Result<Plan, SpellFault>
         requires { kerf ≤ MOST_KERF }
         ensures spelled { IfOk result (λ plan. IsSpelling text.now plan.tree size.w size.h kerf) }
-        ensures unit { IfOk result (λ plan. (plan.w ≡ size.w) × (plan.h ≡ size.h) × (plan.kerf ≡ kerf)) }
-        ensures only { (t : Tree) → IsSpelling text.now t size.w size.h kerf → cut_count t ≤ MOST_CUTS → MatchResult result (λ plan. plan.tree ≡ t) (λ f. f.cause ≡ NoMemory) }
-        ensures fault { IfErr result (λ f. IsFirstFault text.now size.w size.h kerf f.token f.cause) }
+        ensures unit { IfOk result
+            (λ plan. (plan.w ≡ size.w) × (plan.h ≡ size.h) × (plan.kerf ≡ kerf)) }
+        ensures only { (t : Tree) → IsSpelling text.now t size.w size.h kerf
+            → cut_count t ≤ MOST_CUTS
+            → MatchResult result (λ plan. plan.tree ≡ t) (λ f. f.cause ≡ NoMemory) }
+        ensures fault { IfErr result
+            (λ f. IsFirstFault text.now size.w size.h kerf f.token f.cause) }
     {
         Plan::parse(alloc, text, size, kerf)
     }
@@ -65,8 +69,10 @@ impl Plan {
     fn parse(alloc: Global, text: &str, size: Size, kerf: u32) -> Result<Plan, SpellFault>
         requires { kerf ≤ MOST_KERF }
         ensures spelled { IfOk result (λ plan. IsSpelling text.now plan.tree size.w size.h kerf) }
-        ensures unit { IfOk result (λ plan. (plan.w ≡ size.w) × (plan.h ≡ size.h) × (plan.kerf ≡ kerf)) }
-        ensures fault { IfErr result (λ f. IsFirstFault text.now size.w size.h kerf f.token f.cause) }
+        ensures unit { IfOk result
+            (λ plan. (plan.w ≡ size.w) × (plan.h ≡ size.h) × (plan.kerf ≡ kerf)) }
+        ensures fault { IfErr result
+            (λ f. IsFirstFault text.now size.w size.h kerf f.token f.cause) }
     {
         let Ok(words) = words_of(alloc, text) else {
             return Err(SpellFault {
@@ -94,7 +100,9 @@ impl Plan {
 
     /// Appends the plan's text, or leaves the string as it was.
     pub fn write(&self, out: &mut String) -> Result<(), AllocError>
-        ensures { string_bytes out.new ≡ (if is_ok result then string_bytes out.old ++ text_of self.now.tree else string_bytes out.old) }
+        ensures { string_bytes out.new
+            ≡ (if is_ok result then string_bytes out.old ++ text_of self.now.tree
+                else string_bytes out.old) }
     {
         let mut text = String::new(*out.allocator());
         write_node(&self.root, &mut text)?;
@@ -147,7 +155,8 @@ impl Plan {
 
     /// One step for each node in the order of the nodes, with its whole rectangle.
     pub fn steps(&self, alloc: Global) -> Result<Vec<Step>, AllocError>
-        ensures { IfOk result (λ steps. AreSteps self.now.tree self.now.w self.now.h self.now.kerf steps.items) }
+        ensures { IfOk result (λ steps.
+                AreSteps self.now.tree self.now.w self.now.h self.now.kerf steps.items) }
     {
         let mut steps = Vec::new(alloc);
         let rect = Rect {
@@ -162,7 +171,8 @@ impl Plan {
 
     /// The piece leaves in the order of the nodes.
     pub fn leaves(&self, alloc: Global) -> Result<Vec<Leaf>, AllocError>
-        ensures { IfOk result (λ leaves. leaves.items ≡ leaves_of self.now.tree self.now.w self.now.h self.now.kerf) }
+        ensures { IfOk result (λ leaves. leaves.items
+                ≡ leaves_of self.now.tree self.now.w self.now.h self.now.kerf) }
     {
         let mut leaves = Vec::new(alloc);
         let rect = Rect {
@@ -203,7 +213,8 @@ impl Plan {
     /// it halted, the plan allows the halt.
     pub fn lay(&self, alloc: Global, stop: Stop) -> Result<Vec<Row>, AllocError>
         requires { IsStopOf self.now.tree stop }
-        ensures { IfOk result (λ rows. IsLaid self.now.tree self.now.w self.now.h self.now.kerf (outcome_of stop) rows.items) }
+        ensures { IfOk result (λ rows. IsLaid self.now.tree self.now.w self.now.h self.now.kerf
+                (outcome_of stop) rows.items) }
     {
         self.lay_as(alloc, &stop)
     }
@@ -211,7 +222,8 @@ impl Plan {
     /// The same for a stop that is used again.
     pub fn lay_as(&self, alloc: Global, stop: &Stop) -> Result<Vec<Row>, AllocError>
         requires { IsStopOf self.now.tree stop.now }
-        ensures { IfOk result (λ rows. IsLaid self.now.tree self.now.w self.now.h self.now.kerf (outcome_of stop.now) rows.items) }
+        ensures { IfOk result (λ rows. IsLaid self.now.tree self.now.w self.now.h self.now.kerf
+                (outcome_of stop.now) rows.items) }
     {
         let mut rows = Vec::new(alloc);
         let rect = Rect {
@@ -229,7 +241,8 @@ impl Plan {
     /// The plan of these nodes on a unit of this size, under this kerf.
     pub fn of(alloc: Global, root: Node, size: Size, kerf: u32) -> Result<Plan, AllocError>
         requires { IsPlan (record { tree = tree_of root; w = size.w; h = size.h; kerf = kerf }) }
-        ensures { IfOk result (λ plan. plan ≡ record { tree = tree_of root; w = size.w; h = size.h; kerf = kerf }) }
+        ensures { IfOk result (λ plan. plan
+                ≡ record { tree = tree_of root; w = size.w; h = size.h; kerf = kerf }) }
     {
         let root = Rc::new(alloc, root)?;
         Ok(Plan { root, size, kerf })
@@ -281,9 +294,11 @@ pub fn bar_plan(
     requires narrow { kerf ≤ MOST_KERF }
     requires pieces { All IsBarPiece pieces.now }
     ensures tree { IfOk result (λ plan. plan.tree ≡ bar_tree pieces.now size.w kerf) }
-    ensures unit { IfOk result (λ plan. (plan.w ≡ size.w) × (plan.h ≡ size.h) × (plan.kerf ≡ kerf)) }
+    ensures unit { IfOk result
+        (λ plan. (plan.w ≡ size.w) × (plan.h ≡ size.h) × (plan.kerf ≡ kerf)) }
     ensures fits { OnOk result (bar_length pieces.now kerf ≤ size.w) }
-    ensures sums { IfOk result (λ plan. (f : ℕ → ℕ) → leaf_sum f plan.tree ≡ sum_by (λ p. f p.0) pieces.now) }
+    ensures sums { IfOk result
+        (λ plan. (f : ℕ → ℕ) → leaf_sum f plan.tree ≡ sum_by (λ p. f p.0) pieces.now) }
     ensures fault { IfErr result (λ fault. IsBarFault fault pieces.now size.w kerf) }
 {
     let root = bar_root(alloc, size.w(), kerf, pieces)?;

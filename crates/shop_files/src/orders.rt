@@ -39,7 +39,8 @@ pub enum OrdersFault {
 
 // The number that one to ten digits stand for, if it has 32 bits.
 fn number_in(field: &[u8]) -> Option<u32>
-    ensures { MatchOption result ((n : ℕ) → IsShortNumber field.now n → ⊥) (λ n. IsShortNumber field.now n) }
+    ensures { MatchOption result ((n : ℕ) → IsShortNumber field.now n → ⊥)
+        (λ n. IsShortNumber field.now n) }
 {
     if field.is_empty() || field.len() > 10 {
         return None;
@@ -57,7 +58,8 @@ fn code_in(field: &[u8]) -> Option<Code>
 }
 
 fn length_in(field: &[u8]) -> Option<u32>
-    ensures { MatchOption result ((n : ℕ) → IsLengthText field.now n → ⊥) (λ n. IsLengthText field.now n) }
+    ensures { MatchOption result ((n : ℕ) → IsLengthText field.now n → ⊥)
+        (λ n. IsLengthText field.now n) }
 {
     match str::from_utf8(field) {
         Ok(text) => read_mm(text),
@@ -66,7 +68,8 @@ fn length_in(field: &[u8]) -> Option<u32>
 }
 
 fn turn_in(field: &[u8]) -> Option<bool>
-    ensures { MatchOption result ((turn : Bool) → field.now ≡ turn_word turn → ⊥) (λ turn. field.now ≡ turn_word turn) }
+    ensures { MatchOption result ((turn : Bool) → field.now ≡ turn_word turn → ⊥)
+        (λ turn. field.now ≡ turn_word turn) }
 {
     if field == b"yes".as_slice() {
         Some(true)
@@ -153,7 +156,8 @@ fn header_word(i: usize) -> &'static [u8]
 
 // The first field of a record that isn't the header's.
 fn header_fault(record: &ByteRecord) -> Option<usize>
-    ensures { MatchOption result (fields_of record.now ≡ header) (IsBadHeader (fields_of record.now)) }
+    ensures { MatchOption result (fields_of record.now ≡ header)
+        (IsBadHeader (fields_of record.now)) }
 {
     if !is_seven(record) {
         return Some(7);
@@ -168,7 +172,9 @@ fn header_fault(record: &ByteRecord) -> Option<usize>
 
 // Reads the next record into the buffer, if there is one.
 fn next_row(reader: &mut Reader<&[u8]>, record: &mut ByteRecord) -> Result<bool, OrdersFault>
-    ensures found { IfOk result (λ found. (text : List ℕ) (rows : List Fields) → HasRead (λ s. Some s.now) reader.old text rows
+    ensures found { IfOk result
+        (λ found. (text : List ℕ) (rows : List Fields)
+            → HasRead (λ s. Some s.now) reader.old text rows
         → HasNext (λ s. Some s.now) found text rows (fields_of record.new) reader.new) }
     ensures err { IfErr result (λ f. f ≡ NoMemory) }
 {
@@ -185,8 +191,11 @@ fn read_lines(
     reader: &mut Reader<&[u8]>,
     record: &mut ByteRecord,
 ) -> Result<RowList<OrderLine>, OrdersFault>
-    ensures ok { IfOk result (λ lines. (text : List ℕ) → length text ≤ LONGEST_TEXT → HasRead (λ s. Some s.now) reader.old text (header ∷ []) → IsOrders text lines) }
-    ensures err { IfErr result (λ f. (text : List ℕ) → length text ≤ LONGEST_TEXT → HasRead (λ s. Some s.now) reader.old text (header ∷ []) → HasOrdersFault text f) }
+    ensures ok { IfOk result (λ lines. (text : List ℕ) → length text ≤ LONGEST_TEXT
+            → HasRead (λ s. Some s.now) reader.old text (header ∷ []) → IsOrders text lines) }
+    ensures err { IfErr result
+        (λ f. (text : List ℕ) → length text ≤ LONGEST_TEXT
+            → HasRead (λ s. Some s.now) reader.old text (header ∷ []) → HasOrdersFault text f) }
 {
     let mut lines = RowList::new(alloc);
     for number in 0..MOST_LINES {
@@ -251,7 +260,8 @@ fn orders_of(alloc: Global, text: &[u8]) -> Result<RowList<OrderLine>, OrdersFau
 pub fn read_orders(alloc: Global, text: &[u8]) -> Result<RowList<OrderLine>, OrdersFault>
     ensures spelled { IfOk result (λ lines. IsOrders text.now lines) }
     ensures fault { IfErr result (λ f. HasOrdersFault text.now f) }
-    ensures only { (lines : List OrderLine) → IsOrders text.now lines → MatchResult result (λ l. l ≡ lines) (λ f. f ≡ NoMemory) }
+    ensures only { (lines : List OrderLine) → IsOrders text.now lines
+        → MatchResult result (λ l. l ≡ lines) (λ f. f ≡ NoMemory) }
 {
     orders_of(alloc, text)
 }

@@ -92,10 +92,12 @@ fn rest_of(text: &[u8], at: usize) -> &[u8]
 // The digits at the front.
 fn digits_of(bytes: &[u8]) -> &[u8]
     requires digit { (0 < length bytes.now) × (is_digit (get_or bytes.now 0 0) ≡ true) }
-    ensures some { (0 < length result.now) × (length result.now ≤ length bytes.now) × (result.now ≡ take (length result.now) bytes.now) }
+    ensures some { (0 < length result.now) × (length result.now ≤ length bytes.now)
+        × (result.now ≡ take (length result.now) bytes.now) }
     ensures digits { (i : ℕ) → i < length result.now → is_digit (get_or bytes.now i 0) ≡ true }
     ensures all { AllDigits 10 result.now }
-    ensures behind { length result.now < length bytes.now → is_digit (get_or bytes.now (length result.now) 0) ≡ false }
+    ensures behind { length result.now < length bytes.now
+        → is_digit (get_or bytes.now (length result.now) 0) ≡ false }
 {
     bytes.split_at(digits_len(bytes)).0
 }
@@ -113,7 +115,9 @@ fn digit_from(text: &[u8], at: usize) -> usize
 // The place of the next number from a place on.
 fn next_place(text: &[u8], at: usize) -> Option<usize>
     requires { at ≤ length text.now }
-    ensures { MatchOption result (runs_at text.now at ≡ []) (λ place. (run : DigitRun) × (more : List DigitRun) × (runs_at text.now at ≡ run ∷ more) × (run.place ≡ place)) }
+    ensures { MatchOption result (runs_at text.now at ≡ [])
+        (λ place. (run : DigitRun) × (more : List DigitRun) × (runs_at text.now at ≡ run ∷ more)
+            × (run.place ≡ place)) }
 {
     let place = digit_from(text, at);
     if place < text.len() {
@@ -126,7 +130,8 @@ fn next_place(text: &[u8], at: usize) -> Option<usize>
 // The number that digits stand for, if it is from 1 up to so much.
 fn number_within(digits: &[u8], most: u32) -> Option<u32>
     requires { AllDigits 10 digits.now }
-    ensures { SomeIff result ((1 ≤ digits_value 10 digits.now) × (digits_value 10 digits.now ≤ most)) (digits_value 10 digits.now) }
+    ensures { SomeIff result ((1 ≤ digits_value 10 digits.now)
+            × (digits_value 10 digits.now ≤ most)) (digits_value 10 digits.now) }
 {
     let number = digits_value_of(digits)?;
     if 1 <= number && number <= most {
@@ -186,7 +191,9 @@ fn pieces_at(
 ) -> Result<(RowList<Piece>, usize), TextFault>
     requires { at ≤ length text.now }
     ensures ok { IfOk result (λ r. HasPieces text.now at count r.0 r.1) }
-    ensures err { IfErr result (λ f. StopsOrEnds 3 (runs_at text.now at) (length text.now) (3 + 4 * count) f.offset f.cause) }
+    ensures err { IfErr result
+        (λ f. StopsOrEnds 3 (runs_at text.now at) (length text.now)
+            (3 + 4 * count) f.offset f.cause) }
 {
     let mut pieces = RowList::new(alloc);
     let mut next = at;
@@ -272,7 +279,8 @@ pub fn read_cgcut(alloc: Global, text: &[u8]) -> Result<Problem, TextFault>
     ensures in_range { IfOk result (λ p. ArePieces p.pieces) }
     ensures fault { IfErr result (λ f. IsProblemFault text.now f.offset f.cause) }
     ensures only { (size : Extent) (pieces : List Piece) → IsProblem text.now size pieces
-        → MatchResult result (λ p. (p.size ≡ size) × (p.pieces ≡ pieces)) (λ f. f.cause ≡ NoMemory) }
+        → MatchResult result (λ p. (p.size ≡ size) × (p.pieces ≡ pieces))
+        (λ f. f.cause ≡ NoMemory) }
 {
     problem_of(alloc, text)
 }

@@ -34,7 +34,8 @@ pub enum ShopFault {
 
 // The text at a key, if the key holds a text.
 fn text_at<'a>(table: &'a Table, key: &str) -> Option<&'a str>
-    ensures { option_map (λ s. s.now) result ≡ option_and_then as_str (get_member key.now (table_view table.now)) }
+    ensures { option_map (λ s. s.now) result
+        ≡ option_and_then as_str (get_member key.now (table_view table.now)) }
 {
     match table.get(key) {
         Some(value) => value.as_str(),
@@ -44,13 +45,15 @@ fn text_at<'a>(table: &'a Table, key: &str) -> Option<&'a str>
 
 // The length that the text at a key says.
 fn length_at(table: &Table, key: &str) -> Option<u32>
-    ensures { MatchOption result ((n : ℕ) → HasLength (table_view table.now) key.now n → ⊥) (λ n. HasLength (table_view table.now) key.now n) }
+    ensures { MatchOption result ((n : ℕ) → HasLength (table_view table.now) key.now n → ⊥)
+        (λ n. HasLength (table_view table.now) key.now n) }
 {
     read_mm(text_at(table, key)?)
 }
 
 fn kind_of(word: &str) -> Option<Kind>
-    ensures { MatchOption result ((kind : Kind) → word.now ≡ kind_word kind → ⊥) (λ kind. word.now ≡ kind_word kind) }
+    ensures { MatchOption result ((kind : Kind) → word.now ≡ kind_word kind → ⊥)
+        (λ kind. word.now ≡ kind_word kind) }
 {
     if word == "bar" {
         Some(Kind::Bar)
@@ -70,7 +73,8 @@ fn has_members(table: &Table, n: usize) -> bool
 
 // The entry that a table is.
 fn entry_in(table: &Table) -> Option<MaterialEntry>
-    ensures { MatchOption result ((entry : MaterialEntry) → IsEntryTable (table_view table.now) entry → ⊥)
+    ensures { MatchOption result
+        ((entry : MaterialEntry) → IsEntryTable (table_view table.now) entry → ⊥)
         (λ entry. IsEntryTable (table_view table.now) entry) }
 {
     if !has_members(table, 5) {
@@ -92,15 +96,19 @@ fn entry_in(table: &Table) -> Option<MaterialEntry>
 
 // The entry that a value is.
 fn entry_of(value: &Value) -> Option<MaterialEntry>
-    ensures { MatchOption result ((entry : MaterialEntry) → IsEntry (view value.now) entry → ⊥) (λ entry. IsEntry (view value.now) entry) }
+    ensures { MatchOption result ((entry : MaterialEntry) → IsEntry (view value.now) entry → ⊥)
+        (λ entry. IsEntry (view value.now) entry) }
 {
     entry_in(value.as_table()?)
 }
 
 // The list at the key `material`.
 fn material_list(document: &Table) -> Option<&[Value]>
-    ensures { MatchOption result ((items : Items) → get_member (codes "material") (table_view document.now) ≡ Some (array items) → ⊥)
-        (λ list. get_member (codes "material") (table_view document.now) ≡ Some (array (items_view list.now))) }
+    ensures { MatchOption result
+        ((items : Items) → get_member (codes "material") (table_view document.now)
+            ≡ Some (array items) → ⊥)
+        (λ list. get_member (codes "material") (table_view document.now)
+            ≡ Some (array (items_view list.now))) }
 {
     let Some(value) = document.get("material") else {
         return None;
@@ -132,7 +140,8 @@ fn list_in(document: &Table) -> Option<&[Value]>
 fn entries_of(alloc: Global, list: &[Value]) -> Result<RowList<MaterialEntry>, ShopFault>
     requires { length list.now ≤ MOST_ENTRIES }
     ensures ok { IfOk result (λ entries. AreEntries (map view list.now) entries) }
-    ensures err { IfErr result (λ f. (text : List ℕ) → HasList text (map view list.now) → IsShopFault text f) }
+    ensures err { IfErr result
+        (λ f. (text : List ℕ) → HasList text (map view list.now) → IsShopFault text f) }
 {
     let mut entries = RowList::new(alloc);
     for i in 0..list.len() {
@@ -151,7 +160,9 @@ fn entries_of(alloc: Global, list: &[Value]) -> Result<RowList<MaterialEntry>, S
 // The document that a text is.
 fn document_of(alloc: Global, text: &[u8]) -> Result<Table, ShopFault>
     ensures ok { IfOk result (λ t. IsDocument text.now (table_view t)) }
-    ensures err { IfErr result (λ f. (f ≡ NoMemory) ⊎ ((f ≡ Text) × ((members : Members) → IsDocument text.now members → ⊥))) }
+    ensures err { IfErr result
+        (λ f. (f ≡ NoMemory) ⊎ ((f ≡ Text)
+                × ((members : Members) → IsDocument text.now members → ⊥))) }
 {
     let Ok(text) = str::from_utf8(text) else {
         return Err(ShopFault::Text);
@@ -192,7 +203,8 @@ fn shop_of(alloc: Global, text: &[u8]) -> Result<RowList<MaterialEntry>, ShopFau
 pub fn read_shop(alloc: Global, text: &[u8]) -> Result<RowList<MaterialEntry>, ShopFault>
     ensures spelled { IfOk result (λ entries. IsShop text.now entries) }
     ensures fault { IfErr result (λ f. IsShopFault text.now f) }
-    ensures only { (entries : List MaterialEntry) → IsShop text.now entries → MatchResult result (λ e. e ≡ entries) (λ f. f ≡ NoMemory) }
+    ensures only { (entries : List MaterialEntry) → IsShop text.now entries
+        → MatchResult result (λ e. e ≡ entries) (λ f. f ≡ NoMemory) }
 {
     shop_of(alloc, text)
 }

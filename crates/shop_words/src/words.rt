@@ -598,7 +598,8 @@ fn request_read<'a>(matches: &ArgMatches<'a>) -> Option<Request<'a>>
 pub fn request_of<'a>(alloc: Global, words: &'a [String]) -> Result<Option<Request<'a>>, Error>
     ensures ok { IfOk result (λ found.
         (fault_of line.shop_app (map string_bytes words.entry.now) ≡ [])
-        × line.AsAsked found (line.Asks (subcommand_of line.shop_app (map string_bytes words.entry.now)))) }
+        × line.AsAsked found (line.Asks
+            (subcommand_of line.shop_app (map string_bytes words.entry.now)))) }
     ensures err { IfErr result
         (HasKind (fault_of line.shop_app (map string_bytes words.entry.now))) }
 {
