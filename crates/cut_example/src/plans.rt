@@ -29,7 +29,7 @@ fn best_of_bar(alloc: Global, size: Size, wants: &[Want]) -> Result<Proposal>
     requires flat { size.h ≡ 1 }
     requires demands { AreDemands wants.now }
     ensures { IfOk result (λ p. (t : Tree) → Legal wants.now 3 t size.w size.h
-            → IsWithinCounts wants.now t → worth_of wants.now t ≤ p.worth) }
+        → IsWithinCounts wants.now t → worth_of wants.now t ≤ p.worth) }
 {
     let proposal = plan_bar(alloc, size, 3, wants)?;
     Ok(proposal)

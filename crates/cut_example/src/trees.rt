@@ -15,7 +15,7 @@ use std::alloc::Global;
 fn rows_of(alloc: Global, text: &str, size: Size, kerf: u32) -> Result<Vec<Row>>
     requires { kerf ≤ MOST_KERF }
     ensures { IfOk result (λ rows. (t : Tree) × IsSpelling text.now t size.w size.h kerf
-            × IsLaid t size.w size.h kerf all_made rows.items) }
+        × IsLaid t size.w size.h kerf all_made rows.items) }
 {
     let plan = Plan::read(alloc, text, size, kerf)?;
     Ok(plan.lay(alloc, Stop::All)?)

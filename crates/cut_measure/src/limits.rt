@@ -27,8 +27,11 @@ impl Model for Limits {
     ghost invariant = { λ l. (l.kerf ≤ MOST_KERF) × (1 ≤ l.min_short) × (l.min_short ≤ l.min_long)
         × (l.min_long ≤ MOST_WIDTH) };
 
-    ghost inverse = { λ r. record { kerf = r.kerf; min_long = r.min_long;
-            min_short = r.min_short } };
+    ghost inverse = { λ r. record {
+      kerf = r.kerf;
+      min_long = r.min_long;
+      min_short = r.min_short;
+    } };
 }
 
 impl Limits {

@@ -66,7 +66,7 @@ impl PartName {
     /// Appends its text, or leaves the string as it was.
     pub fn write(&self, text: &mut String) -> Result<(), AllocError>
         ensures ok { OnOk result (string_bytes text.new ≡ string_bytes text.old
-                ++ name_text self.now) }
+            ++ name_text self.now) }
         ensures err { OnErr result (string_bytes text.new ≡ string_bytes text.old) }
     {
         let alloc = *text.allocator();

@@ -81,7 +81,7 @@ fn proposal_of(
     ensures ok { IfOk result (proposals.IsBarProposal size kerf wants.now) }
     ensures err { IfErr result
         (λ fault. (fault ≡ NoMemory)
-            ⊎ ((fault ≡ TableTooLarge) × proposals.HasManyPieces size kerf wants.now)) }
+        ⊎ ((fault ≡ TableTooLarge) × proposals.HasManyPieces size kerf wants.now)) }
 {
     match bar_plan(alloc, size, kerf, &best.pieces) {
         Ok(plan) => Ok(Proposal {
@@ -107,7 +107,7 @@ fn faultless_bar(
     ensures ok { IfOk result (proposals.IsBarProposal size kerf wants.now) }
     ensures err { IfErr result
         (λ fault. (fault ≡ NoMemory)
-            ⊎ ((fault ≡ TableTooLarge) × proposals.HasManyPieces size kerf wants.now)) }
+        ⊎ ((fault ≡ TableTooLarge) × proposals.HasManyPieces size kerf wants.now)) }
 {
     match best_pieces(alloc, size, kerf, wants) {
         Ok(best) => proposal_of(alloc, size, kerf, wants, &best),
@@ -132,7 +132,7 @@ pub fn plan_bar(alloc: Global, size: Size, kerf: u32, wants: &[Want]) -> Result<
     requires flat { size.h ≡ 1 }
     requires demands { proposals.AreDemands wants.now }
     ensures ok { IfOk result (λ p. (fault_of Bar size kerf 0 wants.now ≡ None)
-            × proposals.IsBarProposal size kerf wants.now p) }
+        × proposals.IsBarProposal size kerf wants.now p) }
     ensures faulty { IfSome (fault_of Bar size kerf 0 wants.now) (λ fault. result ≡ Err fault) }
     ensures err { IfErr result
         (λ fault. (fault ≡ NoMemory) ⊎ (fault_of Bar size kerf 0 wants.now ≡ Some fault)

@@ -59,7 +59,7 @@ pub fn reached(
     requires flat { size.h ≡ 1 }
     requires demands { AreDemands wants.now }
     ensures ok { IfOk result (λ map. (fault_of Bar size kerf 0 wants.now ≡ None)
-            × IsReached kerf wants.now (size.w + kerf) (get nat_cmp map)) }
+        × IsReached kerf wants.now (size.w + kerf) (get nat_cmp map)) }
     ensures faulty { IfSome (fault_of Bar size kerf 0 wants.now) (λ fault. result ≡ Err fault) }
     ensures err { IfErr result
         (λ fault. (fault ≡ NoMemory) ⊎ (fault_of Bar size kerf 0 wants.now ≡ Some fault)) }

@@ -147,7 +147,7 @@ fn proposal_of(
     ensures ok { IfOk result (spec.IsSheetProposal size kerf step wants.now) }
     ensures err { IfErr result
         (λ fault. (fault ≡ NoMemory)
-            ⊎ ((fault ≡ TableTooLarge) × spec.HasManyKept size kerf step wants.now)) }
+        ⊎ ((fault ≡ TableTooLarge) × spec.HasManyKept size kerf step wants.now)) }
 {
     if count_cuts(&laid.root) > MOST_CUTS {
         return Err(PlanFault::TableTooLarge);
@@ -177,7 +177,7 @@ fn faultless_sheet(
     ensures ok { IfOk result (spec.IsSheetProposal size kerf step wants.now) }
     ensures err { IfErr result
         (λ fault. (fault ≡ NoMemory)
-            ⊎ ((fault ≡ TableTooLarge) × spec.HasManyKept size kerf step wants.now)) }
+        ⊎ ((fault ≡ TableTooLarge) × spec.HasManyKept size kerf step wants.now)) }
 {
     match lay_out(alloc, size, kerf, step, wants) {
         Ok(laid) => proposal_of(alloc, size, kerf, step, wants, laid),
@@ -199,7 +199,7 @@ pub fn plan_sheet(
     requires kerf { kerf ≤ MOST_KERF }
     requires demands { AreDemands wants.now }
     ensures ok { IfOk result (λ p. (fault_of Sheet size kerf step wants.now ≡ None)
-            × spec.IsSheetProposal size kerf step wants.now p) }
+        × spec.IsSheetProposal size kerf step wants.now p) }
     ensures faulty { IfSome (fault_of Sheet size kerf step wants.now)
         (λ fault. result ≡ Err fault) }
     ensures err { IfErr result

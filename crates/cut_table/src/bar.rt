@@ -23,7 +23,7 @@ pub const LONGEST_BAR: u32 = 150_000;
 /// What no counts at all reach.
 fn none_reached<T: Number>(alloc: Global) -> Result<Level<T>, AllocError>
     ensures { IfOk result (λ level. (k whole : ℕ) → IsLevel whole level
-            × AreReached k [] whole (Has T.value level)) }
+        × AreReached k [] whole (Has T.value level)) }
 {
     let none = Vec::from_slice(alloc, &[Entry { room: 0, worth: 0 }])?;
     Ok(Level::Listed(none))

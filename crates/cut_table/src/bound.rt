@@ -114,7 +114,7 @@ pub fn ceiling(
     requires tall { steps_down kerf step size.h ≤ MOST_STEPS }
     ensures best { IfOk result
         (IsBestOf (wants_down kerf step wants.now) 0 (steps_down kerf step size.w)
-            (steps_down kerf step size.h)) }
+        (steps_down kerf step size.h)) }
     ensures most { IfOk result
         (λ best. (t : Tree) → Legal wants.now kerf t size.w size.h → worth_of wants.now t ≤ best) }
     ensures small { IfOk result (λ best. best < 2 ^ 62) }
@@ -157,7 +157,7 @@ pub fn ceiling_beside(
         (steps_down kerf step size.h) best_up }
     ensures best { IfOk result
         (IsBestOf (wants_down kerf step wants.now) 0 (steps_down kerf step size.w)
-            (steps_down kerf step size.h)) }
+        (steps_down kerf step size.h)) }
     ensures most { IfOk result
         (λ best. (t : Tree) → Legal wants.now kerf t size.w size.h → worth_of wants.now t ≤ best) }
 {
@@ -186,7 +186,7 @@ pub fn units(wants: &[Want], best: u64) -> u64
     ensures exact { result ≡ div_up (worth_left wants.now) best }
     ensures bound { (k w h : ℕ) (trees : List Tree)
         → ((t : Tree) → Legal wants.now k t w h → IsWithinCounts wants.now t
-            → worth_of wants.now t ≤ best)
+        → worth_of wants.now t ≤ best)
         → Meets wants.now k w h trees → result ≤ length trees }
 {
     let total = total_left(wants);

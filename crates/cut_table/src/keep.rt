@@ -35,7 +35,7 @@ fn join(
     second: Node,
 ) -> Result<Node, AllocError>
     ensures { IfOk result (λ node. tree_of node
-            ≡ joined axis place (tree_of first) (tree_of second)) }
+        ≡ joined axis place (tree_of first) (tree_of second)) }
 {
     if is_rest(&first) {
         return Ok(second);
@@ -91,7 +91,7 @@ pub fn keep(
         (λ node. KeepsLeaves wants.now w h counts.old counts.new (tree_of node)) }
     ensures grown { OnOk result
         ((i : ℕ) → i < length counts.old
-            → slice_index counts.new i ≤ slice_index counts.old i + w * h) }
+        → slice_index counts.new i ≤ slice_index counts.old i + w * h) }
 {
     let best = worth_at(wants, table, places, w, h);
     match choose(wants, table, places, w, h, best) {

@@ -58,7 +58,7 @@ impl<T: Number> Level<T> {
         ensures level { IfOk result (IsLevel whole) }
         ensures offered { IfOk result
             (λ offered. AreOffered batch.room batch.worth 1 whole (Has T.value self)
-                (Has T.value offered)) }
+            (Has T.value offered)) }
     {
         match self {
             Level::Listed(entries) => {
@@ -110,7 +110,7 @@ fn offer_batches<T: Number>(
     ensures level { IfOk result (IsLevel whole) }
     ensures offered { IfOk result
         (λ offered. AreOffered piece.room piece.worth most whole (Has T.value base)
-            (Has T.value offered)) }
+        (Has T.value offered)) }
 {
     let mut offered = base;
     let mut taken = 0;
@@ -155,7 +155,7 @@ fn offer_any<T: Number>(
     ensures level { IfOk result (IsLevel whole) }
     ensures offered { IfOk result
         (λ offered. AreOffered piece.room piece.worth (whole / piece.room) whole (Has T.value base)
-            (Has T.value offered)) }
+        (Has T.value offered)) }
 {
     match base {
         Level::Tabled(cells) => Ok(Level::Tabled(offer_freely(cells, piece, whole))),
@@ -183,7 +183,7 @@ pub fn offer_want<T: Number>(
     ensures level { IfOk result (IsLevel whole) }
     ensures offered { IfOk result
         (λ offered. AreOffered (want.now.size.w + kerf) want.now.worth want.now.left whole
-            (Has T.value base) (Has T.value offered)) }
+        (Has T.value base) (Has T.value offered)) }
 {
     let piece = Entry {
         room: want.size.w() + kerf,

@@ -72,7 +72,7 @@ fn put(
     requires length { length + kerf < 2 ^ 32 }
     requires width { width + kerf < 2 ^ 32 }
     ensures { IfOk result (λ node. tree_of node
-            ≡ kept.cut_off X length w kerf (kept.cut_off Y width h kerf (tree_of piece))) }
+        ≡ kept.cut_off X length w kerf (kept.cut_off Y width h kerf (tree_of piece))) }
 {
     let row = cut_off(alloc, Axis::Y, width, h, kerf, piece)?;
     let node = cut_off(alloc, Axis::X, length, w, kerf, row)?;
@@ -123,7 +123,7 @@ pub fn place(
     requires pruned { IsPruned (tree_of node.now) }
     requires places { HasPlaces wants.now kerf step (tree_of node.now) w h }
     ensures { IfOk result (λ placed. Places wants.now kerf (tree_of node.now) w h
-            (tree_of placed)) }
+        (tree_of placed)) }
 {
     match node {
         Node::Rest => Ok(Node::Rest),

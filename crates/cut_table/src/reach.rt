@@ -69,7 +69,7 @@ pub fn offer_entries(
     ensures rising { IfOk result (λ offered. AreRising offered.items) }
     ensures offered { IfOk result
         (λ offered. AreOffered batch.room batch.worth 1 whole (Contains entries.now)
-            (Contains offered.items)) }
+        (Contains offered.items)) }
 {
     let (mut offered, mut moved) = join(alloc, entries, batch)?;
     while moved < entries.len() && entries[moved].room + batch.room <= whole {

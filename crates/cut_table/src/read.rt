@@ -113,7 +113,7 @@ fn find_piece(wants: &[Scaled], w: usize, h: usize, best: u64) -> Option<(usize,
     ensures found { IfSome result (λ found. IsPieceAt wants.now w h best found.0 found.1) }
     ensures none { IfNone result
         ((x : Want) (turned : Bool) → Contains wants.now x → HasSides x turned w h → x.worth ≡ best
-            → ⊥) }
+        → ⊥) }
 {
     for (i, want) in wants.iter().enumerate() {
         if stands(want, w, h, best) {

@@ -116,7 +116,7 @@ fn best_row<T: Number>(
     requires len { length useful.now ≡ length rows.now }
     requires useful { AreUseful wants.now (width + 1) useful.now }
     ensures { IfOk result (λ row. IsBestRow wants.now (width + 1) (length rows.now)
-            (map T.value row.items)) }
+        (map T.value row.items)) }
 {
     let mut row = T::zeros(alloc, width + 1)?;
     fill_best(&mut row, wants, rows, useful);
@@ -132,7 +132,7 @@ fn is_useful<T: Number>(rows: &[Vec<T>], row: &[T], wants: &[Scaled], places: us
         → IsBestOf wants.now 0 w (length rows.now - 1) v }
     ensures yes { IsTrue result → 1 ≤ length rows.now
         → ((w v : ℕ) → w < places → IsBestOf wants.now 0 w (length rows.now) v
-            → IsBestOf wants.now 0 w (length rows.now - 1) v) → ⊥ }
+        → IsBestOf wants.now 0 w (length rows.now - 1) v) → ⊥ }
 {
     rows.len() == 0 || !is_same(&rows[rows.len() - 1], row)
 }

@@ -30,7 +30,7 @@ pub fn add_leaves(
     requires in_range { FarSidesFit rect }
     requires kerf { kerf ≤ MOST_KERF }
     ensures { OnOk result (leaves.new.items ≡ leaves.old.items
-            ++ leaves_of (tree_of node.now) rect.w rect.h kerf) }
+        ++ leaves_of (tree_of node.now) rect.w rect.h kerf) }
 {
     match node {
         Node::Piece(demand, turned) => {

@@ -102,7 +102,7 @@ impl Plan {
     pub fn write(&self, out: &mut String) -> Result<(), AllocError>
         ensures { string_bytes out.new
             ≡ (if is_ok result then string_bytes out.old ++ text_of self.now.tree
-                else string_bytes out.old) }
+            else string_bytes out.old) }
     {
         let mut text = String::new(*out.allocator());
         write_node(&self.root, &mut text)?;
@@ -156,7 +156,7 @@ impl Plan {
     /// One step for each node in the order of the nodes, with its whole rectangle.
     pub fn steps(&self, alloc: Global) -> Result<Vec<Step>, AllocError>
         ensures { IfOk result (λ steps.
-                AreSteps self.now.tree self.now.w self.now.h self.now.kerf steps.items) }
+            AreSteps self.now.tree self.now.w self.now.h self.now.kerf steps.items) }
     {
         let mut steps = Vec::new(alloc);
         let rect = Rect {
@@ -172,7 +172,7 @@ impl Plan {
     /// The piece leaves in the order of the nodes.
     pub fn leaves(&self, alloc: Global) -> Result<Vec<Leaf>, AllocError>
         ensures { IfOk result (λ leaves. leaves.items
-                ≡ leaves_of self.now.tree self.now.w self.now.h self.now.kerf) }
+            ≡ leaves_of self.now.tree self.now.w self.now.h self.now.kerf) }
     {
         let mut leaves = Vec::new(alloc);
         let rect = Rect {
@@ -214,7 +214,7 @@ impl Plan {
     pub fn lay(&self, alloc: Global, stop: Stop) -> Result<Vec<Row>, AllocError>
         requires { IsStopOf self.now.tree stop }
         ensures { IfOk result (λ rows. IsLaid self.now.tree self.now.w self.now.h self.now.kerf
-                (outcome_of stop) rows.items) }
+            (outcome_of stop) rows.items) }
     {
         self.lay_as(alloc, &stop)
     }
@@ -223,7 +223,7 @@ impl Plan {
     pub fn lay_as(&self, alloc: Global, stop: &Stop) -> Result<Vec<Row>, AllocError>
         requires { IsStopOf self.now.tree stop.now }
         ensures { IfOk result (λ rows. IsLaid self.now.tree self.now.w self.now.h self.now.kerf
-                (outcome_of stop.now) rows.items) }
+            (outcome_of stop.now) rows.items) }
     {
         let mut rows = Vec::new(alloc);
         let rect = Rect {
@@ -242,7 +242,7 @@ impl Plan {
     pub fn of(alloc: Global, root: Node, size: Size, kerf: u32) -> Result<Plan, AllocError>
         requires { IsPlan (record { tree = tree_of root; w = size.w; h = size.h; kerf = kerf }) }
         ensures { IfOk result (λ plan. plan
-                ≡ record { tree = tree_of root; w = size.w; h = size.h; kerf = kerf }) }
+            ≡ record { tree = tree_of root; w = size.w; h = size.h; kerf = kerf }) }
     {
         let root = Rc::new(alloc, root)?;
         Ok(Plan { root, size, kerf })

@@ -25,7 +25,7 @@ pub struct Step {
 
 fn push(steps: &mut Vec<Step>, node: u32, rect: Rect, what: Token) -> Result<(), AllocError>
     ensures { OnOk result (steps.new.items ≡ steps.old.items
-            ++ one_step node rect.x rect.y rect.w rect.h what) }
+        ++ one_step node rect.x rect.y rect.w rect.h what) }
 {
     steps.push(Step {
         node,

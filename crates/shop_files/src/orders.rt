@@ -174,7 +174,7 @@ fn header_fault(record: &ByteRecord) -> Option<usize>
 fn next_row(reader: &mut Reader<&[u8]>, record: &mut ByteRecord) -> Result<bool, OrdersFault>
     ensures found { IfOk result
         (λ found. (text : List ℕ) (rows : List Fields)
-            → HasRead (λ s. Some s.now) reader.old text rows
+        → HasRead (λ s. Some s.now) reader.old text rows
         → HasNext (λ s. Some s.now) found text rows (fields_of record.new) reader.new) }
     ensures err { IfErr result (λ f. f ≡ NoMemory) }
 {
@@ -192,10 +192,10 @@ fn read_lines(
     record: &mut ByteRecord,
 ) -> Result<RowList<OrderLine>, OrdersFault>
     ensures ok { IfOk result (λ lines. (text : List ℕ) → length text ≤ LONGEST_TEXT
-            → HasRead (λ s. Some s.now) reader.old text (header ∷ []) → IsOrders text lines) }
+        → HasRead (λ s. Some s.now) reader.old text (header ∷ []) → IsOrders text lines) }
     ensures err { IfErr result
         (λ f. (text : List ℕ) → length text ≤ LONGEST_TEXT
-            → HasRead (λ s. Some s.now) reader.old text (header ∷ []) → HasOrdersFault text f) }
+        → HasRead (λ s. Some s.now) reader.old text (header ∷ []) → HasOrdersFault text f) }
 {
     let mut lines = RowList::new(alloc);
     for number in 0..MOST_LINES {

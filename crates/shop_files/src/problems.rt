@@ -117,7 +117,7 @@ fn next_place(text: &[u8], at: usize) -> Option<usize>
     requires { at ≤ length text.now }
     ensures { MatchOption result (runs_at text.now at ≡ [])
         (λ place. (run : DigitRun) × (more : List DigitRun) × (runs_at text.now at ≡ run ∷ more)
-            × (run.place ≡ place)) }
+        × (run.place ≡ place)) }
 {
     let place = digit_from(text, at);
     if place < text.len() {
@@ -131,7 +131,7 @@ fn next_place(text: &[u8], at: usize) -> Option<usize>
 fn number_within(digits: &[u8], most: u32) -> Option<u32>
     requires { AllDigits 10 digits.now }
     ensures { SomeIff result ((1 ≤ digits_value 10 digits.now)
-            × (digits_value 10 digits.now ≤ most)) (digits_value 10 digits.now) }
+        × (digits_value 10 digits.now ≤ most)) (digits_value 10 digits.now) }
 {
     let number = digits_value_of(digits)?;
     if 1 <= number && number <= most {
@@ -193,7 +193,7 @@ fn pieces_at(
     ensures ok { IfOk result (λ r. HasPieces text.now at count r.0 r.1) }
     ensures err { IfErr result
         (λ f. StopsOrEnds 3 (runs_at text.now at) (length text.now)
-            (3 + 4 * count) f.offset f.cause) }
+        (3 + 4 * count) f.offset f.cause) }
 {
     let mut pieces = RowList::new(alloc);
     let mut next = at;

@@ -106,9 +106,9 @@ fn entry_of(value: &Value) -> Option<MaterialEntry>
 fn material_list(document: &Table) -> Option<&[Value]>
     ensures { MatchOption result
         ((items : Items) → get_member (codes "material") (table_view document.now)
-            ≡ Some (array items) → ⊥)
+        ≡ Some (array items) → ⊥)
         (λ list. get_member (codes "material") (table_view document.now)
-            ≡ Some (array (items_view list.now))) }
+        ≡ Some (array (items_view list.now))) }
 {
     let Some(value) = document.get("material") else {
         return None;
@@ -162,7 +162,7 @@ fn document_of(alloc: Global, text: &[u8]) -> Result<Table, ShopFault>
     ensures ok { IfOk result (λ t. IsDocument text.now (table_view t)) }
     ensures err { IfErr result
         (λ f. (f ≡ NoMemory) ⊎ ((f ≡ Text)
-                × ((members : Members) → IsDocument text.now members → ⊥))) }
+        × ((members : Members) → IsDocument text.now members → ⊥))) }
 {
     let Ok(text) = str::from_utf8(text) else {
         return Err(ShopFault::Text);

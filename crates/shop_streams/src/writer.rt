@@ -11,7 +11,7 @@ pub fn write_all<W: Sink>(sink: &mut W, bytes: &[u8]) -> Result<(), Failed>
     ensures ok { OnOk result (Appends (W.held sink.old) (W.held sink.new) bytes.now) }
     ensures err { OnErr result
         ((done : List ℕ) × (rest : List ℕ) × (done ++ rest ≡ bytes.now)
-            × Appends (W.held sink.old) (W.held sink.new) done) }
+        × Appends (W.held sink.old) (W.held sink.new) done) }
     ensures failed { OnErr result (HasFailed (W.failed sink.old) (W.failed sink.new)) }
     ensures worked { OnOk result (W.failed sink.new ≡ W.failed sink.old) }
 {

@@ -599,7 +599,7 @@ pub fn request_of<'a>(alloc: Global, words: &'a [String]) -> Result<Option<Reque
     ensures ok { IfOk result (λ found.
         (fault_of line.shop_app (map string_bytes words.entry.now) ≡ [])
         × line.AsAsked found (line.Asks
-            (subcommand_of line.shop_app (map string_bytes words.entry.now)))) }
+        (subcommand_of line.shop_app (map string_bytes words.entry.now)))) }
     ensures err { IfErr result
         (HasKind (fault_of line.shop_app (map string_bytes words.entry.now))) }
 {
