@@ -34,7 +34,7 @@ def refused_as_it_was(trial, path, why):
 
 @case(
     "a file of another version",
-    "Versions 0, 1, 3, 7, -2 and 4294967298 in the tables of version 2, and none at all, are `fault version`, and the file "
+    "Versions 0, 1, 3, 7, -2 and 4294967298 in the tables of version 2, and none, are `fault version`; the file "
     "stays as it was.",
 )
 def versions(trial):
@@ -50,8 +50,7 @@ def versions(trial):
 
 @case(
     "tables of others beside ours",
-    "A shop is made beside a table, an index and a view of others, which stay as they were, and they may be made beside a "
-    "shop.",
+    "A shop is made beside a table, an index and a view of others, which stay; and they may be made beside a shop.",
 )
 def beside(trial):
     others = (
@@ -93,7 +92,7 @@ def lacking(trial):
 
 @case(
     "a version that can't be read",
-    "Where ten tables have our names and `meta` has no such columns as ours, no version can be read: `fault store`, and the file "
+    "Where ten tables have our names and `meta` has other columns no version can be read: `fault store`; the file "
     "stays as it was.",
 )
 def unread(trial):
@@ -126,8 +125,8 @@ STRANGE = [
 
 @case(
     "parts and totals that are no values",
-    "A part whose act, node, root, place, side, batch, state or detail is out of its range, and totals that aren't the sums "
-    "of the parts, are `fault version`, and the file stays as it was.",
+    "A part whose act, node, root, place, side, batch, state or detail is out of range, and totals that aren't the "
+    "sums, are `fault version`; the file stays as it was.",
 )
 def strange(trial):
     path = filled(trial, exchanges=DAY[:2])

@@ -33,8 +33,8 @@ def bytes_alone(trial):
 
 @case(
     "a read of lines fails",
-    "Each read of `replay` fails in turn, of reads that take one byte, the one at the end among them: the lines before it have "
-    "their replies, and `fault read` is told with status 1.",
+    "Each read of `replay`, of one byte, fails in turn, the one at the end too: the lines before it have their "
+    "replies, then `fault read`.",
 )
 def reads_fail(trial):
     day = day_of(trial, NAME)
@@ -47,8 +47,7 @@ def reads_fail(trial):
 
 @case(
     "a write of replies fails",
-    "Each write of `replay` fails in turn, of writes that take one byte: a first part of the replies was written, and `fault "
-    "write` is told with status 1.",
+    "Each write of `replay`, of one byte, fails in turn: a first part of the replies was written, then `fault write`.",
 )
 def writes_fail(trial):
     lines, replies = whole(day_of(trial, NAME))
@@ -59,8 +58,8 @@ def writes_fail(trial):
 
 @case(
     "a write of a text fails",
-    "Each write of `plan`, `ticket`, `yield` and help fails in turn, and each of the line by which `serve` tells its port: a "
-    "first part was written, and `fault write` is told with status 1.",
+    "Each write of `plan`, `ticket`, `yield`, help and of the line with the port fails in turn: a first part was "
+    "written, then `fault write`.",
 )
 def texts_fail(trial):
     day = day_of(trial, NAME)
@@ -99,8 +98,8 @@ def files_fail(trial):
 
 @case(
     "interrupted once, and for ever",
-    "A read and a write of `replay` that are interrupted are made again; where they are interrupted for ever, 1000 times in a "
-    "row, it is `fault read` and `fault write`.",
+    "A read and a write of `replay` that are interrupted are made again; 1000 times in a row it is `fault read` and "
+    "`fault write`.",
 )
 def interrupted(trial):
     lines, replies = whole(day_of(trial, NAME))
@@ -128,8 +127,7 @@ def waiting(trial, name):
 
 @case(
     "a read of a request fails",
-    "Each read of a POST's connection fails in turn: its message isn't done, the shop goes on, and the message sent again gets "
-    "its reply.",
+    "Each read of a POST's connection fails in turn: its message isn't done, and sent again gets its reply.",
 )
 def request_reads_fail(trial):
     request = request_of(DONE)
@@ -144,7 +142,7 @@ def request_reads_fail(trial):
 
 @case(
     "a write of an answer fails",
-    "Each write of an answer fails in turn: a first part of it came, the message is done, and sent again it gets the whole kept "
+    "Each write of an answer fails in turn: a first part came, the message is done, and sent again it gets the kept "
     "reply.",
 )
 def answer_writes_fail(trial):
@@ -160,8 +158,8 @@ def answer_writes_fail(trial):
 
 @case(
     "a connection interrupted once",
-    "Where a read or a write of a connection is interrupted once, at each place in turn, it is made again: the POST gets its "
-    "whole answer.",
+    "A read or a write of a connection that is interrupted once, at each place in turn, is made again: the whole "
+    "answer comes.",
 )
 def connection_interrupted(trial):
     request, wanted = request_of(DONE), answer(200, DONE_REPLY)
@@ -175,8 +173,8 @@ def connection_interrupted(trial):
 
 @case(
     "a connection interrupted for ever",
-    "Where each read of connections from some on is interrupted, a POST gets no answer and its message isn't done; where each "
-    "write is, a first part of the answer comes. The shop goes on, and sent again to a new start the message gets its reply.",
+    "Where each read of connections is interrupted from some on, a POST gets no answer and isn't done; where each "
+    "write is, a first part of the answer comes. Sent again to a new start it gets its reply.",
 )
 def connections_interrupted(trial):
     request, wanted = request_of(DONE), answer(200, DONE_REPLY)

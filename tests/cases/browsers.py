@@ -67,8 +67,8 @@ def own_fields(port):
 
 @case(
     "requests of other sites",
-    "Each `Sec-Fetch-Site` but `same-origin` and `none`, and each `Origin` but the two of the port that is served, is "
-    "answered 403 and does nothing, with a page and without one.",
+    "Each `Sec-Fetch-Site` but `same-origin` and `none`, and each `Origin` but the two of the port, is answered 403 "
+    "and does nothing, with a page and without.",
 )
 def other_sites(trial):
     for words in ((), ("--page", trial.write("page.html", "<p>"))):
@@ -124,8 +124,8 @@ def which_fields(trial):
 
 @case(
     "a strange request beside other faults",
-    "A bad head, two hosts, a coding and bad lengths come before 403, and 403 before the route, the method, a missing "
-    "length, a large body and a body that ends early.",
+    "A bad head, two hosts, a coding and bad lengths come before 403, and 403 before the route, the method and the "
+    "faults of a body.",
 )
 def beside_faults(trial):
     shop = filled(trial)
@@ -155,8 +155,8 @@ def beside_faults(trial):
 
 @case(
     "names of this machine",
-    "With a page a Host is `127.0.0.1` or `localhost`, with the port that is served or without one, and another is "
-    "answered 403; without a page each is served.",
+    "With a page a Host is `127.0.0.1` or `localhost`, with the port or without, and another is answered 403; "
+    "without a page each is served.",
 )
 def hosts(trial):
     page = trial.write("page.html", "<p>a page</p>")
@@ -177,8 +177,8 @@ def hosts(trial):
 
 @case(
     "the page",
-    "`GET /`, with whatever behind a `?`, gives the file's bytes with their fields, byte by byte too, and as it was at the "
-    "start; another method is 405, and without the option there is no route.",
+    "`GET /`, with whatever behind a `?`, gives the file's bytes as they were at the start, with their fields; "
+    "another method is 405, and without the option there is no route.",
 )
 def page(trial):
     text = b"<!doctype html>\r\n<p>caf\xc3\xa9 \x00\xff</p>\n"
@@ -204,8 +204,8 @@ def page(trial):
 
 @case(
     "page files at their limits",
-    "An empty page and one of 1048576 bytes are served; one byte more, a folder and no file are `fault file`, judged "
-    "behind the shop file and before the store.",
+    "An empty page and one of 1048576 bytes are served; one byte more, a folder and no file are `fault file`, behind "
+    "the shop file and before the store.",
 )
 def page_files(trial):
     for text in (b"", b"a" * 1048576):

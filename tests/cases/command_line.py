@@ -210,8 +210,7 @@ end
 
 @case(
     "ticket and yield of a store",
-    "From a store that `serve` filled, `ticket` and `yield` print what the books have, and an unknown job and "
-    "material are refused 70 and 20.",
+    "`ticket` and `yield` print what the books of a store have; an unknown job and material are refused 70 and 20.",
 )
 def printed(trial):
     shop = trial.shop(shop_file=trial.write("shop.toml", GLASS), limit=len(DAY))
@@ -383,8 +382,8 @@ nothing
 
 @case(
     "mistakes in the words",
-    "A word that isn't there, one too many, one out of its range and no word at all end with status 2, a text on "
-    "standard error and nothing on standard output.",
+    "An unknown word, one too many, one out of range and none end with status 2, a text on standard error and "
+    "nothing on standard output.",
 )
 def mistakes(trial):
     for line in MISTAKES.strip().split("\n"):
@@ -416,8 +415,8 @@ def helped(trial):
 
 @case(
     "a replay of nothing",
-    "No line gets no reply, an empty one is refused 10, and the last line may lack its line feed, with status 0 also "
-    "where lines are refused.",
+    "No line gets no reply, an empty one is refused 10, the last may lack its line feed; status 0 also where lines "
+    "are refused.",
 )
 def nothing(trial):
     trial.ended(trial.replay(b""), 0)

@@ -53,8 +53,8 @@ def served(trial, version):
 
 @case(
     "version 1 by plain SQL",
-    "A file of version 1 after “remnant cut again”, whose tables and rows plain SQL made, is served with the same answers "
-    "and kept replies and 0 returned; it is then of version 2, with `totals` empty and all other rows as they were.",
+    "A file of version 1 that plain SQL made, after “remnant cut again”, is served with the same answers, kept "
+    "replies and 0 returned, and is then of version 2, all other rows as they were.",
 )
 def version_1(trial):
     served(trial, 1)
@@ -81,8 +81,8 @@ def reports(trial):
 
 @case(
     "version 1 that is none",
-    "Nine tables marked 2, version 1 without its `totals` or `kept`, with a total one more than its sum or a part of state "
-    "7: `fault version`, and the file stays as it was.",
+    "Nine tables marked 2, version 1 without `totals` or `kept`, with a total one more than its sum or a part of "
+    "state 7 are `fault version`; the file stays as it was.",
 )
 def no_version_1(trial):
     changes = ["UPDATE meta SET value = 2 WHERE name = 'version'", "DROP TABLE totals", "DROP TABLE kept", "DELETE FROM totals"]

@@ -29,8 +29,8 @@ def contradicts(trial, shop, line, why):
 
 @case(
     "a demand that is gone",
-    "Where the demand of a job's piece is gone, done, break, release and the ticket are told as 99 with status 503, and "
-    "`ticket` as that refusal; the job itself, its part and the other demands are told, and the demand is unknown, 42.",
+    "Where the demand of a job's piece is gone, done, break, release and both tickets are told as 99; the job, its "
+    "part and other demands are told, and the demand is unknown, 42.",
 )
 def gone(trial):
     path = filled(trial, exchanges=DAY[:4])
@@ -51,8 +51,8 @@ def gone(trial):
 
 @case(
     "rows of no book in lists",
-    "Lists that come to a turn of 5, a kind of 3, a plan that is none or a kept number over 32 bits, and a job of state 9, are "
-    "told as 99 with status 503; a list that begins behind such a row is told.",
+    "Lists that come to a turn of 5, a kind of 3, a plan that is none or a number over 32 bits, and a job of state "
+    "9, are told as 99; one that begins behind such a row is told.",
 )
 def spoiled_lists(trial):
     spoils = [

@@ -86,8 +86,8 @@ def ends(trial):
 
 @case(
     "kerfs and limits of rests",
-    "A kerf of 200 is taken and 201 refused 22, for both kinds; least sides go from 1 to 200000, the short one at most the "
-    "long one, and is 1 for a bar.",
+    "A kerf of 200 is taken and 201 refused 22; least sides go from 1 to 200000, the short one at most the long one, "
+    "and 1 for a bar.",
 )
 def limits_of_materials(trial):
     steps, bad = [], refused(22, "BadMaterial")

@@ -108,8 +108,8 @@ def served(trial, day, faults):
 def replay_case(name):
     @case(
         f"memory refused in replay: {name}",
-        f"Each request for memory of “{name}” is refused in turn: a message is refused 98 and changes nothing, and sent again "
-        "gets its reply, or the program ends with `fault memory`.",
+        f"Each request for memory of “{name}” is refused in turn: 98 and nothing changed, and sent again its reply, or "
+        "`fault memory`.",
     )
     def body(trial):
         day = day_of(trial, name)
@@ -119,7 +119,7 @@ def replay_case(name):
 def serve_case(name):
     @case(
         f"memory refused in serve: {name}",
-        f"The same of “{name}” over a store file: the tables in the end are those of a run that nothing disturbs.",
+        f"The same of “{name}” over a store file: the tables in the end are those of an undisturbed run.",
     )
     def body(trial):
         day = day_of(trial, name)
@@ -133,8 +133,8 @@ for NAME in (*NAMES, ASKED):
 
 @case(
     "memory refused in a start",
-    "Each request for memory of a `serve` with a shop file of two materials is refused in turn: it tells `fault memory` or the "
-    "entry that is refused 98, and the next start adds both.",
+    "Each request for memory of a `serve` with two materials is refused in turn: `fault memory` or the entry refused "
+    "98, and the next start adds both.",
 )
 def starts(trial):
     path = trial.write("shop.toml", SHOP_FILE)
@@ -167,8 +167,8 @@ def stored(trial):
 
 @case(
     "memory refused in a text",
-    "Each request for memory of a ticket and a report over HTTP is refused in turn: the whole text comes, or 98 with status "
-    "503, or nothing, and asked again the whole text.",
+    "Each request for memory of a ticket and a report over HTTP is refused in turn: the whole text, or 98 with 503, "
+    "or nothing, and asked again the text.",
 )
 def texts(trial):
     store = stored(trial)
@@ -201,8 +201,8 @@ def texts(trial):
 
 @case(
     "memory refused in a command",
-    "Each request for memory of `plan`, `ticket` and `yield` is refused in turn: they print what they print else, or nothing "
-    "and `fault memory`, or that the ticket or report is refused 98.",
+    "Each request for memory of `plan`, `ticket` and `yield` is refused in turn: the whole text, or nothing and "
+    "`fault memory` or refusal 98.",
 )
 def commands(trial):
     store = stored(trial)

@@ -136,8 +136,8 @@ def unread(trial):
 
 @case(
     "words of an order's message",
-    "The three options come together or not at all, the order is a code, the terminal is 1 to 4294967295 and the number "
-    "0 to 4294967295; all else is a mistake, with status 2.",
+    "The three options come together or not at all, with a code, a terminal of 1 to 4294967295 and a number of 0 to "
+    "4294967295; all else ends with status 2.",
 )
 def words(trial):
     path = trial.write("orders.csv", HEADER)

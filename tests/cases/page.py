@@ -90,9 +90,8 @@ def served(trial):
 
 @case(
     "a day at the page",
-    "In a browser: sheets and bars are received, an order comes by a German CSV whose bad field is told at its row, plans are "
-    "proposed and reserved, a ticket is printed on one sheet, a job is broken off by clicked cuts, another done; the tables "
-    "and the page agree.",
+    "In a browser: receipts, an order by a German CSV whose bad field is told at its row, plans, a ticket printed on "
+    "one sheet, a job broken off by clicked cuts, another done; the tables and the page agree.",
 )
 def day(trial):
     shop = open_shop(trial)
@@ -230,8 +229,8 @@ def widths(trial):
 
 @case(
     "orders and stock at the page",
-    "In a browser: an order by hand whose bad field is told at its line, a code that is used refused in words, a problem file, "
-    "how many units are wanted at least, a plan by a step of one's own; a release, a trace, a return and a scrap.",
+    "In a browser: an order by hand whose bad field is told at its line, a used code refused in words, a problem "
+    "file, a bound, a plan by a step of one's own; a release, a trace, a return and a scrap.",
 )
 def by_hand(trial):
     shop = open_shop(trial)
@@ -354,8 +353,8 @@ def unheard(trial):
 
 @case(
     "a plan at the page that another terminal took",
-    "Where another terminal reserves the pieces of a proposed plan, the page tells how many of which demand are left before "
-    "the plan is reserved, and in words, with its number, where it is refused.",
+    "Where another terminal took the pieces of a proposed plan, the page tells how many of which demand are left, "
+    "and in words, with its number, a refusal.",
 )
 def overdrawn(trial):
     with Terminal(trial, open_shop(trial)) as it:
@@ -410,8 +409,8 @@ def reach(it, found):
 
 @case(
     "lists of the page behind their first hundred",
-    "With over 100 demands, waiting jobs and parts the page shows what lies behind the first 100 when asked, remnants first, "
-    "and a ticket of over 100 cuts is printed on one sheet.",
+    "With over 100 demands, jobs and parts the page shows what lies behind the first 100 when asked, and prints a "
+    "ticket of over 100 cuts on one sheet.",
 )
 def hundreds(trial):
     more = "".join(
@@ -456,8 +455,8 @@ def hundreds(trial):
 
 @case(
     "a ticket and a report while eight terminals post",
-    "A browser opens a ticket, a report and a trace while eight terminals post receipts: each message is answered, and the "
-    "page comes to show what the books then hold.",
+    "A browser opens a ticket, a report and a trace while eight terminals post: each message is answered, and the "
+    "page shows what the books hold.",
 )
 def crowd(trial):
     shop = open_shop(trial)

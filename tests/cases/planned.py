@@ -41,8 +41,8 @@ def planned(trial, lines, wanted, **question):
 
 @case(
     "plans of sheets, as queries",
-    "A sheet of 10 by 8 with a kerf of 1 and pieces of 4 by 3: worth 48 at step 1, 24 with a ceiling of 48 at step 2; turned "
-    "pieces are worth as much. Two of 5 by 5 drop two; two small ones drop 98. Each tree is reserved and cut.",
+    "A sheet of 10 by 8, kerf 1, pieces of 4 by 3: worth 48 at step 1, 24 with a ceiling of 48 at step 2, turned as "
+    "much. Two of 5 by 5 drop two, two small ones 98. Each tree is reserved and cut.",
 )
 def sheets(trial):
     pieces = sheet(10, 8, 1, [(4, 3, 10, 12, False)])

@@ -117,8 +117,8 @@ class Typist:
 
 @case(
     "the shop's day as typed",
-    "README's lines of a shop's day, typed into a shell from the first to the last beside the built program, print what "
-    "stands behind them, and the copy of the store holds the day.",
+    "README's lines of a shop's day, typed into a shell in turn, print what stands behind them, and the copy of the "
+    "store holds the day.",
 )
 def day(trial):
     if not shutil.which("curl"):

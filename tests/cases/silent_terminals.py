@@ -45,8 +45,8 @@ def same_tables(trial, shop, count=125):
 
 @case(
     "fifty silent connections and one that drips",
-    "Beside 50 connections that say nothing and one that sends a byte now and then, eight terminals have their 1000 answers "
-    "at once, and the tables are those of one terminal after the other.",
+    "Beside 50 silent connections and one that sends a byte now and then eight terminals have their 1000 answers at "
+    "once, and the tables of one after the other.",
 )
 def fifty(trial):
     shop = trial.shop()
@@ -57,8 +57,8 @@ def fifty(trial):
 
 @case(
     "half a request and silence",
-    "Beside connections that say nothing or stop within their request eight terminals have their 1000 answers at once; those "
-    "are closed after ten seconds, and of their requests nothing is done.",
+    "Beside connections that stop within their request eight terminals have their 1000 answers at once; those are "
+    "closed after ten seconds, and nothing of theirs is done.",
 )
 def half(trial):
     shop = trial.shop()
@@ -74,8 +74,8 @@ def half(trial):
 
 @case(
     "three hundred connections at once",
-    "Where over 256 connections say nothing the oldest are closed, a terminal's request is answered at once, and eight "
-    "terminals have their 1000 answers.",
+    "Where over 256 connections say nothing the oldest are closed, and eight terminals have their 1000 answers at "
+    "once.",
 )
 def three_hundred(trial):
     shop = trial.shop()
@@ -101,8 +101,8 @@ def three_hundred(trial):
 
 @case(
     "two thousand quick requests",
-    "2000 requests one after the other, each over a connection of its own, are answered, and beside them eight terminals have "
-    "their 1000 answers.",
+    "2000 requests, each over a connection of its own, are answered one after the other, and beside them eight "
+    "terminals have their 1000 answers.",
 )
 def quick(trial):
     shop, answers = trial.shop(limit=3000), []
@@ -146,8 +146,7 @@ def early_faults(trial):
 
 @case(
     "a report that is never read",
-    "Beside a terminal that asks for a report of over a megabyte and never reads it, eight terminals have their 1000 answers "
-    "at once.",
+    "Beside a terminal that never reads a report of over a megabyte eight terminals have their 1000 answers at once.",
 )
 def unread(trial):
     stores = [filled(trial, it, DAY[:2]) for it in ("shop.db", "alone.db")]

@@ -22,8 +22,8 @@ def planned(trial, w, h, steps):
 
 @case(
     "the least and the greatest step",
-    "The planner of a sheet takes the step `floor((w + k) / 501) + 1` of its longer side and none under it, 91; and a side "
-    "of the piece with the kerf, and none over it, 92.",
+    "The planner takes the step `floor((w + k) / 501) + 1` of a sheet's longer side and none under it, 91; and a "
+    "side of the piece with the kerf, and none over it, 92.",
 )
 def limits(trial):
     least, under, greatest, over = planned(trial, 4005, 3000, [25, 24, 3030, 3031])
@@ -33,8 +33,8 @@ def limits(trial):
 
 @case(
     "an exact step",
-    "By a step at which all sides and the kerf are whole multiples a plan of which nothing is dropped is worth the ceiling; by "
-    "the least step its ceiling is no lower.",
+    "By an exact step a plan of which nothing is dropped is worth the ceiling; by the least step its ceiling is no "
+    "lower.",
 )
 def exact(trial):
     best, least = planned(trial, 3970, 2970, [500, 25])

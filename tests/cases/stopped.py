@@ -137,9 +137,8 @@ def sweep(trial, stride, *faults, of="files"):
 
 @case(
     "a call on the store's files fails once",
-    "Each call that changes the files of “remnant cut again” fails in turn, those of a start behind a stop and of a move from "
-    "version 1 among them: its message is refused 99 with status 503 and gets its reply when it is sent again, or `serve` tells "
-    "`fault store` at its start; nothing is lost.",
+    "Each call that changes the files of “remnant cut again”, of a start behind a stop and of a move from version 1 "
+    "fails in turn: refused 99, and sent again its reply, or `fault store` at a start; nothing is lost.",
 )
 def fails_once(trial):
     sweep(trial, 3, {"error": errno.EIO})
@@ -147,8 +146,8 @@ def fails_once(trial):
 
 @case(
     "a disk that is full from some call on",
-    "From each call that changes the files of “remnant cut again” on none works: nothing that was acknowledged is lost, and all "
-    "sent again to a shop that is opened with room come to the same tables.",
+    "From each call that changes the files of “remnant cut again” on none works: nothing acknowledged is lost, and "
+    "all sent again with room come to the same tables.",
 )
 def fails_on(trial):
     sweep(trial, 3, {"error": errno.ENOSPC, "on": True})
@@ -156,8 +155,8 @@ def fails_on(trial):
 
 @case(
     "a read of the store's files fails",
-    "Each call that opens, locks or reads the files of “remnant cut again” fails once or from then on: 99 with status 503 or "
-    "`fault store`, and nothing is lost.",
+    "Each call that opens, locks or reads the files of “remnant cut again” fails once or from then on: 99 or `fault "
+    "store`, and nothing is lost.",
 )
 def looks_fail(trial):
     sweep(trial, 11, {"error": errno.EIO}, {"error": errno.EIO, "on": True}, of="looks")
@@ -166,8 +165,8 @@ def looks_fail(trial):
 def stopped(how, says, seeds=(0,)):
     @case(
         f"stopped with unsynced writes {how}",
-        "The program is stopped at each call that changes the files of “remnant cut again”, of a start behind a stop and of a "
-        f"move from version 1, {says}: what was acknowledged is there, and all sent again come to the same tables.",
+        "Stopped at each call that changes files (“remnant cut again”, a start behind a stop, a move from version 1), "
+        f"{says}: what was acknowledged is there, and all sent again come to the same tables.",
     )
     def body(trial):
         sweep(trial, 2, *[{"stop": how, "seed": it} for it in (seeds if trial.whole else seeds[:2])])

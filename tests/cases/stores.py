@@ -131,8 +131,8 @@ def compact(value):
 
 @case(
     "states and imports row by row",
-    "Parts standing, reserved, cut, kerf, scrap and returned, a waiting, a broken and a released job, a line that turns "
-    "and imports of both forms stand in the tables with their numbers, and an import that came twice stands once.",
+    "Parts and jobs of each state, a line that turns and imports of both forms stand in the tables with their "
+    "numbers, an import that came twice once.",
 )
 def states(trial):
     exchanges = [
@@ -159,8 +159,8 @@ def states(trial):
 
 @case(
     "keys of the tables",
-    "The parts' material, the jobs' part, the orders and the totals are referenced as the formats have it; an order's line "
-    "stands once; no more is reserved and made than wanted.",
+    "Parts, jobs, orders and totals are referenced as the formats have it; an order's line stands once; no more is "
+    "reserved and made than wanted.",
 )
 def keys(trial):
     path = filled(trial)
@@ -229,8 +229,8 @@ def numbers(path, name, value):
 
 @case(
     "the last numbers",
-    "Where the last act or demand is 2147483646 one more is given, and where it is 2147483647 a receipt, an order and a "
-    "reservation are refused 33.",
+    "Behind act or demand 2147483646 one more is given; behind 2147483647 a receipt, an order and a reservation are "
+    "refused 33.",
 )
 def last_numbers(trial):
     spent = b'{"name":"NumbersSpent","refused":33}'
@@ -332,8 +332,8 @@ def thousand(trial):
 
 @case(
     "rows of no book",
-    "A job of state 9, a plan that is none, a turn of 5, a kind of 3 and a kept reply that is none are told as 99 with "
-    "status 503 where they are asked for; all else is answered.",
+    "A job of state 9, a plan or a kept reply that is none, a turn of 5 and a kind of 3 are told as 99 where they "
+    "are asked for; all else is answered.",
 )
 def spoiled(trial):
     spoils = [
@@ -354,8 +354,8 @@ def spoiled(trial):
 
 @case(
     "imports that are none",
-    "An import whose form is 7, or 0 beside a material, whose material is none or no code, or whose kept reply is none is told "
-    "as 99 with status 503 where its order comes again; all else is answered.",
+    "An import of form 7, or 0 beside a material, of no material, or without a kept reply is told as 99 where its "
+    "order comes again; all else is answered.",
 )
 def spoiled_imports(trial):
     keys, _ = STATES[1]

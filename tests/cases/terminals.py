@@ -122,9 +122,8 @@ def stopped_at(shop, terminals, count, number):
 
 @case(
     "stops in the middle of posts",
-    "Eight terminals post at once; the shop is stopped by SIGKILL, SIGTERM and SIGKILL between their posts and started "
-    "again, and all is sent again: each message that was acknowledged gets its reply again, and the tables are those of a "
-    "run without a stop.",
+    "Eight terminals post at once; the shop is stopped by SIGKILL, SIGTERM and SIGKILL and started again: each "
+    "acknowledged message sent again gets its reply, and the tables are those of a run without a stop.",
 )
 def stops(trial):
     count, terminals = 9, [Terminal(it) for it in range(1, 9)]
@@ -166,8 +165,8 @@ def in_use(trial):
 
 @case(
     "paths that are no store",
-    "A store in a folder that isn't there, a folder, and a file that is no database are `fault store` to `serve`, `ticket` "
-    "and `yield`; the file stays byte for byte.",
+    "A store in a folder that isn't there, a folder, and a file that is no database are `fault store`; the file "
+    "stays byte for byte.",
 )
 def no_store(trial):
     os.mkdir(trial.path("folder"))
@@ -223,8 +222,8 @@ def small_files(size):
 
 @case(
     "a full disk",
-    "Where the store's files can't grow a message is refused 99 with status 503 and changes nothing; after a start with "
-    "room what was acknowledged is there, and the refused message is accepted.",
+    "Where the store's files can't grow a message is refused 99 and changes nothing; with room what was acknowledged "
+    "is there, and the refused message is accepted.",
 )
 def full_disk(trial):
     trial.shop(limit=1).kill()
