@@ -11,10 +11,10 @@ use Rattle.shop_tables.specs.declared.adopting.AdoptFault.{AdoptFault}
 use Rattle.shop_tables.specs.declared.adopting.AdoptFault.TheVariants as adopt
 use Rattle.shop_tables.specs.Changing.{HasSums}
 use Rattle.shop_tables.specs.Held.{books, HoldsContent, IsSettledAt, LeavesOnly, StandsFor}
-use Rattle.shop_tables.specs.Shown.{Books, Holds, IsSettled, StandsIn, fresh_books}
+use Rattle.shop_statements.specs.Shown.{Books, Holds, IsSettled, StandsIn, fresh_books}
 use Rattle.shop_book.specs.declared.books.BookFault.TheVariants.{WrongVersion}
 use Rattle.shop_store.specs.SqlBooks.{adopt_fault}
-use Rattle.shop_tables.proofs.Finding.{code_total, code_same}
+use Rattle.shop_statements.proofs.Finding.{code_total, code_same}
 use Rattle.shop_tables.proofs.FreshBooks.{fresh_sums}
 
 pub holds_fresh : (s : State) → Holds s fresh_books → HoldsContent s fresh

@@ -2,8 +2,8 @@
 use Rattle.std.proofs.Common.{Ok, Err, Result, refl}
 use Rattle.std.specs.Prelude.{IfOk, IfErr}
 use Rattle.sqlite.specs.State.{State}
-use Rattle.shop_tables.specs.Shown.{Leaves}
-use Rattle.shop_tables.proofs.Steps.{within_itself}
+use Rattle.shop_statements.specs.Shown.{Leaves}
+use Rattle.shop_statements.proofs.Steps.{within_itself}
 use Rattle.shop_store.specs.SqlBooks.{EitherWay}
 use Rattle.shop_book.specs.declared.books.BookFault.{BookFault}
 

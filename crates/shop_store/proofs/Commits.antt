@@ -13,7 +13,7 @@ use Rattle.sqlite.specs.Held.{Held, state}
 use Rattle.sqlite.specs.State.{State, HasCleanDisk, Survives}
 use Rattle.shop_machine.specs.Content.{Content}
 use Rattle.shop_tables.specs.Held.{books, IsSettledAt, LeavesOnly, StandsFor}
-use Rattle.shop_tables.specs.Shown.{StandsIn}
+use Rattle.shop_statements.specs.Shown.{StandsIn}
 use Rattle.shop_tables.proofs.Commits.{stands_in}
 use Rattle.shop_tables.proofs.Reopened.{left_is_found}
 use Rattle.shop_store.specs.Crashes.{IsFoundAfter}

@@ -20,16 +20,16 @@ use Rattle.shop_machine.specs.declared.records.Part.{Part}
 use Rattle.shop_machine.specs.declared.records.Totals.{Totals}
 use Rattle.shop_tables.specs.Changing.{HasSums}
 use Rattle.shop_tables.specs.Listing.{AreAllTotals, HaveTotals, named}
-use Rattle.shop_tables.specs.Shown.{Books}
-use Rattle.shop_tables.specs.declared.faults.TableFault.{TableFault}
+use Rattle.shop_statements.specs.Shown.{Books}
+use Rattle.shop_statements.specs.declared.faults.TableFault.{TableFault}
 use Rattle.shop_store.specs.Checking.{AddsPart, AreNarrow, AreSumsIn, IsListOf, are_totals_for}
 use Rattle.shop_rows.specs.Adding.{has_sums}
 use Rattle.shop_rows.specs.Rows.{row_at, IsPut}
 use Rattle.shop_rows.specs.Sums.{cells_for, found_sum, sum_at, sums_key, total_in, totals_from}
 use Rattle.shop_store.specs.declared.adders.PartAdder.{PartAdder}
 use Rattle.shop_rows.specs.declared.sums.Sums.{Sums}
-use Rattle.shop_tables.proofs.Finding.{code_total, code_same}
-use Rattle.shop_tables.proofs.Maps.{none_found}
+use Rattle.shop_statements.proofs.Finding.{code_total, code_same}
+use Rattle.shop_statements.proofs.Maps.{none_found}
 use Rattle.shop_rows.proofs.Counting.{put_there}
 use Rattle.shop_rows.proofs.Summed.{counted_own, same_code}
 

@@ -2,9 +2,9 @@
 use Rattle.sqlite.specs.State.{State, Survives}
 use Rattle.sqlite.proofs.StateLemmas.{survives_then, survives_weaker}
 use Rattle.shop_machine.specs.Content.{Content}
-use Rattle.shop_tables.specs.Earlier.{HoldsEarlier}
+use Rattle.shop_statements.specs.Earlier.{HoldsEarlier}
 use Rattle.shop_tables.specs.Held.{books, StandsFor}
-use Rattle.shop_tables.specs.Shown.{Books, Leaves, StandsIn}
+use Rattle.shop_statements.specs.Shown.{Books, Leaves, StandsIn}
 use Rattle.shop_tables.proofs.EarlierRows.{stays_earlier}
 use Rattle.shop_store.specs.EarlierBooks.{HoldsEarlierContent, IsSettledEarlierAt}
 

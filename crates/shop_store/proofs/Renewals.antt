@@ -14,9 +14,9 @@ use Rattle.sqlite.specs.Held.{Held, AreDatabases}
 use Rattle.sqlite.specs.State.{HasCleanDisk, Survives}
 use Rattle.sqlite.proofs.Theorems.{opens_again}
 use Rattle.shop_machine.specs.Content.{Content}
-use Rattle.shop_tables.specs.Earlier.{StandsInEarlier}
+use Rattle.shop_statements.specs.Earlier.{StandsInEarlier}
 use Rattle.shop_tables.specs.Held.{books, StandsFor}
-use Rattle.shop_tables.specs.Shown.{StandsIn}
+use Rattle.shop_statements.specs.Shown.{StandsIn}
 use Rattle.shop_tables.proofs.Reopened.{committed_earlier, left_settled, left_settled_earlier}
 use Rattle.shop_store.specs.EarlierBooks.{IsSettledEarlierAt, IsSettledEitherAt}
 

@@ -15,7 +15,7 @@ use Rattle.shop_store.specs.Takers.{TakesPart}
 use Rattle.shop_book.specs.declared.books.BookFault.{BookFault}
 use Rattle.shop_book.proofs.Handed.{take_front}
 use Rattle.shop_store.proofs.Telling.{as_told}
-use Rattle.shop_tables.specs.declared.faults.TableFault.{TableFault}
+use Rattle.shop_statements.specs.declared.faults.TableFault.{TableFault}
 
 taken : (parts : List Part) (old new : PartTaker) → GoesOn TakesPart parts old new → new.parts ≡ old.parts ++ parts
 taken [] old new is = ap (λ (t : PartTaker). t.parts) (sym is) ∙ sym (append-nil old.parts)

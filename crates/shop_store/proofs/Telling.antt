@@ -4,9 +4,9 @@ use Rattle.sqlite_trees.specs.declared.store.Store.{Ghosts}
 use Rattle.sqlite.specs.State.{HasCleanDisk}
 use Rattle.sqlite.specs.Held.{Held, state}
 use Rattle.shop_machine.specs.Content.{Content}
-use Rattle.shop_tables.specs.Shown.{Books, Leaves, OnBooks}
+use Rattle.shop_statements.specs.Shown.{Books, Leaves, OnBooks}
 use Rattle.shop_tables.specs.Held.{books, HoldsContent}
-use Rattle.shop_tables.specs.declared.faults.TableFault.{TableFault}
+use Rattle.shop_statements.specs.declared.faults.TableFault.{TableFault}
 use Rattle.shop_book.specs.Books.{Keeps}
 use Rattle.shop_book.specs.declared.books.BookFault.{BookFault}
 use Rattle.shop_store.specs.OpenWork.{HoldsListed, KnowsWork}

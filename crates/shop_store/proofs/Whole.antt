@@ -27,11 +27,11 @@ use Rattle.shop_rows.proofs.Listed.{tie}
 use Rattle.shop_rows.proofs.Places.{tested}
 use Rattle.sqlite.specs.State.{State, HasCleanDisk}
 use Rattle.shop_tables.specs.Held.{books}
-use Rattle.shop_tables.specs.Rows.{IsKeyed}
-use Rattle.shop_tables.specs.Shown.{Books, Holds}
-use Rattle.shop_tables.proofs.Finding.{code_total}
+use Rattle.shop_statements.specs.Rows.{IsKeyed}
+use Rattle.shop_statements.specs.Shown.{Books, Holds}
+use Rattle.shop_statements.proofs.Finding.{code_total}
 use Rattle.shop_store.proofs.Weights.{all_or_fewer, weights, IsAt}
-use Rattle.shop_tables.specs.Values.{IsPartValue}
+use Rattle.shop_statements.specs.Values.{IsPartValue}
 use Rattle.shop_store.specs.NamedParts.{AreStanding, HaveCells, Stands}
 
 module _ (code : List ℕ) where

@@ -10,7 +10,7 @@ use Rattle.std.specs.Cmp.{alike_right, eq_by_cmp_equiv, nat_cmp_total, tied_itse
 use Rattle.std.specs.FinMap.{FinMap, empty, entries_sorted, find, get, get-empty, get-entries, get-insert, insert, is_sorted, nat_cmp-IsAntisymmetric, values}
 use Rattle.sqlite.specs.State.{State}
 use Rattle.shop_tables.specs.Held.{books}
-use Rattle.shop_tables.specs.Shown.{Books, Holds}
+use Rattle.shop_statements.specs.Shown.{Books, Holds}
 use Rattle.sqlite_trees.proofs.ListLemmas.{filter-map}
 use Rattle.cut_tree.proofs.FirstWords.{all_taken}
 use Rattle.shop_machine.specs.Columns.{is_waiting}

@@ -8,7 +8,7 @@ use Rattle.shop_machine.specs.declared.records.Column.{Column}
 use Rattle.shop_machine.specs.declared.records.Part.{Part}
 use Rattle.std.specs.FinMap.{entries}
 use Rattle.shop_tables.specs.Listing.{HaveTotals, named}
-use Rattle.shop_tables.specs.Shown.{Books}
+use Rattle.shop_statements.specs.Shown.{Books}
 use Rattle.shop_rows.specs.Adding.{IsAdded, IsLost, IsOver}
 use Rattle.shop_rows.specs.Sums.{total_in, totals_from}
 use Rattle.shop_rows.specs.declared.sums.Sums.{Sums}

@@ -6,7 +6,7 @@ use Rattle.cut_measure.specs.Codes.{code_cmp}
 use Rattle.shop_machine.specs.Content.{Content}
 use Rattle.shop_machine.specs.declared.records.Totals.{Totals}
 use Rattle.shop_tables.specs.Changing.{HasSums}
-use Rattle.shop_tables.specs.Earlier.{HoldsEarlier, IsSettledEarlier}
+use Rattle.shop_statements.specs.Earlier.{HoldsEarlier, IsSettledEarlier}
 use Rattle.shop_tables.specs.Held.{books, IsSettledAt}
 
 -- The connection holds the content in version 1, and as totals the sums of its parts.

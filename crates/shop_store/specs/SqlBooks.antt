@@ -2,8 +2,8 @@
 use Rattle.std.specs.Prelude.{Result, Ok, Err}
 use Rattle.shop_tables.specs.declared.adopting.AdoptFault.{AdoptFault}
 use Rattle.shop_tables.specs.declared.adopting.AdoptFault.TheVariants as adopt
-use Rattle.shop_tables.specs.declared.faults.TableFault.{TableFault}
-use Rattle.shop_tables.specs.declared.faults.TableFault.TheVariants as table
+use Rattle.shop_statements.specs.declared.faults.TableFault.{TableFault}
+use Rattle.shop_statements.specs.declared.faults.TableFault.TheVariants as table
 use Rattle.shop_book.specs.declared.books.BookFault.{BookFault}
 use Rattle.shop_book.specs.declared.books.BookFault.TheVariants.{NoMemory, Store, WrongVersion}
 

@@ -9,10 +9,10 @@ ghost use Rattle.shop_machine.specs.Listing.{is_behind, parts_behind};
 ghost use Rattle.shop_machine.specs.Visits.{IsVisit};
 ghost use Rattle.shop_machine.specs.declared.records.Part.{Part as PartOf};
 ghost use Rattle.shop_tables.specs.Changing.{HasSums};
-ghost use Rattle.shop_tables.specs.Shown.{Leaves, OnBooks};
+ghost use Rattle.shop_statements.specs.Shown.{Leaves, OnBooks};
 ghost use Rattle.shop_rows.specs.Keys.{part_key};
 ghost use Rattle.shop_rows.specs.Rows.{rise};
-ghost use Rattle.shop_tables.specs.declared.faults.TableFault.{TableFault as Fault};
+ghost use Rattle.shop_statements.specs.declared.faults.TableFault.{TableFault as Fault};
 ghost use Rattle.shop_store.specs.NamedParts.{AreStanding, HaveCells, IsTaken};
 
 use crate::passing::{Test, first_passing};

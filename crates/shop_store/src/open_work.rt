@@ -14,7 +14,7 @@ ghost use Rattle.shop_rows.specs.Keys.{demand_key, job_key};
 ghost use Rattle.shop_rows.specs.Open.{own_key, open_cmp, finds_with, finds_with_all, waits, ListsNumbers};
 ghost use Rattle.shop_rows.specs.Rows.{rise};
 ghost use Rattle.shop_tables.specs.Held.{HoldsContent, LeavesOnly, StandsFor};
-ghost use Rattle.shop_tables.specs.Shown.{Leaves, OnBooks};
+ghost use Rattle.shop_statements.specs.Shown.{Leaves, OnBooks};
 ghost use Rattle.shop_store.specs.OpenWork.{FindsOpen, HasNoNumber0, HasWork, KnowsWork, WorkRises};
 ghost use Rattle.shop_store.specs.declared.open_work.TheConstants.{TOO_MANY};
 

@@ -15,10 +15,10 @@ use Rattle.shop_machine.specs.Content.{no_totals}
 use Rattle.shop_machine.specs.declared.changes.MaterialTotals.{MaterialTotals}
 use Rattle.shop_machine.specs.declared.records.Totals.{Totals}
 use Rattle.shop_tables.specs.Listing.{AreAllTotals, AreCodes, code_row, key_of, listed_row, named}
-use Rattle.shop_tables.specs.Shown.{Books}
+use Rattle.shop_statements.specs.Shown.{Books}
 use Rattle.shop_tables.specs.Strange.{Shows}
-use Rattle.shop_tables.proofs.Finding.{code_total, code_same}
-use Rattle.shop_tables.proofs.Lists.{map-map}
+use Rattle.shop_statements.proofs.Finding.{code_total, code_same}
+use Rattle.shop_statements.proofs.Lists.{map-map}
 use Rattle.shop_tables.proofs.StrangeRows.{shown_in}
 
 -- ---- the keys of a map

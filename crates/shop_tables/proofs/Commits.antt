@@ -13,9 +13,9 @@ use Rattle.sqlite.proofs.Callers.{survives_begin}
 use Rattle.shop_machine.specs.Content.{Content, changed}
 use Rattle.shop_machine.specs.Soundness.{Fits}
 use Rattle.shop_machine.specs.declared.changes.Change.{Change}
-use Rattle.shop_tables.specs.Layout.{IsShop}
-use Rattle.shop_tables.specs.Rows.{Stands}
-use Rattle.shop_tables.specs.Shown.{Books, Shows, Holds, Ran, Makes, Within, StandsIn}
+use Rattle.shop_statements.specs.Layout.{IsShop}
+use Rattle.shop_statements.specs.Rows.{Stands}
+use Rattle.shop_statements.specs.Shown.{Books, Shows, Holds, Ran, Makes, Within, StandsIn}
 use Rattle.shop_tables.specs.Changing.{HasSums, with_change}
 use Rattle.shop_tables.specs.Held.{books, HoldsContent, StandsFor}
 use Rattle.shop_tables.proofs.Fitting.{sums_kept}

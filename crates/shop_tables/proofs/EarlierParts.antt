@@ -6,15 +6,15 @@ use Rattle.sqlite.specs.Held.{Held, state}
 use Rattle.sqlite.specs.State.{HasCleanDisk}
 use Rattle.shop_machine.specs.Visits.{IsVisit}
 use Rattle.shop_machine.specs.declared.records.Part.{Part}
-use Rattle.shop_tables.specs.Earlier.{HoldsEarlier, OnBooksEarlier, ShowsEarlier, earlier_schema}
+use Rattle.shop_statements.specs.Earlier.{HoldsEarlier, OnBooksEarlier, ShowsEarlier, earlier_schema}
 use Rattle.shop_tables.specs.Lending.{IsLent, gone_through}
-use Rattle.shop_tables.specs.Shown.{Books}
-use Rattle.shop_tables.specs.declared.faults.TableFault.{TableFault}
+use Rattle.shop_statements.specs.Shown.{Books}
+use Rattle.shop_statements.specs.declared.faults.TableFault.{TableFault}
 use Rattle.shop_tables.specs.declared.lending.Lent.{Lent}
 use Rattle.shop_tables.specs.declared.lending.Lent.TheVariants as lent
 use Rattle.shop_tables.proofs.EarlierRows.{earlier_parts_is, sees_earlier}
 use Rattle.shop_tables.proofs.Listed.{all_there_of, first_there_of, none_stranger_of, not_strange_by, visited_by}
-use Rattle.shop_tables.proofs.Texts.{all_parts_text}
+use Rattle.shop_tables.proofs.ListTexts.{all_parts_text}
 
 module _ {S : Type 0} (g : Ghosts S) (old new : Held S) (before : HasCleanDisk (state g new) → HasCleanDisk (state g old)) {V : Type 0} (looks : V → Part → Bool → V → Type 0) (was now : V) where
   -- the books were held, on a disk that was clean

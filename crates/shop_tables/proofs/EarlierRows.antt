@@ -17,15 +17,15 @@ use Rattle.sqlite.specs.declared.error.Error.{Error}
 use Rattle.sqlite.specs.declared.rows.Row.{Row as Answered}
 use Rattle.sqlite.proofs.Callers.{reads_as}
 use Rattle.shop_machine.specs.declared.records.Totals.{Totals}
-use Rattle.shop_tables.specs.Earlier.{HasNoneReturned, HoldsEarlier, ShowsEarlier, StandsEarlier, earlier_row, earlier_schema}
+use Rattle.shop_statements.specs.Earlier.{HasNoneReturned, HoldsEarlier, ShowsEarlier, StandsEarlier, earlier_row, earlier_schema}
 use Rattle.shop_tables.specs.Lending.{IsHeldAt}
 use Rattle.shop_tables.specs.Listing.{listed_row}
-use Rattle.shop_tables.specs.Selecting.{is_select}
-use Rattle.shop_tables.specs.Shown.{Books, IsAsWas, Leaves}
-use Rattle.shop_tables.proofs.Finding.{code_same, code_total}
+use Rattle.shop_statements.specs.Selecting.{is_select}
+use Rattle.shop_statements.specs.Shown.{Books, IsAsWas, Leaves}
+use Rattle.shop_statements.proofs.Finding.{code_same, code_total}
 use Rattle.shop_tables.proofs.Ordered.{by_first, filter_true, in_order, rows_seen}
-use Rattle.shop_tables.proofs.Terms.{Reads, from_table}
-use Rattle.shop_tables.proofs.Texts.{by_code, by_one, get_meta_text, get_meta_terms, all_codes_text, all_codes_terms, all_parts_text, parts_of_terms, parts_of_order}
+use Rattle.shop_statements.proofs.Terms.{Reads, from_table}
+use Rattle.shop_tables.proofs.ListTexts.{by_code, all_codes_text, all_codes_terms, all_parts_text, parts_of_terms, parts_of_order}
 
 -- ---- the books that were held
 
@@ -50,10 +50,6 @@ pub sees_earlier : {S : Type 0} (g : Ghosts S) (sql : List ℕ) (params : Row) (
 sees_earlier g sql params old b clean was mid held = (held_along (state g old) (state g mid) b clean was held.as_was).0
 
 -- ---- the meanings of their texts
-
-pub earlier_meta_is : Reads earlier_schema get_meta_text (from_table 0 by_one get_meta_terms []) (codes "value" ∷ [])
-unfolding understood everything
-earlier_meta_is = record { command = refl; listing = refl; plain = (refl, refl) }
 
 pub earlier_codes_is : Reads earlier_schema all_codes_text (from_table 2 [] all_codes_terms by_code) (codes "code" ∷ [])
 unfolding understood everything

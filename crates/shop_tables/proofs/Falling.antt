@@ -15,15 +15,15 @@ use Rattle.sqlite.specs.Tree.{Trees}
 use Rattle.sqlite.specs.Term.{Term, holds}
 use Rattle.sqlite.specs.Query.{Output, output, output_cmp}
 use Rattle.sqlite.specs.Program.{overlay, IsProgramAnswer}
-use Rattle.shop_tables.specs.Rows.{AreRows}
-use Rattle.shop_tables.proofs.Keys.{shown_as}
+use Rattle.shop_statements.specs.Rows.{AreRows}
+use Rattle.shop_statements.proofs.Keys.{shown_as}
 use Rattle.shop_tables.proofs.Listed.{ranked}
 use Rattle.shop_tables.proofs.ListTexts.{falling}
-use Rattle.shop_tables.proofs.Lists.{map-map}
-use Rattle.shop_tables.proofs.Maps.{Rises}
+use Rattle.shop_statements.proofs.Lists.{map-map}
+use Rattle.shop_statements.proofs.Maps.{Rises}
 use Rattle.shop_tables.proofs.Ordered.{rises}
-use Rattle.shop_tables.proofs.Selects.{selects}
-use Rattle.shop_tables.proofs.Terms.{from_table}
+use Rattle.shop_statements.proofs.Selects.{selects}
+use Rattle.shop_statements.proofs.Terms.{from_table}
 
 -- the greater number first
 abbrev falls_cmp : ℕ → ℕ → Ordering

@@ -21,15 +21,15 @@ use Rattle.shop_machine.specs.Content.{is_listed, parts_of}
 use Rattle.shop_machine.specs.Listing.{is_behind, parts_behind}
 use Rattle.shop_machine.specs.declared.records.Part.{Part}
 use Rattle.shop_tables.specs.ListedRows.{listed_part}
-use Rattle.shop_tables.specs.Rows.{part_row}
-use Rattle.shop_tables.specs.Shown.{Books, Shows}
-use Rattle.shop_tables.proofs.Finding.{name_same, name_total}
+use Rattle.shop_statements.specs.Rows.{part_row}
+use Rattle.shop_statements.specs.Shown.{Books, Shows}
+use Rattle.shop_statements.proofs.Finding.{name_same, name_total}
 use Rattle.shop_tables.proofs.Firsts.{first_answer, of_values}
-use Rattle.shop_tables.proofs.Keys.{and_true, equal, told}
+use Rattle.shop_statements.proofs.Keys.{and_true, equal, told}
 use Rattle.shop_tables.proofs.Listed.{by_output, either_state, listed, listed_later, part_out, ranked, shown_later, stands_of, two, whole}
-use Rattle.shop_tables.proofs.ListTexts.{first_parts_is, first_parts_text, parts_behind_is, parts_behind_tests, parts_behind_text}
+use Rattle.shop_tables.proofs.ListTexts.{first_parts_is, first_parts_text, parts_behind_is, parts_behind_tests, parts_behind_text, parts_of_order, parts_of_terms, parts_of_tests}
 use Rattle.shop_tables.proofs.Ordered.{filter_true, in_order}
-use Rattle.shop_tables.proofs.Texts.{parts_of_order, parts_of_terms, parts_of_tests, shop, shop_is}
+use Rattle.shop_statements.proofs.Texts.{shop, shop_is}
 
 -- ---- a name behind another one
 

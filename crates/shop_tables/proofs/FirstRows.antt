@@ -34,19 +34,19 @@ use Rattle.shop_machine.specs.declared.records.JobState.TheVariants as stands
 use Rattle.shop_machine.specs.declared.records.Material.{Material}
 use Rattle.shop_tables.specs.Listing.{code_row}
 use Rattle.shop_tables.specs.ListedRows.{listed_demand, listed_material, number_row}
-use Rattle.shop_tables.specs.Rows.{demand_columns, demand_row, job_row, job_state_number, material_columns, material_row}
-use Rattle.shop_tables.specs.Selecting.{is_select}
-use Rattle.shop_tables.specs.Shown.{Books, Holds, Leaves, Shows}
-use Rattle.shop_tables.proofs.Finding.{code_same, code_total}
+use Rattle.shop_statements.specs.Rows.{demand_columns, demand_row, job_row, job_state_number, material_columns, material_row}
+use Rattle.shop_statements.specs.Selecting.{is_select}
+use Rattle.shop_statements.specs.Shown.{Books, Holds, Leaves, Shows}
+use Rattle.shop_statements.proofs.Finding.{code_same, code_total}
 use Rattle.shop_tables.proofs.Firsts.{first_answer, of_values}
-use Rattle.shop_tables.proofs.Kept.{shown_open}
-use Rattle.shop_tables.proofs.Keys.{and_true, equal-Int, equal-Text, same_number, told}
+use Rattle.shop_statements.proofs.Kept.{shown_open}
+use Rattle.shop_statements.proofs.Keys.{and_true, equal-Int, equal-Text, same_number, told}
 use Rattle.shop_tables.proofs.Listed.{ranked}
-use Rattle.shop_tables.proofs.Lists.{map-map}
-use Rattle.shop_tables.proofs.ListTexts.{all_materials_text, all_materials_terms, all_materials_is, by_rowid, first_of, open_demands_text, open_demands_terms, open_demands_tests, open_demands_is, open_demands_of_text, open_demands_of_tests, open_demands_of_is, waiting_jobs_text, waiting_jobs_terms, waiting_jobs_tests, waiting_jobs_is}
+use Rattle.shop_statements.proofs.Lists.{map-map}
+use Rattle.shop_tables.proofs.ListTexts.{all_materials_text, all_materials_terms, all_materials_is, by_rowid, first_of, open_demands_text, open_demands_terms, open_demands_tests, open_demands_is, open_demands_of_text, open_demands_of_tests, open_demands_of_is, waiting_jobs_text, waiting_jobs_terms, waiting_jobs_tests, waiting_jobs_is, by_code}
 use Rattle.shop_tables.proofs.Ordered.{by_first, filter_true, in_order}
-use Rattle.shop_tables.proofs.Terms.{from_table}
-use Rattle.shop_tables.proofs.Texts.{by_code, shop, shop_is}
+use Rattle.shop_statements.proofs.Terms.{from_table}
+use Rattle.shop_statements.proofs.Texts.{shop, shop_is}
 
 -- what a query's rows are on held books
 pub held_given : (sql : List ℕ) (params : Row) (old new : State) (is : is_select sql ≡ true) (left : is_select sql ≡ true → Leaves old new) (b : Books) (P : List Row → Type 0) (r : Result (Vec Answered Global) Error) → HasCleanDisk new → Holds old b

@@ -14,10 +14,10 @@ use Rattle.sqlite.specs.Tree.{Trees}
 use Rattle.sqlite.specs.Term.{Term, eval}
 use Rattle.sqlite.specs.Query.{Output, IsAnswer, as_count, limited}
 use Rattle.sqlite.specs.Program.{overlay, IsProgramAnswer}
-use Rattle.shop_tables.proofs.Lists.{filter-map, filter-same, map-map}
+use Rattle.shop_statements.proofs.Lists.{filter-map, filter-same, map-map}
 use Rattle.shop_tables.proofs.ListTexts.{first_of}
-use Rattle.shop_tables.proofs.Maps.{both, lt_is}
-use Rattle.shop_tables.proofs.Terms.{from_table}
+use Rattle.shop_statements.proofs.Maps.{both, lt_is}
+use Rattle.shop_statements.proofs.Terms.{from_table}
 
 -- LIMIT takes the first of what the query without it answers
 module _ (tree : ℕ) (tests terms : List Term) (order : List (Term × Key)) (most : Term) (db : Trees) (params : Row) where

@@ -22,7 +22,7 @@ use Rattle.shop_machine.specs.declared.records.Part.{Part}
 use Rattle.shop_machine.specs.declared.records.Demand.{Demand}
 use Rattle.shop_machine.proofs.Basics.{names_total, names_same, codes_total, codes_same, none_some, key_cases, tied, untied, get_other, all_in}
 use Rattle.shop_machine.proofs.Puts.{Pairwise, pairs_in, pairs_more}
-use Rattle.shop_tables.specs.Shown.{Books}
+use Rattle.shop_statements.specs.Shown.{Books}
 use Rattle.shop_tables.specs.Changing.{HasSums, AreNew, IsCounted, AreCounted, with_row, with_change}
 
 -- ---- rows that are put one after another

@@ -6,7 +6,7 @@ use Rattle.cut_measure.specs.Names.{Name, name_cmp}
 use Rattle.shop_machine.specs.Content.{totals_in, no_totals}
 use Rattle.shop_machine.specs.declared.records.Part.{Part}
 use Rattle.shop_tables.specs.Changing.{HasSums}
-use Rattle.shop_tables.specs.Shown.{fresh_books}
+use Rattle.shop_statements.specs.Shown.{fresh_books}
 use Rattle.shop_tables.proofs.Lays.{no_entries}
 
 pub fresh_sums : HasSums fresh_books

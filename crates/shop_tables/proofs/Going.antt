@@ -14,15 +14,15 @@ use Rattle.sqlite.proofs.Callers.{given_begin, unchanged_then}
 use Rattle.shop_machine.specs.declared.records.Part.{Part}
 use Rattle.shop_machine.specs.Visits.{GoesOn}
 use Rattle.shop_tables.specs.Lending.{AreReadOf, IsReadOf, IsHeldAt, IsLent, Starts, Answers}
-use Rattle.shop_tables.specs.declared.faults.TableFault.{TableFault}
+use Rattle.shop_statements.specs.declared.faults.TableFault.{TableFault}
 use Rattle.shop_tables.specs.declared.lending.Lent.{Lent}
 use Rattle.shop_tables.specs.declared.lending.Lent.TheVariants as lent
-use Rattle.shop_tables.specs.Selecting.{is_select}
-use Rattle.shop_tables.specs.Shown.{Leaves}
+use Rattle.shop_statements.specs.Selecting.{is_select}
+use Rattle.shop_statements.specs.Shown.{Leaves}
 use Rattle.shop_tables.specs.Strange.{IsNoPart}
-use Rattle.shop_tables.proofs.Kept.{Stays, stays_open, stays_as_was, settled_stays, query_survives}
-use Rattle.shop_tables.proofs.Queries.{query_returns}
-use Rattle.shop_tables.proofs.Reading.{leaves_then}
+use Rattle.shop_statements.proofs.Kept.{Stays, stays_open, stays_as_was, settled_stays, query_survives}
+use Rattle.shop_statements.proofs.Queries.{query_returns}
+use Rattle.shop_statements.proofs.Reading.{leaves_then}
 
 returns_not : (r : Result Compiled CompileError) → ((c : Compiled) → r ≡ Ok c → c.returning ≡ None) → Returns r → ⊥
 returns_not (Ok c) none some = absurd (let n = rw (none c refl) at some in cc)

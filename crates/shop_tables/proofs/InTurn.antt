@@ -1,8 +1,8 @@
 -- One row that is written, and the others after it.
 use Rattle.std.proofs.Common.{◌≡◌, ◌≤◌, ◌-◌, List, [], ◌∷◌, length, take, drop, get_or, refl, Ok, Err, Result, OnOk, ap, ◌∙◌, subst, arith}
 use Rattle.sqlite.specs.State.{State}
-use Rattle.shop_tables.specs.Shown.{Books, Makes, Went}
-use Rattle.shop_tables.proofs.Steps.{makes_then}
+use Rattle.shop_statements.specs.Shown.{Books, Makes, Went}
+use Rattle.shop_statements.proofs.Steps.{makes_then}
 
 take_all : {A : Type 0} (xs : List A) → take (length xs) xs ≡ xs
 take_all [] = refl

@@ -9,9 +9,9 @@ use Rattle.sqlite.specs.Steps.{FailsToCommit}
 use Rattle.sqlite.specs.declared.error.Error.{Error}
 use Rattle.sqlite.proofs.StateLemmas.{survives_then}
 use Rattle.sqlite.proofs.Callers.{survives_begin}
-use Rattle.shop_tables.specs.Adopting.{IsVacant}
-use Rattle.shop_tables.specs.Layout.{no_schema}
-use Rattle.shop_tables.specs.Shown.{HasShopSchema, Holds, Lays, StandsIn, Within, fresh_books}
+use Rattle.shop_tables.specs.Adopting.{IsVacant, Lays}
+use Rattle.shop_statements.specs.Layout.{no_schema}
+use Rattle.shop_statements.specs.Shown.{HasShopSchema, Holds, StandsIn, Within, fresh_books}
 use Rattle.shop_tables.proofs.Commits.{shows_along, stands_in}
 
 pub on_ok_from : {A B C X E : Type 0} (r : Result X E) → (C → OnOk r A) → ((C → A) → B) → OnOk r B

@@ -16,15 +16,15 @@ use Rattle.shop_machine.specs.Listing.{IsLastNumber}
 use Rattle.shop_machine.specs.declared.texts.Kept.{Kept}
 use Rattle.shop_machine.specs.declared.texts.Pair.{Pair}
 use Rattle.shop_tables.specs.ListedRows.{IsLastRow, number_row}
-use Rattle.shop_tables.specs.Rows.{kept_row}
-use Rattle.shop_tables.specs.Shown.{Books, Shows}
+use Rattle.shop_statements.specs.Rows.{kept_row}
+use Rattle.shop_statements.specs.Shown.{Books, Shows}
 use Rattle.shop_tables.proofs.Falling.{IsTop, falling_first}
-use Rattle.shop_tables.proofs.Finding.{is_number, pair_same, pair_total}
+use Rattle.shop_statements.proofs.Finding.{is_number, pair_same, pair_total}
 use Rattle.shop_tables.proofs.Firsts.{each_entry, first_answer}
-use Rattle.shop_tables.proofs.Keys.{and_true, equal, equal-Int, same_number}
+use Rattle.shop_statements.proofs.Keys.{and_true, equal, equal-Int, same_number}
 use Rattle.shop_tables.proofs.ListTexts.{falling, last_number_is, last_number_terms, last_number_tests, last_number_text}
-use Rattle.shop_tables.proofs.Maps.{entry_at_is, listed}
-use Rattle.shop_tables.proofs.Texts.{shop, shop_is}
+use Rattle.shop_statements.proofs.Maps.{entry_at_is, listed}
+use Rattle.shop_statements.proofs.Texts.{shop, shop_is}
 
 abbrev pub Message : Type 0
 Message = Pair × Kept

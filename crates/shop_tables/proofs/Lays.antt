@@ -35,14 +35,15 @@ use Rattle.shop_machine.specs.declared.records.Demand.{Demand}
 use Rattle.shop_machine.specs.declared.records.Totals.{Totals}
 use Rattle.shop_machine.specs.declared.imports.ImportRow.{ImportRow}
 use Rattle.shop_machine.specs.declared.texts.Kept.{Kept}
-use Rattle.shop_tables.specs.Layout.{Loose, no_schema, shop_schema, IsShop, meta_table, materials_table, parts_table, jobs_table, orders_table, demands_table, kept_table, imports_table, totals_table, totals2_table}
-use Rattle.shop_tables.specs.Rows.{AreRows, IsKeyed, meta_row, meta_entries, material_row, part_row, job_row, order_row, demand_row, kept_row, import_row, totals_row}
-use Rattle.shop_tables.specs.Shown.{Shows, fresh_books, Lays as LaysTables}
-use Rattle.shop_tables.proofs.Keys.{cast-Int, cast-Null}
+use Rattle.shop_statements.specs.Layout.{Loose, no_schema, shop_schema, IsShop, meta_table, materials_table, parts_table, jobs_table, orders_table, demands_table, kept_table, imports_table, totals_table, totals2_table}
+use Rattle.shop_statements.specs.Rows.{AreRows, IsKeyed, meta_row, meta_entries, material_row, part_row, job_row, order_row, demand_row, kept_row, import_row, totals_row}
+use Rattle.shop_tables.specs.Adopting.{Lays as LaysTables}
+use Rattle.shop_statements.specs.Shown.{Shows, fresh_books}
+use Rattle.shop_statements.proofs.Keys.{cast-Int, cast-Null}
 use Rattle.shop_tables.proofs.Making.{MakesAs, Blank, blank_then, runs_in, IsBatch, Next, next}
-use Rattle.shop_tables.proofs.Terms.{Writes}
-use Rattle.shop_tables.proofs.Writes.{inserted}
-use Rattle.shop_tables.proofs.Works.{no_works, unlike}
+use Rattle.shop_statements.proofs.Terms.{Writes}
+use Rattle.shop_statements.proofs.Writes.{inserted}
+use Rattle.shop_statements.proofs.Works.{no_works, unlike}
 
 abbrev pub tables_text : List ℕ
 tables_text = codes "CREATE TABLE meta (name TEXT NOT NULL PRIMARY KEY, value INTEGER NOT NULL) STRICT;CREATE TABLE materials (code TEXT NOT NULL PRIMARY KEY, kind INTEGER NOT NULL, kerf INTEGER NOT NULL, min_long INTEGER NOT NULL, min_short INTEGER NOT NULL) STRICT;CREATE TABLE parts (act INTEGER NOT NULL, node INTEGER NOT NULL, material TEXT NOT NULL REFERENCES materials (code), batch TEXT NOT NULL, root_act INTEGER NOT NULL, root_node INTEGER NOT NULL, x INTEGER NOT NULL, y INTEGER NOT NULL, w INTEGER NOT NULL, h INTEGER NOT NULL, state INTEGER NOT NULL, detail INTEGER NOT NULL, PRIMARY KEY (act, node)) STRICT;CREATE TABLE jobs (job INTEGER NOT NULL PRIMARY KEY, part_act INTEGER NOT NULL, part_node INTEGER NOT NULL, tree TEXT NOT NULL, state INTEGER NOT NULL, FOREIGN KEY (part_act, part_node) REFERENCES parts (act, node)) STRICT;CREATE TABLE orders (ord TEXT NOT NULL PRIMARY KEY) STRICT;CREATE TABLE demands (number INTEGER NOT NULL PRIMARY KEY, ord TEXT NOT NULL REFERENCES orders (ord), line INTEGER NOT NULL, material TEXT NOT NULL REFERENCES materials (code), w INTEGER NOT NULL, h INTEGER NOT NULL, turn INTEGER NOT NULL, worth INTEGER NOT NULL, wanted INTEGER NOT NULL, reserved INTEGER NOT NULL, made INTEGER NOT NULL, UNIQUE (ord, line), CHECK (reserved + made <= wanted)) STRICT;CREATE TABLE kept (terminal INTEGER NOT NULL, number INTEGER NOT NULL, command TEXT NOT NULL, reply TEXT NOT NULL, PRIMARY KEY (terminal, number)) STRICT;CREATE TABLE imports (ord TEXT NOT NULL PRIMARY KEY REFERENCES orders (ord), form INTEGER NOT NULL, material TEXT NOT NULL, body TEXT NOT NULL, reply TEXT NOT NULL) STRICT;CREATE TABLE totals (material TEXT NOT NULL PRIMARY KEY REFERENCES materials (code), received INTEGER NOT NULL, stock INTEGER NOT NULL, rack INTEGER NOT NULL, pieces INTEGER NOT NULL, kerf INTEGER NOT NULL, scrap INTEGER NOT NULL) STRICT;CREATE TABLE totals2 (material TEXT NOT NULL PRIMARY KEY REFERENCES materials (code), received INTEGER NOT NULL, stock INTEGER NOT NULL, rack INTEGER NOT NULL, pieces INTEGER NOT NULL, kerf INTEGER NOT NULL, scrap INTEGER NOT NULL, returned INTEGER NOT NULL) STRICT;INSERT INTO meta (name, value) VALUES ('version', 2), ('act', 0), ('demand', 0)"

@@ -11,10 +11,10 @@ use Rattle.sqlite_value.specs.declared.keys.Key.{Key}
 use Rattle.sqlite_value.specs.Keys.{ascending}
 use Rattle.sqlite_value.specs.declared.value.Value.TheVariants.{Int}
 use Rattle.sqlite.specs.Schema.{Schema}
-use Rattle.shop_tables.specs.Layout.{IsShop}
-use Rattle.shop_tables.specs.Selecting.{is_select}
-use Rattle.shop_tables.proofs.Terms.{same, from_table, Reads}
-use Rattle.shop_tables.proofs.Texts.{by_code, parts_of_order, parts_of_terms, parts_of_tests, shop}
+use Rattle.shop_statements.specs.Layout.{IsShop}
+use Rattle.shop_statements.specs.Selecting.{is_select}
+use Rattle.shop_statements.proofs.Terms.{same, from_table, Reads}
+use Rattle.shop_statements.proofs.Texts.{shop}
 
 -- the first rows of a query, at most so many
 abbrev pub first_of : Term → Query → Query
@@ -26,6 +26,36 @@ above a b = op2 (Compare Gt Binary) a b
 
 abbrev pub below : Term → Term → Term
 below a b = op2 (Compare Lt Binary) a b
+
+abbrev pub parts_of_text : List ℕ
+parts_of_text = codes "SELECT act, node, material, batch, root_act, root_node, x, y, w, h, state, detail FROM parts WHERE material = ?1 AND (state = 0 OR state = 1) ORDER BY act, node"
+
+abbrev pub parts_of_tests : List Term
+parts_of_tests = same (col 1 3) (col 0 0) ∷ op2 Or (same (col 1 11) (lit (Int (pos 0)))) (same (col 1 11) (lit (Int (pos 1)))) ∷ []
+
+abbrev pub parts_of_terms : List Term
+parts_of_terms = col 1 1 ∷ col 1 2 ∷ col 1 3 ∷ col 1 4 ∷ col 1 5 ∷ col 1 6 ∷ col 1 7 ∷ col 1 8 ∷ col 1 9 ∷ col 1 10 ∷ col 1 11 ∷ col 1 12 ∷ []
+
+abbrev pub parts_of_order : List (Term × Key)
+parts_of_order = (col 1 1, ascending Binary) ∷ (col 1 2, ascending Binary) ∷ []
+
+abbrev pub all_parts_text : List ℕ
+all_parts_text = codes "SELECT act, node, material, batch, root_act, root_node, x, y, w, h, state, detail FROM parts ORDER BY act, node"
+
+abbrev pub all_codes_text : List ℕ
+all_codes_text = codes "SELECT code FROM materials ORDER BY code"
+
+abbrev pub all_codes_terms : List Term
+all_codes_terms = col 1 1 ∷ []
+
+abbrev pub by_code : List (Term × Key)
+by_code = (col 1 1, ascending Binary) ∷ []
+
+abbrev pub all_totals_text : List ℕ
+all_totals_text = codes "SELECT received, stock, rack, pieces, kerf, scrap, returned, material FROM totals2 ORDER BY material"
+
+abbrev pub all_totals_terms : List Term
+all_totals_terms = col 1 2 ∷ col 1 3 ∷ col 1 4 ∷ col 1 5 ∷ col 1 6 ∷ col 1 7 ∷ col 1 8 ∷ col 1 1 ∷ []
 
 abbrev pub all_materials_text : List ℕ
 all_materials_text = codes "SELECT kind, kerf, min_long, min_short, code FROM materials ORDER BY code"
@@ -85,6 +115,22 @@ abbrev pub last_number_tests : List Term
 last_number_tests = same (col 1 1) (col 0 0) ∷ []
 
 module _ (schema : Schema) (h : IsShop schema) where
+  pub parts_of_is : Reads (shop schema h) parts_of_text (from_table 4 parts_of_tests parts_of_terms parts_of_order) (codes "act" ∷ codes "node" ∷ codes "material" ∷ codes "batch" ∷ codes "root_act" ∷ codes "root_node" ∷ codes "x" ∷ codes "y" ∷ codes "w" ∷ codes "h" ∷ codes "state" ∷ codes "detail" ∷ [])
+  unfolding understood everything
+  parts_of_is = record { command = refl; listing = refl; plain = (refl, refl) }
+
+  pub all_parts_is : Reads (shop schema h) all_parts_text (from_table 4 [] parts_of_terms parts_of_order) (codes "act" ∷ codes "node" ∷ codes "material" ∷ codes "batch" ∷ codes "root_act" ∷ codes "root_node" ∷ codes "x" ∷ codes "y" ∷ codes "w" ∷ codes "h" ∷ codes "state" ∷ codes "detail" ∷ [])
+  unfolding understood everything
+  all_parts_is = record { command = refl; listing = refl; plain = (refl, refl) }
+
+  pub all_codes_is : Reads (shop schema h) all_codes_text (from_table 2 [] all_codes_terms by_code) (codes "code" ∷ [])
+  unfolding understood everything
+  all_codes_is = record { command = refl; listing = refl; plain = (refl, refl) }
+
+  pub all_totals_is : Reads (shop schema h) all_totals_text (from_table 17 [] all_totals_terms by_code) (codes "received" ∷ codes "stock" ∷ codes "rack" ∷ codes "pieces" ∷ codes "kerf" ∷ codes "scrap" ∷ codes "returned" ∷ codes "material" ∷ [])
+  unfolding understood everything
+  all_totals_is = record { command = refl; listing = refl; plain = (refl, refl) }
+
   pub all_materials_is : Reads (shop schema h) all_materials_text (from_table 2 [] all_materials_terms by_code) (codes "kind" ∷ codes "kerf" ∷ codes "min_long" ∷ codes "min_short" ∷ codes "code" ∷ [])
   unfolding understood everything
   all_materials_is = record { command = refl; listing = refl; plain = (refl, refl) }
@@ -112,6 +158,22 @@ module _ (schema : Schema) (h : IsShop schema) where
   pub last_number_is : Reads (shop schema h) last_number_text (first_of (lit (Int (pos 1))) (from_table 11 last_number_tests last_number_terms (falling 2))) (codes "number" ∷ [])
   unfolding understood everything
   last_number_is = record { command = refl; listing = refl; plain = (refl, refl) }
+
+pub parts_of_selects : is_select parts_of_text ≡ true
+unfolding everything
+parts_of_selects = refl
+
+pub all_parts_selects : is_select all_parts_text ≡ true
+unfolding everything
+all_parts_selects = refl
+
+pub all_codes_selects : is_select all_codes_text ≡ true
+unfolding everything
+all_codes_selects = refl
+
+pub all_totals_selects : is_select all_totals_text ≡ true
+unfolding everything
+all_totals_selects = refl
 
 pub all_materials_selects : is_select all_materials_text ≡ true
 unfolding everything

@@ -33,19 +33,20 @@ use Rattle.shop_machine.specs.declared.records.State.{State as PartState}
 use Rattle.shop_machine.specs.declared.records.State.TheVariants as stands
 use Rattle.shop_machine.proofs.Marks.{found_in}
 use Rattle.shop_tables.specs.Lending.{AreReadOf, IsHeldAt, IsLent, gone_through}
-use Rattle.shop_tables.specs.declared.faults.TableFault.{TableFault}
+use Rattle.shop_statements.specs.declared.faults.TableFault.{TableFault}
 use Rattle.shop_tables.specs.declared.lending.Lent.{Lent}
 use Rattle.shop_tables.specs.declared.lending.Lent.TheVariants as lent
-use Rattle.shop_tables.specs.Rows.{AreRows, IsKeyed, part_row, state_number}
-use Rattle.shop_tables.specs.Shown.{Books, Shows, Holds, OnBooks}
+use Rattle.shop_statements.specs.Rows.{AreRows, IsKeyed, part_row, state_number}
+use Rattle.shop_statements.specs.Shown.{Books, Shows, Holds, OnBooks}
 use Rattle.shop_tables.specs.Strange.{IsNoPart}
-use Rattle.shop_tables.specs.Values.{IsPartValue}
-use Rattle.shop_tables.proofs.Finding.{name_total, name_same}
-use Rattle.shop_tables.proofs.Keys.{equal, equal-Text, and_true, as_number, same_number}
-use Rattle.shop_tables.proofs.Lists.{filter-map}
+use Rattle.shop_statements.specs.Values.{IsPartValue}
+use Rattle.shop_statements.proofs.Finding.{name_total, name_same}
+use Rattle.shop_statements.proofs.Keys.{equal, equal-Text, and_true, as_number, same_number}
+use Rattle.shop_statements.proofs.Lists.{filter-map}
 use Rattle.shop_tables.proofs.Ordered.{filter_true, in_order}
-use Rattle.shop_tables.proofs.Terms.{Reads, from_table}
-use Rattle.shop_tables.proofs.Texts.{shop, shop_is, parts_of_text, parts_of_tests, parts_of_terms, parts_of_order, parts_of_is, all_parts_text, all_parts_is}
+use Rattle.shop_statements.proofs.Terms.{Reads, from_table}
+use Rattle.shop_tables.proofs.ListTexts.{parts_of_text, parts_of_tests, parts_of_terms, parts_of_order, parts_of_is, all_parts_text, all_parts_is}
+use Rattle.shop_statements.proofs.Texts.{shop, shop_is}
 
 -- ---- the order of the rows
 

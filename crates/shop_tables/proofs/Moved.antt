@@ -20,11 +20,11 @@ use Rattle.sqlite.specs.Rowids.TheVariants.{Chosen}
 use Rattle.sqlite.specs.Term.{Term}
 use Rattle.sqlite.specs.Query.{Query}
 use Rattle.sqlite.specs.Program.{IsProgramAnswer}
-use Rattle.shop_tables.specs.Rows.{AreRows}
-use Rattle.shop_tables.proofs.Keys.{reordered}
-use Rattle.shop_tables.proofs.Lists.{map-map}
-use Rattle.shop_tables.proofs.Puts.{added}
-use Rattle.shop_tables.proofs.Terms.{from_table}
+use Rattle.shop_statements.specs.Rows.{AreRows}
+use Rattle.shop_statements.proofs.Keys.{reordered}
+use Rattle.shop_statements.proofs.Lists.{map-map}
+use Rattle.shop_statements.proofs.Puts.{added}
+use Rattle.shop_statements.proofs.Terms.{from_table}
 
 -- collations matter to a query of distinct rows alone
 abbrev pub collated : Query → List Collation → Query

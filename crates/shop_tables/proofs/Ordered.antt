@@ -29,17 +29,18 @@ use Rattle.sqlite.proofs.Callers.{reads_as}
 use Rattle.cut_measure.specs.Codes.{code_cmp}
 use Rattle.shop_machine.specs.declared.records.Material.{Material}
 use Rattle.shop_tables.specs.Listing.{code_row, key_of, listed_row}
-use Rattle.shop_tables.specs.Rows.{AreRows, material_row, totals_row}
-use Rattle.shop_tables.specs.Selecting.{is_select}
-use Rattle.shop_tables.specs.Shown.{Books, Shows, Holds, Leaves}
-use Rattle.shop_tables.proofs.Finding.{code_total, code_same}
-use Rattle.shop_tables.proofs.Keys.{shown_as}
-use Rattle.shop_tables.proofs.Kept.{shown_open}
-use Rattle.shop_tables.proofs.Lists.{map-map}
-use Rattle.shop_tables.proofs.Maps.{one_order, sorted_filter, Rises}
-use Rattle.shop_tables.proofs.Selects.{selects}
-use Rattle.shop_tables.proofs.Terms.{Reads, from_table}
-use Rattle.shop_tables.proofs.Texts.{shop, shop_is, by_code, all_codes_text, all_codes_terms, all_codes_is, all_totals_text, all_totals_terms, all_totals_is}
+use Rattle.shop_statements.specs.Rows.{AreRows, material_row, totals_row}
+use Rattle.shop_statements.specs.Selecting.{is_select}
+use Rattle.shop_statements.specs.Shown.{Books, Shows, Holds, Leaves}
+use Rattle.shop_statements.proofs.Finding.{code_total, code_same}
+use Rattle.shop_statements.proofs.Keys.{shown_as}
+use Rattle.shop_statements.proofs.Kept.{shown_open}
+use Rattle.shop_statements.proofs.Lists.{map-map}
+use Rattle.shop_statements.proofs.Maps.{one_order, sorted_filter, Rises}
+use Rattle.shop_statements.proofs.Selects.{selects}
+use Rattle.shop_statements.proofs.Terms.{Reads, from_table}
+use Rattle.shop_tables.proofs.ListTexts.{by_code, all_codes_text, all_codes_terms, all_codes_is, all_totals_text, all_totals_terms, all_totals_is}
+use Rattle.shop_statements.proofs.Texts.{shop, shop_is}
 
 -- from places to each earlier and later element
 module _ {A : Type 0} (P : A → A → Type 0) where

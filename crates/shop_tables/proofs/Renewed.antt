@@ -31,23 +31,24 @@ use Rattle.sqlite_tied.specs.Compute.{everything}
 use Rattle.cut_measure.specs.Codes.{code_cmp}
 use Rattle.shop_machine.specs.Content.{Content}
 use Rattle.shop_machine.specs.declared.records.Totals.{Totals}
-use Rattle.shop_tables.specs.Layout.{shop_schema, IsShop, meta_table, totals_table, totals2_table}
-use Rattle.shop_tables.specs.Rows.{AreOrders, AreRows, meta_row, meta_entries, totals_row}
-use Rattle.shop_tables.specs.Shown.{Books, Shows}
-use Rattle.shop_tables.specs.Earlier.{earlier_schema, earlier_entries, earlier_row, HasNoneReturned, ShowsEarlier, Renews}
-use Rattle.shop_tables.proofs.Finding.{is_word, word_tests, word_later}
-use Rattle.shop_tables.proofs.Keys.{cast-Int, cast-Null, located, news_again, shown_as}
+use Rattle.shop_statements.specs.Layout.{shop_schema, IsShop, meta_table, totals_table, totals2_table}
+use Rattle.shop_statements.specs.Rows.{AreOrders, AreRows, meta_row, meta_entries, totals_row}
+use Rattle.shop_statements.specs.Shown.{Books, Shows}
+use Rattle.shop_tables.specs.Adopting.{Renews}
+use Rattle.shop_statements.specs.Earlier.{earlier_schema, earlier_entries, earlier_row, HasNoneReturned, ShowsEarlier}
+use Rattle.shop_statements.proofs.Finding.{is_word, word_tests, word_later}
+use Rattle.shop_statements.proofs.Keys.{cast-Int, cast-Null, located, news_again, shown_as}
 use Rattle.shop_tables.proofs.Lays.{ten_text, totals2_made, shop_is_shop}
-use Rattle.shop_tables.proofs.Lists.{map-map, map-same}
+use Rattle.shop_statements.proofs.Lists.{map-map, map-same}
 use Rattle.shop_tables.proofs.Making.{IsBatch, Next, makes, next, runs_in}
 use Rattle.shop_tables.proofs.Moved.{cleared, collated, filled_from, uncollated, unnumbered}
 use Rattle.shop_tables.proofs.Opened.{opened}
 use Rattle.shop_tables.proofs.Ordered.{filter_true}
-use Rattle.shop_tables.proofs.Puts.{added}
-use Rattle.shop_tables.proofs.Selects.{selects, selected}
-use Rattle.shop_tables.proofs.Terms.{Writes, from_table, same}
-use Rattle.shop_tables.proofs.Works.{no_works, not_taken, unlike}
-use Rattle.shop_tables.proofs.Writes.{IsEdited, bare, copied, deleted, updated}
+use Rattle.shop_statements.proofs.Puts.{added}
+use Rattle.shop_statements.proofs.Selects.{selects, selected}
+use Rattle.shop_statements.proofs.Terms.{Writes, from_table, same}
+use Rattle.shop_statements.proofs.Works.{no_works, not_taken, unlike}
+use Rattle.shop_statements.proofs.Writes.{IsEdited, bare, copied, deleted, updated}
 
 abbrev pub renew_text : List ℕ
 renew_text = codes "CREATE TABLE totals2 (material TEXT NOT NULL PRIMARY KEY REFERENCES materials (code), received INTEGER NOT NULL, stock INTEGER NOT NULL, rack INTEGER NOT NULL, pieces INTEGER NOT NULL, kerf INTEGER NOT NULL, scrap INTEGER NOT NULL, returned INTEGER NOT NULL) STRICT;INSERT INTO totals2 (material, received, stock, rack, pieces, kerf, scrap, returned) SELECT material, received, stock, rack, pieces, kerf, scrap, 0 FROM totals;DELETE FROM totals;UPDATE meta SET value = 2 WHERE name = 'version'"

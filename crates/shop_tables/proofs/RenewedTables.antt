@@ -9,8 +9,9 @@ use Rattle.sqlite.specs.Steps.{FailsToCommit}
 use Rattle.sqlite.specs.declared.error.Error.{Error}
 use Rattle.sqlite.proofs.StateLemmas.{survives_then}
 use Rattle.sqlite.proofs.Callers.{survives_begin}
-use Rattle.shop_tables.specs.Earlier.{HoldsEarlier, Renews, ShowsEarlier}
-use Rattle.shop_tables.specs.Shown.{Books, HasShopSchema, Holds, StandsIn, Within}
+use Rattle.shop_tables.specs.Adopting.{Renews}
+use Rattle.shop_statements.specs.Earlier.{HoldsEarlier, ShowsEarlier}
+use Rattle.shop_statements.specs.Shown.{Books, HasShopSchema, Holds, StandsIn, Within}
 use Rattle.shop_tables.proofs.Commits.{old, begun, shows_along, stands_in}
 use Rattle.shop_tables.proofs.EarlierRows.{shows_earlier_along}
 

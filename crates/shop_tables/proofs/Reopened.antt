@@ -20,10 +20,10 @@ use Rattle.sqlite_store.specs.FileStore.{view, recovers}
 use Rattle.sqlite_store.specs.FileStore as store
 use Rattle.sqlite_wal.specs.Recovery.{Image}
 use Rattle.shop_machine.specs.Content.{Content}
-use Rattle.shop_tables.specs.Earlier.{IsSettledEarlier, StandsEarlier, StandsInEarlier, earlier_schema}
-use Rattle.shop_tables.specs.Layout.{IsShop}
-use Rattle.shop_tables.specs.Rows.{Stands}
-use Rattle.shop_tables.specs.Shown.{Books, IsSettled, Holds, StandsIn}
+use Rattle.shop_statements.specs.Earlier.{IsSettledEarlier, StandsEarlier, StandsInEarlier, earlier_schema}
+use Rattle.shop_statements.specs.Layout.{IsShop}
+use Rattle.shop_statements.specs.Rows.{Stands}
+use Rattle.shop_statements.specs.Shown.{Books, IsSettled, Holds, StandsIn}
 use Rattle.shop_tables.specs.Held.{books, IsSettledAt, StandsFor}
 
 -- trees list one schema at most

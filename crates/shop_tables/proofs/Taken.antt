@@ -1,11 +1,17 @@
--- Which names a schema of ours takes.
-use Rattle.std.proofs.Common.{◌≡◌, ap, true, false, codes, Some, refl, sym, subst}
+-- Which names a schema of ours takes, and which version is named.
+use Rattle.std.proofs.Common.{◌≡◌, ◌≤◌, ◌∙◌, ℕ, pos, ap, true, false, codes, Some, refl, sym, subst, arith}
+use Rattle.sqlite_value.specs.declared.value.Value.TheVariants.{Int}
+use Rattle.sqlite_value.specs.Order.{Row}
+use Rattle.sqlite.specs.State.{State}
 use Rattle.sqlite.specs.Schema.{Schema}
 use Rattle.sqlite_schema.specs.Names.{same_name, table_named}
-use Rattle.shop_tables.specs.Adopting.{names_are_free, names_are_tables}
-use Rattle.shop_tables.specs.Earlier.{earlier_schema, names_are_earlier}
-use Rattle.shop_tables.specs.Layout.{IsShop}
-use Rattle.shop_tables.proofs.Texts.{shop, shop_is}
+use Rattle.shop_tables.specs.Adopting.{HasVersion, names_are_free, names_are_tables, names_are_earlier}
+use Rattle.shop_tables.specs.Strange.{Shows}
+use Rattle.shop_statements.specs.Found.{IsNumberRow}
+use Rattle.shop_statements.specs.Earlier.{earlier_schema}
+use Rattle.shop_statements.specs.Layout.{IsShop}
+use Rattle.shop_statements.proofs.Texts.{shop, shop_is}
+use Rattle.shop_statements.proofs.Versions.{number_read}
 
 abbrev Placed : Schema → Type 0
 Placed s = (table_named s (codes "meta") ≡ Some 0) × (table_named s (codes "materials") ≡ Some 1) × (table_named s (codes "parts") ≡ Some 2) × (table_named s (codes "jobs") ≡ Some 3) × (table_named s (codes "orders") ≡ Some 4) × (table_named s (codes "demands") ≡ Some 5) × (table_named s (codes "kept") ≡ Some 6) × (table_named s (codes "imports") ≡ Some 7) × (table_named s (codes "totals") ≡ Some 8) × (table_named s (codes "totals2") ≡ Some 9)
@@ -35,3 +41,11 @@ earlier_taken schema is = ap names_are_free is
 pub earlier_stand : (schema : Schema) → schema ≡ earlier_schema → names_are_earlier schema ≡ true
 unfolding same_name
 earlier_stand schema is = ap names_are_earlier is
+
+-- ---- the version that is named
+
+-- a number from the version to the version is the version
+pub version_named : (s : State) (row : Row) (wanted : ℕ) → IsNumberRow s (codes "version") row → (n : ℕ) × (wanted ≤ n) × (n ≤ wanted) × Shows row 0 (Int (pos n)) → HasVersion s wanted
+version_named s row wanted it h =
+    let same : h.0 ≡ wanted = let low = h.1 in let high = h.2 in omega (arith, low, high) in
+    number_read s (codes "version") row (Int (pos wanted)) it (h.3.1 ∙ ap (λ n. Int (pos n)) same)

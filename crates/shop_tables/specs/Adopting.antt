@@ -1,14 +1,14 @@
 -- What a connection is taken over from.
-use Rattle.std.specs.Prelude.{◌≡◌, ◌&&◌, not, is_some, Bool, ℕ, pos, List, [], ◌∷◌, codes, IsTrue, Contains}
-use Rattle.sqlite_value.specs.Order.{Row, column}
-use Rattle.sqlite_value.specs.declared.value.Value.TheVariants.{Int, Text}
+use Rattle.std.specs.Prelude.{◌≡◌, ◌&&◌, not, is_some, Bool, ℕ, pos, List, [], ◌∷◌, codes, IsTrue}
+use Rattle.sqlite_value.specs.declared.value.Value.TheVariants.{Int}
 use Rattle.sqlite_trees.specs.Tree.{Trees}
 use Rattle.sqlite.specs.State.{State, HasCleanDisk}
 use Rattle.sqlite_catalog.specs.Change.{is_used}
 use Rattle.sqlite_schema.specs.Names.{table_named}
 use Rattle.sqlite_schema.specs.declared.schema.Schema.{Schema}
-use Rattle.shop_tables.specs.Layout.{no_schema}
-use Rattle.shop_tables.specs.Shown.{Books, StandsIn}
+use Rattle.shop_statements.specs.Found.{IsNumberRow}
+use Rattle.shop_statements.specs.Layout.{no_schema, shop_schema}
+use Rattle.shop_statements.specs.Shown.{Books, Shows, StandsIn, fresh_books}
 
 abbrev pub is_table : Schema → List ℕ → Bool
 is_table schema name = is_some (table_named schema name)
@@ -21,13 +21,13 @@ names_are_free schema = not (is_used schema (codes "meta")) && (not (is_used sch
 abbrev pub names_are_tables : Schema → Bool
 names_are_tables schema = is_table schema (codes "meta") && (is_table schema (codes "materials") && (is_table schema (codes "parts") && (is_table schema (codes "jobs") && (is_table schema (codes "orders") && (is_table schema (codes "demands") && (is_table schema (codes "kept") && (is_table schema (codes "imports") && (is_table schema (codes "totals") && (is_table schema (codes "totals2"))))))))))
 
+-- each of its names is that of a table, and no table, index or view has the name of the one that came with version 2
+abbrev pub names_are_earlier : Schema → Bool
+names_are_earlier schema = is_table schema (codes "meta") && (is_table schema (codes "materials") && (is_table schema (codes "parts") && (is_table schema (codes "jobs") && (is_table schema (codes "orders") && (is_table schema (codes "demands") && (is_table schema (codes "kept") && (is_table schema (codes "imports") && (is_table schema (codes "totals") && not (is_used schema (codes "totals2"))))))))))
+
 -- it has no table, index or view, and nothing is under way
 abbrev pub IsVacant : State → Type 0
 IsVacant s = HasCleanDisk s → IsTrue s.is_open → (s.now.schema ≡ no_schema) × (s.now ≡ s.committed)
-
--- a row of `meta`, the first table of both versions, has the word, and this is shown of it
-abbrev pub IsNumberRow : State → List ℕ → Row → Type 0
-IsNumberRow s word shown = (row : Row) × Contains (s.now.trees 0) row × (column row 1 ≡ Text word) × (shown ≡ column row 2 ∷ [])
 
 -- a row of `meta` says that the tables are of this version
 abbrev pub HasVersion : State → ℕ → Type 0
@@ -36,3 +36,17 @@ HasVersion s version = IsNumberRow s (codes "version") (Int (pos version) ∷ []
 -- an open after a crash finds the books
 abbrev pub LeavesBooks : State → Books → Type 0
 LeavesBooks s b = HasCleanDisk s → (db : Trees) → s.may_leave db → StandsIn db b
+
+-- the tables of a new shop were made inside a transaction, which goes on
+pub record Lays (old new : State) : Type 0 where
+  pub earlier : HasCleanDisk new → HasCleanDisk old
+  pub on : HasCleanDisk new → IsTrue old.is_open × IsTrue new.is_open × IsTrue new.in_transaction
+  pub shows : HasCleanDisk new → Shows new fresh_books
+  pub schema : HasCleanDisk new → new.now.schema ≡ shop_schema
+
+-- The tables were brought to version 2 inside a transaction, which goes on, and stand for the same books.
+pub record Renews (old new : State) (b : Books) : Type 0 where
+  pub earlier : HasCleanDisk new → HasCleanDisk old
+  pub on : HasCleanDisk new → IsTrue old.is_open × IsTrue new.is_open × IsTrue new.in_transaction
+  pub shows : HasCleanDisk new → Shows new b
+  pub schema : HasCleanDisk new → new.now.schema ≡ shop_schema

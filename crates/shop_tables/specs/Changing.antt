@@ -16,7 +16,7 @@ use Rattle.shop_machine.specs.declared.records.Material.{Material}
 use Rattle.shop_machine.specs.declared.records.Part.{Part}
 use Rattle.shop_machine.specs.declared.records.Totals.{Totals}
 use Rattle.shop_tables.specs.Listing.{HaveTotals}
-use Rattle.shop_tables.specs.Shown.{Books}
+use Rattle.shop_statements.specs.Shown.{Books}
 
 -- The rows of totals are those of the known materials, and a code's totals are the sums of its parts.
 pub record HasSums (b : Books) : Type 0 where

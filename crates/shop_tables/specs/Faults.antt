@@ -1,15 +1,8 @@
--- Why the tables gave no answer.
-use Rattle.sqlite.specs.declared.error.Error.{Error}
-use Rattle.sqlite.specs.declared.error.Error.TheVariants.{SqliteFailure}
-use Rattle.sqlite.specs.declared.error.ErrorCode.TheVariants.{OutOfMemory}
+-- Why nothing was taken over.
+use Rattle.shop_statements.specs.declared.faults.TableFault.{TableFault}
+use Rattle.shop_statements.specs.declared.faults.TableFault.TheVariants.{NoMemory, Store}
 use Rattle.shop_tables.specs.declared.adopting.AdoptFault.{AdoptFault}
 use Rattle.shop_tables.specs.declared.adopting.AdoptFault.TheVariants as adopt
-use Rattle.shop_tables.specs.declared.faults.TableFault.{TableFault}
-use Rattle.shop_tables.specs.declared.faults.TableFault.TheVariants.{NoMemory, Store}
-
-abbrev pub fault_of : Error → TableFault
-fault_of (SqliteFailure OutOfMemory) = NoMemory
-fault_of _ = Store
 
 -- a fault of the tables as that of an adopt
 abbrev pub adopt_fault_of : TableFault → AdoptFault

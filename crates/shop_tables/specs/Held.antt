@@ -5,7 +5,7 @@ use Rattle.sqlite.specs.State.{State, HasCleanDisk}
 use Rattle.cut_measure.specs.Codes.{code_cmp}
 use Rattle.shop_machine.specs.Content.{Content}
 use Rattle.shop_machine.specs.declared.records.Totals.{Totals}
-use Rattle.shop_tables.specs.Shown.{Books, IsSettled, Holds, StandsIn}
+use Rattle.shop_statements.specs.Shown.{Books, IsSettled, Holds, StandsIn}
 use Rattle.shop_tables.specs.Changing.{HasSums}
 
 -- the books of a content and rows of totals

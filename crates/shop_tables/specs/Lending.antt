@@ -7,12 +7,12 @@ use Rattle.sqlite.specs.State.{HasCleanDisk, Shown, Begins}
 use Rattle.cut_measure.specs.Names.{Name}
 use Rattle.shop_machine.specs.declared.records.Part.{Part}
 use Rattle.shop_machine.specs.Visits.{HasSeen}
-use Rattle.shop_tables.specs.declared.faults.TableFault.{TableFault}
-use Rattle.shop_tables.specs.declared.faults.TableFault.TheVariants as fault
+use Rattle.shop_statements.specs.declared.faults.TableFault.{TableFault}
+use Rattle.shop_statements.specs.declared.faults.TableFault.TheVariants as fault
 use Rattle.shop_tables.specs.declared.lending.Lent.{Lent}
 use Rattle.shop_tables.specs.declared.lending.Lent.TheVariants as lent
-use Rattle.shop_tables.specs.Rows.{part_row}
-use Rattle.shop_tables.specs.Shown.{Books, Holds, IsAsWas}
+use Rattle.shop_statements.specs.Rows.{part_row}
+use Rattle.shop_statements.specs.Shown.{Books, Holds, IsAsWas}
 use Rattle.shop_tables.specs.Strange.{IsNoPart}
 
 -- the part is the one that the row is of

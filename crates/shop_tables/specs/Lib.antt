@@ -1,16 +1,8 @@
-pub mod Layout
-pub mod Values
-pub mod Rows
-pub mod Found
-pub mod Selecting
-pub mod Shown
 pub mod Faults
-pub mod Changes
 pub mod Changing
 pub mod Held
 pub mod Strange
 pub mod Lending
 pub mod Listing
 pub mod Adopting
-pub mod Earlier
 pub mod ListedRows

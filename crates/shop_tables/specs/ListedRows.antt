@@ -8,7 +8,7 @@ use Rattle.shop_machine.specs.declared.records.Part.{Part}
 use Rattle.shop_machine.specs.Content.{Content}
 use Rattle.shop_machine.specs.Listing.{IsLastNumber}
 use Rattle.shop_tables.specs.Listing.{code_row}
-use Rattle.shop_tables.specs.Rows.{demand_columns, material_columns, part_row}
+use Rattle.shop_statements.specs.Rows.{demand_columns, material_columns, part_row}
 
 abbrev pub number_row : ℕ → Row
 number_row number = Int (pos number) ∷ []

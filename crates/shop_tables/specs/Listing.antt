@@ -9,8 +9,8 @@ use Rattle.cut_measure.specs.Codes.{is_code}
 use Rattle.shop_machine.specs.Content.{material_at}
 use Rattle.shop_machine.specs.declared.changes.MaterialTotals.{MaterialTotals}
 use Rattle.shop_machine.specs.declared.records.Totals.{Totals}
-use Rattle.shop_tables.specs.Rows.{totals_columns}
-use Rattle.shop_tables.specs.Shown.{Books}
+use Rattle.shop_statements.specs.Rows.{totals_columns}
+use Rattle.shop_statements.specs.Shown.{Books}
 
 abbrev pub key_of : {X : Type 0} → List ℕ × X → List ℕ
 key_of e = e.0

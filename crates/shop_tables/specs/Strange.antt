@@ -4,8 +4,8 @@ use Rattle.sqlite_value.specs.declared.value.Value.{Value}
 use Rattle.sqlite_value.specs.declared.value.Value.TheVariants.{Int}
 use Rattle.sqlite_value.specs.Order.{Row, column}
 use Rattle.shop_machine.specs.declared.records.Part.{Part}
-use Rattle.shop_tables.specs.Rows.{part_row}
-use Rattle.shop_tables.specs.Values.{IsPartValue}
+use Rattle.shop_statements.specs.Rows.{part_row}
+use Rattle.shop_statements.specs.Values.{IsPartValue}
 
 -- the row has the value in this column
 abbrev pub Shows : Row → ℕ → Value → Type 0

@@ -4,18 +4,18 @@ ghost use Rattle.std.specs.Prelude.{◌≡◌, ◌≢◌, ◌⊎◌, true, false
 ghost use Rattle.sqlite.specs.State.{HasCleanDisk, Survives};
 ghost use Rattle.sqlite.specs.Held.{state};
 ghost use Rattle.sqlite_catalog.specs.Change.{is_used};
-ghost use Rattle.shop_tables.specs.Adopting.{HasVersion, IsVacant, LeavesBooks, is_table, names_are_free, names_are_tables};
-ghost use Rattle.shop_tables.specs.Earlier.{HoldsEarlier, IsSettledEarlier, OnBooksEarlier, earlier_schema, names_are_earlier};
-ghost use Rattle.shop_tables.specs.Faults.{adopt_fault_of, fault_of};
-ghost use Rattle.shop_tables.specs.Layout.{no_schema, IsShop};
-ghost use Rattle.shop_tables.specs.Shown.{Books, HasShopSchema, Holds, IsSettled, Leaves, OnBooks, StandsIn, fresh_books};
+ghost use Rattle.shop_tables.specs.Adopting.{HasVersion, IsVacant, LeavesBooks, is_table, names_are_free, names_are_tables, names_are_earlier};
+ghost use Rattle.shop_statements.specs.Earlier.{HoldsEarlier, IsSettledEarlier, OnBooksEarlier, earlier_schema};
+ghost use Rattle.shop_tables.specs.Faults.{adopt_fault_of};
+ghost use Rattle.shop_statements.specs.Faults.{fault_of};
+ghost use Rattle.shop_statements.specs.Layout.{no_schema, IsShop};
+ghost use Rattle.shop_statements.specs.Shown.{Books, HasShopSchema, Holds, IsSettled, Leaves, OnBooks, StandsIn, fresh_books};
 ghost use Rattle.shop_tables.specs.declared.adopting.Adopted.TheVariants.{Made, Found, Earlier};
 ghost use Rattle.shop_tables.specs.declared.adopting.AdoptFault.TheVariants.{WrongVersion};
 
-use crate::TableFault;
 use crate::laying::lay_tables;
-use crate::numbers::number_row;
 use crate::strange::has_number;
+use shop_statements::{TableFault, number_row};
 use sqlite::{Alter, Connection, Error};
 use sqlite_schema::schema::Schema;
 

@@ -6,21 +6,15 @@ ghost use Rattle.std.specs.FinMap.{get};
 ghost use Rattle.sqlite.specs.Held.{state};
 ghost use Rattle.shop_machine.specs.Content.{Content, material_at, has_order, kept_at, import_at};
 ghost use Rattle.shop_machine.specs.Soundness.{Fits, IsMovedPart, IsMovedJob, IsNewJob};
-ghost use Rattle.shop_tables.specs.Shown.{Books, Makes, Ran, Went, Within};
+ghost use Rattle.shop_statements.specs.Shown.{Books, Makes, Ran, Went, Within};
 ghost use Rattle.shop_tables.specs.Changing.{HasSums, AreNew, AreCounted, with_change, with_materials, with_moved, with_parts, with_jobs, with_orders, with_demands, with_messages, with_imports, with_sums, with_act, with_number, with_stock, with_work, with_numbers};
 
-use crate::TableFault;
-use crate::demands::{count_demand, put_demand};
-use crate::imports::put_import;
-use crate::jobs::{move_job, put_job};
-use crate::kept_messages::put_kept;
-use crate::materials::put_material;
-use crate::numbers::{set_last_act, set_last_demand};
-use crate::orders::put_order;
-use crate::parts::{move_part, put_part};
-use crate::sums::{put_totals, set_totals};
 use cut_measure::Code;
 use shop_machine::{Change, Demand, ImportRow, Job, KeptMessage, Material, MaterialTotals, Part};
+use shop_statements::{
+    TableFault, count_demand, move_job, move_part, put_demand, put_import, put_job, put_kept,
+    put_material, put_order, put_part, put_totals, set_last_act, set_last_demand, set_totals,
+};
 use sqlite::{Alter, Transaction};
 use std::alloc::Global;
 

@@ -7,9 +7,9 @@ ghost use Rattle.shop_machine.specs.Content.{Content, changed};
 ghost use Rattle.shop_machine.specs.Soundness.{Fits};
 ghost use Rattle.shop_tables.specs.Held.{HoldsContent, StandsFor, LeavesOnly};
 
-use crate::TableFault;
 use crate::changing::write_change;
 use shop_machine::Change;
+use shop_statements::TableFault;
 use sqlite::{Alter, Connection};
 use std::alloc::Global;
 

@@ -3,8 +3,9 @@
 ghost use Rattle.std.specs.Prelude.{◌≡◌, IsTrue, OnOk};
 ghost use Rattle.sqlite.specs.State.{HasCleanDisk};
 ghost use Rattle.sqlite.specs.Held.{state};
-ghost use Rattle.shop_tables.specs.Layout.{no_schema};
-ghost use Rattle.shop_tables.specs.Shown.{fresh_books, Within, Lays};
+ghost use Rattle.shop_statements.specs.Layout.{no_schema};
+ghost use Rattle.shop_tables.specs.Adopting.{Lays};
+ghost use Rattle.shop_statements.specs.Shown.{fresh_books, Within};
 
 use sqlite::{Alter, Error, Transaction};
 

@@ -4,20 +4,19 @@ ghost use Rattle.std.specs.Prelude.{◌≡◌, ◌≢◌, true, false, IfOk, IfS
 ghost use Rattle.sqlite.specs.Held.{state};
 ghost use Rattle.sqlite.specs.Values.{bound};
 ghost use Rattle.std.specs.FinMap.{values};
-ghost use Rattle.shop_tables.specs.Earlier.{OnBooksEarlier};
+ghost use Rattle.shop_statements.specs.Earlier.{OnBooksEarlier};
 ghost use Rattle.shop_tables.specs.Lending.{IsLent, IsReadOf, gone_through};
-ghost use Rattle.shop_tables.specs.Selecting.{is_select};
-ghost use Rattle.shop_tables.specs.Shown.{Leaves, OnBooks};
+ghost use Rattle.shop_statements.specs.Selecting.{is_select};
+ghost use Rattle.shop_statements.specs.Shown.{Leaves, OnBooks};
 ghost use Rattle.shop_tables.specs.Strange.{IsNoPart};
 ghost use Rattle.shop_tables.specs.declared.lending.Lent.TheVariants.{Strange};
 ghost use Rattle.shop_machine.specs.Content.{parts_of};
 ghost use Rattle.shop_machine.specs.Visits.{IsVisit};
 
-use crate::TableFault;
-use crate::columns::{code_in, name_in, number_in, size_in, state_in};
 use crate::strange::may_be_part;
 use cut_measure::Code;
 use shop_machine::{Part, PartVisitor};
+use shop_statements::{TableFault, code_in, name_in, number_in, size_in, state_in};
 use sqlite::types::ValueRef;
 use sqlite::{Alter, Connection, Row, params};
 

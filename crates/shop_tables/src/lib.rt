@@ -3,51 +3,32 @@
 
 mod adopting;
 mod changing;
-mod columns;
 mod committing;
-mod demands;
-mod faults;
 mod first_parts;
-mod imports;
-mod jobs;
-mod kept_messages;
 mod last_numbers;
 mod laying;
 mod lending;
 mod listed_rows;
 mod listing;
 mod material_lists;
-mod materials;
-mod numbers;
 mod open_demands;
-mod orders;
-mod parts;
 mod renewing;
 mod reopening;
-mod rows;
-mod running;
 mod strange;
-mod sums;
 mod waiting_jobs;
 
 pub use adopting::{AdoptFault, Adopted, adopt_tables};
 pub use committing::commit_change;
-pub use demands::find_demand;
-pub use faults::TableFault;
 pub use first_parts::list_first_parts;
-pub use imports::find_import;
-pub use jobs::find_job;
-pub use kept_messages::find_kept;
 pub use last_numbers::find_last_number;
 pub use lending::{Lent, lend_all_parts, lend_parts};
 pub use listing::list_totals;
 pub use material_lists::list_materials;
-pub use materials::find_material;
-pub use numbers::{find_last_act, find_last_demand};
 pub use open_demands::list_open_demands;
-pub use orders::find_order;
-pub use parts::find_part;
 pub use renewing::{list_earlier_totals, renew_shop};
 pub use reopening::left_contents_are_found;
-pub use sums::find_totals;
+pub use shop_statements::{
+    TableFault, find_demand, find_import, find_job, find_kept, find_last_act, find_last_demand,
+    find_material, find_order, find_part, find_totals,
+};
 pub use waiting_jobs::list_waiting_jobs;

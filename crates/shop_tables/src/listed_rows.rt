@@ -3,12 +3,9 @@
 ghost use Rattle.std.specs.Prelude.{◌≡◌, List, map, pos, IfOk};
 ghost use Rattle.sqlite_value.specs.Order.{Row as Values};
 
-use crate::TableFault;
-use crate::columns::{code_in, number_in};
-use crate::demands::read_demand;
 use crate::lending::read_whole;
-use crate::materials::read_material;
 use shop_machine::{Demand, Material, Part, RowList};
+use shop_statements::{TableFault, code_in, number_in, read_demand, read_material};
 use sqlite::Row;
 use std::alloc::Global;
 

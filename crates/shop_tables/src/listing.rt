@@ -4,16 +4,13 @@ ghost use Rattle.std.specs.Prelude.{◌≡◌, ◌≢◌, [], ◌∷◌, ℕ, Li
 ghost use Rattle.std.specs.FinMap.{entries};
 ghost use Rattle.sqlite.specs.Held.{state};
 ghost use Rattle.shop_machine.specs.declared.records.Totals.{Totals as TotalsRecord};
-ghost use Rattle.shop_tables.specs.Earlier.{OnBooksEarlier};
+ghost use Rattle.shop_statements.specs.Earlier.{OnBooksEarlier};
 ghost use Rattle.shop_tables.specs.Listing.{AreAllTotals, AreCodes, code_row, key_of, listed_row, named};
-ghost use Rattle.shop_tables.specs.Shown.{Leaves, OnBooks};
+ghost use Rattle.shop_statements.specs.Shown.{Leaves, OnBooks};
 
-use crate::TableFault;
-use crate::columns::code_in;
-use crate::rows::all_rows;
 use crate::strange::{has_word, may_be_totals};
-use crate::sums::read_totals;
 use shop_machine::MaterialTotals;
+use shop_statements::{TableFault, all_rows, code_in, read_totals};
 use sqlite::{Alter, Connection, Error, Row};
 use std::alloc::Global;
 

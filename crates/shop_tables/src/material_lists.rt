@@ -4,12 +4,11 @@ ghost use Rattle.std.specs.Prelude.{◌≡◌, false, map, IfOk};
 ghost use Rattle.sqlite.specs.Held.{state};
 ghost use Rattle.shop_machine.specs.Listing.{materials_of};
 ghost use Rattle.shop_tables.specs.ListedRows.{listed_material};
-ghost use Rattle.shop_tables.specs.Shown.{Leaves, OnBooks};
+ghost use Rattle.shop_statements.specs.Shown.{Leaves, OnBooks};
 
-use crate::TableFault;
 use crate::listed_rows::read_rows;
-use crate::rows::all_rows;
 use shop_machine::MaterialList;
+use shop_statements::{TableFault, all_rows};
 use sqlite::{Alter, Connection, Error, Row};
 use std::alloc::Global;
 

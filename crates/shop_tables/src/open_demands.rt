@@ -4,13 +4,12 @@ ghost use Rattle.std.specs.Prelude.{◌≡◌, false, map, take, Some, None, IfO
 ghost use Rattle.sqlite.specs.Held.{state};
 ghost use Rattle.shop_machine.specs.Listing.{open_demands};
 ghost use Rattle.shop_tables.specs.ListedRows.{listed_demand};
-ghost use Rattle.shop_tables.specs.Shown.{Leaves, OnBooks};
+ghost use Rattle.shop_statements.specs.Shown.{Leaves, OnBooks};
 
-use crate::TableFault;
 use crate::listed_rows::{at_most, read_rows};
-use crate::rows::all_rows;
 use cut_measure::Code;
 use shop_machine::DemandList;
+use shop_statements::{TableFault, all_rows};
 use sqlite::{Alter, Connection, Row, params};
 use std::alloc::Global;
 

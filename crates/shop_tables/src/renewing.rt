@@ -4,15 +4,14 @@ ghost use Rattle.std.specs.Prelude.{◌≡◌, false, map, IfOk, IsTrue, OnErr, 
 ghost use Rattle.std.specs.FinMap.{entries};
 ghost use Rattle.sqlite.specs.State.{HasCleanDisk, Survives};
 ghost use Rattle.sqlite.specs.Held.{state};
-ghost use Rattle.shop_tables.specs.Adopting.{LeavesBooks};
-ghost use Rattle.shop_tables.specs.Earlier.{HoldsEarlier, Renews, OnBooksEarlier, ShowsEarlier};
+ghost use Rattle.shop_tables.specs.Adopting.{LeavesBooks, Renews};
+ghost use Rattle.shop_statements.specs.Earlier.{HoldsEarlier, OnBooksEarlier, ShowsEarlier};
 ghost use Rattle.shop_tables.specs.Listing.{AreAllTotals, listed_row};
-ghost use Rattle.shop_tables.specs.Shown.{Books, HasShopSchema, Holds, Leaves, StandsIn, Within};
+ghost use Rattle.shop_statements.specs.Shown.{Books, HasShopSchema, Holds, Leaves, StandsIn, Within};
 
-use crate::TableFault;
 use crate::listing::{material_rows, read_all};
-use crate::rows::all_rows;
 use shop_machine::MaterialTotals;
+use shop_statements::{TableFault, all_rows};
 use sqlite::{Alter, Connection, Error, Row, Transaction};
 use std::alloc::Global;
 

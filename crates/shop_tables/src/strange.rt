@@ -11,9 +11,9 @@ ghost use Rattle.shop_machine.specs.declared.records.Part.{Part as PartRecord};
 ghost use Rattle.shop_machine.specs.declared.records.State.{State as PartState};
 ghost use Rattle.shop_machine.specs.declared.records.Totals.{Totals as TotalsRecord};
 ghost use Rattle.shop_tables.specs.Listing.{listed_row};
-ghost use Rattle.shop_tables.specs.Rows.{part_row, state_number};
+ghost use Rattle.shop_statements.specs.Rows.{part_row, state_number};
 ghost use Rattle.shop_tables.specs.Strange.{HasCounts, Shows};
-ghost use Rattle.shop_tables.specs.Values.{IsPartValue};
+ghost use Rattle.shop_statements.specs.Values.{IsPartValue};
 
 use cut_measure::{Code, MOST_HEIGHT, MOST_NUMBERS, MOST_WIDTH};
 use sqlite::Row;

@@ -5,12 +5,11 @@ ghost use Rattle.sqlite.specs.Held.{state};
 ghost use Rattle.shop_machine.specs.Listing.{waiting_jobs};
 ghost use Rattle.shop_machine.specs.declared.records.Job.{Job};
 ghost use Rattle.shop_tables.specs.ListedRows.{number_row};
-ghost use Rattle.shop_tables.specs.Shown.{Leaves, OnBooks};
+ghost use Rattle.shop_statements.specs.Shown.{Leaves, OnBooks};
 
-use crate::TableFault;
 use crate::listed_rows::{at_most, read_rows};
-use crate::rows::all_rows;
 use shop_machine::NumberList;
+use shop_statements::{TableFault, all_rows};
 use sqlite::{Alter, Connection, Row, params};
 use std::alloc::Global;
 

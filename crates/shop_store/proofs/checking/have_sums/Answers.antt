@@ -1,7 +1,7 @@
 use Rattle.std.proofs.Common.{◌∙◌, arith}
 use Rattle.sqlite.specs.Held.{state}
 use Rattle.sqlite.specs.State.{HasCleanDisk}
-use Rattle.shop_tables.proofs.Reading.{leaves_then}
+use Rattle.shop_statements.proofs.Reading.{leaves_then}
 use Rattle.shop_store.proofs.checking.have_sums.Goals as goal
 
 pub returns-clause-leaves : goal.returns-clause-leaves

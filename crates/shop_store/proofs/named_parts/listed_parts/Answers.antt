@@ -1,4 +1,4 @@
-use Rattle.shop_tables.proofs.Reading.{leaves_then}
+use Rattle.shop_statements.proofs.Reading.{leaves_then}
 use Rattle.shop_store.proofs.named_parts.listed_parts.Goals as goal
 
 pub returns-in-None-clause-leaves : goal.returns-in-None-clause-leaves

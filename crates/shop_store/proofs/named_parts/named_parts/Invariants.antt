@@ -1,6 +1,6 @@
 use Rattle.std.proofs.Common.{◌≡◌, false}
 use Rattle.sqlite.specs.Held.{state}
-use Rattle.shop_tables.specs.Shown.{Leaves, OnBooks}
+use Rattle.shop_statements.specs.Shown.{Leaves, OnBooks}
 use Rattle.shop_store.specs.NamedParts.{AreStanding}
 use Rattle.shop_store.proofs.named_parts.named_parts.Given as goal
 

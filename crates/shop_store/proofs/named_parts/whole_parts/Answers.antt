@@ -1,7 +1,7 @@
 use Rattle.std.proofs.Common.{arith, ◌∙◌, subst}
 use Rattle.sqlite.specs.Held.{state}
 use Rattle.sqlite.specs.State.{HasCleanDisk}
-use Rattle.shop_tables.proofs.Reading.{leaves_then}
+use Rattle.shop_statements.proofs.Reading.{leaves_then}
 use Rattle.shop_store.specs.NamedParts.{HaveCells}
 use Rattle.shop_store.proofs.Whole.{all_standing, keyed_then}
 use Rattle.shop_store.proofs.named_parts.whole_parts.Goals as goal

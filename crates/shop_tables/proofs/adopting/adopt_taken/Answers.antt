@@ -1,7 +1,6 @@
 use Rattle.std.proofs.Common.{◌∙◌, true≢false, sym, ap}
-use Rattle.shop_tables.specs.Adopting.{names_are_tables}
-use Rattle.shop_tables.specs.Earlier.{names_are_earlier}
-use Rattle.shop_tables.proofs.Reading.{leaves_itself}
+use Rattle.shop_tables.specs.Adopting.{names_are_tables, names_are_earlier}
+use Rattle.shop_statements.proofs.Reading.{leaves_itself}
 use Rattle.shop_tables.proofs.Taken.{stand, earlier_stand, not_earlier}
 use Rattle.shop_tables.proofs.adopting.adopt_taken.Goals as goal
 

@@ -2,7 +2,7 @@ use Rattle.std.proofs.Common.{◌≡◌, pos, [], ◌∷◌, Some, None, refl, a
 use Rattle.sqlite_value.specs.declared.value.Value.TheVariants.{Int}
 use Rattle.sqlite.specs.Held.{state}
 use Rattle.shop_tables.proofs.StrangeRows.{shown_in}
-use Rattle.shop_tables.proofs.Versions.{version_named}
+use Rattle.shop_tables.proofs.Taken.{version_named}
 use Rattle.shop_tables.proofs.adopting.has_version.Goals as goal
 
 pub returns-in_default-clause-ours : goal.returns-in_default-clause-ours

@@ -1,9 +1,9 @@
 use Rattle.std.proofs.Common.{◌≡◌, ◌∙◌, true, arith, sym, subst, ap, OnOk}
 use Rattle.sqlite.specs.Effect.{Database}
 use Rattle.sqlite.specs.Held.{state}
-use Rattle.shop_tables.specs.Adopting.{LeavesBooks}
-use Rattle.shop_tables.specs.Layout.{no_schema}
-use Rattle.shop_tables.specs.Shown.{HasShopSchema, Holds, Lays, StandsIn, fresh_books}
+use Rattle.shop_tables.specs.Adopting.{LeavesBooks, Lays}
+use Rattle.shop_statements.specs.Layout.{no_schema}
+use Rattle.shop_statements.specs.Shown.{HasShopSchema, Holds, StandsIn, fresh_books}
 use Rattle.shop_tables.proofs.LaidTables.{on_ok_from, commits_fresh, commits_schema}
 use Rattle.shop_tables.proofs.Commits.{stands_in}
 use Rattle.shop_tables.proofs.adopting.lay.Goals as goal

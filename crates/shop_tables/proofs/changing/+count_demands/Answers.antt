@@ -1,9 +1,9 @@
 use Rattle.std.proofs.Common.{refl, sym, subst}
-use Rattle.shop_tables.specs.Changes.{with_demand}
+use Rattle.shop_statements.specs.Changes.{with_demand}
 use Rattle.shop_tables.specs.Changing.{IsCounted, AreCounted, with_demands}
 use Rattle.sqlite.specs.Held.{state}
-use Rattle.shop_tables.specs.Shown.{Shows}
-use Rattle.shop_tables.proofs.Steps.{went_as, none_below, within_itself, within_then, went_then, on_ok_then}
+use Rattle.shop_statements.specs.Shown.{Shows}
+use Rattle.shop_statements.proofs.Steps.{went_as, none_below, within_itself, within_then, went_then, on_ok_then}
 use Rattle.shop_tables.proofs.InTurn.{chain}
 use Rattle.shop_tables.proofs.changing.+count_demands.Goals as goal
 

@@ -1,11 +1,11 @@
 use Rattle.std.proofs.Common.{◌≡◌, None, refl, sym, subst}
 use Rattle.shop_machine.specs.Content.{part_at}
 use Rattle.shop_machine.specs.declared.records.Part.{Part}
-use Rattle.shop_tables.specs.Changes.{with_part}
+use Rattle.shop_statements.specs.Changes.{with_part}
 use Rattle.shop_tables.specs.Changing.{AreNew, with_parts}
 use Rattle.sqlite.specs.Held.{state}
-use Rattle.shop_tables.specs.Shown.{Shows}
-use Rattle.shop_tables.proofs.Steps.{went_as, none_below, within_itself, within_then, went_then, on_ok_then}
+use Rattle.shop_statements.specs.Shown.{Shows}
+use Rattle.shop_statements.proofs.Steps.{went_as, none_below, within_itself, within_then, went_then, on_ok_then}
 use Rattle.shop_tables.proofs.InTurn.{chain}
 use Rattle.shop_tables.proofs.changing.+put_parts.Goals as goal
 

@@ -1,5 +1,5 @@
 use Rattle.std.proofs.Common.{[], sym}
-use Rattle.shop_tables.proofs.Kept.{not_run_keeps}
+use Rattle.shop_statements.proofs.Kept.{not_run_keeps}
 use Rattle.shop_tables.proofs.Commits.{shows_along}
 use Rattle.shop_tables.proofs.changing.keep.Goals as goal
 

@@ -1,6 +1,6 @@
 use Rattle.std.proofs.Common.{refl}
 use Rattle.shop_tables.specs.Changing.{with_messages, with_jobs, with_stock, with_work, with_numbers}
-use Rattle.shop_tables.proofs.Steps.{went_as, went_then, ran_then, makes_then, within_then, on_ok_then, on_ok_both}
+use Rattle.shop_statements.proofs.Steps.{went_as, went_then, ran_then, makes_then, within_then, on_ok_then, on_ok_both}
 use Rattle.shop_tables.proofs.Fitting.{job_fits}
 use Rattle.shop_tables.proofs.changing.write_change.Goals as goal
 

@@ -1,5 +1,5 @@
 use Rattle.std.proofs.Common.{refl}
-use Rattle.shop_tables.proofs.Steps.{within_itself}
+use Rattle.shop_statements.proofs.Steps.{within_itself}
 use Rattle.shop_tables.proofs.changing.write_job.Goals as goal
 
 pub returns-in-None-clause-put : goal.returns-in-None-clause-put

@@ -1,4 +1,4 @@
-use Rattle.shop_tables.proofs.Steps.{within_itself}
+use Rattle.shop_statements.proofs.Steps.{within_itself}
 use Rattle.shop_tables.proofs.changing.write_last_demand.Goals as goal
 
 pub returns-in-Some-clause-put : goal.returns-in-Some-clause-put

@@ -1,6 +1,6 @@
 use Rattle.std.proofs.Common.{ap, ◌∙◌}
 use Rattle.std.specs.FinMap.{get}
-use Rattle.shop_tables.proofs.Steps.{within_itself}
+use Rattle.shop_statements.proofs.Steps.{within_itself}
 use Rattle.shop_tables.proofs.changing.write_moved.Goals as goal
 
 pub returns-in-Some-clause-put : goal.returns-in-Some-clause-put

@@ -1,5 +1,5 @@
 use Rattle.shop_tables.specs.Changing.{with_act, with_number}
-use Rattle.shop_tables.proofs.Steps.{makes_then, within_then, went_then, on_ok_then, on_ok_both}
+use Rattle.shop_statements.proofs.Steps.{makes_then, within_then, went_then, on_ok_then, on_ok_both}
 use Rattle.shop_tables.proofs.changing.write_numbers.Goals as goal
 
 pub returns-clause-put : goal.returns-clause-put

@@ -1,5 +1,5 @@
 use Rattle.std.proofs.Common.{◌≡◌, true, false, not, Some, None, Option, is_some, refl, ap, ◌∙◌}
-use Rattle.shop_tables.proofs.Steps.{within_itself}
+use Rattle.shop_statements.proofs.Steps.{within_itself}
 use Rattle.shop_tables.proofs.changing.write_totals.Goals as goal
 
 none_at : {X : Type 0} (found : Option X) → is_some found ≡ false → found ≡ None

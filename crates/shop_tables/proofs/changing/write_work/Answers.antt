@@ -3,7 +3,7 @@ use Rattle.std.specs.Prelude.{IfSome, MatchOption}
 use Rattle.std.specs.FinMap.{get}
 use Rattle.std.specs.FinSet as set
 use Rattle.shop_tables.specs.Changing.{AreNew, AreCounted, with_orders, with_imports, with_demands}
-use Rattle.shop_tables.proofs.Steps.{went_then, makes_then, within_then, on_ok_then, on_ok_both}
+use Rattle.shop_statements.proofs.Steps.{went_then, makes_then, within_then, on_ok_then, on_ok_both}
 use Rattle.shop_tables.proofs.Fitting.{demands_fit, import_new}
 use Rattle.shop_tables.proofs.changing.write_work.Goals as goal
 

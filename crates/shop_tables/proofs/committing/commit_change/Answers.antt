@@ -3,10 +3,10 @@ use Rattle.sqlite.specs.State.{HasCleanDisk, Survives}
 use Rattle.sqlite.specs.Held.{state}
 use Rattle.sqlite.specs.Effect.{Database}
 use Rattle.shop_machine.specs.Content.{changed}
-use Rattle.shop_tables.specs.Shown.{Ran, Makes, Within}
+use Rattle.shop_statements.specs.Shown.{Ran, Makes, Within}
 use Rattle.shop_tables.specs.Changing.{with_change}
 use Rattle.shop_tables.specs.Held.{books, HoldsContent, StandsFor, LeavesOnly}
-use Rattle.shop_tables.proofs.Steps.{on_err}
+use Rattle.shop_statements.proofs.Steps.{on_err}
 use Rattle.shop_tables.proofs.Commits.{undone, failed, committed, survived, stands_end}
 use Rattle.shop_tables.proofs.committing.commit_change.Goals as goal
 

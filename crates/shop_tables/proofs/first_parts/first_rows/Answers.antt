@@ -6,7 +6,7 @@ use Rattle.shop_tables.specs.ListedRows.{listed_part}
 use Rattle.shop_tables.proofs.FirstParts.{lists_first_parts}
 use Rattle.shop_tables.proofs.FirstRows.{held_given}
 use Rattle.shop_tables.proofs.ListTexts.{first_parts_text, first_parts_selects}
-use Rattle.shop_tables.proofs.Reading.{leaves_itself}
+use Rattle.shop_statements.proofs.Reading.{leaves_itself}
 use Rattle.shop_tables.proofs.first_parts.first_rows.Goals as goal
 
 pub returns-in_err-limit-clause-leaves : goal.returns-in_err-limit-clause-leaves

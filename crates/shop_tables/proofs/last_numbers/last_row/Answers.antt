@@ -3,7 +3,7 @@ use Rattle.std.proofs.lemmas.Result.{IfOk-weaker}
 use Rattle.sqlite.specs.Held.{state}
 use Rattle.sqlite.specs.State.{HasCleanDisk}
 use Rattle.sqlite_value.specs.declared.value.Value.TheVariants.{Int}
-use Rattle.shop_tables.proofs.Kept.{shown_open}
+use Rattle.shop_statements.proofs.Kept.{shown_open}
 use Rattle.shop_tables.proofs.LastNumbers.{finds_last}
 use Rattle.shop_tables.proofs.ListTexts.{last_number_text, last_number_selects}
 use Rattle.shop_tables.proofs.last_numbers.last_row.Goals as goal

@@ -4,10 +4,10 @@ use Rattle.sqlite.specs.Held.{state}
 use Rattle.sqlite.specs.Values.{bound}
 use Rattle.shop_tables.specs.Lending.{IsLent}
 use Rattle.shop_tables.specs.declared.lending.Lent.TheVariants as lent
-use Rattle.shop_tables.specs.Shown.{Leaves}
+use Rattle.shop_statements.specs.Shown.{Leaves}
 use Rattle.shop_tables.proofs.Going.{started, no_answer, leaves_stays, none_lent, broken_off, strange_at, all_lent, stopped_at, went_to}
-use Rattle.shop_tables.proofs.Kept.{fails_stays, query_survives}
-use Rattle.shop_tables.proofs.Reading.{leaves_then}
+use Rattle.shop_statements.proofs.Kept.{fails_stays, query_survives}
+use Rattle.shop_statements.proofs.Reading.{leaves_then}
 use Rattle.shop_tables.proofs.lending.lend.Goals as goal
 
 pub returns-in_err-rows-clause-lent : goal.returns-in_err-rows-clause-lent

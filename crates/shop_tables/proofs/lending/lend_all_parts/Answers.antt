@@ -4,7 +4,7 @@ use Rattle.sqlite.specs.State.{HasCleanDisk}
 use Rattle.shop_tables.proofs.EarlierParts.{not_strange_earlier, visited_earlier}
 use Rattle.std.specs.FinMap.{values}
 use Rattle.shop_tables.proofs.Listed.{all_there, first_there, none_stranger, not_strange, visited}
-use Rattle.shop_tables.proofs.Texts.{all_parts_text, all_parts_selects}
+use Rattle.shop_tables.proofs.ListTexts.{all_parts_text, all_parts_selects}
 use Rattle.shop_tables.proofs.lending.lend_all_parts.Goals as goal
 
 pub lend-requires : goal.lend-requires

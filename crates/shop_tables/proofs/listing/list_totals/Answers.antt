@@ -5,8 +5,8 @@ use Rattle.sqlite.specs.Held.{state}
 use Rattle.sqlite.specs.State.{HasCleanDisk}
 use Rattle.shop_tables.specs.Listing.{code_row, key_of}
 use Rattle.shop_tables.proofs.AllTotals.{all_totals}
-use Rattle.shop_tables.proofs.Lists.{map-map}
-use Rattle.shop_tables.proofs.Reading.{leaves_then}
+use Rattle.shop_statements.proofs.Lists.{map-map}
+use Rattle.shop_statements.proofs.Reading.{leaves_then}
 use Rattle.shop_tables.proofs.listing.list_totals.Goals as goal
 
 pub returns-clause-rows : goal.returns-clause-rows

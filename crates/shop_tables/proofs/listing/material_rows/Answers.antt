@@ -2,13 +2,13 @@ use Rattle.std.proofs.Common.{map, arith}
 use Rattle.std.specs.FinMap.{entries}
 use Rattle.sqlite.specs.Held.{state}
 use Rattle.sqlite.specs.State.{HasCleanDisk}
-use Rattle.shop_tables.specs.Earlier.{ShowsEarlier, earlier_schema}
+use Rattle.shop_statements.specs.Earlier.{ShowsEarlier, earlier_schema}
 use Rattle.shop_tables.specs.Listing.{AreCodes, key_of}
-use Rattle.shop_tables.specs.Shown.{Shows}
+use Rattle.shop_statements.specs.Shown.{Shows}
 use Rattle.shop_tables.proofs.AllTotals.{all_coded}
 use Rattle.shop_tables.proofs.EarlierRows.{earlier_codes_is, rows_given_earlier}
 use Rattle.shop_tables.proofs.Ordered.{lists_codes, lists_codes_of, rows_given, seen_then}
-use Rattle.shop_tables.proofs.Texts.{all_codes_text, all_codes_selects}
+use Rattle.shop_tables.proofs.ListTexts.{all_codes_text, all_codes_selects}
 use Rattle.shop_tables.proofs.listing.material_rows.Goals as goal
 
 pub returns-clause-rows : goal.returns-clause-rows

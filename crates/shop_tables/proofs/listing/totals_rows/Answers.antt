@@ -1,6 +1,6 @@
 use Rattle.sqlite.specs.Held.{state}
 use Rattle.shop_tables.proofs.Ordered.{lists_totals, rows_given}
-use Rattle.shop_tables.proofs.Texts.{all_totals_text, all_totals_selects}
+use Rattle.shop_tables.proofs.ListTexts.{all_totals_text, all_totals_selects}
 use Rattle.shop_tables.proofs.listing.totals_rows.Goals as goal
 
 pub returns-clause-rows : goal.returns-clause-rows

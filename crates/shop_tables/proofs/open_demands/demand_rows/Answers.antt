@@ -5,7 +5,7 @@ use Rattle.shop_machine.specs.Listing.{open_demands}
 use Rattle.shop_tables.specs.ListedRows.{listed_demand}
 use Rattle.shop_tables.proofs.FirstRows.{held_given, lists_open_demands}
 use Rattle.shop_tables.proofs.ListTexts.{open_demands_text, open_demands_selects}
-use Rattle.shop_tables.proofs.Reading.{leaves_itself}
+use Rattle.shop_statements.proofs.Reading.{leaves_itself}
 use Rattle.shop_tables.proofs.open_demands.demand_rows.Goals as goal
 
 pub returns-in_err-limit-clause-leaves : goal.returns-in_err-limit-clause-leaves

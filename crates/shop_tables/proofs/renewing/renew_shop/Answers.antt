@@ -2,12 +2,12 @@ use Rattle.std.proofs.Common.{◌≡◌, ◌∙◌, IsTrue, sym, subst, ap, arit
 use Rattle.sqlite.specs.State.{HasCleanDisk, Survives}
 use Rattle.sqlite.specs.Held.{state}
 use Rattle.sqlite.specs.Effect.{Database}
-use Rattle.shop_tables.specs.Adopting.{LeavesBooks}
-use Rattle.shop_tables.specs.Earlier.{HoldsEarlier, Renews, ShowsEarlier}
-use Rattle.shop_tables.specs.Shown.{HasShopSchema, Holds, StandsIn, Within}
+use Rattle.shop_tables.specs.Adopting.{LeavesBooks, Renews}
+use Rattle.shop_statements.specs.Earlier.{HoldsEarlier, ShowsEarlier}
+use Rattle.shop_statements.specs.Shown.{HasShopSchema, Holds, StandsIn, Within}
 use Rattle.shop_tables.proofs.Commits.{stands_in}
 use Rattle.shop_tables.proofs.RenewedTables.{begins, undone_earlier, renewal_commits, renewal_failed, renewal_schema, renewal_survives}
-use Rattle.shop_tables.proofs.Steps.{on_err}
+use Rattle.shop_statements.proofs.Steps.{on_err}
 use Rattle.shop_tables.proofs.renewing.renew_shop.Goals as goal
 
 pub returns-in_err-renew_tables-clause-as_before : goal.returns-in_err-renew_tables-clause-as_before

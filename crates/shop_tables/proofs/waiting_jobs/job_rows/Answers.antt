@@ -6,7 +6,7 @@ use Rattle.shop_machine.specs.declared.records.Job.{Job}
 use Rattle.shop_tables.specs.ListedRows.{number_row}
 use Rattle.shop_tables.proofs.FirstRows.{held_given, lists_waiting_jobs}
 use Rattle.shop_tables.proofs.ListTexts.{waiting_jobs_text, waiting_jobs_selects}
-use Rattle.shop_tables.proofs.Reading.{leaves_itself}
+use Rattle.shop_statements.proofs.Reading.{leaves_itself}
 use Rattle.shop_tables.proofs.waiting_jobs.job_rows.Goals as goal
 
 pub returns-in_err-limit-clause-leaves : goal.returns-in_err-limit-clause-leaves

@@ -4,11 +4,11 @@ use Rattle.sqlite.specs.State.{Survives}
 use Rattle.sqlite.specs.Held.{state}
 use Rattle.shop_machine.specs.Content.{fresh}
 use Rattle.shop_tables.specs.Held.{books, HoldsContent, LeavesOnly, StandsFor}
-use Rattle.shop_tables.specs.Shown.{HasShopSchema, Leaves}
+use Rattle.shop_statements.specs.Shown.{HasShopSchema, Leaves}
 use Rattle.shop_tables.proofs.Taken.{earlier_taken, taken}
 use Rattle.shop_store.proofs.Commits.{still_leaves}
 use Rattle.sqlite.specs.State.{HasCleanDisk}
-use Rattle.shop_tables.proofs.Reading.{leaves_then}
+use Rattle.shop_statements.proofs.Reading.{leaves_then}
 use Rattle.shop_store.proofs.Adopting.{holds_fresh, survives_fresh, leaves_fresh, holds_settled, wrong_version}
 use Rattle.shop_store.proofs.Checked.{either_way, if_back, if_book}
 use Rattle.shop_store.proofs.EarlierContents.{leaves_survives, settled_earlier}

@@ -2,7 +2,7 @@ use Rattle.std.proofs.Common.{Err, ap, sym, subst}
 use Rattle.sqlite.specs.Held.{state}
 use Rattle.sqlite.specs.State.{Survives}
 use Rattle.shop_tables.specs.Held.{HoldsContent, LeavesOnly, StandsFor}
-use Rattle.shop_tables.specs.Shown.{HasShopSchema}
+use Rattle.shop_statements.specs.Shown.{HasShopSchema}
 use Rattle.shop_store.proofs.sql.SqlBook.renewed.Goals as goal
 
 pub returns-in-Ok-clause-renewed : goal.returns-in-Ok-clause-renewed

@@ -1,6 +1,6 @@
 use Rattle.shop_machine.specs.Content.{parts_of}
 use Rattle.shop_tables.specs.Changing.{HasSums}
-use Rattle.shop_tables.specs.Shown.{Books}
+use Rattle.shop_statements.specs.Shown.{Books}
 use Rattle.shop_store.proofs.Telling.{says_of, keeps_reading}
 use Rattle.shop_store.proofs.Taking.{visit_told}
 use Rattle.shop_store.proofs.sql.SqlBookBook.visit_parts.Goals as goal

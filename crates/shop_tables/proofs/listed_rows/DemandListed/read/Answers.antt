@@ -2,7 +2,7 @@ use Rattle.std.proofs.Common.{◌≡◌, pos}
 use Rattle.sqlite_value.specs.declared.value.Value.TheVariants.{Int}
 use Rattle.sqlite_value.specs.Order.{column}
 use Rattle.shop_tables.specs.ListedRows.{listed_demand, number_row}
-use Rattle.shop_tables.proofs.Reading.{one_number}
+use Rattle.shop_statements.proofs.Reading.{one_number}
 use Rattle.shop_tables.proofs.listed_rows.DemandListed.read.Goals as goal
 
 pub returns : goal.returns

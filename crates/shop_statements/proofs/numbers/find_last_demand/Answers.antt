@@ -1,0 +1,5 @@
+use Rattle.std.proofs.Common.{refl}
+use Rattle.shop_statements.proofs.numbers.find_last_demand.Goals as goal
+
+pub returns-clause-number : goal.returns-clause-number
+returns-clause-number g c clean b was = c.number_of.ensures.number clean b was b.content.last_demand refl

@@ -1,0 +1,14 @@
+use Rattle.sqlite.specs.Held.{state}
+use Rattle.shop_statements.specs.Rows.{totals_row}
+use Rattle.shop_statements.specs.Changes.{with_totals}
+use Rattle.shop_statements.proofs.Texts.{put_totals_text}
+use Rattle.shop_statements.proofs.Writing.{makes}
+use Rattle.shop_statements.proofs.Putting.{puts_totals}
+use Rattle.shop_statements.proofs.sums.put_totals.Goals as goal
+
+pub returns-clause-put : goal.returns-clause-put
+returns-clause-put g c b fresh =
+    let old = state g.S.Store c.args.tx.now.conn.now in
+    let new = state g.S.Store c.run_totals.new.tx.conn.now in
+    makes put_totals_text (totals_row (c.args.material, c.args.totals.now)) old new b (with_totals c.args.material c.args.totals.now b) c.run_totals.result c.run_totals.ensures.has_run
+    (λ count has ran. puts_totals old new count b has c.args.material c.args.totals.now fresh ran)

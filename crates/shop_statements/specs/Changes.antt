@@ -1,0 +1,46 @@
+-- What each writing makes of the books.
+use Rattle.std.specs.Prelude.{ℕ, List}
+use Rattle.std.specs.FinMap.{insert}
+use Rattle.std.specs.FinSet as set
+use Rattle.shop_machine.specs.declared.records.Material.{Material}
+use Rattle.shop_machine.specs.declared.records.Part.{Part}
+use Rattle.shop_machine.specs.declared.records.Job.{Job}
+use Rattle.shop_machine.specs.declared.records.Demand.{Demand}
+use Rattle.shop_machine.specs.declared.records.Totals.{Totals}
+use Rattle.shop_machine.specs.declared.imports.ImportRow.{ImportRow}
+use Rattle.shop_machine.specs.declared.texts.KeptMessage.{KeptMessage}
+use Rattle.shop_statements.specs.Shown.{Books}
+
+abbrev pub with_material : Material → Books → Books
+with_material material b = record b { content = record b.content { materials = insert b.content.materials material.code material } }
+
+-- a new part, or one in another state
+abbrev pub with_part : Part → Books → Books
+with_part part b = record b { content = record b.content { parts = insert b.content.parts part.name part } }
+
+-- a new job, or one in another state
+abbrev pub with_job : Job → Books → Books
+with_job job b = record b { content = record b.content { jobs = insert b.content.jobs job.act job } }
+
+abbrev pub with_order : List ℕ → Books → Books
+with_order code b = record b { content = record b.content { orders = set.insert b.content.orders code } }
+
+-- a new demand, or one with other counts
+abbrev pub with_demand : Demand → Books → Books
+with_demand demand b = record b { content = record b.content { demands = insert b.content.demands demand.number demand } }
+
+abbrev pub with_kept : KeptMessage → Books → Books
+with_kept message b = record b { content = record b.content { kept = insert b.content.kept message.pair message.kept } }
+
+abbrev pub with_import : ImportRow → Books → Books
+with_import row b = record b { content = record b.content { imports = insert b.content.imports row.order row } }
+
+-- the totals of a material, new or other ones
+abbrev pub with_totals : List ℕ → Totals → Books → Books
+with_totals material totals b = record b { totals = insert b.totals material totals }
+
+abbrev pub with_last_act : ℕ → Books → Books
+with_last_act act b = record b { content = record b.content { last_act = act } }
+
+abbrev pub with_last_demand : ℕ → Books → Books
+with_last_demand demand b = record b { content = record b.content { last_demand = demand } }

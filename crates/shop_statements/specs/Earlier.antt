@@ -1,0 +1,74 @@
+-- The tables of version 1, and what they stand for.
+use Rattle.std.specs.Prelude.{◌≡◌, ℕ, pos, List, [], ◌∷◌, map, codes, IsTrue}
+use Rattle.std.specs.List.{AllByRecursion}
+use Rattle.std.specs.FinMap.{FinMap, entries}
+use Rattle.sqlite_value.specs.declared.value.Value.TheVariants.{Int, Text}
+use Rattle.sqlite_value.specs.Order.{Row}
+use Rattle.sqlite_trees.specs.Tree.{Trees}
+use Rattle.sqlite_schema.specs.declared.schema.Schema.{Schema}
+use Rattle.sqlite_catalog.specs.Listing.{IsSound}
+use Rattle.sqlite.specs.Effect.{IsDatabase}
+use Rattle.sqlite.specs.State.{State, HasCleanDisk}
+use Rattle.cut_measure.specs.Codes.{code_cmp}
+use Rattle.shop_machine.specs.Content.{Content}
+use Rattle.shop_machine.specs.declared.records.Totals.{Totals}
+use Rattle.shop_statements.specs.Layout.{created_all, no_schema, meta_table, materials_table, parts_table, jobs_table, orders_table, demands_table, kept_table, imports_table, totals_table}
+use Rattle.shop_statements.specs.Rows.{AreRows, AreOrders, IsKeyed, meta_row, material_row, part_row, job_row, demand_row, kept_row, import_row}
+use Rattle.shop_statements.specs.Shown.{Books}
+
+-- Version 1 has these nine tables and nothing else.
+abbrev pub earlier_schema : Schema
+earlier_schema =
+    created_all
+    (meta_table ∷ materials_table ∷ parts_table ∷ jobs_table ∷ orders_table ∷ demands_table ∷ kept_table ∷ imports_table
+    ∷ totals_table ∷ [])
+    no_schema
+
+abbrev pub earlier_entries : Content → List (List ℕ × ℕ)
+earlier_entries m = (codes "version", 1) ∷ (codes "act", m.last_act) ∷ (codes "demand", m.last_demand) ∷ []
+
+-- a row of totals, which has nothing of what was returned
+abbrev pub earlier_row : List ℕ × Totals → Row
+earlier_row e =
+    Text e.0 ∷ Int (pos e.1.received) ∷ Int (pos e.1.stock) ∷ Int (pos e.1.rack) ∷ Int (pos e.1.pieces) ∷ Int (pos e.1.kerf)
+    ∷ Int (pos e.1.scrap) ∷ []
+
+abbrev pub HasNoneReturned : List ℕ × Totals → Type 0
+HasNoneReturned e = e.1.returned ≡ 0
+
+-- The trees have the rows that stand for the content and the totals in version 1, in which nothing was returned.
+pub record StandsEarlier (db : Trees) (m : Content) (sums : FinMap code_cmp Totals) : Type 0 where
+  pub meta : AreRows 1 (map meta_row (earlier_entries m)) (db 0)
+  pub materials : AreRows 1 (map material_row (entries m.materials)) (db 2)
+  pub parts : AreRows 1 (map part_row (entries m.parts)) (db 4)
+  pub jobs : AreRows 0 (map job_row (entries m.jobs)) (db 6)
+  pub orders : AreOrders m.orders (db 7)
+  pub demands : AreRows 0 (map demand_row (entries m.demands)) (db 9)
+  pub kept : AreRows 1 (map kept_row (entries m.kept)) (db 11)
+  pub imports : AreRows 1 (map import_row (entries m.imports)) (db 13)
+  pub totals : AreRows 1 (map earlier_row (entries sums)) (db 15)
+  pub returned : AllByRecursion HasNoneReturned (entries sums)
+
+-- the rows that the connection sees stand for the books in version 1
+pub record ShowsEarlier (s : State) (b : Books) : Type 0 where
+  pub schema : s.now.schema ≡ earlier_schema
+  pub sound : IsDatabase s.now
+  pub stands : StandsEarlier s.now.trees b.content b.totals
+  pub keyed : IsKeyed b.content
+
+-- and the last commit is what it sees
+pub record IsSettledEarlier (s : State) (b : Books) : Type 0 where
+  pub shows : ShowsEarlier s b
+  pub committed : s.now ≡ s.committed
+
+-- The connection holds the books in version 1, unless a fault of the disk has shut it or other bytes were read than were written.
+abbrev pub HoldsEarlier : State → Books → Type 0
+HoldsEarlier s b = HasCleanDisk s → IsTrue s.is_open → IsSettledEarlier s b
+
+-- the trees list the tables of version 1, which have the rows that stand for the books
+abbrev pub StandsInEarlier : Trees → Books → Type 0
+StandsInEarlier db b = IsSound earlier_schema db × StandsEarlier db b.content b.totals × IsKeyed b.content
+
+-- what is said of books that were held in version 1 holds, where the disk gave back what was written
+abbrev pub OnBooksEarlier : State → State → (Books → Type 0) → Type 0
+OnBooksEarlier old new what = HasCleanDisk new → (b : Books) → HoldsEarlier old b → what b

@@ -1,0 +1,10 @@
+-- Why the tables gave no answer.
+use Rattle.sqlite.specs.declared.error.Error.{Error}
+use Rattle.sqlite.specs.declared.error.Error.TheVariants.{SqliteFailure}
+use Rattle.sqlite.specs.declared.error.ErrorCode.TheVariants.{OutOfMemory}
+use Rattle.shop_statements.specs.declared.faults.TableFault.{TableFault}
+use Rattle.shop_statements.specs.declared.faults.TableFault.TheVariants.{NoMemory, Store}
+
+abbrev pub fault_of : Error → TableFault
+fault_of (SqliteFailure OutOfMemory) = NoMemory
+fault_of _ = Store

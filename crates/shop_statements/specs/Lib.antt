@@ -1,0 +1,9 @@
+pub mod Layout
+pub mod Values
+pub mod Rows
+pub mod Found
+pub mod Selecting
+pub mod Shown
+pub mod Faults
+pub mod Changes
+pub mod Earlier

@@ -1,0 +1,241 @@
+//! Values of columns.
+
+ghost use Rattle.std.specs.Prelude.{◌≡◌, ◌<◌, ◌+◌, pos, IfOk, IfSome};
+ghost use Rattle.sqlite_value.specs.declared.value.Value.TheVariants.{Int, Text as Word};
+ghost use Rattle.sqlite_value.specs.Order.{column};
+ghost use Rattle.cut_measure.specs.declared.ranges.TheConstants.{MOST_NUMBERS};
+ghost use Rattle.shop_machine.specs.Columns.{state_of};
+ghost use Rattle.shop_statements.specs.Rows.{kind_number, state_number, job_state_number, turn_number, form_number, form_material};
+
+use crate::TableFault;
+use cut_measure::{Code, Kind, Limits, MOST_NUMBERS, PartName, Size};
+use shop_machine::{Form, JobState, State, Text};
+use sqlite::Row;
+use sqlite::types::ValueRef;
+
+/// The number in a column.
+pub fn number_in(row: &Row, at: usize) -> Result<u32, TableFault>
+    ensures { IfOk result (λ number. column row.now at ≡ Int (pos number)) }
+{
+    Ok(row.get(at)?)
+}
+
+pub(crate) fn count_in(row: &Row, at: usize) -> Result<u64, TableFault>
+    ensures { IfOk result (λ number. column row.now at ≡ Int (pos number)) }
+{
+    Ok(row.get(at)?)
+}
+
+// A text, lent by its row.
+pub(crate) fn word_in(row: &Row, at: usize) -> Result<&str, TableFault>
+    ensures { IfOk result (λ word. column row.now at ≡ Word word.now) }
+{
+    let ValueRef::Text(bytes) = row.get_ref(at)? else {
+        return Err(TableFault::Store);
+    };
+    str::from_utf8(bytes).map_err(|_| TableFault::Store)
+}
+
+/// The code in a column.
+pub fn code_in(row: &Row, at: usize) -> Result<Code, TableFault>
+    ensures { IfOk result (λ code. column row.now at ≡ Word code) }
+{
+    Code::read(word_in(row, at)?).ok_or(TableFault::Store)
+}
+
+pub(crate) fn text_in(row: &Row, at: usize) -> Result<Text, TableFault>
+    ensures { IfOk result (λ text. column row.now at ≡ Word text) }
+{
+    let string: String = row.get(at)?;
+    Ok(Text::of(string))
+}
+
+/// The name in two columns: its act and its node.
+pub fn name_in(row: &Row, at: usize) -> Result<PartName, TableFault>
+    requires { at < 100 }
+    ensures act { IfOk result (λ name. column row.now at ≡ Int (pos name.act)) }
+    ensures node { IfOk result (λ name. column row.now (at + 1) ≡ Int (pos name.node)) }
+{
+    let act = number_in(row, at)?;
+    let node = number_in(row, at + 1)?;
+    if act < 1 || act > MOST_NUMBERS {
+        return Err(TableFault::Store);
+    }
+    Ok(PartName::new(act, node))
+}
+
+/// The size in two columns: a width and a height; a bar's is a sheet's too.
+pub fn size_in(row: &Row, at: usize) -> Result<Size, TableFault>
+    requires { at < 100 }
+    ensures w { IfOk result (λ size. column row.now at ≡ Int (pos size.w)) }
+    ensures h { IfOk result (λ size. column row.now (at + 1) ≡ Int (pos size.h)) }
+{
+    let w = number_in(row, at)?;
+    let h = number_in(row, at + 1)?;
+    Size::new(Kind::Sheet, w, h).ok_or(TableFault::Store)
+}
+
+// A kerf and the least sides of a rest, side by side.
+pub(crate) fn limits_in(kind: Kind, row: &Row, at: usize) -> Result<Limits, TableFault>
+    requires { at < 100 }
+    ensures kerf { IfOk result (λ limits. column row.now at ≡ Int (pos limits.kerf)) }
+    ensures min_long { IfOk result (λ limits. column row.now (at + 1) ≡ Int (pos limits.min_long)) }
+    ensures min_short { IfOk result (λ limits. column row.now (at + 2) ≡ Int (pos limits.min_short)) }
+{
+    let kerf = number_in(row, at)?;
+    let min_long = number_in(row, at + 1)?;
+    let min_short = number_in(row, at + 2)?;
+    Limits::new(kind, kerf, min_long, min_short).ok_or(TableFault::Store)
+}
+
+fn state_of_numbers(word: u32, detail: u32) -> Option<State>
+    ensures word { IfSome result (λ state. state_number state ≡ word) }
+    ensures detail { IfSome result (λ state. state_of state ≡ detail) }
+{
+    match (word, detail) {
+        (0, 0) => Some(State::Standing),
+        (1, job) => Some(State::Reserved(job)),
+        (2, job) => Some(State::Cut(job)),
+        (3, demand) => Some(State::Piece(demand)),
+        (4, 0) => Some(State::Kerf),
+        (5, 0) => Some(State::Scrap),
+        (6, 0) => Some(State::Returned),
+        _ => None,
+    }
+}
+
+/// The state in two columns: its number, and its job or demand.
+pub fn state_in(row: &Row, at: usize) -> Result<State, TableFault>
+    requires { at < 100 }
+    ensures word { IfOk result (λ state. column row.now at ≡ Int (pos (state_number state))) }
+    ensures detail { IfOk result (λ state. column row.now (at + 1) ≡ Int (pos (state_of state))) }
+{
+    let word = number_in(row, at)?;
+    let detail = number_in(row, at + 1)?;
+    state_of_numbers(word, detail).ok_or(TableFault::Store)
+}
+
+pub(crate) fn kind_in(row: &Row, at: usize) -> Result<Kind, TableFault>
+    ensures { IfOk result (λ kind. column row.now at ≡ Int (pos (kind_number kind))) }
+{
+    match number_in(row, at)? {
+        0 => Ok(Kind::Bar),
+        1 => Ok(Kind::Sheet),
+        _ => Err(TableFault::Store),
+    }
+}
+
+pub(crate) fn job_state_in(row: &Row, at: usize) -> Result<JobState, TableFault>
+    ensures { IfOk result (λ state. column row.now at ≡ Int (pos (job_state_number state))) }
+{
+    match number_in(row, at)? {
+        0 => Ok(JobState::Waiting),
+        1 => Ok(JobState::Done),
+        2 => Ok(JobState::Broken),
+        3 => Ok(JobState::Released),
+        _ => Err(TableFault::Store),
+    }
+}
+
+pub(crate) fn turn_in(row: &Row, at: usize) -> Result<bool, TableFault>
+    ensures { IfOk result (λ turn. column row.now at ≡ Int (pos (turn_number turn))) }
+{
+    match number_in(row, at)? {
+        0 => Ok(false),
+        1 => Ok(true),
+        _ => Err(TableFault::Store),
+    }
+}
+
+// A form and its material, side by side.
+pub(crate) fn form_in(row: &Row, at: usize) -> Result<Form, TableFault>
+    requires { at < 100 }
+    ensures word { IfOk result (λ form. column row.now at ≡ Int (pos (form_number form))) }
+    ensures material { IfOk result (λ form. column row.now (at + 1) ≡ Word (form_material form)) }
+{
+    let word = number_in(row, at)?;
+    let material = word_in(row, at + 1)?;
+    form_of_words(word, material).ok_or(TableFault::Store)
+}
+
+fn form_of_words(word: u32, material: &str) -> Option<Form>
+    ensures word { IfSome result (λ form. form_number form ≡ word) }
+    ensures material { IfSome result (λ form. form_material form ≡ material.now) }
+{
+    if word == 0 && material.is_empty() {
+        Some(Form::Csv)
+    } else if word == 1 {
+        Some(Form::Cgcut(Code::read(material)?))
+    } else {
+        None
+    }
+}
+
+pub(crate) fn number_of_kind(kind: Kind) -> u32
+    ensures { result ≡ kind_number kind }
+{
+    match kind {
+        Kind::Bar => 0,
+        Kind::Sheet => 1,
+    }
+}
+
+pub(crate) fn number_of_state(state: State) -> u32
+    ensures { result ≡ state_number state }
+{
+    match state {
+        State::Standing => 0,
+        State::Reserved(_) => 1,
+        State::Cut(_) => 2,
+        State::Piece(_) => 3,
+        State::Kerf => 4,
+        State::Scrap => 5,
+        State::Returned => 6,
+    }
+}
+
+pub(crate) fn number_of_job_state(state: JobState) -> u32
+    ensures { result ≡ job_state_number state }
+{
+    match state {
+        JobState::Waiting => 0,
+        JobState::Done => 1,
+        JobState::Broken => 2,
+        JobState::Released => 3,
+    }
+}
+
+pub(crate) fn number_of_turn(turn: bool) -> u32
+    ensures { result ≡ turn_number turn }
+{
+    u32::from(turn)
+}
+
+pub(crate) fn number_of_form(form: Form) -> u32
+    ensures { result ≡ form_number form }
+{
+    match form {
+        Form::Csv => 0,
+        Form::Cgcut(_) => 1,
+    }
+}
+
+// A form's material, nothing where it has none.
+pub(crate) fn material_of_form(form: &Form) -> &str
+    ensures { result.now ≡ form_material form.now }
+{
+    match form {
+        Form::Csv => "",
+        Form::Cgcut(material) => material.as_str(),
+    }
+}
+
+// A count as a column has it, below 9223372036854775808.
+pub(crate) fn counted(count: u64) -> Result<i64, TableFault>
+    ensures { IfOk result (λ number. number ≡ pos count) }
+{
+    match i64::try_from(count) {
+        Ok(number) => Ok(number),
+        Err(_) => Err(TableFault::Store),
+    }
+}

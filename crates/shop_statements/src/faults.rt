@@ -1,0 +1,38 @@
+//! Why tables gave no answer: want of memory, or a failed store.
+
+use sqlite::{Error, ErrorCode};
+use std::alloc::AllocError;
+
+/// Why the tables gave no answer.
+#[derive(Clone, Copy, Debug, PartialEq, Eq)]
+pub enum TableFault {
+    /// Memory was wanting.
+    NoMemory,
+    /// The store failed, or a row is none of ours.
+    Store,
+}
+
+impl From<Error> for TableFault {
+    ghost use Rattle.std.specs.Prelude.{◌≡◌};
+    ghost use Rattle.shop_statements.specs.Faults.{fault_of};
+
+    ghost from_gives = { λ error fault. fault ≡ fault_of error };
+
+    fn from(error: Error) -> TableFault {
+        match error {
+            Error::SqliteFailure(ErrorCode::OutOfMemory) => TableFault::NoMemory,
+            _ => TableFault::Store,
+        }
+    }
+}
+
+impl From<AllocError> for TableFault {
+    ghost use Rattle.std.specs.Prelude.{◌≡◌};
+    ghost use Rattle.shop_statements.specs.declared.faults.TableFault.TheVariants.{NoMemory};
+
+    ghost from_gives = { λ _ fault. fault ≡ NoMemory };
+
+    fn from(_error: AllocError) -> TableFault {
+        TableFault::NoMemory
+    }
+}

@@ -1,0 +1,29 @@
+//! Statements on the rows of SQL tables: what finds one, and what puts one.
+#![tactic(auto)]
+
+mod columns;
+mod demands;
+mod faults;
+mod imports;
+mod jobs;
+mod kept_messages;
+mod materials;
+mod numbers;
+mod orders;
+mod parts;
+mod rows;
+mod running;
+mod sums;
+
+pub use columns::{code_in, name_in, number_in, size_in, state_in};
+pub use demands::{count_demand, find_demand, put_demand, read_demand};
+pub use faults::TableFault;
+pub use imports::{find_import, put_import};
+pub use jobs::{find_job, move_job, put_job};
+pub use kept_messages::{find_kept, put_kept};
+pub use materials::{find_material, put_material, read_material};
+pub use numbers::{find_last_act, find_last_demand, number_row, set_last_act, set_last_demand};
+pub use orders::{find_order, put_order};
+pub use parts::{find_part, move_part, put_part};
+pub use rows::{all_rows, row_by_number};
+pub use sums::{find_totals, put_totals, read_totals, set_totals};

@@ -1,4 +1,0 @@
-use Rattle.shop_tables.proofs.rows.row_by_number.Goals as goal
-
-pub returns-clause-row : goal.returns-clause-row
-returns-clause-row g c clean = rw c.params-to_sql.ensures at (c.one_row.ensures.row clean)
