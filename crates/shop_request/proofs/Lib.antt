@@ -7,3 +7,4 @@ pub mod Uniqueness
 pub mod Guarding
 pub mod Counting
 pub mod Settled
+pub mod Waiting

@@ -1,5 +1,6 @@
-use Rattle.std.proofs.Common.{◌≡◌, length, arith}
+use Rattle.std.proofs.Common.{◌≡◌, ◌++◌, [], ap, length, arith, subst, append-nil}
 use Rattle.std.proofs.lemmas.Bool.{leb-true, leb-false}
+use Rattle.shop_request.specs.Senses.{IsUnfinished}
 use Rattle.shop_request.proofs.wholes.is_whole.Goals as goal
 
 pub returns-clause-settled : goal.returns-clause-settled
@@ -7,3 +8,9 @@ returns-clause-settled c whole = c.least_bytes.ensures.settled (leb-true c.least
 
 pub returns-clause-short : goal.returns-clause-short
 returns-clause-short c waits = omega (arith, leb-false c.least_bytes.result (length c.args.came.now) waits, c.least_bytes.ensures.bound)
+
+pub returns-clause-waits : goal.returns-clause-waits
+returns-clause-waits c waits =
+    let came = c.args.came.now in
+    let same : came ++ [] ≡ came = append-nil came in
+    subst IsUnfinished same (c.least_bytes.ensures.waits [] (omega (arith, ap length same, leb-false c.least_bytes.result (length came) waits)))
