@@ -8,3 +8,4 @@ pub mod Guarding
 pub mod Counting
 pub mod Settled
 pub mod Waiting
+pub mod Open

@@ -1,6 +1,6 @@
 -- How far an input has one sense.
-use Rattle.std.specs.Prelude.{◌≡◌, ℕ, ◌+◌, ◌<◌, ◌⊎◌, List, [], ◌++◌, length, Ok, true}
-use Rattle.httparse.specs.Grammar.{RequestHead, HasNoRequest, MayBecomeRequest, EndsInTarget, print_request}
+use Rattle.std.specs.Prelude.{◌≡◌, ℕ, ◌+◌, ◌<◌, ◌⊎◌, List, [], ◌∷◌, ◌++◌, length, Ok, true}
+use Rattle.httparse.specs.Grammar.{RequestHead, ReadsRequest, HasNoRequest, MayBecomeRequest, EndsInTarget, print_request}
 use Rattle.httparse.specs.Spans.{RequestExceeds}
 use Rattle.shop_request.specs.declared.faults.Fault.TheVariants.{BadRequest, LargeHead}
 use Rattle.shop_request.specs.Heads.{front, most_head, most_fields, Plea, judged, BeginsWith}
@@ -42,3 +42,11 @@ pub record LacksBody (came : List ℕ) : Type 0 where
 -- neither a whole request nor a fault is there yet: nothing came, or a part of a head, or a head without all of its body
 abbrev pub IsUnfinished : List ℕ → Type 0
 IsUnfinished came = (came ≡ []) ⊎ IsPartOfHead came ⊎ LacksBody came
+
+-- a head that lacks its last byte
+abbrev pub LacksLastByte : List ℕ → Type 0
+LacksLastByte came = (last : ℕ) × (h : RequestHead) × ReadsRequest (came ++ last ∷ []) h []
+
+-- what is unfinished isn't settled; but where it may be a bad head or a large one, or a head lacks its last byte
+abbrev pub UnfinishedIsOpen : Type 0
+UnfinishedIsOpen = (came : List ℕ) → IsUnfinished came → IsSettled came → MayBeEither came ⊎ LacksLastByte came

@@ -1,4 +1,4 @@
-use Rattle.std.proofs.Common.{◌≡◌, ◌∙◌, ◌≤◌, ◌<◌, ◌-◌, ap, sym, subst, refl, Ok, Err, Some, arith, take, drop, length, ◌++◌, length-append}
+use Rattle.std.proofs.Common.{◌≡◌, ◌∙◌, ◌≤◌, ◌<◌, ◌-◌, ap, sym, subst, refl, Ok, Err, Some, arith, take, drop, length, ◌++◌}
 use Rattle.std.proofs.lemmas.List.{length-take}
 use Rattle.httparse.specs.Grammar.{HasNoRequest, MayBecomeRequest}
 use Rattle.httparse.specs.Spans.{IsRequestAt, IsRequestWithin}
