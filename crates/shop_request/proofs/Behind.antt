@@ -48,7 +48,7 @@ bad_head (Some xs) f h = inr (h.0, Err f, h.1, refl)
 
 module _ (came : List ℕ) (some : 0 < length came) (headers : List HeaderSpan) (spans : RequestSpans) (h : RequestHead) (room : length headers ≡ 64)
     (within : IsRequestWithin (front came) headers spans) (at : IsRequestAt (front came) headers spans h) where
-  few : length h.fields ≤ 64
+  pub few : length h.fields ≤ 64
   few =
       omega (
         arith,

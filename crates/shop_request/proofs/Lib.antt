@@ -7,3 +7,5 @@ pub mod Uniqueness
 pub mod Guarding
 pub mod Counting
 pub mod Settled
+pub mod Waiting
+pub mod Open

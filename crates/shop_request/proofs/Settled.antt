@@ -1,5 +1,5 @@
 -- Bytes whose sense is settled, whatever follows.
-use Rattle.std.proofs.Common.{◌≡◌, ◌∙◌, ℕ, ◌+◌, ◌-◌, ◌<◌, ◌≤◌, List, [], ◌++◌, length, take, drop, Some, Ok, true, inl, inr, refl, sym, subst, arith, append_assoc, append-nil, length-append}
+use Rattle.std.proofs.Common.{◌≡◌, ◌∙◌, ℕ, ◌+◌, ◌<◌, ◌≤◌, List, [], ◌++◌, length, take, drop, Some, Ok, true, inl, inr, refl, sym, subst, arith, append_assoc, append-nil, length-append}
 use Rattle.std.specs.Prelude.{◌⊎◌, replicate}
 use Rattle.std.proofs.lemmas.List.{length-replicate, length-take}
 use Rattle.httparse.specs.Grammar.{RequestHead, HasNoRequest, MayBecomeRequest}
@@ -38,7 +38,7 @@ differ s route body A B (inl first) (inl second) = absurd (cc (sym first ∙ sec
 differ s route body A B (inr first) (inl second) = no_request route body (subst IsHeadFault second first.0)
 
 -- an input that is a fault where it ends, and a request where it goes on so
-unsettled : (input fill : List ℕ) (route : Route) (body : List ℕ) → HasSense input (faulty BadRequest) → HasSense (input ++ fill) (asking route body) → IsSettled input → ⊥
+pub unsettled : (input fill : List ℕ) (route : Route) (body : List ℕ) → HasSense input (faulty BadRequest) → HasSense (input ++ fill) (asking route body) → IsSettled input → ⊥
 unsettled input fill route body short long settled =
     let s = settled.0 in
     let here : HasSense input s = subst (λ l. HasSense l s) (append-nil input) (settled.1 []) in

@@ -14,7 +14,7 @@ mod wholes;
 
 pub use faults::{Fault, StreamFault};
 pub use guards::{Guard, Ruling};
-pub use laws::{one_ruling, one_sense};
+pub use laws::{one_ruling, one_sense, unfinished_is_open};
 pub use requests::{Inbound, read_request};
 pub use routes::{Route, Routes};
 pub use wholes::{is_whole, least_bytes};

@@ -1,9 +1,17 @@
-use Rattle.std.proofs.Common.{◌≡◌, length, arith}
+use Rattle.std.proofs.Common.{◌≡◌, ◌++◌, [], ap, length, arith, subst, append-nil}
 use Rattle.std.proofs.lemmas.Bool.{leb-true, leb-false}
+use Rattle.shop_request.specs.Senses.{IsUnfinished}
 use Rattle.shop_request.proofs.wholes.is_whole.Goals as goal
 
 pub returns-clause-settled : goal.returns-clause-settled
-returns-clause-settled c whole = c.least_bytes.ensures.settled (leb-true c.least_bytes.result (length c.args.came.now) whole)
+returns-clause-settled c whole = let enough = leb-true _ _ whole in c.least_bytes.ensures.settled (omega (arith, enough))
+
+pub returns-clause-waits : goal.returns-clause-waits
+returns-clause-waits c waits =
+    let came = c.args.came.now in
+    let same : came ++ [] ≡ came = append-nil came in
+    let short = leb-false _ _ waits in
+    subst IsUnfinished same (c.least_bytes.ensures.waits [] (omega (arith, ap length same, short)))
 
 pub returns-clause-short : goal.returns-clause-short
-returns-clause-short c waits = omega (arith, leb-false c.least_bytes.result (length c.args.came.now) waits, c.least_bytes.ensures.bound)
+returns-clause-short c waits = let short = leb-false _ _ waits in omega (arith, short, c.least_bytes.ensures.bound)

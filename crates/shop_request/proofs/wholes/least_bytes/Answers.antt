@@ -1,4 +1,4 @@
-use Rattle.std.proofs.Common.{◌≡◌, ◌∙◌, ◌≤◌, ◌<◌, ◌-◌, ap, sym, subst, refl, Ok, Err, Some, arith, take, drop, length, ◌++◌, length-append}
+use Rattle.std.proofs.Common.{◌≡◌, ◌∙◌, ◌≤◌, ◌<◌, ◌-◌, ap, sym, subst, refl, Ok, Err, Some, arith, take, drop, length, ◌++◌}
 use Rattle.std.proofs.lemmas.List.{length-take}
 use Rattle.httparse.specs.Grammar.{HasNoRequest, MayBecomeRequest}
 use Rattle.httparse.specs.Spans.{IsRequestAt, IsRequestWithin}
@@ -9,6 +9,7 @@ use Rattle.shop_request.proofs.Front.{some_of}
 use Rattle.shop_request.proofs.Behind.{sense_of_fault, sense_of_part, sense_of_body, read_nothing}
 use Rattle.shop_request.proofs.Counting.{short_plea}
 use Rattle.shop_request.proofs.Settled.{refused_settled, full_settled, body_unsettled}
+use Rattle.shop_request.proofs.Waiting.{nothing_waits, head_waits, body_waits}
 use Rattle.shop_request.proofs.wholes.least_bytes.Goals as goal
 
 pub returns-then-came-ge-LONGEST_HEAD-clause-settled : goal.returns-then-came-ge-LONGEST_HEAD-clause-settled
@@ -100,3 +101,26 @@ returns-clause-least c more some_more few =
     let plea = plea_of c.in-Ok.plea in
     let e : judged of.0 ≡ Ok plea = sym (c.judge.ensures of.0 of.1) ∙ ap pleas c.in-Ok.is in
     body_unsettled came some headers spans of.0 (c.parse_front.auto.headers) within at plea e (sym c.takes_body.ensures ∙ c.if-not-takes_body.false) more few
+
+pub returns-then-is_empty-clause-waits : goal.returns-then-is_empty-clause-waits
+returns-then-is_empty-clause-waits c more few = nothing_waits (c.args.came.now ++ more) few
+
+pub returns-in-Unfinished-clause-waits : goal.returns-in-Unfinished-clause-waits
+returns-in-Unfinished-clause-waits c more few =
+    let same = c.front_of-head.ensures in
+    head_waits c.args.came.now more (omega (arith, c.if-came-ge-LONGEST_HEAD.false)) (subst HasNoRequest same c.in-Unfinished.ensures.0)
+    (subst MayBecomeRequest same c.in-Unfinished.ensures.1) few
+
+pub returns-clause-waits : goal.returns-clause-waits
+returns-clause-waits c more few =
+    let came = c.args.came.now in
+    let headers = c.parse_front.new.headers in
+    let spans = c.in-Whole.spans in
+    let f = c.front_of-head.ensures in
+    let some : 0 < length came = some_of c.is_empty.result _ c.is_empty.ensures c.if-is_empty.false in
+    let within = subst (λ b. IsRequestWithin b headers spans) f c.in-Whole.ensures.0 in
+    let of = c.in-Whole.ensures.1 in
+    let at = subst (λ b. IsRequestAt b headers spans of.0) f of.1 in
+    let plea = plea_of c.in-Ok.plea in
+    let e : judged of.0 ≡ Ok plea = sym (c.judge.ensures of.0 of.1) ∙ ap pleas c.in-Ok.is in
+    body_waits came some headers spans of.0 (c.parse_front.auto.headers) within at plea e (sym c.takes_body.ensures ∙ c.if-not-takes_body.false) more few

@@ -1,4 +1,4 @@
-use Rattle.std.proofs.Common.{◌≡◌, ◌∙◌, ◌||◌, ap, sym, slice_range}
+use Rattle.std.proofs.Common.{◌∙◌, ◌||◌, ap, sym}
 use Rattle.std.specs.List.{list_any}
 use Rattle.shop_request.specs.Guards.{is_strange_as, mark_name}
 use Rattle.shop_request.proofs.Guarding.{any_first}

@@ -1,4 +1,4 @@
-use Rattle.std.proofs.Common.{◌≡◌, ◌∙◌, ap, map, take, sym, subst}
+use Rattle.std.proofs.Common.{◌∙◌, ap, map, take, sym, subst}
 use Rattle.httparse.specs.Grammar.{HasNoRequest, MayBecomeRequest}
 use Rattle.httparse.specs.Spans.{IsRequestAt, header_bytes, span_bytes}
 use Rattle.shop_request.specs.Guards.{HasRuling, ruled_parts}
