@@ -1,13 +1,16 @@
 -- The books that are shown after one table has changed.
-use Rattle.std.proofs.Common.{ℕ, List, map, refl, sym, subst, ◌∙◌}
+use Rattle.std.proofs.Common.{◌≡◌, ◌==◌, ℕ, List, map, if◌then◌else◌, inl, inr, refl, sym, subst, ◌∙◌}
+use Rattle.std.proofs.lemmas.Bool.{cases_Bool}
 use Rattle.std.specs.FinMap.{FinMap, entries}
 use Rattle.std.specs.FinSet as set
 use Rattle.std.specs.Ordering.{nat_cmp}
 use Rattle.sqlite_value.specs.Order.{Row}
+use Rattle.sqlite.specs.Edit.{IsNoIndex}
 use Rattle.sqlite.specs.State.{State}
+use Rattle.sqlite_trees.specs.Tree.{Trees}
 use Rattle.cut_measure.specs.Codes.{code_cmp}
 use Rattle.cut_measure.specs.Names.{name_cmp}
-use Rattle.shop_machine.specs.Content.{pair_cmp}
+use Rattle.shop_machine.specs.Content.{Content, pair_cmp}
 use Rattle.shop_machine.specs.declared.records.Material.{Material}
 use Rattle.shop_machine.specs.declared.records.Part.{Part}
 use Rattle.shop_machine.specs.declared.records.Job.{Job}
@@ -16,178 +19,84 @@ use Rattle.shop_machine.specs.declared.records.Totals.{Totals}
 use Rattle.shop_machine.specs.declared.imports.ImportRow.{ImportRow}
 use Rattle.shop_machine.specs.declared.texts.Kept.{Kept}
 use Rattle.shop_statements.specs.Layout.{IsShop}
-use Rattle.shop_statements.specs.Rows.{AreRows, AreOrders, IsKeyed, meta_row, meta_entries, material_row, part_row, job_row, demand_row, kept_row, import_row, totals_row}
+use Rattle.shop_statements.specs.Rows.{AreRows, AreOrders, IsKeyed, Stands, meta_row, meta_entries, material_row, part_row, job_row, demand_row, kept_row, import_row, totals_row}
 use Rattle.shop_statements.specs.Shown.{Books, Shows}
 use Rattle.shop_statements.proofs.Writing.{IsPut}
 
+-- what has no key may change
+keyed_still : (m : Content) (last_act last_demand : ℕ) (orders : set.FinSet code_cmp) (kept : FinMap pair_cmp Kept) → IsKeyed m → IsKeyed (record m { last_act = last_act; last_demand = last_demand; orders = orders; kept = kept })
+keyed_still m last_act last_demand orders kept h = record {
+  materials = h.materials;
+  parts = h.parts;
+  jobs = λ number job there. let j = h.jobs number job there in record { numbered = j.numbered; kerf = j.kerf; plan = j.plan; on = record { row = j.on.row; found = j.on.found; material = j.on.material; known = j.on.known; width = j.on.width; height = j.on.height; kerf = j.on.kerf } };
+  demands = h.demands;
+  imports = h.imports;
+  codes = h.codes;
+  values = h.values;
+}
+
 module _ (old new : State) (b : Books) (has : Shows old b) (left : List Row) (row : Row) where
-  pub meta_shown : (last_act last_demand : ℕ) → IsPut old new 0 left row → AreRows 1 (map meta_row (meta_entries (record b.content { last_act = last_act; last_demand = last_demand }))) (new.now.trees 0) → Shows new (record b { content = record b.content { last_act = last_act; last_demand = last_demand } })
-  meta_shown last_act last_demand put rows = record {
-    schema = subst IsShop (sym put.schema_is) has.schema;
-    sound = put.sound;
-    stands = record {
-      meta = rows;
-      materials = subst (AreRows 1 _) (sym (put.others 2 refl has.schema.bare.1.0)) has.stands.materials;
-      parts = subst (AreRows 1 _) (sym (put.others 4 refl has.schema.bare.1.1.0)) has.stands.parts;
-      jobs = subst (AreRows 0 _) (sym (put.others 6 refl has.schema.bare.1.1.1.0)) has.stands.jobs;
-      orders = subst (AreOrders b.content.orders) (sym (put.others 7 refl has.schema.bare.1.1.1.1.0)) has.stands.orders;
-      demands = subst (AreRows 0 _) (sym (put.others 9 refl has.schema.bare.1.1.1.1.1.0)) has.stands.demands;
-      kept = subst (AreRows 1 _) (sym (put.others 11 refl has.schema.bare.1.1.1.1.1.1.0)) has.stands.kept;
-      imports = subst (AreRows 1 _) (sym (put.others 13 refl has.schema.bare.1.1.1.1.1.1.1.0)) has.stands.imports;
-      totals = put.others 15 refl has.schema.bare.1.1.1.1.1.1.1.1.0 ∙ has.stands.totals;
-      totals2 = subst (AreRows 1 _) (sym (put.others 17 refl has.schema.bare.1.1.1.1.1.1.1.1.1.0)) has.stands.totals2;
-    };
-    keyed = record { materials = has.keyed.materials; parts = has.keyed.parts; jobs = λ number job there. let j = has.keyed.jobs number job there in record { numbered = j.numbered; kerf = j.kerf; plan = j.plan; on = record { row = j.on.row; found = j.on.found; material = j.on.material; known = j.on.known; width = j.on.width; height = j.on.height; kerf = j.on.kerf } }; demands = has.keyed.demands; imports = has.keyed.imports; codes = has.keyed.codes; values = has.keyed.values };
+  -- the trees, but for one as it was
+  abbrev but : ℕ → Trees
+  but tree t = if t == tree then old.now.trees t else new.now.trees t
+
+  stays : (tree : ℕ) → IsPut old new tree left row → (t : ℕ) → IsNoIndex old.now.schema t → but tree t ≡ old.now.trees t
+  stays tree put t free = elim (cases_Bool (t == tree)) [
+    | inl same ↦ rw same refl
+    | inr other ↦ rw other (put.others t other free)
+  ]
+
+  -- they stand for the books that were shown
+  stand : (tree : ℕ) → IsPut old new tree left row → Stands (but tree) b.content b.totals
+  stand tree put = record {
+    meta = subst (AreRows 1 _) (sym (stays tree put 0 has.schema.bare.0)) has.stands.meta;
+    materials = subst (AreRows 1 _) (sym (stays tree put 2 has.schema.bare.1.0)) has.stands.materials;
+    parts = subst (AreRows 1 _) (sym (stays tree put 4 has.schema.bare.1.1.0)) has.stands.parts;
+    jobs = subst (AreRows 0 _) (sym (stays tree put 6 has.schema.bare.1.1.1.0)) has.stands.jobs;
+    orders = subst (AreOrders b.content.orders) (sym (stays tree put 7 has.schema.bare.1.1.1.1.0)) has.stands.orders;
+    demands = subst (AreRows 0 _) (sym (stays tree put 9 has.schema.bare.1.1.1.1.1.0)) has.stands.demands;
+    kept = subst (AreRows 1 _) (sym (stays tree put 11 has.schema.bare.1.1.1.1.1.1.0)) has.stands.kept;
+    imports = subst (AreRows 1 _) (sym (stays tree put 13 has.schema.bare.1.1.1.1.1.1.1.0)) has.stands.imports;
+    totals = stays tree put 15 has.schema.bare.1.1.1.1.1.1.1.1.0 ∙ has.stands.totals;
+    totals2 = subst (AreRows 1 _) (sym (stays tree put 17 has.schema.bare.1.1.1.1.1.1.1.1.1.0)) has.stands.totals2;
   }
+
+  -- so the new ones do for books that differ in that table
+  shows : (tree : ℕ) → IsPut old new tree left row → (c : Books) → Stands new.now.trees c.content c.totals → IsKeyed c.content → Shows new c
+  shows tree put c stands keyed = record { schema = subst IsShop (sym put.schema_is) has.schema; sound = put.sound; stands = stands; keyed = keyed }
+
+  pub meta_shown : (last_act last_demand : ℕ) → IsPut old new 0 left row → AreRows 1 (map meta_row (meta_entries (record b.content { last_act = last_act; last_demand = last_demand }))) (new.now.trees 0) → Shows new (record b { content = record b.content { last_act = last_act; last_demand = last_demand } })
+  meta_shown last_act last_demand put rows =
+      let s = stand 0 put in shows 0 put _ (record { meta = rows; materials = s.materials; parts = s.parts; jobs = s.jobs; orders = s.orders; demands = s.demands; kept = s.kept; imports = s.imports; totals = s.totals; totals2 = s.totals2 }) (keyed_still b.content last_act last_demand b.content.orders b.content.kept has.keyed)
 
   pub materials_shown : (m : FinMap code_cmp Material) → IsPut old new 2 left row → AreRows 1 (map material_row (entries m)) (new.now.trees 2) → IsKeyed (record b.content { materials = m }) → Shows new (record b { content = record b.content { materials = m } })
-  materials_shown m put rows keyed = record {
-    schema = subst IsShop (sym put.schema_is) has.schema;
-    sound = put.sound;
-    stands = record {
-      meta = subst (AreRows 1 _) (sym (put.others 0 refl has.schema.bare.0)) has.stands.meta;
-      materials = rows;
-      parts = subst (AreRows 1 _) (sym (put.others 4 refl has.schema.bare.1.1.0)) has.stands.parts;
-      jobs = subst (AreRows 0 _) (sym (put.others 6 refl has.schema.bare.1.1.1.0)) has.stands.jobs;
-      orders = subst (AreOrders b.content.orders) (sym (put.others 7 refl has.schema.bare.1.1.1.1.0)) has.stands.orders;
-      demands = subst (AreRows 0 _) (sym (put.others 9 refl has.schema.bare.1.1.1.1.1.0)) has.stands.demands;
-      kept = subst (AreRows 1 _) (sym (put.others 11 refl has.schema.bare.1.1.1.1.1.1.0)) has.stands.kept;
-      imports = subst (AreRows 1 _) (sym (put.others 13 refl has.schema.bare.1.1.1.1.1.1.1.0)) has.stands.imports;
-      totals = put.others 15 refl has.schema.bare.1.1.1.1.1.1.1.1.0 ∙ has.stands.totals;
-      totals2 = subst (AreRows 1 _) (sym (put.others 17 refl has.schema.bare.1.1.1.1.1.1.1.1.1.0)) has.stands.totals2;
-    };
-    keyed = keyed;
-  }
+  materials_shown m put rows keyed =
+      let s = stand 2 put in shows 2 put _ (record { meta = s.meta; materials = rows; parts = s.parts; jobs = s.jobs; orders = s.orders; demands = s.demands; kept = s.kept; imports = s.imports; totals = s.totals; totals2 = s.totals2 }) keyed
 
   pub parts_shown : (m : FinMap name_cmp Part) → IsPut old new 4 left row → AreRows 1 (map part_row (entries m)) (new.now.trees 4) → IsKeyed (record b.content { parts = m }) → Shows new (record b { content = record b.content { parts = m } })
-  parts_shown m put rows keyed = record {
-    schema = subst IsShop (sym put.schema_is) has.schema;
-    sound = put.sound;
-    stands = record {
-      meta = subst (AreRows 1 _) (sym (put.others 0 refl has.schema.bare.0)) has.stands.meta;
-      materials = subst (AreRows 1 _) (sym (put.others 2 refl has.schema.bare.1.0)) has.stands.materials;
-      parts = rows;
-      jobs = subst (AreRows 0 _) (sym (put.others 6 refl has.schema.bare.1.1.1.0)) has.stands.jobs;
-      orders = subst (AreOrders b.content.orders) (sym (put.others 7 refl has.schema.bare.1.1.1.1.0)) has.stands.orders;
-      demands = subst (AreRows 0 _) (sym (put.others 9 refl has.schema.bare.1.1.1.1.1.0)) has.stands.demands;
-      kept = subst (AreRows 1 _) (sym (put.others 11 refl has.schema.bare.1.1.1.1.1.1.0)) has.stands.kept;
-      imports = subst (AreRows 1 _) (sym (put.others 13 refl has.schema.bare.1.1.1.1.1.1.1.0)) has.stands.imports;
-      totals = put.others 15 refl has.schema.bare.1.1.1.1.1.1.1.1.0 ∙ has.stands.totals;
-      totals2 = subst (AreRows 1 _) (sym (put.others 17 refl has.schema.bare.1.1.1.1.1.1.1.1.1.0)) has.stands.totals2;
-    };
-    keyed = keyed;
-  }
+  parts_shown m put rows keyed =
+      let s = stand 4 put in shows 4 put _ (record { meta = s.meta; materials = s.materials; parts = rows; jobs = s.jobs; orders = s.orders; demands = s.demands; kept = s.kept; imports = s.imports; totals = s.totals; totals2 = s.totals2 }) keyed
 
   pub jobs_shown : (m : FinMap nat_cmp Job) → IsPut old new 6 left row → AreRows 0 (map job_row (entries m)) (new.now.trees 6) → IsKeyed (record b.content { jobs = m }) → Shows new (record b { content = record b.content { jobs = m } })
-  jobs_shown m put rows keyed = record {
-    schema = subst IsShop (sym put.schema_is) has.schema;
-    sound = put.sound;
-    stands = record {
-      meta = subst (AreRows 1 _) (sym (put.others 0 refl has.schema.bare.0)) has.stands.meta;
-      materials = subst (AreRows 1 _) (sym (put.others 2 refl has.schema.bare.1.0)) has.stands.materials;
-      parts = subst (AreRows 1 _) (sym (put.others 4 refl has.schema.bare.1.1.0)) has.stands.parts;
-      jobs = rows;
-      orders = subst (AreOrders b.content.orders) (sym (put.others 7 refl has.schema.bare.1.1.1.1.0)) has.stands.orders;
-      demands = subst (AreRows 0 _) (sym (put.others 9 refl has.schema.bare.1.1.1.1.1.0)) has.stands.demands;
-      kept = subst (AreRows 1 _) (sym (put.others 11 refl has.schema.bare.1.1.1.1.1.1.0)) has.stands.kept;
-      imports = subst (AreRows 1 _) (sym (put.others 13 refl has.schema.bare.1.1.1.1.1.1.1.0)) has.stands.imports;
-      totals = put.others 15 refl has.schema.bare.1.1.1.1.1.1.1.1.0 ∙ has.stands.totals;
-      totals2 = subst (AreRows 1 _) (sym (put.others 17 refl has.schema.bare.1.1.1.1.1.1.1.1.1.0)) has.stands.totals2;
-    };
-    keyed = keyed;
-  }
+  jobs_shown m put rows keyed =
+      let s = stand 6 put in shows 6 put _ (record { meta = s.meta; materials = s.materials; parts = s.parts; jobs = rows; orders = s.orders; demands = s.demands; kept = s.kept; imports = s.imports; totals = s.totals; totals2 = s.totals2 }) keyed
 
   pub orders_shown : (m : set.FinSet code_cmp) → IsPut old new 7 left row → AreOrders m (new.now.trees 7) → Shows new (record b { content = record b.content { orders = m } })
-  orders_shown m put rows = record {
-    schema = subst IsShop (sym put.schema_is) has.schema;
-    sound = put.sound;
-    stands = record {
-      meta = subst (AreRows 1 _) (sym (put.others 0 refl has.schema.bare.0)) has.stands.meta;
-      materials = subst (AreRows 1 _) (sym (put.others 2 refl has.schema.bare.1.0)) has.stands.materials;
-      parts = subst (AreRows 1 _) (sym (put.others 4 refl has.schema.bare.1.1.0)) has.stands.parts;
-      jobs = subst (AreRows 0 _) (sym (put.others 6 refl has.schema.bare.1.1.1.0)) has.stands.jobs;
-      orders = rows;
-      demands = subst (AreRows 0 _) (sym (put.others 9 refl has.schema.bare.1.1.1.1.1.0)) has.stands.demands;
-      kept = subst (AreRows 1 _) (sym (put.others 11 refl has.schema.bare.1.1.1.1.1.1.0)) has.stands.kept;
-      imports = subst (AreRows 1 _) (sym (put.others 13 refl has.schema.bare.1.1.1.1.1.1.1.0)) has.stands.imports;
-      totals = put.others 15 refl has.schema.bare.1.1.1.1.1.1.1.1.0 ∙ has.stands.totals;
-      totals2 = subst (AreRows 1 _) (sym (put.others 17 refl has.schema.bare.1.1.1.1.1.1.1.1.1.0)) has.stands.totals2;
-    };
-    keyed = record { materials = has.keyed.materials; parts = has.keyed.parts; jobs = λ number job there. let j = has.keyed.jobs number job there in record { numbered = j.numbered; kerf = j.kerf; plan = j.plan; on = record { row = j.on.row; found = j.on.found; material = j.on.material; known = j.on.known; width = j.on.width; height = j.on.height; kerf = j.on.kerf } }; demands = has.keyed.demands; imports = has.keyed.imports; codes = has.keyed.codes; values = has.keyed.values };
-  }
+  orders_shown m put rows =
+      let s = stand 7 put in shows 7 put _ (record { meta = s.meta; materials = s.materials; parts = s.parts; jobs = s.jobs; orders = rows; demands = s.demands; kept = s.kept; imports = s.imports; totals = s.totals; totals2 = s.totals2 }) (keyed_still b.content b.content.last_act b.content.last_demand m b.content.kept has.keyed)
 
   pub demands_shown : (m : FinMap nat_cmp Demand) → IsPut old new 9 left row → AreRows 0 (map demand_row (entries m)) (new.now.trees 9) → IsKeyed (record b.content { demands = m }) → Shows new (record b { content = record b.content { demands = m } })
-  demands_shown m put rows keyed = record {
-    schema = subst IsShop (sym put.schema_is) has.schema;
-    sound = put.sound;
-    stands = record {
-      meta = subst (AreRows 1 _) (sym (put.others 0 refl has.schema.bare.0)) has.stands.meta;
-      materials = subst (AreRows 1 _) (sym (put.others 2 refl has.schema.bare.1.0)) has.stands.materials;
-      parts = subst (AreRows 1 _) (sym (put.others 4 refl has.schema.bare.1.1.0)) has.stands.parts;
-      jobs = subst (AreRows 0 _) (sym (put.others 6 refl has.schema.bare.1.1.1.0)) has.stands.jobs;
-      orders = subst (AreOrders b.content.orders) (sym (put.others 7 refl has.schema.bare.1.1.1.1.0)) has.stands.orders;
-      demands = rows;
-      kept = subst (AreRows 1 _) (sym (put.others 11 refl has.schema.bare.1.1.1.1.1.1.0)) has.stands.kept;
-      imports = subst (AreRows 1 _) (sym (put.others 13 refl has.schema.bare.1.1.1.1.1.1.1.0)) has.stands.imports;
-      totals = put.others 15 refl has.schema.bare.1.1.1.1.1.1.1.1.0 ∙ has.stands.totals;
-      totals2 = subst (AreRows 1 _) (sym (put.others 17 refl has.schema.bare.1.1.1.1.1.1.1.1.1.0)) has.stands.totals2;
-    };
-    keyed = keyed;
-  }
+  demands_shown m put rows keyed =
+      let s = stand 9 put in shows 9 put _ (record { meta = s.meta; materials = s.materials; parts = s.parts; jobs = s.jobs; orders = s.orders; demands = rows; kept = s.kept; imports = s.imports; totals = s.totals; totals2 = s.totals2 }) keyed
 
   pub kept_shown : (m : FinMap pair_cmp Kept) → IsPut old new 11 left row → AreRows 1 (map kept_row (entries m)) (new.now.trees 11) → Shows new (record b { content = record b.content { kept = m } })
-  kept_shown m put rows = record {
-    schema = subst IsShop (sym put.schema_is) has.schema;
-    sound = put.sound;
-    stands = record {
-      meta = subst (AreRows 1 _) (sym (put.others 0 refl has.schema.bare.0)) has.stands.meta;
-      materials = subst (AreRows 1 _) (sym (put.others 2 refl has.schema.bare.1.0)) has.stands.materials;
-      parts = subst (AreRows 1 _) (sym (put.others 4 refl has.schema.bare.1.1.0)) has.stands.parts;
-      jobs = subst (AreRows 0 _) (sym (put.others 6 refl has.schema.bare.1.1.1.0)) has.stands.jobs;
-      orders = subst (AreOrders b.content.orders) (sym (put.others 7 refl has.schema.bare.1.1.1.1.0)) has.stands.orders;
-      demands = subst (AreRows 0 _) (sym (put.others 9 refl has.schema.bare.1.1.1.1.1.0)) has.stands.demands;
-      kept = rows;
-      imports = subst (AreRows 1 _) (sym (put.others 13 refl has.schema.bare.1.1.1.1.1.1.1.0)) has.stands.imports;
-      totals = put.others 15 refl has.schema.bare.1.1.1.1.1.1.1.1.0 ∙ has.stands.totals;
-      totals2 = subst (AreRows 1 _) (sym (put.others 17 refl has.schema.bare.1.1.1.1.1.1.1.1.1.0)) has.stands.totals2;
-    };
-    keyed = record { materials = has.keyed.materials; parts = has.keyed.parts; jobs = λ number job there. let j = has.keyed.jobs number job there in record { numbered = j.numbered; kerf = j.kerf; plan = j.plan; on = record { row = j.on.row; found = j.on.found; material = j.on.material; known = j.on.known; width = j.on.width; height = j.on.height; kerf = j.on.kerf } }; demands = has.keyed.demands; imports = has.keyed.imports; codes = has.keyed.codes; values = has.keyed.values };
-  }
+  kept_shown m put rows =
+      let s = stand 11 put in shows 11 put _ (record { meta = s.meta; materials = s.materials; parts = s.parts; jobs = s.jobs; orders = s.orders; demands = s.demands; kept = rows; imports = s.imports; totals = s.totals; totals2 = s.totals2 }) (keyed_still b.content b.content.last_act b.content.last_demand b.content.orders m has.keyed)
 
   pub imports_shown : (m : FinMap code_cmp ImportRow) → IsPut old new 13 left row → AreRows 1 (map import_row (entries m)) (new.now.trees 13) → IsKeyed (record b.content { imports = m }) → Shows new (record b { content = record b.content { imports = m } })
-  imports_shown m put rows keyed = record {
-    schema = subst IsShop (sym put.schema_is) has.schema;
-    sound = put.sound;
-    stands = record {
-      meta = subst (AreRows 1 _) (sym (put.others 0 refl has.schema.bare.0)) has.stands.meta;
-      materials = subst (AreRows 1 _) (sym (put.others 2 refl has.schema.bare.1.0)) has.stands.materials;
-      parts = subst (AreRows 1 _) (sym (put.others 4 refl has.schema.bare.1.1.0)) has.stands.parts;
-      jobs = subst (AreRows 0 _) (sym (put.others 6 refl has.schema.bare.1.1.1.0)) has.stands.jobs;
-      orders = subst (AreOrders b.content.orders) (sym (put.others 7 refl has.schema.bare.1.1.1.1.0)) has.stands.orders;
-      demands = subst (AreRows 0 _) (sym (put.others 9 refl has.schema.bare.1.1.1.1.1.0)) has.stands.demands;
-      kept = subst (AreRows 1 _) (sym (put.others 11 refl has.schema.bare.1.1.1.1.1.1.0)) has.stands.kept;
-      imports = rows;
-      totals = put.others 15 refl has.schema.bare.1.1.1.1.1.1.1.1.0 ∙ has.stands.totals;
-      totals2 = subst (AreRows 1 _) (sym (put.others 17 refl has.schema.bare.1.1.1.1.1.1.1.1.1.0)) has.stands.totals2;
-    };
-    keyed = keyed;
-  }
+  imports_shown m put rows keyed =
+      let s = stand 13 put in shows 13 put _ (record { meta = s.meta; materials = s.materials; parts = s.parts; jobs = s.jobs; orders = s.orders; demands = s.demands; kept = s.kept; imports = rows; totals = s.totals; totals2 = s.totals2 }) keyed
 
   pub totals2_shown : (m : FinMap code_cmp Totals) → IsPut old new 17 left row → AreRows 1 (map totals_row (entries m)) (new.now.trees 17) → Shows new (record b { totals = m })
-  totals2_shown m put rows = record {
-    schema = subst IsShop (sym put.schema_is) has.schema;
-    sound = put.sound;
-    stands = record {
-      meta = subst (AreRows 1 _) (sym (put.others 0 refl has.schema.bare.0)) has.stands.meta;
-      materials = subst (AreRows 1 _) (sym (put.others 2 refl has.schema.bare.1.0)) has.stands.materials;
-      parts = subst (AreRows 1 _) (sym (put.others 4 refl has.schema.bare.1.1.0)) has.stands.parts;
-      jobs = subst (AreRows 0 _) (sym (put.others 6 refl has.schema.bare.1.1.1.0)) has.stands.jobs;
-      orders = subst (AreOrders b.content.orders) (sym (put.others 7 refl has.schema.bare.1.1.1.1.0)) has.stands.orders;
-      demands = subst (AreRows 0 _) (sym (put.others 9 refl has.schema.bare.1.1.1.1.1.0)) has.stands.demands;
-      kept = subst (AreRows 1 _) (sym (put.others 11 refl has.schema.bare.1.1.1.1.1.1.0)) has.stands.kept;
-      imports = subst (AreRows 1 _) (sym (put.others 13 refl has.schema.bare.1.1.1.1.1.1.1.0)) has.stands.imports;
-      totals = put.others 15 refl has.schema.bare.1.1.1.1.1.1.1.1.0 ∙ has.stands.totals;
-      totals2 = rows;
-    };
-    keyed = has.keyed;
-  }
+  totals2_shown m put rows =
+      let s = stand 17 put in shows 17 put _ (record { meta = s.meta; materials = s.materials; parts = s.parts; jobs = s.jobs; orders = s.orders; demands = s.demands; kept = s.kept; imports = s.imports; totals = s.totals; totals2 = rows }) has.keyed

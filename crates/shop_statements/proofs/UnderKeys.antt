@@ -1,5 +1,5 @@
 -- The row that a query by a key gave, as it stands.
-use Rattle.std.proofs.Common.{◌≡◌, ℕ, pos, Bool, true, false, true≢false, List, [], ◌∷◌, map, filter, Contains, All, Option, Some, None, IfSome, IsTrue, inl, inr, refl, sym, ap, subst, ◌∙◌, arith, IsPermutation}
+use Rattle.std.proofs.Common.{◌≡◌, ℕ, pos, Bool, false, List, [], ◌∷◌, map, filter, Contains, All, Option, Some, None, IfSome, inl, inr, refl, sym, ap, subst, ◌∙◌, arith, IsPermutation}
 use Rattle.std.proofs.lemmas.Bool.{cases_Bool}
 use Rattle.std.proofs.lemmas.List.Elements.{All-cons, All-contains}
 use Rattle.std.proofs.lemmas.List.Sorted.{IsPermutation-sym}

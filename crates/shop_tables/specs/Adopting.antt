@@ -17,13 +17,17 @@ is_table schema name = is_some (table_named schema name)
 abbrev pub names_are_free : Schema → Bool
 names_are_free schema = not (is_used schema (codes "meta")) && (not (is_used schema (codes "materials")) && (not (is_used schema (codes "parts")) && (not (is_used schema (codes "jobs")) && (not (is_used schema (codes "orders")) && (not (is_used schema (codes "demands")) && (not (is_used schema (codes "kept")) && (not (is_used schema (codes "imports")) && (not (is_used schema (codes "totals")) && (not (is_used schema (codes "totals2")))))))))))
 
+-- each name of version 1 is that of a table
+abbrev pub first_are_tables : Schema → Bool
+first_are_tables schema = is_table schema (codes "meta") && (is_table schema (codes "materials") && (is_table schema (codes "parts") && (is_table schema (codes "jobs") && (is_table schema (codes "orders") && (is_table schema (codes "demands") && (is_table schema (codes "kept") && (is_table schema (codes "imports") && is_table schema (codes "totals"))))))))
+
 -- each name of ours is that of a table
 abbrev pub names_are_tables : Schema → Bool
-names_are_tables schema = is_table schema (codes "meta") && (is_table schema (codes "materials") && (is_table schema (codes "parts") && (is_table schema (codes "jobs") && (is_table schema (codes "orders") && (is_table schema (codes "demands") && (is_table schema (codes "kept") && (is_table schema (codes "imports") && (is_table schema (codes "totals") && (is_table schema (codes "totals2"))))))))))
+names_are_tables schema = first_are_tables schema && is_table schema (codes "totals2")
 
--- each of its names is that of a table, and no table, index or view has the name of the one that came with version 2
+-- each name of version 1 is that of a table, and no table, index or view has the name of the one that came with version 2
 abbrev pub names_are_earlier : Schema → Bool
-names_are_earlier schema = is_table schema (codes "meta") && (is_table schema (codes "materials") && (is_table schema (codes "parts") && (is_table schema (codes "jobs") && (is_table schema (codes "orders") && (is_table schema (codes "demands") && (is_table schema (codes "kept") && (is_table schema (codes "imports") && (is_table schema (codes "totals") && not (is_used schema (codes "totals2"))))))))))
+names_are_earlier schema = first_are_tables schema && not (is_used schema (codes "totals2"))
 
 -- it has no table, index or view, and nothing is under way
 abbrev pub IsVacant : State → Type 0

@@ -4,7 +4,7 @@ ghost use Rattle.std.specs.Prelude.{◌≡◌, ◌≢◌, ◌⊎◌, true, false
 ghost use Rattle.sqlite.specs.State.{HasCleanDisk, Survives};
 ghost use Rattle.sqlite.specs.Held.{state};
 ghost use Rattle.sqlite_catalog.specs.Change.{is_used};
-ghost use Rattle.shop_tables.specs.Adopting.{HasVersion, IsVacant, LeavesBooks, is_table, names_are_free, names_are_tables, names_are_earlier};
+ghost use Rattle.shop_tables.specs.Adopting.{HasVersion, IsVacant, LeavesBooks, first_are_tables, is_table, names_are_free, names_are_tables, names_are_earlier};
 ghost use Rattle.shop_statements.specs.Earlier.{HoldsEarlier, IsSettledEarlier, OnBooksEarlier, earlier_schema};
 ghost use Rattle.shop_tables.specs.Faults.{adopt_fault_of};
 ghost use Rattle.shop_statements.specs.Faults.{fault_of};
@@ -71,9 +71,9 @@ fn are_free(schema: &Schema) -> bool
                                         && !is_used(schema, b"totals2")))))))))
 }
 
-// Each name of ours is that of a table.
-fn are_tables(schema: &Schema) -> bool
-    ensures { result ≡ names_are_tables schema.now }
+// Each name of version 1 is that of a table.
+fn first_are_tables(schema: &Schema) -> bool
+    ensures { result ≡ first_are_tables schema.now }
 {
     is_table(schema, b"meta")
         && (is_table(schema, b"materials")
@@ -83,24 +83,21 @@ fn are_tables(schema: &Schema) -> bool
                         && (is_table(schema, b"demands")
                             && (is_table(schema, b"kept")
                                 && (is_table(schema, b"imports")
-                                    && (is_table(schema, b"totals")
-                                        && is_table(schema, b"totals2")))))))))
+                                    && is_table(schema, b"totals"))))))))
+}
+
+// Each name of ours is that of a table.
+fn are_tables(schema: &Schema) -> bool
+    ensures { result ≡ names_are_tables schema.now }
+{
+    first_are_tables(schema) && is_table(schema, b"totals2")
 }
 
 // Each name of version 1 is that of a table, and the one that came with version 2 is free.
 fn are_earlier(schema: &Schema) -> bool
     ensures { result ≡ names_are_earlier schema.now }
 {
-    is_table(schema, b"meta")
-        && (is_table(schema, b"materials")
-            && (is_table(schema, b"parts")
-                && (is_table(schema, b"jobs")
-                    && (is_table(schema, b"orders")
-                        && (is_table(schema, b"demands")
-                            && (is_table(schema, b"kept")
-                                && (is_table(schema, b"imports")
-                                    && (is_table(schema, b"totals")
-                                        && !is_used(schema, b"totals2")))))))))
+    first_are_tables(schema) && !is_used(schema, b"totals2")
 }
 
 // Makes the tables, in one transaction.

@@ -50,33 +50,20 @@ fn rows_behind<S: Alter>(
     Ok(rows)
 }
 
-fn first_parts<S: Alter>(
-    alloc: Global,
+fn part_rows<S: Alter>(
     conn: &mut Connection<S>,
     material: Code,
+    after: Option<PartName>,
     most: usize,
-) -> Result<PartList, TableFault>
-    ensures rows { OnBooks (state S.Store conn.old) (state S.Store conn.new) (λ books. IfOk result (λ rows. rows ≡ take most (parts_behind books.content material None))) }
+) -> Result<Vec<Row>, TableFault>
+    ensures rows { OnBooks (state S.Store conn.old) (state S.Store conn.new) (λ books. IfOk result (λ rows. rows.items ≡ map listed_part (take most (parts_behind books.content material after)))) }
     ensures leaves { Leaves (state S.Store conn.old) (state S.Store conn.new) }
     ensures mode { conn.old.in_transaction ≡ false → conn.new.in_transaction ≡ false }
 {
-    let rows = first_rows(conn, material, most)?;
-    read_rows(alloc, &rows)
-}
-
-fn parts_behind<S: Alter>(
-    alloc: Global,
-    conn: &mut Connection<S>,
-    material: Code,
-    after: PartName,
-    most: usize,
-) -> Result<PartList, TableFault>
-    ensures rows { OnBooks (state S.Store conn.old) (state S.Store conn.new) (λ books. IfOk result (λ rows. rows ≡ take most (parts_behind books.content material (Some after)))) }
-    ensures leaves { Leaves (state S.Store conn.old) (state S.Store conn.new) }
-    ensures mode { conn.old.in_transaction ≡ false → conn.new.in_transaction ≡ false }
-{
-    let rows = rows_behind(conn, material, after, most)?;
-    read_rows(alloc, &rows)
+    match after {
+        Some(name) => rows_behind(conn, material, name, most),
+        None => first_rows(conn, material, most),
+    }
 }
 
 /// The first standing and reserved parts of a material behind a name, or from its first on, by rising act and then node: at
@@ -92,8 +79,6 @@ pub fn list_first_parts<S: Alter>(
     ensures leaves { Leaves (state S.Store conn.old) (state S.Store conn.new) }
     ensures mode { conn.old.in_transaction ≡ false → conn.new.in_transaction ≡ false }
 {
-    match after {
-        Some(name) => parts_behind(alloc, conn, material, name, most),
-        None => first_parts(alloc, conn, material, most),
-    }
+    let rows = part_rows(conn, material, after, most)?;
+    read_rows(alloc, &rows)
 }

@@ -13,7 +13,7 @@ use shop_statements::{TableFault, all_rows};
 use sqlite::{Alter, Connection, Row, params};
 use std::alloc::Global;
 
-fn demand_rows<S: Alter>(
+fn demand_rows_of_all<S: Alter>(
     conn: &mut Connection<S>,
     after: u32,
     most: usize,
@@ -50,34 +50,20 @@ fn demand_rows_of<S: Alter>(
     Ok(rows)
 }
 
-// Of all materials.
-fn open_demands_of_all<S: Alter>(
-    alloc: Global,
+fn demand_rows<S: Alter>(
     conn: &mut Connection<S>,
     after: u32,
+    material: Option<Code>,
     most: usize,
-) -> Result<DemandList, TableFault>
-    ensures rows { OnBooks (state S.Store conn.old) (state S.Store conn.new) (λ books. IfOk result (λ rows. rows ≡ take most (open_demands books.content after None))) }
+) -> Result<Vec<Row>, TableFault>
+    ensures rows { OnBooks (state S.Store conn.old) (state S.Store conn.new) (λ books. IfOk result (λ rows. rows.items ≡ map listed_demand (take most (open_demands books.content after material)))) }
     ensures leaves { Leaves (state S.Store conn.old) (state S.Store conn.new) }
     ensures mode { conn.old.in_transaction ≡ false → conn.new.in_transaction ≡ false }
 {
-    let rows = demand_rows(conn, after, most)?;
-    read_rows(alloc, &rows)
-}
-
-fn open_demands_of<S: Alter>(
-    alloc: Global,
-    conn: &mut Connection<S>,
-    after: u32,
-    material: Code,
-    most: usize,
-) -> Result<DemandList, TableFault>
-    ensures rows { OnBooks (state S.Store conn.old) (state S.Store conn.new) (λ books. IfOk result (λ rows. rows ≡ take most (open_demands books.content after (Some material)))) }
-    ensures leaves { Leaves (state S.Store conn.old) (state S.Store conn.new) }
-    ensures mode { conn.old.in_transaction ≡ false → conn.new.in_transaction ≡ false }
-{
-    let rows = demand_rows_of(conn, after, material, most)?;
-    read_rows(alloc, &rows)
+    match material {
+        Some(code) => demand_rows_of(conn, after, code, most),
+        None => demand_rows_of_all(conn, after, most),
+    }
 }
 
 /// The first open demands with greater numbers, of one material or of all, by rising number: at most so many.
@@ -92,8 +78,6 @@ pub fn list_open_demands<S: Alter>(
     ensures leaves { Leaves (state S.Store conn.old) (state S.Store conn.new) }
     ensures mode { conn.old.in_transaction ≡ false → conn.new.in_transaction ≡ false }
 {
-    match material {
-        Some(code) => open_demands_of(alloc, conn, after, code, most),
-        None => open_demands_of_all(alloc, conn, after, most),
-    }
+    let rows = demand_rows(conn, after, material, most)?;
+    read_rows(alloc, &rows)
 }

@@ -1,5 +1,4 @@
-use Rattle.std.proofs.Common.{arith, ap}
-use Rattle.shop_statements.specs.Found.{AreJobColumns, columns_of}
+use Rattle.std.proofs.Common.{arith}
 use Rattle.shop_statements.proofs.UnderKeys.{job_under}
 use Rattle.sqlite.specs.State.{HasCleanDisk}
 use Rattle.sqlite.specs.Held.{state}

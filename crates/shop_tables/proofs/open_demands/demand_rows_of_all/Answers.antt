@@ -6,7 +6,7 @@ use Rattle.shop_tables.specs.ListedRows.{listed_demand}
 use Rattle.shop_tables.proofs.FirstRows.{held_given, lists_open_demands}
 use Rattle.shop_tables.proofs.ListTexts.{open_demands_text, open_demands_selects}
 use Rattle.shop_statements.proofs.Reading.{leaves_itself}
-use Rattle.shop_tables.proofs.open_demands.demand_rows.Goals as goal
+use Rattle.shop_tables.proofs.open_demands.demand_rows_of_all.Goals as goal
 
 pub returns-in_err-limit-clause-leaves : goal.returns-in_err-limit-clause-leaves
 returns-in_err-limit-clause-leaves g c = leaves_itself _

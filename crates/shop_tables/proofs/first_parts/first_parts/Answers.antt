@@ -1,6 +1,0 @@
-use Rattle.std.proofs.Common.{◌∙◌, None, take}
-use Rattle.shop_machine.specs.Listing.{parts_behind}
-use Rattle.shop_tables.proofs.first_parts.first_parts.Goals as goal
-
-pub returns-clause-rows : goal.returns-clause-rows
-returns-clause-rows g c clean b was = c.read_rows.ensures (take c.args.most (parts_behind b.content c.args.material None)) (c.deref.ensures.value ∙ c.in_ok-rows.ensures.rows clean b was)
