@@ -10,8 +10,10 @@ use Rattle.shop_machine.specs.declared.listing.TheConstants.{MOST_TOLD}
 use Rattle.shop_machine.specs.declared.receiving.TheConstants.{MOST_RECEIVED, MOST_UNITS}
 use Rattle.shop_book.specs.declared.books.TheConstants.{MOST_FAILURES}
 use Rattle.shop_request.specs.Heads.{most_head, most_fields, most_body}
+use Rattle.shop_wire.specs.declared.limits.TheConstants.{MOST_HELD}
 use Rattle.shop_wire.specs.Lines.{longest_line}
 use Rattle.shop_wire.specs.Streams.{most_reads}
+use Rattle.shop_serve.specs.declared.lines.TheConstants as connections
 use Rattle.shop_words.specs.declared.words.TheConstants.{LONGEST_STEP, LAST_PORT, MOST_CONNECTIONS, MOST_PAIR}
 use Rattle.shop_commands.specs.declared.files.TheConstants.{LONGEST_PAGE}
 
@@ -48,13 +50,19 @@ pub record AreCounts : Type 0 where
   pub told : MOST_TOLD ≡ 100
   pub failures : MOST_FAILURES ≡ 18446744073709551615
 
--- reads of a replay and bytes of a line; bytes and fields of a head, bytes of a body
+-- reads of a replay, bytes of a line, and bytes of replies that are held; bytes and fields of a head, bytes of a body
 pub record AreRequests : Type 0 where
   pub reads : most_reads ≡ 1000000000
   pub line : longest_line ≡ 131072
+  pub held : MOST_HELD ≡ 65536
   pub head : most_head ≡ 8192
   pub fields : most_fields ≡ 64
   pub body : most_body ≡ 131072
+
+-- connections that are open, and the seconds that each has for its request, and then for its answer
+pub record AreConnections : Type 0 where
+  pub open : connections.MOST_LINES ≡ 256
+  pub patience : connections.PATIENCE ≡ 10
 
 -- of the command line: a step, a port, connections, and the terminal and the number of a message
 pub record AreWords : Type 0 where

@@ -19,14 +19,14 @@ use slab::Slab;
 use std::alloc::Global;
 use std::time::{Duration, Instant};
 
-// How many seconds a connection has to send its request, from when it was accepted, and then to take its answer.
-const PATIENCE: u64 = 10;
+/// How many seconds a connection has to send its request, from when it was accepted, and then to take its answer.
+pub const PATIENCE: u64 = 10;
 
 // How each answer to a request begins that was read to its last byte and done.
 const DONE: &[u8] = b"HTTP/1.1 200 ";
 
 /// The most connections that are open at once.
-pub(crate) const MOST_LINES: usize = 256;
+pub const MOST_LINES: usize = 256;
 
 /// An open connection: when it was accepted or its answer was made, the bytes that came, how many are needed at least, and
 /// the answer with how much of it was handed over.

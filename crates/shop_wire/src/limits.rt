@@ -10,4 +10,4 @@ pub(crate) const LONGEST_LINE: usize = 131_072;
 pub(crate) const ROOM: usize = 65_536;
 
 /// So many bytes of replies are written before the next line is answered.
-pub(crate) const MOST_HELD: usize = 65_536;
+pub const MOST_HELD: usize = 65_536;
