@@ -1,7 +1,7 @@
 use Rattle.std.proofs.Common.{rules, ◌≡◌, sym, subst, List, [], ◌∷◌}
 use denote.Param.Members.{Mut, Called}
 use Rattle.std.specs.Fn.{ReturnsEach}
-use Rattle.shop_rows.proofs.rows.place.Goals as goal
+use Rattle.shop_rows.proofs.rows.place_near.Goals as goal
 
 each : {F X R : Type 0} (g : Mut F X R) (P : X → R → Type 0) (f : F) → ((a : X) (r : R) (f' : F) → Called g f a r f' → P a r × (f' ≡ f)) → (xs : List X) → ReturnsEach g P f xs
 each g P f h [] = tt
