@@ -61,7 +61,7 @@ pub record AreRequests : Type 0 where
 
 -- connections that are open, and the seconds that each has for its request, and then for its answer
 pub record AreConnections : Type 0 where
-  pub open : connections.MOST_LINES ≡ 256
+  pub most : connections.MOST_LINES ≡ 256
   pub patience : connections.PATIENCE ≡ 10
 
 -- of the command line: a step, a port, connections, and the terminal and the number of a message
