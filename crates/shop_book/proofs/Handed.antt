@@ -6,9 +6,9 @@ use Rattle.cut_measure.specs.Names.{Name, name_cmp}
 use Rattle.shop_machine.specs.Content.{is_listed}
 use Rattle.shop_machine.specs.Listing.{is_behind}
 use Rattle.shop_rows.specs.Keys.{part_key}
-use Rattle.shop_rows.specs.Open.{own_key, open_cmp, is_after, parts_named, AreListed}
+use Rattle.shop_rows.specs.Open.{names_of, parts_named, AreInOrder, AreListed}
 use Rattle.shop_rows.specs.Rows.{entries_of, rise}
-use Rattle.shop_rows.specs.declared.open.OpenPart.{OpenPart}
+use Rattle.shop_rows.specs.declared.names.NameList.{NameList}
 use Rattle.shop_rows.proofs.Named.{first_named_are, named_are}
 use Rattle.shop_book.proofs.Held.{values-rows}
 use Rattle.std.specs.List.{FoldsTo, cons_option}
@@ -92,20 +92,20 @@ filter_all : {X : Type 0} (xs : List X) → filter (λ x. true) xs ≡ xs
 filter_all [] = refl
 filter_all (x ∷ xs) = ap (λ ys. x ∷ ys) (filter_all xs)
 
-module _ (code : List ℕ) (keys : List OpenPart) (parts : List Part) (up : rise own_key open_cmp keys ≡ true) (rises : rise part_key name_cmp parts ≡ true) (listed : AreListed parts keys) where
+module _ (code : List ℕ) (lists : List NameList) (parts : List Part) (order : AreInOrder lists) (rises : rise part_key name_cmp parts ≡ true) (listed : AreListed parts lists) where
   abbrev content_parts : List Part
   content_parts = values (from_sorted {R = name_cmp} (entries_of part_key name_cmp parts))
 
   -- the first of the parts that stand behind a name
-  pub first_named : (after : Option Name) (most : ℕ) → parts_named (take most (filter (is_after code after) keys)) parts ≡ take most (filter (λ part. is_behind after part.name) (filter (is_listed code) content_parts))
+  pub first_named : (after : Option Name) (most : ℕ) → parts_named (take most (filter (is_behind after) (names_of code lists))) parts ≡ take most (filter (λ part. is_behind after part.name) (filter (is_listed code) content_parts))
   first_named after most =
-      first_named_are code after keys parts up rises listed most
+      first_named_are code after lists parts order rises listed most
       ∙ ap (λ (ps : List Part). take most (filter (λ part. is_behind after part.name) (filter (is_listed code) ps))) (sym (values-rows part_key name_cmp parts rises))
 
   -- all of them
-  pub all_named : parts_named (filter (is_after code None) keys) parts ≡ filter (is_listed code) content_parts
+  pub all_named : parts_named (filter (is_behind None) (names_of code lists)) parts ≡ filter (is_listed code) content_parts
   all_named =
-      named_are code None keys parts up rises listed ∙ filter_all (filter (is_listed code) parts) ∙ ap (filter (is_listed code)) (sym (values-rows part_key name_cmp parts rises))
+      named_are code None lists parts order rises listed ∙ filter_all (filter (is_listed code) parts) ∙ ap (filter (is_listed code)) (sym (values-rows part_key name_cmp parts rises))
 
 -- ---- the first rows that pass
 

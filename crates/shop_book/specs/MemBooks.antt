@@ -7,7 +7,7 @@ use Rattle.cut_measure.specs.Names.{name_cmp}
 use Rattle.shop_machine.specs.Content.{pair_cmp}
 use Rattle.shop_machine.specs.Listing.{is_open}
 use Rattle.shop_rows.specs.Rows.{rise, row_at}
-use Rattle.shop_rows.specs.Open.{own_key, open_cmp, waits, AreListed, ListsNumbers}
+use Rattle.shop_rows.specs.Open.{own_key, waits, AreInOrder, AreListed, ListsNumbers}
 use Rattle.shop_rows.specs.Sums.{sums_key, AreSumsOf, all_small}
 use Rattle.shop_book.specs.Memory.{MemoryBook, order_key, content_of_rows}
 use Rattle.shop_rows.specs.Keys.{material_key, part_key, job_key, demand_key, import_key}
@@ -19,8 +19,8 @@ book_of book = record {
   failures = book.failures;
 }
 
--- the rows rise by their keys, the sums are those of the parts, and the lists have the keys of the parts that stand, the
--- jobs that wait and the demands that are open
+-- the rows rise by their keys, the sums are those of the parts, and the lists have the names of the parts that stand, and
+-- the numbers of the jobs that wait and the demands that are open
 pub record IsConsistent (book : Inside) : Type 0 where
   pub materials : IsTrue (rise material_key code_cmp book.materials.items)
   pub parts : IsTrue (rise part_key name_cmp book.parts.items)
@@ -32,7 +32,7 @@ pub record IsConsistent (book : Inside) : Type 0 where
   pub imports : IsTrue (rise import_key code_cmp book.imports.items)
   pub small : IsTrue (all_small book.parts.items)
   pub sums : AreSumsOf book.parts.items book.totals.items
-  pub keys : IsTrue (rise own_key open_cmp book.lists.parts.items)
+  pub names : AreInOrder book.lists.parts.items
   pub listed : AreListed book.parts.items book.lists.parts.items
   pub job_keys : IsTrue (rise own_key nat_cmp book.lists.jobs.items)
   pub waiting : ListsNumbers waits (λ number. row_at job_key nat_cmp number book.jobs.items) book.lists.jobs.items

@@ -15,7 +15,7 @@ ghost use Rattle.std.specs.FinMap.{find as find_entry};
 ghost use Rattle.shop_rows.specs.Rows.{rise, row_at, map_of, ArePut, IsPut};
 ghost use Rattle.shop_machine.specs.Visits.{HasSeen, IsVisit};
 ghost use Rattle.shop_book.specs.declared.books.BookFault.{BookFault as Fault};
-ghost use Rattle.shop_rows.specs.Open.{own_key, open_cmp, demands_named, parts_named, waits, AreListed, ListsNumbers};
+ghost use Rattle.shop_rows.specs.Open.{own_key, demands_named, names_of, parts_named, room_of, waits, AreInOrder, AreListed, HaveRoom, ListsNumbers};
 ghost use Rattle.shop_rows.specs.Sums.{sums_key, AreSumsOf, all_small};
 
 use crate::books::{Book, BookFault};
@@ -26,9 +26,9 @@ use shop_machine::{
     Part, PartList, PartVisitor, RowList, Totals,
 };
 use shop_rows::{
-    OpenPart, OpenRows, Sums, add_part, at, copy_rows, find, first_rows, list_all, list_demands,
-    list_job, list_part, names_behind, numbers_behind, put, put_all, put_run, put_some, sums_of,
-    take_replaced, totals_in, with_all,
+    NameList, OpenRows, Sums, add_part, at, copy_rows, find, first_rows, list_all, list_demands,
+    list_job, list_part, names_behind, numbers_behind, put, put_all, put_run, put_some,
+    reserve_names, sums_of, take_replaced, totals_in, with_all,
 };
 use std::alloc::{AllocError, Global};
 use std::cmp::Ordering;
@@ -164,13 +164,13 @@ fn push_found(rows: &mut PartList, found: Option<Part>) -> Result<(), AllocError
 }
 
 // The parts of these names.
-fn listed(alloc: Global, parts: &[Part], keys: &[OpenPart]) -> Result<PartList, AllocError>
+fn listed(alloc: Global, parts: &[Part], names: &[PartName]) -> Result<PartList, AllocError>
     requires { IsTrue (rise part_key name_cmp parts.now) }
-    ensures { IfOk result (λ rows. rows ≡ parts_named keys.now parts.now) }
+    ensures { IfOk result (λ rows. rows ≡ parts_named names.now parts.now) }
 {
     let mut rows = PartList::new(alloc);
-    for key in keys {
-        push_found(&mut rows, find(parts, key.name))?;
+    for name in names {
+        push_found(&mut rows, find(parts, *name))?;
     }
     Ok(rows)
 }
@@ -186,12 +186,12 @@ fn hand<V: PartVisitor>(part: Option<&Part>, visitor: &mut V) -> bool
 }
 
 // Hands out the parts of these names, for as long as the visitor answers true.
-fn visit<V: PartVisitor>(parts: &[Part], keys: &[OpenPart], visitor: &mut V) -> bool
+fn visit<V: PartVisitor>(parts: &[Part], names: &[PartName], visitor: &mut V) -> bool
     requires { IsTrue (rise part_key name_cmp parts.now) }
-    ensures { IsVisit V.looks {Fault = Fault} (λ what. what (parts_named keys.now parts.now)) visitor.old (Ok result) visitor.new }
+    ensures { IsVisit V.looks {Fault = Fault} (λ what. what (parts_named names.now parts.now)) visitor.old (Ok result) visitor.new }
 {
-    for key in keys {
-        if !hand(at(parts, key.name), visitor) {
+    for name in names {
+        if !hand(at(parts, *name), visitor) {
             return false;
         }
     }
@@ -372,36 +372,35 @@ fn last_kept(kept: &BTreeMap<Pair, Kept>, terminal: u32) -> u32
     last.number
 }
 
-// Puts a part, and keeps the sums and the list of standing parts.
-fn put_part(parts: &mut Vec<Part>, totals: &mut Vec<Sums>, keys: &mut Vec<OpenPart>, part: &Part)
+// Puts a part, and keeps the sums and the names of standing parts.
+fn put_part(parts: &mut Vec<Part>, totals: &mut Vec<Sums>, lists: &mut Vec<NameList>, part: &Part)
     requires parts { IsTrue (rise part_key name_cmp parts.old.items) }
     requires totals { IsTrue (rise sums_key code_cmp totals.old.items) }
     requires small { IsTrue (all_small parts.old.items) }
     requires sums { AreSumsOf parts.old.items totals.old.items }
-    requires keys { IsTrue (rise own_key open_cmp keys.old.items) }
-    requires listed { AreListed parts.old.items keys.old.items }
+    requires order { AreInOrder lists.old.items }
+    requires listed { AreListed parts.old.items lists.old.items }
     requires parts_room { vec_len parts.old < vec_capacity parts.old }
     requires totals_room { vec_len totals.old < vec_capacity totals.old }
-    requires keys_room { vec_len keys.old < vec_capacity keys.old }
+    requires names_room { 1 ≤ room_of part.now.material lists.old.items }
     ensures put { IsPut part_key name_cmp part.now parts.old.items parts.new.items }
     ensures parts { IsTrue (rise part_key name_cmp parts.new.items) }
     ensures totals { IsTrue (rise sums_key code_cmp totals.new.items) }
     ensures small { IsTrue (all_small parts.new.items) }
     ensures sums { AreSumsOf parts.new.items totals.new.items }
-    ensures keys { IsTrue (rise own_key open_cmp keys.new.items) }
-    ensures listed { AreListed parts.new.items keys.new.items }
+    ensures order { AreInOrder lists.new.items }
+    ensures listed { AreListed parts.new.items lists.new.items }
     ensures parts_len { vec_len parts.new ≤ vec_len parts.old + 1 }
     ensures totals_len { vec_len totals.new ≤ vec_len totals.old + 1 }
-    ensures keys_len { vec_len keys.new ≤ vec_len keys.old + 1 }
     ensures parts_capacity { vec_capacity parts.old ≤ vec_capacity parts.new }
     ensures totals_capacity { vec_capacity totals.old ≤ vec_capacity totals.new }
-    ensures keys_capacity { vec_capacity keys.old ≤ vec_capacity keys.new }
+    ensures names_room { (code : List ℕ) → room_of code lists.old.items ≤ room_of code lists.new.items + 1 }
 {
     let _len = parts.len();
     let _cells = part.size.cells();
     let replaced = put(parts, *part);
     let before = replaced;
-    list_part(keys, before, part);
+    list_part(lists, before, part);
     take_replaced(totals, replaced);
     add_part(totals, part);
 }
@@ -410,28 +409,28 @@ fn put_part(parts: &mut Vec<Part>, totals: &mut Vec<Sums>, keys: &mut Vec<OpenPa
 fn put_one_by_one(
     parts: &mut Vec<Part>,
     totals: &mut Vec<Sums>,
-    keys: &mut Vec<OpenPart>,
+    lists: &mut Vec<NameList>,
     rows: &[Part],
 )
     requires parts { IsTrue (rise part_key name_cmp parts.old.items) }
     requires totals { IsTrue (rise sums_key code_cmp totals.old.items) }
     requires small { IsTrue (all_small parts.old.items) }
     requires sums { AreSumsOf parts.old.items totals.old.items }
-    requires keys { IsTrue (rise own_key open_cmp keys.old.items) }
-    requires listed { AreListed parts.old.items keys.old.items }
+    requires order { AreInOrder lists.old.items }
+    requires listed { AreListed parts.old.items lists.old.items }
     requires parts_room { vec_len parts.old + length rows.now ≤ vec_capacity parts.old }
     requires totals_room { vec_len totals.old + length rows.now ≤ vec_capacity totals.old }
-    requires keys_room { vec_len keys.old + length rows.now ≤ vec_capacity keys.old }
+    requires names_room { HaveRoom (length rows.now) rows.now lists.old.items }
     ensures put { map_of part_key name_cmp parts.new.items ≡ with_parts rows.now (map_of part_key name_cmp parts.old.items) }
     ensures parts { IsTrue (rise part_key name_cmp parts.new.items) }
     ensures totals { IsTrue (rise sums_key code_cmp totals.new.items) }
     ensures small { IsTrue (all_small parts.new.items) }
     ensures sums { AreSumsOf parts.new.items totals.new.items }
-    ensures keys { IsTrue (rise own_key open_cmp keys.new.items) }
-    ensures listed { AreListed parts.new.items keys.new.items }
+    ensures order { AreInOrder lists.new.items }
+    ensures listed { AreListed parts.new.items lists.new.items }
 {
     for part in rows {
-        put_part(parts, totals, keys, part);
+        put_part(parts, totals, lists, part);
     }
 }
 
@@ -440,26 +439,26 @@ fn put_one_by_one(
 fn insert_run(
     parts: &mut Vec<Part>,
     totals: &mut Vec<Sums>,
-    keys: &mut Vec<OpenPart>,
+    lists: &mut Vec<NameList>,
     rows: &[Part],
 ) -> bool
     requires parts { IsTrue (rise part_key name_cmp parts.old.items) }
     requires totals { IsTrue (rise sums_key code_cmp totals.old.items) }
     requires small { IsTrue (all_small parts.old.items) }
     requires sums { AreSumsOf parts.old.items totals.old.items }
-    requires keys { IsTrue (rise own_key open_cmp keys.old.items) }
-    requires listed { AreListed parts.old.items keys.old.items }
+    requires order { AreInOrder lists.old.items }
+    requires listed { AreListed parts.old.items lists.old.items }
     requires parts_room { vec_len parts.old + length rows.now ≤ vec_capacity parts.old }
     requires totals_room { vec_len totals.old + length rows.now ≤ vec_capacity totals.old }
-    requires keys_room { vec_len keys.old + length rows.now ≤ vec_capacity keys.old }
+    requires names_room { HaveRoom (length rows.now) rows.now lists.old.items }
     ensures put { IsTrue result → map_of part_key name_cmp parts.new.items ≡ with_parts rows.now (map_of part_key name_cmp parts.old.items) }
     ensures parts { IsTrue result → IsTrue (rise part_key name_cmp parts.new.items) }
     ensures totals { IsTrue result → IsTrue (rise sums_key code_cmp totals.new.items) }
     ensures small { IsTrue result → IsTrue (all_small parts.new.items) }
     ensures sums { IsTrue result → AreSumsOf parts.new.items totals.new.items }
-    ensures keys { IsTrue result → IsTrue (rise own_key open_cmp keys.new.items) }
-    ensures listed { IsTrue result → AreListed parts.new.items keys.new.items }
-    ensures same { result ≡ false → (parts.new ≡ parts.old) × (totals.new ≡ totals.old) × (keys.new ≡ keys.old) }
+    ensures order { IsTrue result → AreInOrder lists.new.items }
+    ensures listed { IsTrue result → AreListed parts.new.items lists.new.items }
+    ensures same { result ≡ false → (parts.new ≡ parts.old) × (totals.new ≡ totals.old) × (lists.new ≡ lists.old) }
 {
     let Some(first) = rows.first() else {
         return false;
@@ -474,67 +473,71 @@ fn insert_run(
         return false;
     }
     let _ = put(totals, sums);
-    list_all(keys, rows);
+    list_all(lists, rows);
     true
 }
 
 // Puts parts, as one after another.
-fn put_parts(parts: &mut Vec<Part>, totals: &mut Vec<Sums>, keys: &mut Vec<OpenPart>, rows: &[Part])
+fn put_parts(
+    parts: &mut Vec<Part>,
+    totals: &mut Vec<Sums>,
+    lists: &mut Vec<NameList>,
+    rows: &[Part],
+)
     requires parts { IsTrue (rise part_key name_cmp parts.old.items) }
     requires totals { IsTrue (rise sums_key code_cmp totals.old.items) }
     requires small { IsTrue (all_small parts.old.items) }
     requires sums { AreSumsOf parts.old.items totals.old.items }
-    requires keys { IsTrue (rise own_key open_cmp keys.old.items) }
-    requires listed { AreListed parts.old.items keys.old.items }
+    requires order { AreInOrder lists.old.items }
+    requires listed { AreListed parts.old.items lists.old.items }
     requires parts_room { vec_len parts.old + length rows.now ≤ vec_capacity parts.old }
     requires totals_room { vec_len totals.old + length rows.now ≤ vec_capacity totals.old }
-    requires keys_room { vec_len keys.old + length rows.now ≤ vec_capacity keys.old }
+    requires names_room { HaveRoom (length rows.now) rows.now lists.old.items }
     ensures put { map_of part_key name_cmp parts.new.items ≡ with_parts rows.now (map_of part_key name_cmp parts.old.items) }
     ensures parts { IsTrue (rise part_key name_cmp parts.new.items) }
     ensures totals { IsTrue (rise sums_key code_cmp totals.new.items) }
     ensures small { IsTrue (all_small parts.new.items) }
     ensures sums { AreSumsOf parts.new.items totals.new.items }
-    ensures keys { IsTrue (rise own_key open_cmp keys.new.items) }
-    ensures listed { AreListed parts.new.items keys.new.items }
+    ensures order { AreInOrder lists.new.items }
+    ensures listed { AreListed parts.new.items lists.new.items }
 {
-    if insert_run(parts, totals, keys, rows) {
+    if insert_run(parts, totals, lists, rows) {
         return;
     }
-    put_one_by_one(parts, totals, keys, rows);
+    put_one_by_one(parts, totals, lists, rows);
 }
 
 // Puts a part that moves, if there is one.
 fn put_moved(
     parts: &mut Vec<Part>,
     totals: &mut Vec<Sums>,
-    keys: &mut Vec<OpenPart>,
+    lists: &mut Vec<NameList>,
     row: Option<Part>,
 )
     requires parts { IsTrue (rise part_key name_cmp parts.old.items) }
     requires totals { IsTrue (rise sums_key code_cmp totals.old.items) }
     requires small { IsTrue (all_small parts.old.items) }
     requires sums { AreSumsOf parts.old.items totals.old.items }
-    requires keys { IsTrue (rise own_key open_cmp keys.old.items) }
-    requires listed { AreListed parts.old.items keys.old.items }
+    requires order { AreInOrder lists.old.items }
+    requires listed { AreListed parts.old.items lists.old.items }
     requires parts_room { vec_len parts.old < vec_capacity parts.old }
     requires totals_room { vec_len totals.old < vec_capacity totals.old }
-    requires keys_room { vec_len keys.old < vec_capacity keys.old }
+    requires names_room { HaveRoom 1 (option_to_list row) lists.old.items }
     ensures put { map_of part_key name_cmp parts.new.items ≡ with_moved row (map_of part_key name_cmp parts.old.items) }
     ensures parts { IsTrue (rise part_key name_cmp parts.new.items) }
     ensures totals { IsTrue (rise sums_key code_cmp totals.new.items) }
     ensures small { IsTrue (all_small parts.new.items) }
     ensures sums { AreSumsOf parts.new.items totals.new.items }
-    ensures keys { IsTrue (rise own_key open_cmp keys.new.items) }
-    ensures listed { AreListed parts.new.items keys.new.items }
+    ensures order { AreInOrder lists.new.items }
+    ensures listed { AreListed parts.new.items lists.new.items }
     ensures parts_len { vec_len parts.new ≤ vec_len parts.old + 1 }
     ensures totals_len { vec_len totals.new ≤ vec_len totals.old + 1 }
-    ensures keys_len { vec_len keys.new ≤ vec_len keys.old + 1 }
     ensures parts_capacity { vec_capacity parts.old ≤ vec_capacity parts.new }
     ensures totals_capacity { vec_capacity totals.old ≤ vec_capacity totals.new }
-    ensures keys_capacity { vec_capacity keys.old ≤ vec_capacity keys.new }
+    ensures names_room { (code : List ℕ) → room_of code lists.old.items ≤ room_of code lists.new.items + 1 }
 {
     if let Some(row) = row {
-        put_part(parts, totals, keys, &row);
+        put_part(parts, totals, lists, &row);
     }
 }
 
@@ -543,20 +546,17 @@ fn reserve(
     materials: &mut Vec<Material>,
     parts: &mut Vec<Part>,
     totals: &mut Vec<Sums>,
-    keys: &mut Vec<OpenPart>,
     count: usize,
 ) -> Result<(), AllocError>
     ensures materials { materials.new.items ≡ materials.old.items }
     ensures parts { parts.new.items ≡ parts.old.items }
     ensures totals { totals.new.items ≡ totals.old.items }
-    ensures keys { keys.new.items ≡ keys.old.items }
     ensures room { OnOk result ((vec_len materials.new < vec_capacity materials.new) × (vec_len parts.new + count ≤ vec_capacity parts.new)
-        × (vec_len totals.new + count ≤ vec_capacity totals.new) × (vec_len keys.new + count ≤ vec_capacity keys.new)) }
+        × (vec_len totals.new + count ≤ vec_capacity totals.new)) }
 {
     materials.reserve(1)?;
     parts.reserve(count)?;
     totals.reserve(count)?;
-    keys.reserve(count)?;
     Ok(())
 }
 
@@ -838,8 +838,8 @@ impl Book for MemBook {
         ensures memory { IfErr result (λ fault. fault ≡ NoMemory) }
         ensures same { self.new ≡ self.old }
     {
-        let keys = names_behind(&self.lists.parts, material, None);
-        let rows = listed(alloc, &self.parts, keys)?;
+        let names = names_behind(&self.lists.parts, material, None);
+        let rows = listed(alloc, &self.parts, names)?;
         Ok(rows)
     }
 
@@ -852,8 +852,8 @@ impl Book for MemBook {
         ensures sure { IsOk result }
         ensures same { self.new ≡ self.old }
     {
-        let keys = names_behind(&self.lists.parts, material, None);
-        let on = visit(&self.parts, keys, visitor);
+        let names = names_behind(&self.lists.parts, material, None);
+        let on = visit(&self.parts, names, visitor);
         Ok(on)
     }
 
@@ -877,8 +877,8 @@ impl Book for MemBook {
         ensures memory { IfErr result (λ fault. fault ≡ NoMemory) }
         ensures same { self.new ≡ self.old }
     {
-        let keys = names_behind(&self.lists.parts, material, after);
-        let rows = listed(alloc, &self.parts, first_rows(keys, most))?;
+        let names = names_behind(&self.lists.parts, material, after);
+        let rows = listed(alloc, &self.parts, first_rows(names, most))?;
         Ok(rows)
     }
 
@@ -947,9 +947,9 @@ impl Book for MemBook {
             &mut self.materials,
             &mut self.parts,
             &mut self.totals,
-            &mut self.lists.parts,
             rows.len() + 1,
         )?;
+        reserve_names(&mut self.lists.parts, &moved, rows)?;
         reserve_demands(
             &mut self.jobs,
             &mut self.demands,

@@ -2,7 +2,7 @@
 pub mod Places
 -- lists of keys, and which rows they name
 pub mod Listed
-pub mod ListedRuns
+pub mod NameLists
 pub mod Named
 -- sums of parts
 pub mod Summed

@@ -5,8 +5,8 @@ use Rattle.std.proofs.Common.{leb, ltb}
 use Rattle.std.specs.Prelude.{nat_lt, All, IfSome, Option, Some, None, cond, not, filter, ◌&&◌}
 use Rattle.std.specs.declared.cmp.Ordering.{Ordering}
 use Rattle.std.specs.declared.cmp.Ordering.TheVariants.{Less, Equal, Greater}
-use Rattle.std.specs.Ordering.{eq_by_cmp, is_eq, is_gt, is_lt, nat_cmp, ordering_then}
-use Rattle.std.specs.Cmp.{IsTotalOrder, alike_right, eq_by_cmp_equiv, ranked, tied_itself}
+use Rattle.std.specs.Ordering.{eq_by_cmp, is_eq, is_lt, nat_cmp, ordering_then}
+use Rattle.std.specs.Cmp.{IsTotalOrder, eq_by_cmp_equiv, ranked, tied_itself}
 use Rattle.std.specs.Cmp.Lexicographic.{nat_list_cmp_total}
 use Rattle.std.specs.FinMap.{IsAntisymmetric, find, is_sorted, put}
 use Rattle.std.specs.FinMap.Entries.{find-put, is_sorted-where_key, where_key}
@@ -20,9 +20,10 @@ use Rattle.shop_machine.specs.Content.{is_listed}
 use Rattle.shop_machine.specs.Listing.{is_behind}
 use Rattle.shop_machine.specs.Same.{same_code}
 use Rattle.shop_rows.specs.Keys.{part_key, names_total, names_exact}
-use Rattle.shop_rows.specs.Open.{own_key, open_cmp, open_exact, open_key, has, is_found, finds_with, finds_with_all, ListsNumbers, ListsParts, ListsOthers, KeepsMaterial, KeepMaterials, passed_at, is_passed, is_upto, is_after}
+use Rattle.shop_rows.specs.Open.{own_key, open_cmp, open_exact, open_key, has, has_key, is_found, finds_with, finds_with_all, names_of, IsKeySettled, ListsNumbers, ListsParts, ListsOthers, KeepsMaterial, KeepMaterials}
 use Rattle.shop_rows.specs.Rows.{entries_of, put_each, rise, row_at, ArePut, IsPut, IsSettled}
-use Rattle.shop_rows.specs.declared.open.OpenPart.{OpenPart}
+use Rattle.shop_rows.specs.declared.names.NameList.{NameList}
+use Rattle.shop_rows.specs.declared.names.OpenPart.{OpenPart}
 use Rattle.shop_rows.proofs.Places.{rising_at, tested, met}
 
 pub tie : (r : Ordering) → is_eq r ≡ true → r ≡ Equal
@@ -45,23 +46,23 @@ far_name Less b e = refl
 far_name Equal b e = e
 far_name Greater b e = refl
 
-module _ (part : Part) (find_part : Name → Option Part) (keys : List OpenPart) (lists : ListsParts find_part keys) where
+module _ (part : Part) (find_part : Name → Option Part) (keys : List NameList) (lists : ListsParts find_part keys) where
   -- a part isn't listed for another material
   not_there : (code : List ℕ) (p : Part) → same_code code p.material ≡ false → is_listed code p ≡ false
   not_there code p apart = ap (λ b. b && is_there p.state) (code_turned p.material code ∙ apart)
 
-  others : (new : List OpenPart) → ((key : OpenPart) → eq_by_cmp name_cmp key.name part.name ≡ false → has open_cmp key new ≡ has open_cmp key keys)
-      → ((key : OpenPart) → key.name ≡ part.name → same_code key.material part.material ≡ false → has open_cmp key new ≡ false)
+  others : (new : List NameList) → ((key : OpenPart) → eq_by_cmp name_cmp key.name part.name ≡ false → has_key key new ≡ has_key key keys)
+      → ((key : OpenPart) → key.name ≡ part.name → same_code key.material part.material ≡ false → has_key key new ≡ false)
       → ListsOthers part (finds_with name_cmp part.name part find_part) new
   others new far near key apart = by_name (eq_by_cmp name_cmp key.name part.name) refl
     where
-      by_name : (b : Bool) → eq_by_cmp name_cmp key.name part.name ≡ b → has open_cmp key new ≡ is_found (is_listed key.material) (cond b (Some part) (find_part key.name))
+      by_name : (b : Bool) → eq_by_cmp name_cmp key.name part.name ≡ b → has_key key new ≡ is_found (is_listed key.material) (cond b (Some part) (find_part key.name))
       by_name true e =
           let code = far_code (code_cmp key.material part.material) (name_cmp key.name part.name) e apart in
           near key (names_exact key.name part.name (tie _ e)) code ∙ sym (not_there key.material part code)
       by_name false e = far key e ∙ lists key
 
-  found_at : (key : OpenPart) (found : Option Part) → find_part part.name ≡ found → key.name ≡ part.name → has open_cmp key keys ≡ is_found (is_listed key.material) found
+  found_at : (key : OpenPart) (found : Option Part) → find_part part.name ≡ found → key.name ≡ part.name → has_key key keys ≡ is_found (is_listed key.material) found
   found_at key found is same = lists key ∙ ap (λ n. is_found (is_listed key.material) (find_part n)) same ∙ ap (is_found (is_listed key.material)) is
 
   -- no part had the name
@@ -74,14 +75,14 @@ module _ (part : Part) (find_part : Name → Option Part) (keys : List OpenPart)
       others keys (λ key e. refl) (λ key same code. found_at key (Some old) is same ∙ not_there key.material old (ap (same_code key.material) alike ∙ code))
 
   -- one of another material had it, and is taken from the list
-  pub unlisted_taken : (old : Part) (new : List OpenPart) → find_part part.name ≡ Some old → IsSettled own_key open_cmp (record { material = old.material; name = part.name }) false keys new
+  pub unlisted_taken : (old : Part) (new : List NameList) → find_part part.name ≡ Some old → IsKeySettled (record { material = old.material; name = part.name }) false keys new
       → ListsOthers part (finds_with name_cmp part.name part find_part) new
   unlisted_taken old new is taken =
       others new
-      (λ key e. taken key ∙ ap (λ b. cond b false (has open_cmp key keys)) (far_name (code_cmp key.material old.material) (name_cmp key.name part.name) e))
+      (λ key e. taken key ∙ ap (λ b. cond b false (has_key key keys)) (far_name (code_cmp key.material old.material) (name_cmp key.name part.name) e))
       (λ key same code. taken key ∙ by_key key same (eq_by_cmp open_cmp key (record { material = old.material; name = part.name })) refl)
     where
-      by_key : (key : OpenPart) → key.name ≡ part.name → (b : Bool) → eq_by_cmp open_cmp key (record { material = old.material; name = part.name }) ≡ b → cond b false (has open_cmp key keys) ≡ false
+      by_key : (key : OpenPart) → key.name ≡ part.name → (b : Bool) → eq_by_cmp open_cmp key (record { material = old.material; name = part.name }) ≡ b → cond b false (has_key key keys) ≡ false
       by_key key same true e = refl
       by_key key same false e =
           found_at key (Some old) is same
@@ -96,11 +97,11 @@ module _ (part : Part) (find_part : Name → Option Part) (keys : List OpenPart)
       by_found (Some old) is alike = unlisted_same old is alike
 
 -- then the part's own key is in the list, or is not
-pub listed : (part : Part) (find_part : Name → Option Part) (mid new : List OpenPart) → ListsOthers part find_part mid → find_part part.name ≡ Some part
-    → IsSettled own_key open_cmp (open_key part) (is_listed part.material part) mid new → ListsParts find_part new
+pub listed : (part : Part) (find_part : Name → Option Part) (mid new : List NameList) → ListsOthers part find_part mid → find_part part.name ≡ Some part
+    → IsKeySettled (open_key part) (is_listed part.material part) mid new → ListsParts find_part new
 listed part find_part mid new lists is settled key = settled key ∙ by_key (eq_by_cmp open_cmp key (open_key part)) refl
   where
-    by_key : (b : Bool) → eq_by_cmp open_cmp key (open_key part) ≡ b → cond b (is_listed part.material part) (has open_cmp key mid) ≡ is_found (is_listed key.material) (find_part key.name)
+    by_key : (b : Bool) → eq_by_cmp open_cmp key (open_key part) ≡ b → cond b (is_listed part.material part) (has_key key mid) ≡ is_found (is_listed key.material) (find_part key.name)
     by_key true e = ap (is_found (is_listed part.material)) (sym is) ∙ ap (λ (k : OpenPart). is_found (is_listed k.material) (find_part k.name)) (sym (open_exact key (open_key part) (tie _ e)))
     by_key false e = lists key e
 
@@ -109,8 +110,12 @@ found_own part find_part = ap (λ r. cond (is_eq r) (Some part) (find_part part.
 
 -- ---- parts that are put one after another
 
-pub lists_same : (find_part other : Name → Option Part) (keys : List OpenPart) → ((name : Name) → find_part name ≡ other name) → ListsParts find_part keys → ListsParts other keys
+pub lists_same : (find_part other : Name → Option Part) (keys : List NameList) → ((name : Name) → find_part name ≡ other name) → ListsParts find_part keys → ListsParts other keys
 lists_same find_part other keys same lists key = lists key ∙ ap (is_found (is_listed key.material)) (same key.name)
+
+-- lists with the same names
+pub still_listed : (find_part : Name → Option Part) (old new : List NameList) → ((code : List ℕ) → names_of code new ≡ names_of code old) → ListsParts find_part old → ListsParts find_part new
+still_listed find_part old new same lists key = ap (has name_cmp key.name) (same key.material) ∙ lists key
 
 -- the row among those so far
 pub finds_more : {X K : Type 0} (key_of : X → K) (cmp : K → K → Ordering) (rows : List X) (i : ℕ) (row : X) (find_row : K → Option X) → i < length rows → row ≡ get_or rows i row
@@ -218,64 +223,26 @@ module _ {K : Type 0} (cmp : K → K → Ordering) where
         | inr ge ↦ let same : i ≡ j = omega arith in subst (λ n. p (get_or keys n d) ≡ true) (sym same) passes
       ]
 
-module _ (code : List ℕ) (after : Option Name) where
-  earlier : (b c : Name) → name_cmp b c ≡ Less → (other : Option Name) → not (is_behind other c) ≡ true → not (is_behind other b) ≡ true
-  earlier b c lt None passes = passes
-  earlier b c lt (Some a) passes = by_order (name_cmp a b) refl
-    where
-      by_order : (r : Ordering) → name_cmp a b ≡ r → not (is_lt r) ≡ true
-      by_order Less e = absurd (true≢false (sym passes ∙ ap (λ r. not (is_lt r)) (names_total.trans a b c e lt)))
-      by_order Equal e = refl
-      by_order Greater e = refl
+-- what comes before a name that is not behind another isn't behind it either
+pub upto_name : (after b c : Name) → name_cmp b c ≡ Less → not (is_lt (name_cmp after c)) ≡ true → not (is_lt (name_cmp after b)) ≡ true
+upto_name after b c lt passes = by_order (name_cmp after b) refl
+  where
+    by_order : (r : Ordering) → name_cmp after b ≡ r → not (is_lt r) ≡ true
+    by_order Less e = absurd (true≢false (sym passes ∙ ap (λ r. not (is_lt r)) (names_total.trans after b c e lt)))
+    by_order Equal e = refl
+    by_order Greater e = refl
 
-  -- what comes before a passed key is passed
-  pub passed_falls : (a b : OpenPart) → open_cmp a b ≡ Less → is_passed code after b ≡ true → is_passed code after a ≡ true
-  passed_falls a b lt passes = by_code (code_cmp a.material b.material) refl lt
-    where
-      by_code : (r : Ordering) → code_cmp a.material b.material ≡ r → ordering_then r (name_cmp a.name b.name) ≡ Less → is_passed code after a ≡ true
-      by_code Less e _ = by_place (code_cmp b.material code) refl passes
-        where
-          by_place : (q : Ordering) → code_cmp b.material code ≡ q → passed_at q (is_behind after b.name) ≡ true → is_passed code after a ≡ true
-          by_place Less is _ = ap (λ r. passed_at r (is_behind after a.name)) (nat_list_cmp_total.trans a.material b.material code e is)
-          by_place Equal is _ = ap (λ r. passed_at r (is_behind after a.name)) (sym (alike_right nat_list_cmp_total b.material code a.material is) ∙ e)
-          by_place Greater is fails = absurd (true≢false (sym fails))
-      by_code Equal e names = ap (λ r. passed_at r (is_behind after a.name)) (nat_list_cmp_total.congr a.material b.material code e) ∙ by_place (code_cmp b.material code) passes
-        where
-          by_place : (q : Ordering) → passed_at q (is_behind after b.name) ≡ true → passed_at q (is_behind after a.name) ≡ true
-          by_place Less _ = refl
-          by_place Equal is = earlier a.name b.name names after is
-          by_place Greater fails = absurd (true≢false (sym fails))
-      by_code Greater e names = absurd (true≢false (sym (ap is_lt names)))
+pub all_behind : (names : List Name) → names ≡ filter (is_behind None) names
+all_behind [] = refl
+all_behind (n ∷ names) = ap (λ ns. n ∷ ns) (all_behind names)
 
-  -- what comes before a key of the material or before those is so too
-  pub upto_falls : (a b : OpenPart) → open_cmp a b ≡ Less → is_upto code b ≡ true → is_upto code a ≡ true
-  upto_falls a b lt passes = by_code (code_cmp a.material b.material) refl lt
-    where
-      by_code : (r : Ordering) → code_cmp a.material b.material ≡ r → ordering_then r (name_cmp a.name b.name) ≡ Less → is_upto code a ≡ true
-      by_code Less e _ = by_place (code_cmp b.material code) refl passes
-        where
-          by_place : (q : Ordering) → code_cmp b.material code ≡ q → not (is_gt q) ≡ true → is_upto code a ≡ true
-          by_place Less is _ = ap (λ r. not (is_gt r)) (nat_list_cmp_total.trans a.material b.material code e is)
-          by_place Equal is _ = ap (λ r. not (is_gt r)) (sym (alike_right nat_list_cmp_total b.material code a.material is) ∙ e)
-          by_place Greater is fails = absurd (true≢false (sym fails))
-      by_code Equal e _ = ap (λ r. not (is_gt r)) (nat_list_cmp_total.congr a.material b.material code e) ∙ passes
-      by_code Greater e names = absurd (true≢false (sym (ap is_lt names)))
-
-  between : (r : Ordering) (b : Bool) → (not (passed_at r b) && not (is_gt r)) ≡ (is_eq r && b)
-  between Less b = refl
-  between Equal true = refl
-  between Equal false = refl
-  between Greater b = refl
-
-  pub run_is : (keys : List OpenPart) → filter (is_upto code) (filter (λ key. not (is_passed code after key)) keys) ≡ filter (is_after code after) keys
-  run_is keys =
-      filter_filter (λ key. not (is_passed code after key)) (is_upto code) keys
-      ∙ filter_same (λ key. not (is_passed code after key) && is_upto code key) (is_after code after) (λ key. between (code_cmp key.material code) (is_behind after key.name)) keys
-    where
-      filter_same : (p q : OpenPart → Bool) → ((x : OpenPart) → p x ≡ q x) → (xs : List OpenPart) → filter p xs ≡ filter q xs
-      filter_same p q same [] = refl
-      filter_same p q same (x ∷ xs) =
-          ap (λ b. cond b (x ∷ filter p xs) (filter p xs)) (same x) ∙ ap (λ ys. cond (q x) (x ∷ ys) ys) (filter_same p q same xs)
+pub behind_names : (after : Name) (names : List Name) → filter (λ name. not (not (is_lt (name_cmp after name)))) names ≡ filter (is_behind (Some after)) names
+behind_names after [] = refl
+behind_names after (n ∷ names) = λ i. cond (twice (is_lt (name_cmp after n)) i) (n ∷ behind_names after names i) (behind_names after names i)
+  where
+    twice : (b : Bool) → not (not b) ≡ b
+    twice true = refl
+    twice false = refl
 
 -- ---- runs of numbers
 

@@ -4,24 +4,21 @@ use Rattle.std.specs.List.{cons_option}
 use Rattle.std.specs.Prelude.{Option, Some, None, T, cond, is_some, filter, filter_map, nat_lt, ◌&&◌}
 use Rattle.std.specs.declared.cmp.Ordering.{Ordering}
 use Rattle.std.specs.declared.cmp.Ordering.TheVariants.{Less, Equal, Greater}
-use Rattle.std.specs.Ordering.{eq_by_cmp, is_eq, nat_cmp, ordering_reverse, ordering_then}
+use Rattle.std.specs.Ordering.{eq_by_cmp, is_eq, nat_cmp, ordering_reverse}
 use Rattle.std.specs.Cmp.{IsTotalOrder, nat_cmp_total, tied_itself}
-use Rattle.std.specs.Cmp.Lexicographic.{nat_list_cmp_total}
 use Rattle.std.specs.FinMap.{IsAntisymmetric, find, nat_cmp-IsAntisymmetric}
 use Rattle.std.specs.FinMap.Entries.{below_all, find-where_key}
-use Rattle.cut_measure.specs.Codes.{code_cmp}
 use Rattle.cut_measure.specs.Names.{Name, name_cmp}
 use Rattle.shop_machine.specs.declared.records.Part.{Part}
 use Rattle.shop_machine.specs.Content.{is_listed}
 use Rattle.shop_machine.specs.Listing.{is_behind}
-use Rattle.shop_machine.specs.Same.{same_code}
 use Rattle.shop_machine.proofs.Sums.{first, second, less, none_below}
 use Rattle.shop_rows.specs.Keys.{part_key, names_total, names_exact}
-use Rattle.shop_rows.specs.Open.{own_key, open_cmp, has, is_found, ListsNumbers, ListsParts, is_after, parts_named}
+use Rattle.shop_rows.specs.Open.{own_key, has, is_found, names_of, AreInOrder, ListsNumbers, ListsParts, parts_named}
 use Rattle.shop_rows.specs.Rows.{entries_of, rise, row_at}
-use Rattle.shop_rows.specs.declared.open.OpenPart.{OpenPart}
+use Rattle.shop_rows.specs.declared.names.NameList.{NameList}
 use Rattle.shop_rows.proofs.Places.{lesser, pair_of, tested}
-use Rattle.shop_rows.proofs.Listed.{tie, code_turned, entries_filter, filter_filter, rise-filter}
+use Rattle.shop_rows.proofs.Listed.{tie, entries_filter, filter_filter, rise-filter}
 
 -- what is below all keys is none of them
 pub missed : {K X : Type 0} (cmp : K → K → Ordering) (q : K) (es : List (K × X)) → T (below_all cmp q es) → find cmp q es ≡ None
@@ -172,120 +169,42 @@ module _ {X : Type 0} (key_of : X → ℕ) (test : X → Bool) (after : ℕ) (ke
       ap (filter_map (λ number. row_at key_of nat_cmp number rows)) numbers_are
       ∙ found_all (λ number. row_at key_of nat_cmp number rows) (map key_of (filter passes rows)) (filter passes rows) (found_each key_of nat_cmp nat_cmp_total nat_cmp-IsAntisymmetric passes rows (tested _ rises))
 
--- ---- the names of a run
+-- ---- the names of a material
 
-module _ (code : List ℕ) (after : Option Name) where
-  abbrev names_in : List OpenPart → List Name
-  names_in keys = map (λ key. key.name) (filter (is_after code after) keys)
+filter_map_in : {X K : Type 0} (key_of : X → K) (p : K → Bool) (xs : List X) → filter p (map key_of xs) ≡ map key_of (filter (λ x. p (key_of x)) xs)
+filter_map_in key_of p [] = refl
+filter_map_in key_of p (x ∷ xs) =
+    elim (p (key_of x)) as (λ b. cond b (key_of x ∷ filter p (map key_of xs)) (filter p (map key_of xs)) ≡ map key_of (cond b (x ∷ filter (λ y. p (key_of y)) xs) (filter (λ y. p (key_of y)) xs))) [
+      | true ↦ ap (λ ks. key_of x ∷ ks) (filter_map_in key_of p xs)
+      | false ↦ filter_map_in key_of p xs
+    ]
 
-  tied_names : (a b : OpenPart) → is_after code after a ≡ true → is_after code after b ≡ true → open_cmp a b ≡ Less → name_cmp a.name b.name ≡ Less
-  tied_names a b in_a in_b lt =
-      by_code (code_cmp a.material b.material) (nat_list_cmp_total.congr a.material code b.material (tie _ (both _ _ in_a)) ∙ tie _ (code_turned code b.material ∙ both _ _ in_b)) lt
-    where
-      both : (p q : Bool) → (p && q) ≡ true → p ≡ true
-      both true q e = refl
-      both false q e = e
+module _ (code : List ℕ) (after : Option Name) (lists : List NameList) (parts : List Part) (order : AreInOrder lists) (rises : rise part_key name_cmp parts ≡ true)
+    (listed : ListsParts (λ name. row_at part_key name_cmp name parts) lists) where
+  abbrev stands : Part → Bool
+  stands part = is_listed code part && is_behind after part.name
 
-      by_code : (r : Ordering) → r ≡ Equal → ordering_then r (name_cmp a.name b.name) ≡ Less → name_cmp a.name b.name ≡ Less
-      by_code Less is e = absurd (true≢false (sym (ap is_eq is)))
-      by_code Equal is e = e
-      by_code Greater is e = absurd (true≢false (sym (ap is_eq is)))
+  -- the names of the list are those of the material's standing parts
+  names_are : names_of code lists ≡ map part_key (filter (is_listed code) parts)
+  names_are =
+      same_keys part_key name_cmp names_total names_exact (is_listed code) (names_of code lists) parts (tested _ (order.names code)) (tested _ rises) (λ name. listed (record { material = code; name = name }))
 
-  below_names : (key : OpenPart) (keys : List OpenPart) → is_after code after key ≡ true → T (below_all open_cmp key (entries_of own_key open_cmp keys))
-      → T (below_all name_cmp key.name (entries_of own_key name_cmp (names_in keys)))
-  below_names key [] is h = tt
-  below_names key (k ∷ keys) is h = by_test (below_names key keys is (second _ _ h)) (is_after code after k) refl
-    where
-      by_test : T (below_all name_cmp key.name (entries_of own_key name_cmp (names_in keys))) → (b : Bool) → is_after code after k ≡ b
-          → T (below_all name_cmp key.name (entries_of own_key name_cmp (map (λ (q : OpenPart). q.name) (cond b (k ∷ filter (is_after code after) keys) (filter (is_after code after) keys)))))
-      by_test later true e = pair_of _ _ (lesser _ (tied_names key k is e (less _ (first _ _ h)))) later
-      by_test later false e = later
+  behind_are : filter (is_behind after) (names_of code lists) ≡ map part_key (filter stands parts)
+  behind_are =
+      ap (filter (is_behind after)) names_are ∙ filter_map_in part_key (is_behind after) (filter (is_listed code) parts)
+      ∙ ap (map part_key) (filter_filter (is_listed code) (λ part. is_behind after part.name) parts)
 
-  names_rise : (keys : List OpenPart) → T (rise own_key open_cmp keys) → T (rise own_key name_cmp (names_in keys))
-  names_rise [] up = tt
-  names_rise (k ∷ keys) up = by_test (names_rise keys (second _ _ up)) (is_after code after k) refl
-    where
-      by_test : T (rise own_key name_cmp (names_in keys)) → (b : Bool) → is_after code after k ≡ b → T (rise own_key name_cmp (map (λ (q : OpenPart). q.name) (cond b (k ∷ filter (is_after code after) keys) (filter (is_after code after) keys))))
-      by_test later true e = pair_of _ _ (below_names k keys e (first _ _ up)) later
-      by_test later false e = later
+  each_is : map (λ name. row_at part_key name_cmp name parts) (filter (is_behind after) (names_of code lists)) ≡ map (λ part. Some part) (filter (λ part. is_behind after part.name) (filter (is_listed code) parts))
+  each_is =
+      ap (map (λ name. row_at part_key name_cmp name parts)) behind_are ∙ found_each part_key name_cmp names_total names_exact stands parts (tested _ rises)
+      ∙ ap (map (λ part. Some part)) (sym (filter_filter (is_listed code) (λ part. is_behind after part.name) parts))
 
-  has_name : (name : Name) (keys : List OpenPart) → has name_cmp name (names_in keys) ≡ (has open_cmp (record { material = code; name = name }) keys && is_behind after name)
-  has_name name [] = refl
-  has_name name (k ∷ keys) = by_name (has_name name keys) (eq_by_cmp name_cmp name k.name) refl
-    where
-      then_eq : (a b : Ordering) → is_eq (ordering_then a b) ≡ (is_eq a && is_eq b)
-      then_eq Less b = refl
-      then_eq Equal b = refl
-      then_eq Greater b = refl
+  -- the parts of these names are those of the material that stand and come behind the name
+  pub named_are : parts_named (filter (is_behind after) (names_of code lists)) parts ≡ filter (λ part. is_behind after part.name) (filter (is_listed code) parts)
+  named_are =
+      found_all (λ name. row_at part_key name_cmp name parts) (filter (is_behind after) (names_of code lists)) (filter (λ part. is_behind after part.name) (filter (is_listed code) parts)) each_is
 
-      tied : eq_by_cmp open_cmp (record { material = code; name = name }) k ≡ (same_code k.material code && eq_by_cmp name_cmp name k.name)
-      tied = then_eq (code_cmp code k.material) (name_cmp name k.name) ∙ ap (λ b. b && eq_by_cmp name_cmp name k.name) (code_turned code k.material)
-
-      rest : Option OpenPart
-      rest = row_at own_key open_cmp (record { material = code; name = name }) keys
-
-      right : (c n : Bool) → same_code k.material code ≡ c → eq_by_cmp name_cmp name k.name ≡ n → has open_cmp (record { material = code; name = name }) (k ∷ keys) ≡ is_some (cond (c && n) (Some k) rest)
-      right c n is_c is_n = ap (λ b. is_some (cond b (Some k) rest)) (tied ∙ (λ i. is_c i && is_n i))
-
-      by_name : has name_cmp name (names_in keys) ≡ (has open_cmp (record { material = code; name = name }) keys && is_behind after name) → (n : Bool) → eq_by_cmp name_cmp name k.name ≡ n → has name_cmp name (names_in (k ∷ keys)) ≡ (has open_cmp (record { material = code; name = name }) (k ∷ keys) && is_behind after name)
-      by_name more n is_n = by_code (same_code k.material code) (is_behind after k.name) refl refl
-        where
-          left : (c b : Bool) → same_code k.material code ≡ c → is_behind after k.name ≡ b
-              → has name_cmp name (names_in (k ∷ keys)) ≡ has name_cmp name (map (λ (q : OpenPart). q.name) (cond (c && b) (k ∷ filter (is_after code after) keys) (filter (is_after code after) keys)))
-          left c b is_c is_b = λ i. has name_cmp name (map (λ (q : OpenPart). q.name) (cond (is_c i && is_b i) (k ∷ filter (is_after code after) keys) (filter (is_after code after) keys)))
-
-          -- the name is that of the key
-          behind_same : n ≡ true → is_behind after name ≡ is_behind after k.name
-          behind_same so = ap (is_behind after) (names_exact name k.name (tie _ (is_n ∙ so)))
-
-          by_code : (c b : Bool) → same_code k.material code ≡ c → is_behind after k.name ≡ b → has name_cmp name (names_in (k ∷ keys)) ≡ (has open_cmp (record { material = code; name = name }) (k ∷ keys) && is_behind after name)
-          by_code true true is_c is_b =
-              left true true is_c is_b ∙ by_own n is_n behind_same ∙ ap (λ h. h && is_behind after name) (sym (right true n is_c is_n))
-            where
-              by_own : (m : Bool) → eq_by_cmp name_cmp name k.name ≡ m → (m ≡ true → is_behind after name ≡ is_behind after k.name)
-                  → is_some (cond (eq_by_cmp name_cmp name k.name) (Some k.name) (row_at own_key name_cmp name (names_in keys))) ≡ (is_some (cond m (Some k) rest) && is_behind after name)
-              by_own true e same = ap (λ t. is_some (cond t (Some k.name) (row_at own_key name_cmp name (names_in keys)))) e ∙ sym (same refl ∙ is_b)
-              by_own false e same = ap (λ t. is_some (cond t (Some k.name) (row_at own_key name_cmp name (names_in keys)))) e ∙ more
-          by_code true false is_c is_b = left true false is_c is_b ∙ more ∙ by_own n behind_same ∙ ap (λ h. h && is_behind after name) (sym (right true n is_c is_n))
-            where
-              none : (a : Bool) → is_behind after name ≡ false → (a && is_behind after name) ≡ false
-              none true e = e
-              none false e = refl
-
-              by_own : (m : Bool) → (m ≡ true → is_behind after name ≡ is_behind after k.name)
-                  → (is_some rest && is_behind after name) ≡ (is_some (cond m (Some k) rest) && is_behind after name)
-              by_own true same = none (is_some rest) (same refl ∙ is_b) ∙ sym (same refl ∙ is_b)
-              by_own false same = refl
-          by_code false b is_c is_b = left false b is_c is_b ∙ more ∙ ap (λ h. h && is_behind after name) (sym (right false n is_c is_n))
-
-  module _ (keys : List OpenPart) (parts : List Part) (up : rise own_key open_cmp keys ≡ true) (rises : rise part_key name_cmp parts ≡ true)
-      (lists : ListsParts (λ name. row_at part_key name_cmp name parts) keys) where
-    abbrev stands : Part → Bool
-    stands part = is_listed code part && is_behind after part.name
-
-    names_are : names_in keys ≡ map part_key (filter stands parts)
-    names_are =
-        same_keys part_key name_cmp names_total names_exact stands (names_in keys) parts (names_rise keys (tested _ up)) (tested _ rises)
-        (λ name. has_name name keys ∙ ap (λ b. b && is_behind after name) (lists (record { material = code; name = name })) ∙ by_found name (row_at part_key name_cmp name parts) refl)
-      where
-        by_found : (name : Name) (found : Option Part) → row_at part_key name_cmp name parts ≡ found → (is_found (is_listed code) found && is_behind after name) ≡ is_found stands found
-        by_found name None e = refl
-        by_found name (Some part) e = ap (λ n. is_listed code part && is_behind after n) (sym (row_key part_key name_cmp names_total names_exact name parts part e))
-
-    each_is : map (λ key. row_at part_key name_cmp key.name parts) (filter (is_after code after) keys) ≡ map (λ part. Some part) (filter (λ part. is_behind after part.name) (filter (is_listed code) parts))
-    each_is =
-        map_map (filter (is_after code after) keys) ∙ ap (map (λ name. row_at part_key name_cmp name parts)) names_are
-        ∙ found_each part_key name_cmp names_total names_exact stands parts (tested _ rises)
-        ∙ ap (map (λ part. Some part)) (sym (filter_filter (is_listed code) (λ part. is_behind after part.name) parts))
-      where
-        map_map : (ks : List OpenPart) → map (λ key. row_at part_key name_cmp key.name parts) ks ≡ map (λ name. row_at part_key name_cmp name parts) (map (λ key. key.name) ks)
-        map_map [] = refl
-        map_map (k ∷ ks) = ap (λ rs. row_at part_key name_cmp k.name parts ∷ rs) (map_map ks)
-
-    -- the parts of these names are those of the material that stand and come behind the name
-    pub named_are : parts_named (filter (is_after code after) keys) parts ≡ filter (λ part. is_behind after part.name) (filter (is_listed code) parts)
-    named_are = found_all (λ key. row_at part_key name_cmp key.name parts) (filter (is_after code after) keys) (filter (λ part. is_behind after part.name) (filter (is_listed code) parts)) each_is
-
-    -- and those of the first names are the first of these
-    pub first_named_are : (most : ℕ) → parts_named (take most (filter (is_after code after) keys)) parts ≡ take most (filter (λ part. is_behind after part.name) (filter (is_listed code) parts))
-    first_named_are most = found_first (λ key. row_at part_key name_cmp key.name parts) (filter (is_after code after) keys) (filter (λ part. is_behind after part.name) (filter (is_listed code) parts)) most each_is
+  -- and those of the first names are the first of these
+  pub first_named_are : (most : ℕ) → parts_named (take most (filter (is_behind after) (names_of code lists))) parts ≡ take most (filter (λ part. is_behind after part.name) (filter (is_listed code) parts))
+  first_named_are most =
+      found_first (λ name. row_at part_key name_cmp name parts) (filter (is_behind after) (names_of code lists)) (filter (λ part. is_behind after part.name) (filter (is_listed code) parts)) most each_is

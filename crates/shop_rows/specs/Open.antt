@@ -1,12 +1,9 @@
--- The keys of what is open, in lists beside the rows: the standing parts by material and then name, the waiting jobs and
--- the open demands by number.
-use Rattle.std.specs.Prelude.{◌≡◌, ⊤, ℕ, ◌&&◌, List, [], ◌∷◌, Bool, true, false, cond, filter_map, not, IfSome, Option, Some, None}
+-- The keys of what is open, in lists beside the rows: the standing parts by name, in a list for each material, the waiting
+-- jobs and the open demands by number.
+use Rattle.std.specs.Prelude.{◌≡◌, ◌≤◌, ◌-◌, ⊤, ℕ, List, [], ◌∷◌, All, Bool, false, cond, filter_map, IfSome, IsTrue, Option, Some, None, vec_len, vec_capacity}
 use Rattle.std.proofs.Common.{ap}
 use Rattle.std.specs.declared.cmp.Ordering.{Ordering}
-use Rattle.std.specs.declared.cmp.Ordering.TheVariants.{Less, Equal, Greater}
-use Rattle.std.specs.Ordering.{eq_by_cmp, is_gt, nat_cmp, ordering_then}
-use Rattle.std.specs.Cmp.{IsTotalOrder, on_total, then_total}
-use Rattle.std.specs.Cmp.Lexicographic.{nat_list_cmp_total}
+use Rattle.std.specs.Ordering.{eq_by_cmp, nat_cmp, ordering_then}
 use Rattle.std.specs.FinMap.{IsAntisymmetric, slice_cmp-IsAntisymmetric, nat_cmp-IsAntisymmetric}
 use Rattle.std.proofs.lemmas.Map.Lookups.{exact_pairs}
 use Rattle.cut_measure.specs.Codes.{code_cmp}
@@ -16,11 +13,10 @@ use Rattle.shop_machine.specs.declared.records.Job.{Job}
 use Rattle.shop_machine.specs.declared.records.Demand.{Demand}
 use Rattle.shop_machine.specs.Columns.{is_waiting}
 use Rattle.shop_machine.specs.Content.{is_listed}
-use Rattle.shop_machine.specs.Listing.{is_behind}
-use Rattle.shop_machine.specs.Same.{same_code}
-use Rattle.shop_rows.specs.Keys.{demand_key, part_key, names_total, names_exact}
-use Rattle.shop_rows.specs.Rows.{has_row, row_at}
-use Rattle.shop_rows.specs.declared.open.OpenPart.{OpenPart}
+use Rattle.shop_rows.specs.Keys.{demand_key, part_key, names_exact}
+use Rattle.shop_rows.specs.Rows.{has_row, rise, row_at}
+use Rattle.shop_rows.specs.declared.names.OpenPart.{OpenPart}
+use Rattle.shop_rows.specs.declared.names.NameList.{NameList}
 
 -- a key of a list is its own row
 abbrev pub own_key : {K : Type 0} → K → K
@@ -29,9 +25,6 @@ own_key key = key
 -- by material, and then by name
 abbrev pub open_cmp : OpenPart → OpenPart → Ordering
 open_cmp a b = ordering_then (code_cmp a.material b.material) (name_cmp a.name b.name)
-
-pub open_total : IsTotalOrder open_cmp
-open_total = then_total (on_total (λ key. key.material) nat_list_cmp_total) (on_total (λ key. key.name) names_total)
 
 -- only equal keys tie
 pub open_exact : IsAntisymmetric open_cmp
@@ -57,9 +50,49 @@ abbrev pub finds_with_all : {X K : Type 0} → (X → K) → (K → K → Orderi
 finds_with_all key_of cmp [] find = find
 finds_with_all key_of cmp (row ∷ rows) find = finds_with_all key_of cmp rows (finds_with cmp (key_of row) row find)
 
--- The list has the names of the parts that stand, of each material those of its own, and no other.
-abbrev pub ListsParts : (Name → Option Part) → List OpenPart → Type 0
-ListsParts find keys = (key : OpenPart) → has open_cmp key keys ≡ is_found (is_listed key.material) (find key.name)
+-- ---- names, in a list for each material
+
+abbrev pub list_key : NameList → List ℕ
+list_key list = list.material
+
+abbrev pub listed_names : Option NameList → List Name
+listed_names None = []
+listed_names (Some list) = list.names.items
+
+-- the names that are listed for a material
+abbrev pub names_of : List ℕ → List NameList → List Name
+names_of code lists = listed_names (row_at list_key code_cmp code lists)
+
+-- the lists rise by their materials, and each by its names
+pub record AreInOrder (lists : List NameList) : Type 0 where
+  pub materials : IsTrue (rise list_key code_cmp lists)
+  pub names : (code : List ℕ) → IsTrue (rise own_key name_cmp (names_of code lists))
+
+-- whether a name is listed for a material
+abbrev pub has_key : OpenPart → List NameList → Bool
+has_key key lists = has name_cmp key.name (names_of key.material lists)
+
+-- a key is listed, or is not, and all others are there as they were
+abbrev pub IsKeySettled : OpenPart → Bool → List NameList → List NameList → Type 0
+IsKeySettled key is_there old new = (other : OpenPart) → has_key other new ≡ cond (eq_by_cmp open_cmp other key) is_there (has_key other old)
+
+-- The lists have the names of the parts that stand, of each material those of its own, and no other.
+abbrev pub ListsParts : (Name → Option Part) → List NameList → Type 0
+ListsParts find lists = (key : OpenPart) → has_key key lists ≡ is_found (is_listed key.material) (find key.name)
+
+abbrev pub room_in : Option NameList → ℕ
+room_in None = 0
+room_in (Some list) = vec_capacity list.names - vec_len list.names
+
+-- how many names more the list of a material has room for
+abbrev pub room_of : List ℕ → List NameList → ℕ
+room_of code lists = room_in (row_at list_key code_cmp code lists)
+
+-- there is room for so many names of the material of each of these parts
+abbrev pub HaveRoom : ℕ → List Part → List NameList → Type 0
+HaveRoom count parts lists = All (λ part. count ≤ room_of part.material lists) parts
+
+-- ---- numbers
 
 -- the list has the numbers of the rows that pass a test, and no other
 abbrev pub ListsNumbers : {X : Type 0} → (X → Bool) → (ℕ → Option X) → List ℕ → Type 0
@@ -74,32 +107,15 @@ abbrev pub open_key : Part → OpenPart
 open_key part = record { material = part.material; name = part.name }
 
 -- the same but for the key of this part
-abbrev pub ListsOthers : Part → (Name → Option Part) → List OpenPart → Type 0
-ListsOthers part find keys =
-    (key : OpenPart) → eq_by_cmp open_cmp key (open_key part) ≡ false → has open_cmp key keys ≡ is_found (is_listed key.material) (find key.name)
+abbrev pub ListsOthers : Part → (Name → Option Part) → List NameList → Type 0
+ListsOthers part find lists =
+    (key : OpenPart) → eq_by_cmp open_cmp key (open_key part) ≡ false → has_key key lists ≡ is_found (is_listed key.material) (find key.name)
 
--- ---- runs of a list
-
-abbrev pub passed_at : Ordering → Bool → Bool
-passed_at Less is_behind = true
-passed_at Equal is_behind = not is_behind
-passed_at Greater is_behind = false
-
--- whether a key comes before those of a material that are behind a name
-abbrev pub is_passed : List ℕ → Option Name → OpenPart → Bool
-is_passed code after key = passed_at (code_cmp key.material code) (is_behind after key.name)
-
--- whether a key comes before those of the materials behind this one
-abbrev pub is_upto : List ℕ → OpenPart → Bool
-is_upto code key = not (is_gt (code_cmp key.material code))
-
--- whether a key is of this material and behind a name
-abbrev pub is_after : List ℕ → Option Name → OpenPart → Bool
-is_after code after key = same_code key.material code && is_behind after key.name
+-- ---- rows that are named
 
 -- the parts of these names, where they are found
-abbrev pub parts_named : List OpenPart → List Part → List Part
-parts_named keys parts = filter_map (λ key. row_at part_key name_cmp key.name parts) keys
+abbrev pub parts_named : List Name → List Part → List Part
+parts_named names parts = filter_map (λ name. row_at part_key name_cmp name parts) names
 
 -- the demands of these numbers, where they are found
 abbrev pub demands_named : List ℕ → List Demand → List Demand
@@ -107,9 +123,9 @@ demands_named keys demands = filter_map (λ key. row_at demand_key nat_cmp key d
 
 -- ---- parts that are put one after another
 
--- the list has the names of the rows' standing parts
-abbrev pub AreListed : List Part → List OpenPart → Type 0
-AreListed parts keys = ListsParts (λ name. row_at part_key name_cmp name parts) keys
+-- the lists have the names of the rows' standing parts
+abbrev pub AreListed : List Part → List NameList → Type 0
+AreListed parts lists = ListsParts (λ name. row_at part_key name_cmp name parts) lists
 
 -- a part that it takes the place of is of the same material
 abbrev pub KeepsMaterial : (Name → Option Part) → Part → Type 0

@@ -1,4 +1,4 @@
-//! The keys by which materials, parts, jobs, demands, imports and numbers are kept in order.
+//! The keys by which materials, parts, jobs, demands, imports, numbers and names are kept in order.
 
 use crate::rows::Row;
 use cut_measure::{Code, PartName};
@@ -157,4 +157,29 @@ impl Row for u32 {
     ghost total = { nat_cmp_total };
 
     ghost exact = { nat_cmp-IsAntisymmetric };
+}
+
+/// A name of a list is its own row.
+impl Row for PartName {
+    ghost use Rattle.cut_measure.specs.Names.{name_cmp};
+    ghost use Rattle.shop_rows.specs.Keys.{names_total, names_exact};
+    ghost use Rattle.shop_rows.specs.Open.{own_key};
+
+    type Key = PartName;
+
+    ghost key_of = { own_key };
+
+    ghost cmp = { name_cmp };
+
+    fn compare(&self, key: PartName) -> Ordering {
+        self.order(&key)
+    }
+
+    fn key(&self) -> PartName {
+        *self
+    }
+
+    ghost total = { names_total };
+
+    ghost exact = { names_exact };
 }

@@ -2,13 +2,15 @@
 #![tactic(auto)]
 
 mod keys;
+mod names;
 mod open;
 mod rows;
 mod sums;
 
-pub use open::{
-    OpenPart, OpenRows, list_all, list_demands, list_job, list_part, names_behind, numbers_behind,
+pub use names::{
+    NameList, OpenPart, list_all, list_in_place, list_part, make_room, names_behind, reserve_names,
 };
+pub use open::{OpenRows, list_demands, list_job, numbers_behind};
 pub use rows::{
     Row, at, copy_rows, find, first_rows, put, put_all, put_run, put_some, rises, settle, take_row,
 };

@@ -61,13 +61,12 @@ fn is_behind<R: Row>(rows: &[R], key: R::Key) -> bool
     }
 }
 
-/// Where the row of a key stands, or where it would. Only where it neither stands at its likely place nor comes behind the
-/// last row are the rows searched.
-fn place<R: Row>(rows: &[R], key: R::Key) -> Result<usize, usize>
+/// Where the row of a key stands, or where it would. Only where it neither stands at this place nor comes behind the last
+/// row are the rows searched.
+pub(crate) fn place_near<R: Row>(rows: &[R], key: R::Key, near: usize) -> Result<usize, usize>
     ensures range { IsSearchInRange result (length rows.now) }
     ensures position { IsBinarySearchResult (λ row. R.cmp (R.key_of row) key) rows.now result }
 {
-    let near = R::near(key, rows.len());
     if stands_at(rows, key, near) {
         return Ok(near);
     }
@@ -75,6 +74,14 @@ fn place<R: Row>(rows: &[R], key: R::Key) -> Result<usize, usize>
         return Err(rows.len());
     }
     rows.binary_search_by(|row| row.compare(key))
+}
+
+// Where the row of a key stands, or where it would.
+fn place<R: Row>(rows: &[R], key: R::Key) -> Result<usize, usize>
+    ensures range { IsSearchInRange result (length rows.now) }
+    ensures position { IsBinarySearchResult (λ row. R.cmp (R.key_of row) key) rows.now result }
+{
+    place_near(rows, key, R::near(key, rows.len()))
 }
 
 /// Whether rows rise by their keys.
@@ -193,10 +200,11 @@ pub fn take_row<R: Row>(rows: &mut Vec<R>, key: R::Key) -> Option<R>
 /// Has a row there, or none of its key.
 pub fn settle<R: Row>(rows: &mut Vec<R>, row: R, is_there: bool)
     requires rising { IsTrue (rise R.key_of R.cmp rows.old.items) }
-    requires room { vec_len rows.old < vec_capacity rows.old }
+    requires room { IsTrue is_there → vec_len rows.old < vec_capacity rows.old }
     ensures settled { IsSettled R.key_of R.cmp (R.key_of row) is_there rows.old.items rows.new.items }
     ensures rising { IsTrue (rise R.key_of R.cmp rows.new.items) }
     ensures len { vec_len rows.new ≤ vec_len rows.old + 1 }
+    ensures less { is_there ≡ false → vec_len rows.new ≤ vec_len rows.old }
     ensures capacity { vec_capacity rows.old ≤ vec_capacity rows.new }
 {
     if is_there {

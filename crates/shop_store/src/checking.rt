@@ -10,7 +10,7 @@ ghost use Rattle.shop_tables.specs.Earlier.{OnBooksEarlier};
 ghost use Rattle.shop_tables.specs.Shown.{Leaves, OnBooks};
 ghost use Rattle.shop_rows.specs.Adding.{has_sums};
 ghost use Rattle.shop_store.specs.Checking.{AddsPart, AreNarrow, AreSumsIn, IsListOf, are_totals_for};
-ghost use Rattle.shop_rows.specs.Open.{own_key, open_cmp};
+ghost use Rattle.shop_rows.specs.Open.{AreInOrder};
 ghost use Rattle.shop_rows.specs.Rows.{rise};
 ghost use Rattle.shop_rows.specs.Sums.{sum_at, sums_key, total_in};
 
@@ -74,7 +74,7 @@ fn are_sums(sums: &[Sums], totals: &[MaterialTotals]) -> bool
 // Whether these are the sums of all parts, whose names are handed over.
 fn conclude(adder: PartAdder, totals: &[MaterialTotals], names: &mut PartNames) -> bool
     ensures sums { Decides result (AreSumsIn adder.sums.items totals.now) }
-    ensures rising { IsTrue (rise own_key open_cmp names.new.keys.items) }
+    ensures order { AreInOrder names.new.lists.items }
 {
     let PartAdder { sums, names: found } = adder;
     *names = found;
@@ -88,8 +88,8 @@ fn are_sums_of_parts<S: Alter>(
     totals: &[MaterialTotals],
     names: &mut PartNames,
 ) -> Result<bool, TableFault>
-    requires rising { IsTrue (rise own_key open_cmp names.old.keys.items) }
-    ensures rising { IsTrue (rise own_key open_cmp names.new.keys.items) }
+    requires order { AreInOrder names.old.lists.items }
+    ensures order { AreInOrder names.new.lists.items }
     ensures sums { OnBooks (state S.Store conn.old) (state S.Store conn.new) (λ books. IsListOf books totals.now → IfOk result (λ good. Decides good (HasSums books))) }
     ensures earlier { OnBooksEarlier (state S.Store conn.old) (state S.Store conn.new) (λ books. IsListOf books totals.now → IfOk result (λ good. Decides good (HasSums books))) }
     ensures leaves { Leaves (state S.Store conn.old) (state S.Store conn.new) }
@@ -110,8 +110,8 @@ pub fn have_sums<S: Alter>(
     conn: &mut Connection<S>,
     names: &mut PartNames,
 ) -> Result<bool, TableFault>
-    requires rising { IsTrue (rise own_key open_cmp names.old.keys.items) }
-    ensures rising { IsTrue (rise own_key open_cmp names.new.keys.items) }
+    requires order { AreInOrder names.old.lists.items }
+    ensures order { AreInOrder names.new.lists.items }
     ensures sums { OnBooks (state S.Store conn.old) (state S.Store conn.new) (λ books. IfOk result (λ good. Decides good (HasSums books))) }
     ensures leaves { Leaves (state S.Store conn.old) (state S.Store conn.new) }
     ensures mode { conn.old.in_transaction ≡ false → conn.new.in_transaction ≡ false }
@@ -128,8 +128,8 @@ pub fn have_earlier_sums<S: Alter>(
     conn: &mut Connection<S>,
     names: &mut PartNames,
 ) -> Result<bool, TableFault>
-    requires rising { IsTrue (rise own_key open_cmp names.old.keys.items) }
-    ensures rising { IsTrue (rise own_key open_cmp names.new.keys.items) }
+    requires order { AreInOrder names.old.lists.items }
+    ensures order { AreInOrder names.new.lists.items }
     ensures sums { OnBooksEarlier (state S.Store conn.old) (state S.Store conn.new) (λ books. IfOk result (λ good. Decides good (HasSums books))) }
     ensures leaves { Leaves (state S.Store conn.old) (state S.Store conn.new) }
     ensures mode { conn.old.in_transaction ≡ false → conn.new.in_transaction ≡ false }

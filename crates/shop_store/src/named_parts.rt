@@ -20,7 +20,7 @@ use crate::sql::totals_of;
 use crate::takers::PartTaker;
 use cut_measure::{Code, PartName};
 use shop_machine::{Part, PartList, PartVisitor, Totals};
-use shop_rows::{OpenPart, no_sums, rises, with_all};
+use shop_rows::{no_sums, rises, with_all};
 use shop_tables::{TableFault, find_part, lend_parts, list_first_parts};
 use sqlite::{Alter, Connection};
 use std::alloc::Global;
@@ -52,15 +52,15 @@ fn named_parts<S: Alter>(
     alloc: Global,
     conn: &mut Connection<S>,
     material: Code,
-    keys: &[OpenPart],
+    names: &[PartName],
 ) -> Result<Option<PartList>, TableFault>
     ensures standing { OnBooks (state S.Store conn.old) (state S.Store conn.new) (λ books. IfOk result (λ found. IfSome found (AreStanding books.content material))) }
     ensures leaves { Leaves (state S.Store conn.old) (state S.Store conn.new) }
     ensures mode { conn.old.in_transaction ≡ false → conn.new.in_transaction ≡ false }
 {
     let mut parts = PartList::new(alloc);
-    for key in keys {
-        if !take_named(conn, material, key.name, &mut parts)? {
+    for name in names {
+        if !take_named(conn, material, *name, &mut parts)? {
             return Ok(None);
         }
     }
@@ -96,16 +96,16 @@ fn whole_parts<S: Alter>(
     alloc: Global,
     conn: &mut Connection<S>,
     material: Code,
-    keys: Option<&[OpenPart]>,
+    names: Option<&[PartName]>,
 ) -> Result<Option<PartList>, TableFault>
     ensures rows { OnBooks (state S.Store conn.old) (state S.Store conn.new) (λ books. HasSums books → IfOk result (λ found. IfSome found (λ parts. parts ≡ parts_of books.content material))) }
     ensures leaves { Leaves (state S.Store conn.old) (state S.Store conn.new) }
     ensures mode { conn.old.in_transaction ≡ false → conn.new.in_transaction ≡ false }
 {
-    let Some(keys) = keys else {
+    let Some(names) = names else {
         return Ok(None);
     };
-    let Some(parts) = named_parts(alloc, conn, material, keys)? else {
+    let Some(parts) = named_parts(alloc, conn, material, names)? else {
         return Ok(None);
     };
     let totals = totals_of(conn, material)?;
@@ -141,13 +141,13 @@ pub fn listed_parts<S: Alter>(
     alloc: Global,
     conn: &mut Connection<S>,
     material: Code,
-    keys: Option<&[OpenPart]>,
+    names: Option<&[PartName]>,
 ) -> Result<PartList, TableFault>
     ensures rows { OnBooks (state S.Store conn.old) (state S.Store conn.new) (λ books. HasSums books → IfOk result (λ rows. rows ≡ parts_of books.content material)) }
     ensures leaves { Leaves (state S.Store conn.old) (state S.Store conn.new) }
     ensures mode { conn.old.in_transaction ≡ false → conn.new.in_transaction ≡ false }
 {
-    match whole_parts(alloc, conn, material, keys)? {
+    match whole_parts(alloc, conn, material, names)? {
         Some(parts) => Ok(parts),
         None => searched_parts(alloc, conn, material),
     }
@@ -170,14 +170,14 @@ pub fn visit_listed<S: Alter, V: PartVisitor>(
     alloc: Global,
     conn: &mut Connection<S>,
     material: Code,
-    keys: Option<&[OpenPart]>,
+    names: Option<&[PartName]>,
     visitor: &mut V,
 ) -> Result<bool, TableFault>
     ensures visit { IsVisit V.looks (λ what. OnBooks (state S.Store conn.old) (state S.Store conn.new) (λ books. HasSums books → what (parts_of books.content material))) visitor.old result visitor.new }
     ensures leaves { Leaves (state S.Store conn.old) (state S.Store conn.new) }
     ensures mode { conn.old.in_transaction ≡ false → conn.new.in_transaction ≡ false }
 {
-    match whole_parts(alloc, conn, material, keys)? {
+    match whole_parts(alloc, conn, material, names)? {
         Some(parts) => Ok(hand_out(parts.as_slice(), visitor)),
         None => lend_parts(conn, material, visitor),
     }
@@ -209,7 +209,7 @@ pub fn first_listed<S: Alter>(
     alloc: Global,
     conn: &mut Connection<S>,
     material: Code,
-    keys: Option<&[OpenPart]>,
+    names: Option<&[PartName]>,
     after: Option<PartName>,
     most: usize,
 ) -> Result<PartList, TableFault>
@@ -217,7 +217,7 @@ pub fn first_listed<S: Alter>(
     ensures leaves { Leaves (state S.Store conn.old) (state S.Store conn.new) }
     ensures mode { conn.old.in_transaction ≡ false → conn.new.in_transaction ≡ false }
 {
-    let Some(parts) = whole_parts(alloc, conn, material, keys)? else {
+    let Some(parts) = whole_parts(alloc, conn, material, names)? else {
         return list_first_parts(alloc, conn, material, after, most);
     };
     let rows = first_passing(alloc, parts.as_slice(), &IsBehind { after }, most)?;

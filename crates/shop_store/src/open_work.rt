@@ -11,7 +11,7 @@ ghost use Rattle.shop_machine.specs.Soundness.{Fits};
 ghost use Rattle.shop_machine.specs.declared.records.Demand.{Demand as DemandOf};
 ghost use Rattle.shop_machine.specs.declared.records.Job.{Job as JobOf};
 ghost use Rattle.shop_rows.specs.Keys.{demand_key, job_key};
-ghost use Rattle.shop_rows.specs.Open.{own_key, open_cmp, finds_with, finds_with_all, waits, ListsNumbers};
+ghost use Rattle.shop_rows.specs.Open.{own_key, finds_with, finds_with_all, waits, AreInOrder, ListsNumbers};
 ghost use Rattle.shop_rows.specs.Rows.{rise};
 ghost use Rattle.shop_tables.specs.Held.{HoldsContent, LeavesOnly, StandsFor};
 ghost use Rattle.shop_tables.specs.Shown.{Leaves, OnBooks};
@@ -297,9 +297,9 @@ pub fn commit_open<S: Alter>(
     change: &Change,
 ) -> Result<(), TableFault>
     requires outside { conn.old.in_transaction ≡ false }
-    requires rising { IsTrue (rise own_key open_cmp names.old.keys.items) }
+    requires order { AreInOrder names.old.lists.items }
     requires work_rising { WorkRises work.old }
-    ensures rising { IsTrue (rise own_key open_cmp names.new.keys.items) }
+    ensures order { AreInOrder names.new.lists.items }
     ensures work_rising { WorkRises work.new }
     ensures mode { conn.new.in_transaction ≡ false }
     ensures ok { (m : Content) → HoldsContent (state S.Store conn.old) m → Fits m change.now → OnOk result (HoldsContent (state S.Store conn.new) (changed m change.now)) }

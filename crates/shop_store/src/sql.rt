@@ -13,8 +13,7 @@ ghost use Rattle.shop_tables.specs.Layout.{no_schema, IsShop};
 ghost use Rattle.shop_tables.specs.Changing.{HasSums};
 ghost use Rattle.shop_tables.specs.Shown.{Books, HasShopSchema, Holds, IsSettled, Leaves, OnBooks};
 ghost use Rattle.shop_store.specs.EarlierBooks.{HoldsEarlierContent, IsSettledEarlierAt};
-ghost use Rattle.shop_rows.specs.Open.{own_key, open_cmp};
-ghost use Rattle.shop_rows.specs.Rows.{rise};
+ghost use Rattle.shop_rows.specs.Open.{AreInOrder};
 ghost use Rattle.shop_book.specs.Failures.{CountsFailure};
 ghost use Rattle.shop_store.specs.OpenWork.{WorkRises};
 ghost use Rattle.shop_store.specs.SqlBooks.{adopt_fault, book_fault, told as as_told, EitherWay};
@@ -47,7 +46,7 @@ pub struct SqlBook<S: Alter> {
     names: PartNames,
     work: OpenWork,
     ghost outside: { conn.in_transaction ≡ false },
-    ghost rising: { IsTrue (rise own_key open_cmp names.keys.items) },
+    ghost order: { AreInOrder names.lists.items },
     ghost work_rising: { WorkRises work },
 }
 
@@ -134,8 +133,8 @@ fn renew<S: Alter>(
     names: &mut PartNames,
 ) -> Result<(), BookFault>
     requires outside { conn.old.in_transaction ≡ false }
-    requires rising { IsTrue (rise own_key open_cmp names.old.keys.items) }
-    ensures rising { IsTrue (rise own_key open_cmp names.new.keys.items) }
+    requires order { AreInOrder names.old.lists.items }
+    ensures order { AreInOrder names.new.lists.items }
     ensures mode { conn.new.in_transaction ≡ false }
     ensures earlier { HasCleanDisk (state S.Store conn.new) → HasCleanDisk (state S.Store conn.old) }
     ensures renewed { (m : Content) → HoldsEarlierContent (state S.Store conn.old) m → OnOk result (HoldsContent (state S.Store conn.new) m) }
@@ -267,7 +266,7 @@ impl<S: Alter> SqlBook<S> {
     // Over a connection outside a transaction; no failure is counted yet.
     fn over(alloc: Global, conn: Connection<S>, names: PartNames) -> SqlBook<S>
         requires outside { conn.in_transaction ≡ false }
-        requires rising { IsTrue (rise own_key open_cmp names.keys.items) }
+        requires order { AreInOrder names.lists.items }
         ensures conn { result.conn ≡ conn }
         ensures failures { result.failures ≡ 0 }
         ensures unlisted { result.work.is_listed ≡ false }
@@ -389,8 +388,8 @@ impl<S: Alter> Book for SqlBook<S> {
     }
 
     fn parts_of(&mut self, alloc: Global, material: Code) -> Result<PartList, BookFault> {
-        let keys = self.names.few_of(material);
-        let answer = listed_parts(alloc, &mut self.conn, material, keys);
+        let names = self.names.few_of(material);
+        let answer = listed_parts(alloc, &mut self.conn, material, names);
         self.count_fault(answer)
     }
 
@@ -399,8 +398,8 @@ impl<S: Alter> Book for SqlBook<S> {
         material: Code,
         visitor: &mut V,
     ) -> Result<bool, BookFault> {
-        let keys = self.names.few_of(material);
-        let answer = visit_listed(self.alloc, &mut self.conn, material, keys, visitor);
+        let names = self.names.few_of(material);
+        let answer = visit_listed(self.alloc, &mut self.conn, material, names, visitor);
         self.count_fault(answer)
     }
 
@@ -416,8 +415,8 @@ impl<S: Alter> Book for SqlBook<S> {
         after: Option<PartName>,
         most: usize,
     ) -> Result<PartList, BookFault> {
-        let keys = self.names.few_of(material);
-        let answer = first_listed(alloc, &mut self.conn, material, keys, after, most);
+        let names = self.names.few_of(material);
+        let answer = first_listed(alloc, &mut self.conn, material, names, after, most);
         self.count_fault(answer)
     }
 

@@ -55,7 +55,7 @@ returns-clause-listed c = λ _.
     let before = λ (name : Name). row_at part_key name_cmp name old in
     let absent = c.put_run.ensures.new c.if-not-put_run.false in
     let own : All (λ (part : Part). part.material ≡ c.sums_of-before.result.code) rows = c.in-Some-with_all.ensures.own refl in
-    lists_same (finds_with_all part_key name_cmp rows before) (λ name. row_at part_key name_cmp name new) c.list_all.new.keys.items (found_put_each part_key name_cmp names_total rows old new (c.put_run.ensures.put c.if-not-put_run.false))
+    lists_same (finds_with_all part_key name_cmp rows before) (λ name. row_at part_key name_cmp name new) c.list_all.new.lists.items (found_put_each part_key name_cmp names_total rows old new (c.put_run.ensures.put c.if-not-put_run.false))
     (c.list_all.ensures.lists before c.requires.listed
     (keep_one c.sums_of-before.result.code rows before (λ k d lt. none_of c.sums_of-before.result.code (row_at part_key name_cmp (get_or rows k d).name old) (absent k d lt)) own))
   where

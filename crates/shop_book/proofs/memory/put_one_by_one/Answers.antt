@@ -1,12 +1,19 @@
-use Rattle.std.proofs.Common.{◌≡◌, ◌+◌, ◌<◌, ◌∷◌, [], List, length, drop, suc, ap, sym, ◌∙◌, arith, add-one}
+use Rattle.std.proofs.Common.{◌≡◌, ◌+◌, ◌<◌, ◌≤◌, ◌∷◌, [], List, get_or, length, drop, subst, suc, ap, sym, ◌∙◌, arith, add-one}
 use Rattle.std.proofs.Math.Seq.{drop-cons, drop-length}
 use Rattle.cut_measure.specs.Names.{name_cmp}
 use Rattle.shop_machine.specs.declared.records.Part.{Part}
 use Rattle.shop_machine.specs.Content.{with_parts}
 use Rattle.shop_rows.specs.Rows.{entries_of, map_of}
 use Rattle.shop_rows.specs.Keys.{part_key, names_total}
+use Rattle.shop_rows.specs.Open.{room_of}
 use Rattle.shop_book.proofs.Held.{put_is_insert}
 use Rattle.shop_book.proofs.memory.put_one_by_one.Goals as goal
+
+pub put_part-requires-clause-names_room : goal.put_part-requires-clause-names_room
+put_part-requires-clause-names_room c =
+    let lists = c.loop-part.lists.items in
+    subst (λ (part : Part). 1 ≤ room_of part.material lists) (sym c.part-item.is)
+    (let room = c.loop-part.invariant.names_room c.loop-part.part-index c.part-item.result c.loop-part-test.true in omega (arith, room, c.loop-part-test.true))
 
 pub loop-part-preserved : goal.loop-part-preserved
 loop-part-preserved c =
@@ -21,11 +28,14 @@ loop-part-preserved c =
       totals = c.put_part.ensures.totals;
       small = c.put_part.ensures.small;
       sums = c.put_part.ensures.sums;
-      keys = c.put_part.ensures.keys;
+      order = c.put_part.ensures.order;
       listed = c.put_part.ensures.listed;
       parts_room = omega arith;
       totals_room = omega arith;
-      keys_room = omega arith;
+      names_room = λ k d inside.
+          let before = c.loop-part.invariant.names_room k d inside in
+          let step = c.put_part.ensures.names_room (get_or rows k d).material in
+          omega (arith, before, step, within);
       rest = ap (with_parts (drop (at + 1) rows))
           (put_is_insert name_cmp names_total part.name part (entries_of part_key name_cmp c.loop-part.parts.items) (entries_of part_key name_cmp c.put_part.new.parts.items) c.loop-part.invariant.parts c.put_part.ensures.put)
           ∙ ap (λ (ps : List Part). with_parts ps (map_of part_key name_cmp c.loop-part.parts.items)) (sym next) ∙ c.loop-part.invariant.rest;
@@ -42,6 +52,6 @@ returns c =
       totals = c.loop-part.invariant.totals;
       small = c.loop-part.invariant.small;
       sums = c.loop-part.invariant.sums;
-      keys = c.loop-part.invariant.keys;
+      order = c.loop-part.invariant.order;
       listed = c.loop-part.invariant.listed;
     }

@@ -40,5 +40,5 @@ returns-clause-listed c =
     let part = c.args.part.now in
     let old = c.args.parts.now.items in
     let new = c.put-replaced.new.rows.items in
-    lists_same (finds_with name_cmp part.name part (λ name. row_at part_key name_cmp name old)) (λ name. row_at part_key name_cmp name new) c.list_part.new.keys.items (found_put part old new c.put-replaced.ensures.put)
+    lists_same (finds_with name_cmp part.name part (λ name. row_at part_key name_cmp name old)) (λ name. row_at part_key name_cmp name new) c.list_part.new.lists.items (found_put part old new c.put-replaced.ensures.put)
     (c.list_part.ensures.lists (λ name. row_at part_key name_cmp name old) c.requires.listed (sym c.put-replaced.ensures.replaced))

@@ -3,5 +3,5 @@ use Rattle.shop_machine.specs.Visits.{HasSeen}
 use Rattle.shop_rows.specs.Open.{parts_named}
 use Rattle.shop_book.proofs.memory.visit.Given as goal
 
-abbrev pub invariant-loop-key : goal.invariant-loop-key
-invariant-loop-key g l = HasSeen g.V.PartVisitor.looks (parts_named (take l.key-index l.keys) l.parts) true l.fn.visitor l.visitor
+abbrev pub invariant-loop-name : goal.invariant-loop-name
+invariant-loop-name g l = HasSeen g.V.PartVisitor.looks (parts_named (take l.name-index l.names) l.parts) true l.fn.visitor l.visitor

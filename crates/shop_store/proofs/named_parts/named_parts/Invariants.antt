@@ -4,8 +4,8 @@ use Rattle.shop_tables.specs.Shown.{Leaves, OnBooks}
 use Rattle.shop_store.specs.NamedParts.{AreStanding}
 use Rattle.shop_store.proofs.named_parts.named_parts.Given as goal
 
-abbrev pub invariant-loop-key : goal.invariant-loop-key
-invariant-loop-key g l =
+abbrev pub invariant-loop-name : goal.invariant-loop-name
+invariant-loop-name g l =
     record {
       leaves : Leaves (state g.S.Store l.fn.conn) (state g.S.Store l.conn);
       mode : l.fn.conn.in_transaction ≡ false → l.conn.in_transaction ≡ false;

@@ -5,8 +5,7 @@ use Rattle.shop_machine.specs.Content.{changed, part_at}
 use Rattle.shop_machine.specs.declared.records.Part.{Part}
 use Rattle.shop_rows.specs.Keys.{part_key}
 use Rattle.shop_rows.specs.Open.{finds_with_all, KeepMaterials, ListsParts}
-use Rattle.shop_rows.specs.declared.open.OpenPart.{OpenPart}
-use Rattle.shop_rows.proofs.Listed.{lists_same}
+use Rattle.shop_rows.proofs.Listed.{lists_same, still_listed}
 use Rattle.shop_store.proofs.Noted.{change_kept, found_after}
 use Rattle.shop_store.proofs.names.commit_listed.Goals as goal
 
@@ -14,7 +13,7 @@ pub returns-clause-listed : goal.returns-clause-listed
 returns-clause-listed g c m fits lists =
     let change = c.args.change.now in
     let moved = option_to_list change.moved in
-    lists_same (finds_with_all part_key name_cmp (moved ++ change.parts) (part_at m)) (part_at (changed m change)) c.list_change.new.names.items (found_after m change)
-    (subst (λ (ps : List Part). ListsParts (finds_with_all part_key name_cmp (moved ++ ps) (part_at m)) c.list_change.new.names.items) c.as_slice-parts.ensures
-    (c.list_change.ensures.lists (part_at m) (subst (λ (ks : List OpenPart). ListsParts (part_at m) ks) (sym c.reserve.ensures.items) lists)
+    lists_same (finds_with_all part_key name_cmp (moved ++ change.parts) (part_at m)) (part_at (changed m change)) c.list_change.new.lists.items (found_after m change)
+    (subst (λ (ps : List Part). ListsParts (finds_with_all part_key name_cmp (moved ++ ps) (part_at m)) c.list_change.new.lists.items) c.as_slice-parts.ensures
+    (c.list_change.ensures.lists (part_at m) (still_listed (part_at m) c.args.names.now.lists.items c.reserve_names.new.lists.items c.reserve_names.ensures.names lists)
     (subst (λ (ps : List Part). KeepMaterials (part_at m) (moved ++ ps)) (sym c.as_slice-parts.ensures) (change_kept m change fits))))

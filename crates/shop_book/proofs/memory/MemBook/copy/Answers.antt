@@ -4,7 +4,9 @@ use Rattle.shop_machine.specs.Listing.{is_open}
 use Rattle.shop_machine.specs.declared.records.Part.{Part}
 use Rattle.shop_machine.specs.declared.records.Job.{Job}
 use Rattle.shop_machine.specs.declared.records.Demand.{Demand}
-use Rattle.shop_rows.specs.Keys.{job_key, demand_key}
+use Rattle.cut_measure.specs.Names.{name_cmp}
+use Rattle.shop_rows.specs.Keys.{part_key, job_key, demand_key}
+use Rattle.shop_rows.proofs.Listed.{still_listed}
 use Rattle.shop_rows.specs.Open.{waits, AreListed, ListsNumbers}
 use Rattle.shop_rows.specs.Rows.{rise, row_at}
 use Rattle.std.specs.Prelude.{IsTrue}
@@ -31,9 +33,10 @@ invariant_of-result c =
       imports = search rules;
       small = search rules;
       sums = search rules;
-      keys = search rules;
+      names = c.in_ok-lists.ensures.order;
       listed =
-          subst (λ (ps : List Part). AreListed ps lists.parts.items) (sym parts) (λ key. subst (λ ks. AreListed book.parts.items ks) (sym c.in_ok-lists.ensures.parts) c.self.invariant.listed key);
+          subst (λ (ps : List Part). AreListed ps lists.parts.items) (sym parts)
+          (still_listed (λ name. row_at part_key name_cmp name book.parts.items) book.lists.parts.items lists.parts.items c.in_ok-lists.ensures.parts c.self.invariant.listed);
       job_keys = search rules;
       waiting =
           subst (λ (js : List Job). ListsNumbers waits (λ number. row_at job_key nat_cmp number js) lists.jobs.items) (sym jobs)

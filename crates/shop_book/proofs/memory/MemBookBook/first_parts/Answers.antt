@@ -1,7 +1,8 @@
-use Rattle.std.proofs.Common.{◌≡◌, ap, take, ◌∙◌}
+use Rattle.std.proofs.Common.{◌≡◌, List, ap, take, ◌∙◌}
 use Rattle.std.specs.Prelude.{filter}
-use Rattle.shop_machine.specs.Listing.{parts_behind}
-use Rattle.shop_rows.specs.Open.{is_after, parts_named}
+use Rattle.shop_machine.specs.Listing.{is_behind, parts_behind}
+use Rattle.shop_rows.specs.Open.{names_of, parts_named}
+use Rattle.shop_rows.specs.declared.names.NameList.{NameList}
 use Rattle.shop_book.proofs.Handed.{first_named}
 use Rattle.shop_book.proofs.memory.MemBookBook.first_parts.Goals as goal
 
@@ -11,8 +12,8 @@ returns-clause-rows c =
     let after = c.args.after in
     let most = c.args.most in
     let book = c.self.inside in
-    let keys : c.first_rows.result.now ≡ take most (filter (is_after code after) book.lists.parts.items) =
-    c.first_rows.ensures ∙ ap (take most) (c.names_behind-keys.ensures ∙ ap (filter (is_after code after)) c.deref.ensures.value) in
-    c.in_ok-rows.ensures ∙ (λ i. parts_named (keys i) (c.deref-2.ensures.value i))
-    ∙ first_named code book.lists.parts.items book.parts.items c.self.invariant.keys c.self.invariant.parts c.self.invariant.listed after most
+    let names : c.first_rows.result.now ≡ take most (filter (is_behind after) (names_of code book.lists.parts.items)) =
+    c.first_rows.ensures ∙ ap (take most) (c.names_behind-names.ensures ∙ ap (λ (lists : List NameList). filter (is_behind after) (names_of code lists)) c.deref.ensures.value) in
+    c.in_ok-rows.ensures ∙ (λ i. parts_named (names i) (c.deref-2.ensures.value i))
+    ∙ first_named code book.lists.parts.items book.parts.items c.self.invariant.names c.self.invariant.parts c.self.invariant.listed after most
     ∙ ap (λ book. take most (parts_behind book.content code after)) c.self.view_is
