@@ -1,5 +1,5 @@
 -- What attending to a connection leaves, and how many have no answer then.
-use Rattle.std.proofs.Common.{◌≡◌, ◌≢◌, ◌∙◌, ℕ, ◌+◌, ◌≤◌, List, length, take, inl, inr, refl, sym, ap, subst, arith}
+use Rattle.std.proofs.Common.{◌≡◌, ◌≢◌, ◌∙◌, ℕ, ◌+◌, ◌<◌, ◌≤◌, List, length, take, inl, inr, refl, sym, ap, subst, arith}
 use Rattle.std.specs.Io.KnownBytes.{Appends, IsAtEnd}
 use Rattle.std.specs.Prelude.{◌⊎◌, Option, Some, None, IfSome, IsSome, IsSomeAnd}
 use Rattle.slab.specs.Slab.{Slab, get, Updates, with_value}
@@ -8,11 +8,12 @@ use Rattle.shop_book.specs.declared.books.Book.{Ghosts}
 use Rattle.shop_request.specs.Reading.{IsReadOn}
 use Rattle.shop_request.specs.Senses.{IsSettled}
 use Rattle.shop_serve.specs.declared.connections.Connection.{Ghosts as ConnectionGhosts}
+use Rattle.shop_serve.specs.declared.lines.Fate.{Fate}
 use Rattle.shop_serve.specs.declared.lines.Line.{Line}
 use Rattle.shop_serve.specs.declared.sites.Site.{Site}
 use Rattle.shop_serve.specs.declared.transfers.Given.{Given}
 use Rattle.shop_serve.specs.declared.transfers.Given.TheVariants as given
-use Rattle.shop_serve.specs.Lines.{unanswered, TakesAnswer, IsHandedOn, IsAnsweredWhole, IsHeard, IsAttended}
+use Rattle.shop_serve.specs.Lines.{unanswered, TakesAnswer, IsHandedOn, IsAnsweredWhole, IsHeard, IsAttended, IsAttendedAt, IsClosedBy, IsSpent, IsSpoiled}
 use Rattle.shop_serve.specs.Serving.{Advances, HasServed, IsAnswered}
 use Rattle.shop_serve.proofs.Slots.{one_of, unanswered-updates}
 use Rattle.shop_serve.proofs.Turns.{stays, one_advances}
@@ -60,20 +61,21 @@ module _ {C : Type 0} (connection : ConnectionGhosts C) (site : Site) {B : Type 
       → connection.contents mid.stream ≡ connection.contents old.stream → IsSome mid.answer × (mid.sent ≡ 0)
       → IsSettled mid.came.items ⊎ IsAtEnd (connection.remaining mid.stream)
       → IfSome mid.answer (λ answer. IsAnswered site book before after mid.came.items answer.items)
-      → (new.came ≡ mid.came) × (new.answer ≡ mid.answer) → r ≢ given.Lost
+      → (new.came ≡ mid.came) × (new.answer ≡ mid.answer) → r ≢ given.Lost → r ≢ given.NoMemory
       → (r ≢ given.Lost → IfSome mid.answer (λ answer. TakesAnswer connection answer.items mid.stream mid.sent new.stream new.sent))
       → (r ≡ given.Whole → IsSomeAnd new.answer (λ answer. new.sent ≡ length answer.items))
       → (r ≡ given.Waits → IsSome mid.answer → connection.is_full new.stream) → IsAttended connection site book old new before after
-  attended-first old mid new before after r none read contents begins whole own kept stays takes ends full = (
+  attended-first old mid new before after r none read contents begins whole own kept stays known takes ends full = (
     subst (λ o. IfSome o (λ answer. IsHandedOn connection site book old new before after answer.items)) (sym none) tt,
     λ none. heard mid.answer refl,
   )
     where
-      stop : (r : Given) → r ≢ given.Lost → (length_of : ℕ) → (r ≡ given.Whole → new.sent ≡ length_of) → (r ≡ given.Waits → connection.is_full new.stream)
+      stop : (r : Given) → r ≢ given.Lost → r ≢ given.NoMemory → (length_of : ℕ) → (r ≡ given.Whole → new.sent ≡ length_of) → (r ≡ given.Waits → connection.is_full new.stream)
           → (new.sent ≡ length_of) ⊎ connection.is_full new.stream
-      stop given.Whole stays n ends full = inl (ends refl)
-      stop given.Waits stays n ends full = inr (full refl)
-      stop given.Lost stays n ends full = absurd (stays refl)
+      stop given.Whole stays known n ends full = inl (ends refl)
+      stop given.Waits stays known n ends full = inr (full refl)
+      stop given.Lost stays known n ends full = absurd (stays refl)
+      stop given.NoMemory stays known n ends full = absurd (known refl)
 
       heard : (o : Option _) → mid.answer ≡ o → IsHeard connection site book old new before after
       heard None e = absurd (cc (subst IsSome e begins.0))
@@ -90,9 +92,34 @@ module _ {C : Type 0} (connection : ConnectionGhosts C) (site : Site) {B : Type 
                   (subst (λ o. IfSome o (λ answer. IsAnswered site book before after mid.came.items answer.items)) e own);
               takes = λ held first. taken held (subst (λ n. Appends held (connection.contents mid.stream) (take n a.items)) (sym begins.1)
                   (subst (λ known. Appends held known (take 0 a.items)) (sym contents) first));
-              stops = stop r stays (length a.items) (λ e. subst (λ o. IsSomeAnd o (λ answer. new.sent ≡ length answer.items)) there (ends e)) (λ e. full e begins.0);
+              stops = stop r stays known (length a.items) (λ e. subst (λ o. IsSomeAnd o (λ answer. new.sent ≡ length answer.items)) there (ends e)) (λ e. full e begins.0);
             });
           }
+
+  -- it took its whole answer
+  pub spent : (mid new : Line C) → (new.came ≡ mid.came) × (new.answer ≡ mid.answer) × (new.sent ≡ mid.sent)
+      → IsSomeAnd mid.answer (λ answer. mid.sent ≡ length answer.items) → IsSpent connection site book new
+  spent mid new kept whole = by_answer mid.answer kept.1 whole
+    where
+      by_answer : (o : Option _) → new.answer ≡ o → IsSomeAnd o (λ answer. mid.sent ≡ length answer.items) → IsSpent connection site book new
+      by_answer None e whole = absurd whole
+      by_answer (Some answer) e whole =
+          subst (λ o. IsSomeAnd o (λ answer. length answer.items ≤ new.sent)) (sym e) (omega (arith, whole, kept.2))
+
+  -- it is lost, or told to have taken more than its answer, which it isn't when that begins
+  pub spoiled-on : (old new : Line C) → connection.is_lost new.stream ⊎ IsSomeAnd old.answer (λ answer. length answer.items < old.sent)
+      → IsSpoiled connection site book old new
+  spoiled-on old new (inl lost) = inl (inl lost)
+  spoiled-on old new (inr over) = inr over
+
+  pub spoiled-first : (old mid new : Line C) → mid.sent ≡ 0 → connection.is_lost new.stream ⊎ IsSomeAnd mid.answer (λ answer. length answer.items < mid.sent)
+      → IsSpoiled connection site book old new
+  spoiled-first old mid new begins (inl lost) = inl (inl lost)
+  spoiled-first old mid new begins (inr over) = by_answer mid.answer refl over
+    where
+      by_answer : (o : Option _) → mid.answer ≡ o → IsSomeAnd o (λ answer. length answer.items < mid.sent) → IsSpoiled connection site book old new
+      by_answer None e over = absurd over
+      by_answer (Some answer) e over = absurd (omega (arith, begins, over))
 
   unanswered-of : (line : Line C) → line.answer ≡ None → one_of (Some line) ≡ 1
   unanswered-of line e = rw e refl
@@ -117,7 +144,7 @@ module _ {C : Type 0} (connection : ConnectionGhosts C) (site : Site) {B : Type 
           heard = (subst (λ slot. IfSome slot (λ l. IsAttended connection site book line l before after)) is attended).1 none
 
           by_new : (o : Option _) → l.answer ≡ o → Advances site book before after from to
-          by_new None e = stayed (omega (arith, sum, unanswered-of line none, ap one_of is, unanswered-of l e)) (heard.waits e).0
+          by_new None e = stayed (omega (arith, sum, unanswered-of line none, ap one_of is, unanswered-of l e)) (heard.waits e).same
           by_new (Some a) e = one_advances site book before after from to (omega (arith, sum, unanswered-of line none, ap one_of is, answered-of l a e)) one
 
       kept_left : (slot : Option (Line C)) (answer : _) → left ≡ slot → line.answer ≡ Some answer → one_of left ≡ 0
@@ -149,3 +176,35 @@ module _ {C : Type 0} (connection : ConnectionGhosts C) (site : Site) {B : Type 
       fewer before after line None (unanswered lines) (unanswered new)
       (omega (arith, unanswered-updates lines (with_value lines key left) key (Some left) written, unanswered-updates (with_value lines key left) new key None closed, ap one_of written.changed, ap one_of is))
       once tt one
+
+  -- the connection of a key is closed
+  pub attended-closed : (fate : Fate) (key : ℕ) (lines new : Slab (Line C)) (line left : Line C) (before after : B) → get lines key ≡ Some line
+      → Updates (with_value lines key left) new key None → (IsSome line.answer → after ≡ before) → HasServed site book before after 1
+      → IsClosedBy connection site book fate line before after → IsAttendedAt connection site book fate key lines new before after
+  attended-closed fate key lines new line left before after is removed once one closed =
+      let written = Updates-with_value lines key left (subst IsSome (sym is) refl) in
+      record {
+        others = λ other differs. removed.others other differs ∙ written.others other differs;
+        absent = λ none. absurd (cc (is, none));
+        there = λ l e. subst (λ slot. IfSome slot (λ left. IsAttended connection site book l left before after)) (sym removed.changed) tt;
+        closed = λ l e none. let same : line ≡ l = cc (is, e) in subst (λ l. IsClosedBy connection site book fate l before after) same closed;
+        once = λ l e. let same : line ≡ l = cc (is, e) in subst (λ (l : Line C). IsSome l.answer → after ≡ before) same once;
+        one = one;
+      }
+
+  -- it stays
+  pub attended-stays : (fate : Fate) (key : ℕ) (lines : Slab (Line C)) (line left : Line C) (before after : B) → get lines key ≡ Some line
+      → (IsSome line.answer → after ≡ before) → HasServed site book before after 1
+      → IsAttended connection site book line left before after → IsAttendedAt connection site book fate key lines (with_value lines key left) before after
+  attended-stays fate key lines line left before after is once one attended =
+      let written = Updates-with_value lines key left (subst IsSome (sym is) refl) in
+      record {
+        others = λ other differs. written.others other differs;
+        absent = λ none. absurd (cc (is, none));
+        there = λ l e. let same : line ≡ l = cc (is, e) in
+            subst (λ slot. IfSome slot (λ left. IsAttended connection site book l left before after)) (sym written.changed)
+            (subst (λ l. IsAttended connection site book l left before after) same attended);
+        closed = λ l e none. absurd (cc (written.changed, none));
+        once = λ l e. let same : line ≡ l = cc (is, e) in subst (λ (l : Line C). IsSome l.answer → after ≡ before) same once;
+        one = one;
+      }

@@ -1,12 +1,12 @@
 -- How many open connections have no answer, as one of them changes.
 use Rattle.std.proofs.Common.{◌≡◌, ◌≢◌, ◌∙◌, ℕ, zero, suc, ◌+◌, ◌≤◌, Bool, true, false, not, is_some, cond, MutBor, List, [], ◌∷◌, get_or, count_by, inl, inr, refl, sym, ap, subst, arith}
 use Rattle.std.proofs.lemmas.List.Sums.{sum_by-cons}
-use Rattle.std.specs.Prelude.{Option, Some, None, Result, Ok, Err, IfOk, IfSome, OnErr, if◌then◌else◌}
+use Rattle.std.specs.Prelude.{Option, Some, None, Result, Ok, Err, IfOk, IfSome, IsOk, OnErr, if◌then◌else◌}
 use Rattle.std.specs.Result.{result_ok}
-use Rattle.slab.specs.Slab.{Slab, get, Updates, CalledAt, RetainsFrom}
+use Rattle.slab.specs.Slab.{Slab, get, Updates, HasRoomFor, CalledAt, RetainsFrom}
 use Rattle.shop_serve.specs.declared.lines.Line.{Line}
 use Rattle.std.specs.declared.time.Instant.{Instant}
-use Rattle.shop_serve.specs.Lines.{ClosesLate, IsFresh, IsOpened, MakesRoom, in_time, is_late, is_unanswered, unanswered}
+use Rattle.shop_serve.specs.Lines.{ClosesLate, IsFresh, IsOpened, IsTurnedAway, MakesRoom, in_time, is_late, is_unanswered, unanswered}
 
 suc-differs : (a b : ℕ) → a ≢ b → suc a ≢ suc b
 suc-differs a b differs same = differs (omega (arith, same))
@@ -82,11 +82,6 @@ module _ {C : Type 0} where
   pub unanswered-empty : (lines : Slab (Line C)) → lines.slots ≡ [] → unanswered lines ≡ 0
   unanswered-empty lines e = rw e refl
 
-  room-same : (old room new : Slab (Line C)) → new.slots ≡ room.slots → MakesRoom old room → MakesRoom old new
-  room-same old room new same (inl is) = inl (same ∙ is)
-  room-same old room new same (inr made) =
-      inr (made.0, made.1, record { changed = rw same made.2.changed; others = λ other differs. rw same (made.2.others other differs) })
-
   module _ {E : Type 0} (now : Instant) (stream : C) (old room new : Slab (Line C)) (line : Line C) where
     -- it was put under a free key
     pub opened-so : (r : Result ℕ E) (key : Option ℕ) → key ≡ result_ok r → IfOk r (λ k. get room k ≡ None) → IfOk r (λ k. Updates room new k (Some line))
@@ -96,10 +91,10 @@ module _ {C : Type 0} where
     opened-so (Err f) key e free there made fresh = subst (λ key. IfSome key (λ k. IsOpened now stream k old new)) (sym e) tt
 
     -- or there was no memory for it
-    pub closed-so : (r : Result ℕ E) (key : Option ℕ) → key ≡ result_ok r → OnErr r (new ≡ record room { capacity = new.capacity }) → MakesRoom old room
-        → key ≡ None → MakesRoom old new
-    closed-so (Ok k) key e err made none = absurd (cc (e, none))
-    closed-so (Err f) key e err made none = room-same old room new (ap (λ s. s.slots) err) made
+    pub closed-so : (deaf : Type 0) (r : Result ℕ E) (key : Option ℕ) → key ≡ result_ok r → OnErr r (new ≡ record room { capacity = new.capacity })
+        → (HasRoomFor room 1 → IsOk r) → MakesRoom old room → key ≡ None → IsTurnedAway deaf old new
+    closed-so deaf (Ok k) key e err fits made none = absurd (cc (e, none))
+    closed-so deaf (Err f) key e err fits made none = record { room = room; made = made; same = ap (λ s. s.slots) err; why = inr (λ free. absurd (cc (fits free))) }
 
   -- one more is opened, or there was no memory for it
   pub unanswered-inserted : {E : Type 0} (old new : Slab (Line C)) (line : Line C) (key : Result ℕ E) → IfOk key (λ k. Updates old new k (Some line))

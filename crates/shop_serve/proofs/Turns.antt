@@ -1,6 +1,7 @@
 -- Requests one after another.
 use Rattle.std.proofs.Common.{◌≡◌, ◌≢◌, ◌∙◌, ℕ, suc, ◌+◌, ◌<◌, ◌≤◌, List, [], ◌∷◌, ◌++◌, true, false, inl, inr, length, map, refl, sym, ap, subst, arith}
-use Rattle.std.proofs.lemmas.List.{append_assoc, append-nil, length-append}
+use Rattle.std.proofs.lemmas.List.{append-nil, length-append}
+use Rattle.std.proofs.lemmas.List.Concat.{flat_map-append}
 use Rattle.std.specs.Prelude.{◌⊎◌, Option, Some}
 use Rattle.shop_desk.specs.Handled.{HasAccount}
 use Rattle.shop_desk.specs.Faults.{CountsUp}
@@ -30,11 +31,6 @@ no_route r e is = absurd (cc (sym (ap is_routed is) ∙ e))
 turns-append : (site : Site) (old mid new : Content) (ss ts : List Turn) → InTurn site old ss mid → InTurn site mid ts new → InTurn site old (ss ++ ts) new
 turns-append site old mid new [] ts run more = subst (λ (c : Content). InTurn site c ts new) run more
 turns-append site old mid new (s ∷ ss) ts run more = (run.0, run.1, run.2, turns-append site run.0 mid new ss ts run.3 more)
-
-exchanges-append : (ss ts : List Turn) → exchanges (ss ++ ts) ≡ exchanges ss ++ exchanges ts
-exchanges-append [] ts = refl
-exchanges-append (s ∷ ss) ts =
-    ap (λ es. exchange_of s.handling ++ es) (exchanges-append ss ts) ∙ sym (append_assoc (exchange_of s.handling) (exchanges ss) (exchanges ts))
 
 -- turns, and then more of them
 blame-append : (a b c : ℕ) (ss ts : List Turn) → CountsUp a b → CountsUp b c → TellOfFailures ss a b → TellOfFailures ts b c → TellOfFailures (ss ++ ts) a c
@@ -116,7 +112,7 @@ module _ (site : Site) {B : Type 0} (book : Ghosts B) where
         sound = second.sound;
         failures = up_more (book.failed before) (book.failed mid) (book.failed after) first.failures second.failures;
         blame = blame-append (book.failed before) (book.failed mid) (book.failed after) first.served second.served first.failures second.failures first.blame second.blame;
-        account = subst (λ es. HasAccount json_texts m (map (λ e. e.0) es) (map (λ e. e.1) es) second.next) (sym (exchanges-append first.served second.served))
+        account = subst (λ es. HasAccount json_texts m (map (λ e. e.0) es) (map (λ e. e.1) es) second.next) (sym (flat_map-append (λ (t : Turn). exchange_of t.handling) first.served second.served))
             (account_more json_texts m first.next second.next (exchanges first.served) (exchanges second.served) first.account second.account);
       }
 

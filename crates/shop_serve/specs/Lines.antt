@@ -1,17 +1,25 @@
 -- Open connections: which have no answer yet, and what it is to attend to one.
-use Rattle.std.specs.Prelude.{◌≡◌, ◌≢◌, ◌⊎◌, ◌≤◌, ◌-◌, ◌*◌, leb, if◌then◌else◌, ℕ, List, [], ◌∷◌, length, take, Option, Some, None, IfSome, IsSome, Bool, false, is_none, count_by}
+use Rattle.std.specs.Prelude.{◌≡◌, ◌≢◌, ◌⊎◌, ◌<◌, ◌≤◌, ◌-◌, ◌*◌, ◌++◌, leb, if◌then◌else◌, ℕ, List, [], ◌∷◌, length, take, Option, Some, None, IfSome, IsSome, IsSomeAnd, Bool, false, is_none, count_by}
 use Rattle.std.specs.Io.KnownBytes.{Appends, IsAtEnd}
 use Rattle.std.specs.Time.{instant_nanos}
 use Rattle.std.specs.declared.time.Instant.{Instant}
-use Rattle.slab.specs.Slab.{Slab, get, slab_len, Updates}
+use Rattle.slab.specs.Slab.{Slab, get, slab_len, Updates, HasRoomFor}
 use Rattle.shop_book.specs.declared.books.Book.{Ghosts}
 use Rattle.shop_request.specs.Reading.{IsReadOn}
-use Rattle.shop_request.specs.Senses.{IsSettled}
+use Rattle.shop_request.specs.Requests.{most_request_reads}
+use Rattle.shop_request.specs.Senses.{IsSettled, IsUnfinished}
 use Rattle.shop_serve.specs.declared.connections.Connection.{Ghosts as ConnectionGhosts}
+use Rattle.shop_serve.specs.declared.lines.Fate.{Fate}
+use Rattle.shop_serve.specs.declared.lines.Fate.TheVariants.{NoMemory}
 use Rattle.shop_serve.specs.declared.lines.Line.{Line}
 use Rattle.shop_serve.specs.declared.lines.TheConstants.{PATIENCE, MOST_LINES}
 use Rattle.shop_serve.specs.declared.sites.Site.{Site}
 use Rattle.shop_serve.specs.Serving.{HasServed, IsAnswered}
+
+-- what came is an unfinished request, and so is all that goes on from it with fewer bytes than are needed
+pub record AwaitsMore (came : List ℕ) (needed : ℕ) : Type 0 where
+  pub here : IsUnfinished came
+  pub later : (more : List ℕ) → length (came ++ more) < needed → IsUnfinished (came ++ more)
 
 module _ {C : Type 0} where
   -- a connection that is open and has no answer yet
@@ -40,11 +48,19 @@ module _ {C : Type 0} where
   abbrev pub MakesRoom : Slab (Line C) → Slab (Line C) → Type 0
   MakesRoom old new = (new.slots ≡ old.slots) ⊎ ((MOST_LINES ≤ slab_len old) × (key : ℕ) × Updates old new key None)
 
+  -- It isn't opened, though room was made: it can't be watched, or memory for one more is wanting.
+  pub record IsTurnedAway (deaf : Type 0) (old new : Slab (Line C)) : Type 0 where
+    pub room : Slab (Line C)
+    pub made : MakesRoom old room
+    pub same : new.slots ≡ room.slots
+    pub why : deaf ⊎ (HasRoomFor room 1 → ⊥)
+
   -- it was accepted now: nothing came of it, and it has no answer
   pub record IsFresh (now : Instant) (stream : C) (line : Line C) : Type 0 where
     pub own : line.stream ≡ stream
     pub since : line.since ≡ now
     pub came : line.came.items ≡ []
+    pub needed : line.needed ≡ 0
     pub waits : line.answer ≡ None
 
   -- it is open under a key that was free, and another was closed for it at most
@@ -60,6 +76,13 @@ module _ {C : Type 0} where
 abbrev pub TakesAnswer : {C : Type 0} → ConnectionGhosts C → List ℕ → C → ℕ → C → ℕ → Type 0
 TakesAnswer connection answer old sent new more =
     (before : Option (List ℕ)) → Appends before (connection.contents old) (take sent answer) → Appends before (connection.contents new) (take more answer)
+
+-- Why no request can come of a connection: it is lost; or it ended before a byte came; or more came than of any request.
+abbrev pub IsMute : {C : Type 0} → ConnectionGhosts C → C → List ℕ → C → List ℕ → Type 0
+IsMute connection old before new after =
+    connection.is_lost new
+    ⊎ (IsReadOn (connection.remaining old) (connection.remaining new) before after
+    × ((after ≡ []) × IsAtEnd (connection.remaining new) ⊎ (most_request_reads ≤ length after)))
 
 module _ {C : Type 0} (connection : ConnectionGhosts C) (site : Site) {B : Type 0} (book : Ghosts B) where
   -- A connection with an answer: it keeps it, takes more of it, to its end or until it takes no more, and nothing else is done.
@@ -78,12 +101,20 @@ module _ {C : Type 0} (connection : ConnectionGhosts C) (site : Site) {B : Type 
     pub takes : TakesAnswer connection answer old.stream 0 new.stream new.sent
     pub stops : (new.sent ≡ length answer) ⊎ connection.is_full new.stream
 
-  -- A connection without an answer: what came of it goes on by what it gave. It still has none, took nothing, nothing is done,
-  -- and nothing more came of it; or it is answered.
+  -- It has no answer yet and took nothing, nothing is done, and nothing more came of it. What came is still an unfinished
+  -- request, where it was one before.
+  pub record IsLeftWaiting (old new : Line C) (before after : B) : Type 0 where
+    pub same : after ≡ before
+    pub took : connection.contents new.stream ≡ connection.contents old.stream
+    pub drained : connection.is_drained new.stream
+    pub read : IsReadOn (connection.remaining old.stream) (connection.remaining new.stream) old.came.items new.came.items
+    pub awaits : AwaitsMore old.came.items old.needed → AwaitsMore new.came.items new.needed
+
+  -- A connection without an answer: what came of it goes on by what it gave. It is left waiting, or it is answered.
   pub record IsHeard (old new : Line C) (before after : B) : Type 0 where
     pub rest : Option (List ℕ)
     pub read : IsReadOn (connection.remaining old.stream) rest old.came.items new.came.items
-    pub waits : new.answer ≡ None → (after ≡ before) × (connection.contents new.stream ≡ connection.contents old.stream) × connection.is_drained new.stream
+    pub waits : new.answer ≡ None → IsLeftWaiting old new before after
     pub answered : IfSome new.answer (λ answer. IsAnsweredWhole old new rest before after answer.items)
 
   -- a connection was attended to, and stays open
@@ -91,12 +122,27 @@ module _ {C : Type 0} (connection : ConnectionGhosts C) (site : Site) {B : Type 
   IsAttended old new before after =
       IfSome old.answer (λ answer. IsHandedOn old new before after answer.items) × (old.answer ≡ None → IsHeard old new before after)
 
+  -- it took its whole answer
+  abbrev pub IsSpent : Line C → Type 0
+  IsSpent line = IsSomeAnd line.answer (λ answer. length answer.items ≤ line.sent)
+
+  -- no request can come of it, or it can't take its answer: it is lost, or told to have taken more than that
+  abbrev pub IsSpoiled : Line C → Line C → Type 0
+  IsSpoiled old new =
+      IsMute connection old.stream old.came.items new.stream new.came.items ⊎ IsSomeAnd old.answer (λ answer. length answer.items < old.sent)
+
+  -- why a connection is closed that is attended to: it took its whole answer, or is spoiled; or memory was wanting
+  abbrev pub IsClosedBy : Fate → Line C → B → B → Type 0
+  IsClosedBy fate line before after =
+      (fate ≡ NoMemory) ⊎ ((left : Line C) × (IsAttended line left before after × IsSpent left ⊎ IsSpoiled line left))
+
   -- The connection of a key was attended to, if there is one, and is closed or stays; no other was. At most one request was
   -- served, and none where it had an answer.
-  pub record IsAttendedAt (key : ℕ) (old new : Slab (Line C)) (before after : B) : Type 0 where
+  pub record IsAttendedAt (fate : Fate) (key : ℕ) (old new : Slab (Line C)) (before after : B) : Type 0 where
     pub others : (other : ℕ) → other ≢ key → get new other ≡ get old other
     pub absent : get old key ≡ None → (get new key ≡ None) × (after ≡ before)
     pub there : (line : Line C) → get old key ≡ Some line → IfSome (get new key) (λ left. IsAttended line left before after)
+    pub closed : (line : Line C) → get old key ≡ Some line → get new key ≡ None → IsClosedBy fate line before after
     pub once : (line : Line C) → get old key ≡ Some line → IsSome line.answer → after ≡ before
     pub one : HasServed site book before after 1
 
@@ -104,4 +150,4 @@ module _ {C : Type 0} (connection : ConnectionGhosts C) (site : Site) {B : Type 
   abbrev pub AreAttended : List ℕ → Slab (Line C) → Slab (Line C) → B → B → Type 0
   AreAttended [] old new before after = (new ≡ old) × (after ≡ before)
   AreAttended (key ∷ keys) old new before after =
-      (lines : Slab (Line C)) × (mid : B) × IsAttendedAt key old lines before mid × AreAttended keys lines new mid after
+      (fate : Fate) × (lines : Slab (Line C)) × (mid : B) × IsAttendedAt fate key old lines before mid × AreAttended keys lines new mid after

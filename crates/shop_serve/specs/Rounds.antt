@@ -7,9 +7,10 @@ use Rattle.slab.specs.Slab.{Slab, get}
 use Rattle.std.specs.declared.time.Instant.{Instant}
 use Rattle.shop_book.specs.declared.books.Book.{Ghosts}
 use Rattle.shop_serve.specs.declared.connections.Connection.{Ghosts as ConnectionGhosts}
+use Rattle.shop_serve.specs.declared.lines.Fate.{Fate}
 use Rattle.shop_serve.specs.declared.lines.Line.{Line}
 use Rattle.shop_serve.specs.declared.sites.Site.{Site}
-use Rattle.shop_serve.specs.Lines.{AreAttended, ClosesLate, IsAttendedAt, IsOpened, MakesRoom}
+use Rattle.shop_serve.specs.Lines.{AreAttended, ClosesLate, IsAttendedAt, IsOpened, IsTurnedAway}
 
 -- the key of the connection that an event is about
 abbrev pub key_of : Event → ℕ
@@ -38,19 +39,20 @@ all_keys = flat_map (λ r. r.keys)
 abbrev pub all_came : {C : Type 0} → List (Round C) → List C
 all_came = flat_map (λ r. r.came)
 
-module _ {C : Type 0} (connection : ConnectionGhosts C) (site : Site) {B : Type 0} (book : Ghosts B) where
+-- deaf says that the port can't watch one more
+module _ {C : Type 0} (connection : ConnectionGhosts C) (site : Site) {B : Type 0} (book : Ghosts B) (deaf : Type 0) where
   -- it is opened, and attended to at once
   pub record IsOpenedAttended (now : Instant) (stream : C) (old new : Slab (Line C)) (before after : B) : Type 0 where
     pub key : ℕ
+    pub fate : Fate
     pub lines : Slab (Line C)
     pub opened : IsOpened now stream key old lines
-    pub attended : IsAttendedAt connection site book key lines new before after
+    pub attended : IsAttendedAt connection site book fate key lines new before after
 
-  -- A connection that came is opened and attended to. Where memory is wanting, or it can't be watched, it is closed, and
-  -- nothing is done.
+  -- A connection that came is opened and attended to, or it is turned away, and nothing is done.
   abbrev pub IsReceived : Instant → C → Slab (Line C) → Slab (Line C) → B → B → Type 0
   IsReceived now stream old new before after =
-      (MakesRoom old new × (after ≡ before)) ⊎ IsOpenedAttended now stream old new before after
+      (IsTurnedAway deaf old new × (after ≡ before)) ⊎ IsOpenedAttended now stream old new before after
 
   -- these came, one after another
   abbrev pub AreReceived : Instant → List C → Slab (Line C) → Slab (Line C) → B → B → Type 0

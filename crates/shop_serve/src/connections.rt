@@ -1,7 +1,7 @@
 //! What a server reads from and writes to, as far as it goes without waiting: a connection, and that of a socket.
 
-ghost use Rattle.std.specs.Prelude.{◌≡◌, ◌≤◌, ℕ, List, Option, None, Err, length, IfOk, ⊤};
-ghost use Rattle.shop_serve.specs.declared.connections.Halt.TheVariants.{Waits};
+ghost use Rattle.std.specs.Prelude.{◌≡◌, ◌<◌, ◌≤◌, ℕ, List, Option, None, Err, length, IfOk, ⊤};
+ghost use Rattle.shop_serve.specs.declared.connections.Halt.TheVariants.{Waits, Lost};
 ghost use Rattle.std.specs.Io.KnownBytes.{ReadConsumes, WriteAppends};
 
 use mio::net::TcpStream;
@@ -32,19 +32,25 @@ pub(crate) trait Connection {
     /// It takes no more now.
     ghost is_full: { Self → Type 0 };
 
+    /// It can't be read any more, or takes nothing more.
+    ghost is_lost: { Self → Type 0 };
+
     /// Reads the next bytes that came of it, or none at their end.
     fn read_some(&mut self, room: &mut [u8]) -> Result<usize, Halt>
         ensures within { IfOk result (λ count. count ≤ length room.old) }
         ensures long { length room.new ≡ length room.old }
         ensures bytes { ReadConsumes (remaining self.old) (remaining self.new) result room.new }
         ensures drained { result ≡ Err Waits → is_drained self.new }
+        ensures lost { result ≡ Err Lost → is_lost self.new }
         ensures kept { contents self.new ≡ contents self.old };
 
     /// Has it take the first of some bytes.
     fn write_some(&mut self, bytes: &[u8]) -> Result<usize, Halt>
         ensures within { IfOk result (λ count. count ≤ length bytes.now) }
+        ensures some { IfOk result (λ count. 0 < count) }
         ensures bytes { WriteAppends (contents self.old) (contents self.new) result bytes.now }
         ensures full { result ≡ Err Waits → is_full self.new }
+        ensures lost { result ≡ Err Lost → is_lost self.new }
         ensures kept { remaining self.new ≡ remaining self.old };
 
     /// Ends what it takes.
@@ -60,6 +66,8 @@ impl Connection for TcpStream {
     ghost is_drained = { λ _. ⊤ };
 
     ghost is_full = { λ _. ⊤ };
+
+    ghost is_lost = { λ _. ⊤ };
 
     // A call that is interrupted is made again.
     fn read_some(&mut self, room: &mut [u8]) -> Result<usize, Halt> {

@@ -5,6 +5,7 @@
 mod answers;
 mod connections;
 mod faults;
+mod laws;
 mod lines;
 mod ports;
 mod serving;

@@ -1,10 +1,11 @@
 //! The open connections: how long each has, what came of it, and how much of its answer was handed over.
 
-ghost use Rattle.std.specs.Prelude.{◌≡◌, ◌≢◌, ◌⊎◌, ◌≤◌, ◌+◌, length, None, IfSome, IsSome, IsSomeAnd, true};
+ghost use Rattle.std.specs.Prelude.{◌≡◌, ◌≢◌, ◌⊎◌, ◌<◌, ◌≤◌, ◌+◌, length, None, IfSome, IsSome, IsSomeAnd};
 ghost use Rattle.std.specs.Io.KnownBytes.{IsAtEnd};
 ghost use Rattle.shop_request.specs.Reading.{IsReadOn};
 ghost use Rattle.shop_request.specs.Senses.{IsSettled};
-ghost use Rattle.shop_serve.specs.Lines.{ClosesLate, IsAttended, IsAttendedAt, IsOpened, MakesRoom, TakesAnswer, is_late, unanswered};
+ghost use Rattle.shop_serve.specs.Lines.{AwaitsMore, ClosesLate, IsAttended, IsAttendedAt, IsClosedBy, IsMute, IsOpened, IsSpoiled, IsTurnedAway, MakesRoom, TakesAnswer, is_late, unanswered};
+ghost use Rattle.shop_serve.specs.declared.lines.Fate.TheVariants as fate;
 ghost use Rattle.shop_serve.specs.Serving.{Advances, HasServed, IsAnswered};
 ghost use Rattle.shop_serve.specs.declared.transfers.Given.TheVariants as given;
 ghost use Rattle.shop_serve.specs.declared.transfers.Taken.TheVariants as taken;
@@ -40,12 +41,22 @@ pub(crate) struct Line<C> {
     pub(crate) sent: usize,
 }
 
+/// What comes of a connection that is attended to: it stays, or is closed, since it is over or memory was wanting.
+#[derive(Clone, Copy, PartialEq, Eq)]
+pub(crate) enum Fate {
+    Stays,
+    Over,
+    NoMemory,
+}
+
 // Hands over what is left of the answer, as far as it is taken.
 fn answer_on<C: Connection>(line: &mut Line<C>) -> Given
     ensures kept { (line.new.came ≡ line.old.came) × (line.new.answer ≡ line.old.answer) }
     ensures takes { result ≢ given.Lost → IfSome line.old.answer (λ answer. TakesAnswer C.Connection answer.items line.old.stream line.old.sent line.new.stream line.new.sent) }
     ensures whole { result ≡ given.Whole → IsSomeAnd line.new.answer (λ answer. line.new.sent ≡ length answer.items) }
     ensures full { result ≡ given.Waits → IsSome line.old.answer → C.is_full line.new.stream }
+    ensures lost { result ≡ given.Lost → C.is_lost line.new.stream ⊎ IsSomeAnd line.old.answer (λ answer. length answer.items < line.old.sent) }
+    ensures memory { result ≢ given.NoMemory }
 {
     let Some(answer) = &line.answer else {
         return Given::Waits;
@@ -65,9 +76,12 @@ fn ask<C: Connection, B: Book>(
     book: &mut B,
 ) -> Taken
     requires waits { line.old.answer ≡ None }
-    ensures read { result ≢ taken.Lost → IsReadOn (C.remaining line.old.stream) (C.remaining line.new.stream) line.old.came.items line.new.came.items }
+    ensures read { result ≢ taken.Over → result ≢ taken.NoMemory
+        → IsReadOn (C.remaining line.old.stream) (C.remaining line.new.stream) line.old.came.items line.new.came.items }
     ensures kept { C.contents line.new.stream ≡ C.contents line.old.stream }
     ensures waits { result ≡ taken.Waits → (line.new.answer ≡ None) × (book.new ≡ book.old) × C.is_drained line.new.stream }
+    ensures awaits { result ≡ taken.Waits → AwaitsMore line.old.came.items line.old.needed → AwaitsMore line.new.came.items line.new.needed }
+    ensures over { result ≡ taken.Over → IsMute C.Connection line.old.stream line.old.came.items line.new.stream line.new.came.items }
     ensures begins { result ≡ taken.Whole → IsSome line.new.answer × (line.new.sent ≡ 0) }
     ensures whole { result ≡ taken.Whole → IsSettled line.new.came.items ⊎ IsAtEnd (C.remaining line.new.stream) }
     ensures own { IfSome line.new.answer (λ answer. IsAnswered site.now B.Book book.old book.new line.new.came.items answer.items) }
@@ -80,12 +94,13 @@ fn ask<C: Connection, B: Book>(
         &mut line.came,
         &mut line.needed,
     ) {
-        Taken::Lost => return Taken::Lost,
+        Taken::NoMemory => return Taken::NoMemory,
+        Taken::Over => return Taken::Over,
         Taken::Waits => return Taken::Waits,
         Taken::Whole => (),
     }
     let Some(answer) = answer_of(alloc, site, &line.came, book) else {
-        return Taken::Lost;
+        return Taken::NoMemory;
     };
     line.answer = Some(answer);
     line.sent = 0;
@@ -101,7 +116,8 @@ fn attend<C: Connection, B: Book>(
     now: Instant,
     book: &mut B,
 ) -> Given
-    ensures attended { result ≢ given.Lost → IsAttended C.Connection site.now B.Book line.old line.new book.old book.new }
+    ensures attended { result ≢ given.Lost → result ≢ given.NoMemory → IsAttended C.Connection site.now B.Book line.old line.new book.old book.new }
+    ensures lost { result ≡ given.Lost → IsSpoiled C.Connection site.now B.Book line.old line.new }
     ensures whole { result ≡ given.Whole → IsSomeAnd line.new.answer (λ answer. line.new.sent ≡ length answer.items) }
     ensures once { IsSome line.old.answer → book.new ≡ book.old }
     ensures one { HasServed site.now B.Book book.old book.new 1 }
@@ -111,50 +127,53 @@ fn attend<C: Connection, B: Book>(
         return answer_on(line);
     }
     match ask(alloc, site, line, now, book) {
-        Taken::Lost => return Given::Lost,
+        Taken::NoMemory => return Given::NoMemory,
+        Taken::Over => return Given::Lost,
         Taken::Waits => return Given::Waits,
         Taken::Whole => (),
     }
     answer_on(line)
 }
 
-// Ends an answer that was handed over, and drops what still comes. Tells whether more of the request may come: to close
-// before its end would lose the answer.
-fn finish<C: Connection>(line: &mut Line<C>) -> bool
+// Ends an answer that was handed over, and drops what still comes. The connection stays while more of the request may come: to
+// close before its end would lose the answer.
+fn finish<C: Connection>(line: &mut Line<C>) -> Fate
     ensures kept { (line.new.came ≡ line.old.came) × (line.new.answer ≡ line.old.answer) × (line.new.sent ≡ line.old.sent) }
     ensures contents { C.contents line.new.stream ≡ C.contents line.old.stream }
 {
     line.stream.end_writing();
     if !drop_rest(&mut line.stream) {
-        return false;
+        return Fate::Over;
     }
     match &line.answer {
-        Some(answer) => !answer.starts_with(DONE),
-        None => false,
+        Some(answer) if !answer.starts_with(DONE) => Fate::Stays,
+        _ => Fate::Over,
     }
 }
 
-// Attends to a connection. Tells whether it stays open.
+// Attends to a connection.
 fn attend_once<C: Connection, B: Book>(
     alloc: Global,
     site: &Site,
     line: &mut Line<C>,
     now: Instant,
     book: &mut B,
-) -> bool
-    ensures attended { result ≡ true → IsAttended C.Connection site.now B.Book line.old line.new book.old book.new }
+) -> Fate
+    ensures attended { result ≡ fate.Stays → IsAttended C.Connection site.now B.Book line.old line.new book.old book.new }
+    ensures over { result ≡ fate.Over → IsClosedBy C.Connection site.now B.Book fate.Over line.old book.old book.new }
     ensures once { IsSome line.old.answer → book.new ≡ book.old }
     ensures one { HasServed site.now B.Book book.old book.new 1 }
     ensures honest { B.is_honest book.new → B.is_honest book.old }
 {
     match attend(alloc, site, line, now, book) {
-        Given::Waits => true,
-        Given::Lost => false,
+        Given::Waits => Fate::Stays,
+        Given::Lost => Fate::Over,
+        Given::NoMemory => Fate::NoMemory,
         Given::Whole => finish(line),
     }
 }
 
-/// Attends to the connection of a key, and closes it when it is done with.
+/// Attends to the connection of a key, and closes it when it is over or memory is wanting.
 pub(crate) fn attend_at<C: Connection + Drop, B: Book>(
     alloc: Global,
     site: &Site,
@@ -162,16 +181,24 @@ pub(crate) fn attend_at<C: Connection + Drop, B: Book>(
     key: usize,
     now: Instant,
     book: &mut B,
-)
-    ensures at { IsAttendedAt C.Connection site.now B.Book key lines.old lines.new book.old book.new }
+) -> Fate
+    ensures at { IsAttendedAt C.Connection site.now B.Book result key lines.old lines.new book.old book.new }
     ensures run { Advances site.now B.Book book.old book.new (unanswered lines.old) (unanswered lines.new) }
     ensures honest { B.is_honest book.new → B.is_honest book.old }
 {
     let Some(line) = lines.get_mut(key) else {
-        return;
+        return Fate::Stays;
     };
-    if !attend_once(alloc, site, line, now, book) {
-        let _ = lines.try_remove(key);
+    match attend_once(alloc, site, line, now, book) {
+        Fate::Stays => Fate::Stays,
+        Fate::Over => {
+            let _ = lines.try_remove(key);
+            Fate::Over
+        }
+        Fate::NoMemory => {
+            let _ = lines.try_remove(key);
+            Fate::NoMemory
+        }
     }
 }
 
@@ -231,7 +258,7 @@ pub(crate) fn open_line<C: Drop, P: Port<C>>(
     lines: &mut Slab<Line<C>>,
 ) -> Option<usize>
     ensures opened { IfSome result (λ key. IsOpened now stream key lines.old lines.new) }
-    ensures closed { result ≡ None → MakesRoom lines.old lines.new }
+    ensures closed { result ≡ None → IsTurnedAway ((p : P) × P.is_deaf p) lines.old lines.new }
     ensures fewer { unanswered lines.new ≤ unanswered lines.old + 1 }
     ensures told { P.told port.new ≡ P.told port.old }
     ensures given { P.given port.new ≡ P.given port.old }

@@ -1,6 +1,6 @@
 //! What connections come by: a port, and a listener that is watched.
 
-ghost use Rattle.std.specs.Prelude.{◌≡◌, ℕ, List, Option, None, OnOk, map};
+ghost use Rattle.std.specs.Prelude.{◌≡◌, ℕ, List, Option, None, OnOk, map, false, ⊤};
 ghost use Rattle.mio.specs.Events.{items};
 ghost use Rattle.shop_serve.specs.Rounds.{Adds, given_by, key_of};
 
@@ -34,6 +34,9 @@ pub(crate) trait Port<C> {
     /// The keys that the last wait reported.
     ghost reported: { Self → List ℕ };
 
+    /// It can't have one more connection reported.
+    ghost is_deaf: { Self → Type 0 };
+
     /// Waits until something is reported, or for so long.
     fn wait(&mut self, wait: Duration) -> Result<(), ServeFault>
         ensures told { OnOk result (Adds (told self.old) (told self.new) (reported self.new)) }
@@ -51,6 +54,7 @@ pub(crate) trait Port<C> {
     /// Has a connection reported under a key from now on.
     fn watch(&mut self, stream: &mut C, key: usize) -> bool
         ensures same { stream.new ≡ stream.old }
+        ensures deaf { result ≡ false → is_deaf self.new }
         ensures told { told self.new ≡ told self.old }
         ensures given { given self.new ≡ given self.old };
 }
@@ -148,6 +152,8 @@ impl<'a> Port<Stream> for Door<'a> {
     ghost given = { λ _. None };
 
     ghost reported = { λ door. door.keys.items };
+
+    ghost is_deaf = { λ _. ⊤ };
 
     fn wait(&mut self, wait: Duration) -> Result<(), ServeFault> {
         if self.poll.poll(&mut self.events, Some(wait)).is_err() {

@@ -33,14 +33,14 @@ fn receive<C: Connection + Drop, P: Port<C>, B: Book>(
     lines: &mut Slab<Line<C>>,
     book: &mut B,
 )
-    ensures received { IsReceived C.Connection site.now B.Book now stream lines.old lines.new book.old book.new }
+    ensures received { IsReceived C.Connection site.now B.Book ((p : P) × P.is_deaf p) now stream lines.old lines.new book.old book.new }
     ensures told { P.told port.new ≡ P.told port.old }
     ensures given { P.given port.new ≡ P.given port.old }
     ensures run { Advances site.now B.Book book.old book.new (unanswered lines.old + 1) (unanswered lines.new) }
     ensures honest { B.is_honest book.new → B.is_honest book.old }
 {
     if let Some(key) = open_line(alloc, port, stream, now, lines) {
-        attend_at(alloc, site, lines, key, now, book);
+        let _ = attend_at(alloc, site, lines, key, now, book);
     }
 }
 
@@ -58,7 +58,7 @@ fn accept_waiting<C: Connection + Drop, P: Port<C>, B: Book>(
 ) -> Option<Duration>
     requires bound { accepted.old ≤ limit }
     ensures each { (came : List C) × (accepted.new ≡ accepted.old + length came) × Adds (P.given port.old) (P.given port.new) came
-        × AreReceived C.Connection site.now B.Book now came lines.old lines.new book.old book.new }
+        × AreReceived C.Connection site.now B.Book ((p : P) × P.is_deaf p) now came lines.old lines.new book.old book.new }
     ensures told { P.told port.new ≡ P.told port.old }
     ensures run { Advances site.now B.Book book.old book.new (unanswered lines.old + accepted.new) (unanswered lines.new + accepted.old) }
     ensures bound { accepted.new ≤ limit }
@@ -96,7 +96,7 @@ fn attend_reported<C: Connection + Drop, B: Book>(
     ensures honest { B.is_honest book.new → B.is_honest book.old }
 {
     for key in keys {
-        attend_at(alloc, site, lines, *key, now, book);
+        let _ = attend_at(alloc, site, lines, *key, now, book);
     }
 }
 
@@ -114,7 +114,7 @@ fn turn<C: Connection + Drop, P: Port<C>, B: Book>(
 ) -> Option<Duration>
     requires bound { accepted.old ≤ limit }
     ensures round { (came : List C) × (accepted.new ≡ accepted.old + length came) × Adds (P.given port.old) (P.given port.new) came
-        × IsRound C.Connection site.now B.Book (record { now = now; keys = P.reported port.old; came = came }) lines.old lines.new book.old book.new }
+        × IsRound C.Connection site.now B.Book ((p : P) × P.is_deaf p) (record { now = now; keys = P.reported port.old; came = came }) lines.old lines.new book.old book.new }
     ensures told { P.told port.new ≡ P.told port.old }
     ensures run { Advances site.now B.Book book.old book.new (unanswered lines.old + accepted.new) (unanswered lines.new + accepted.old) }
     ensures bound { accepted.new ≤ limit }
@@ -151,7 +151,7 @@ fn serve_port<R: Clock, C: Connection + Drop, P: Port<C>, B: Book>(
     site: &Site,
     book: &mut B,
 ) -> Result<(), ServeFault>
-    ensures all { OnOk result (HasServedAll C.Connection site.now B.Book limit (P.told port.old) (P.told port.new) (P.given port.old) (P.given port.new) book.old book.new) }
+    ensures all { OnOk result (HasServedAll C.Connection site.now B.Book ((p : P) × P.is_deaf p) limit (P.told port.old) (P.told port.new) (P.given port.old) (P.given port.new) book.old book.new) }
     ensures served { HasServed site.now B.Book book.old book.new limit }
     ensures fault { IfErr result (λ fault. fault ≡ Fault) }
     ensures honest { B.is_honest book.new → B.is_honest book.old }

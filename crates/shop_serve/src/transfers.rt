@@ -1,6 +1,7 @@
 //! Bytes taken from a connection until they are a whole request, and the bytes of its answer handed over.
 
 ghost use Rattle.std.specs.Prelude.{◌≡◌, ◌≢◌, ◌⊎◌, ◌<◌, ◌≤◌, ◌++◌, ℕ, List, Option, [], length, take};
+ghost use Rattle.shop_serve.specs.Lines.{AwaitsMore, IsMute};
 ghost use Rattle.std.specs.Io.KnownBytes.{Appends, Consumes, IsAtEnd};
 ghost use Rattle.shop_request.specs.Reading.{IsReadOn};
 ghost use Rattle.shop_request.specs.Senses.{IsSettled};
@@ -13,8 +14,8 @@ use shop_request::{Routes, is_whole, least_bytes};
 
 const ROOM: usize = 8192;
 
-// More than any request takes: each but the last brings a byte of fewer than 139264.
-const MOST_READS: u32 = 150_000;
+// More bytes than come of any request: fewer than 139264, and a piece.
+const MOST_BYTES: usize = 150_000;
 
 // How often is read at once of what is dropped: more than a socket keeps.
 const MOST_DROPS: u32 = 1024;
@@ -26,6 +27,7 @@ pub(crate) enum Piece {
     End,
     Waits,
     Lost,
+    NoMemory,
 }
 
 /// What came of taking bytes.
@@ -33,7 +35,8 @@ pub(crate) enum Piece {
 pub(crate) enum Taken {
     Whole,
     Waits,
-    Lost,
+    Over,
+    NoMemory,
 }
 
 // Takes a piece more, where there is one.
@@ -42,6 +45,7 @@ fn take_piece<C: Connection>(stream: &mut C, came: &mut Vec<u8>) -> Piece
     ensures end { result ≡ piece.End → (came.new.items ≡ came.old.items) × IsAtEnd (C.remaining stream.new) × Consumes (C.remaining stream.old) (C.remaining stream.new) [] }
     ensures waits { result ≡ piece.Waits → (came.new.items ≡ came.old.items) × Consumes (C.remaining stream.old) (C.remaining stream.new) [] }
     ensures drained { result ≡ piece.Waits → C.is_drained stream.new }
+    ensures lost { result ≡ piece.Lost → C.is_lost stream.new }
     ensures kept { C.contents stream.new ≡ C.contents stream.old }
 {
     let mut room = [0; ROOM];
@@ -55,17 +59,18 @@ fn take_piece<C: Connection>(stream: &mut C, came: &mut Vec<u8>) -> Piece
     }
     match came.extend_from_slice(&room[..count]) {
         Ok(()) => Piece::More,
-        Err(_) => Piece::Lost,
+        Err(_) => Piece::NoMemory,
     }
 }
 
 // What there is at the end of what comes.
 fn at_end(came: &[u8]) -> Taken
     ensures some { result ≡ taken.Whole → 0 < length came.now }
-    ensures over { result ≢ taken.Waits }
+    ensures none { result ≡ taken.Over → came.now ≡ [] }
+    ensures over { (result ≡ taken.Whole) ⊎ (result ≡ taken.Over) }
 {
     if came.is_empty() {
-        return Taken::Lost;
+        return Taken::Over;
     }
     Taken::Whole
 }
@@ -78,15 +83,19 @@ pub(crate) fn take_bytes<C: Connection>(
     came: &mut Vec<u8>,
     needed: &mut usize,
 ) -> Taken
-    ensures bytes { result ≢ taken.Lost → IsReadOn (C.remaining stream.old) (C.remaining stream.new) came.old.items came.new.items }
+    ensures bytes { result ≢ taken.Over → result ≢ taken.NoMemory
+        → IsReadOn (C.remaining stream.old) (C.remaining stream.new) came.old.items came.new.items }
     ensures some { result ≡ taken.Whole → 0 < length came.new.items }
     ensures whole { result ≡ taken.Whole → IsSettled came.new.items ⊎ IsAtEnd (C.remaining stream.new) }
+    ensures waits { result ≡ taken.Waits → AwaitsMore came.old.items needed.old → AwaitsMore came.new.items needed.new }
     ensures drained { result ≡ taken.Waits → C.is_drained stream.new }
+    ensures over { result ≡ taken.Over → IsMute C.Connection stream.old came.old.items stream.new came.new.items }
     ensures kept { C.contents stream.new ≡ C.contents stream.old }
 {
-    for _ in 0..MOST_READS {
+    while came.len() < MOST_BYTES {
         match take_piece(stream, came) {
-            Piece::Lost => return Taken::Lost,
+            Piece::NoMemory => return Taken::NoMemory,
+            Piece::Lost => return Taken::Over,
             Piece::Waits => return Taken::Waits,
             Piece::End => return at_end(came),
             Piece::More => (),
@@ -99,7 +108,7 @@ pub(crate) fn take_bytes<C: Connection>(
         }
         *needed = least_bytes(routes, came);
     }
-    Taken::Lost
+    Taken::Over
 }
 
 /// What came of handing over bytes.
@@ -108,6 +117,7 @@ pub(crate) enum Given {
     Whole,
     Waits,
     Lost,
+    NoMemory,
 }
 
 /// Hands over what is left of an answer, as far as it is taken: behind what was handed over before come the next of its
@@ -119,19 +129,17 @@ pub(crate) fn hand_over<C: Connection>(stream: &mut C, answer: &[u8], sent: &mut
         → Appends before (C.contents stream.new) (take sent.new answer.now) }
     ensures whole { result ≡ given.Whole → sent.new ≡ length answer.now }
     ensures full { result ≡ given.Waits → C.is_full stream.new }
+    ensures lost { result ≡ given.Lost → C.is_lost stream.new }
+    ensures memory { result ≢ given.NoMemory }
 {
-    for _ in 0..answer.len().saturating_add(1) {
-        let rest = &answer[*sent..];
-        if rest.is_empty() {
-            return Given::Whole;
-        }
-        match stream.write_some(rest) {
+    while *sent < answer.len() {
+        match stream.write_some(&answer[*sent..]) {
             Ok(count) => *sent += count,
             Err(Halt::Waits) => return Given::Waits,
             Err(Halt::Lost) => return Given::Lost,
         }
     }
-    Given::Lost
+    Given::Whole
 }
 
 /// Reads what still comes and drops it. Tells whether more may come.

@@ -3,8 +3,11 @@ use Rattle.shop_serve.specs.Serving.{IsAnswered}
 use Rattle.shop_serve.proofs.Turns.{none_served}
 use Rattle.shop_serve.proofs.lines.ask.Goals as goal
 
-pub returns-in-Lost-clause-one : goal.returns-in-Lost-clause-one
-returns-in-Lost-clause-one g c = none_served c.args.site.now g.B.Book c.args.book.now 1
+pub returns-in-NoMemory-clause-one : goal.returns-in-NoMemory-clause-one
+returns-in-NoMemory-clause-one g c = none_served c.args.site.now g.B.Book c.args.book.now 1
+
+pub returns-in-Over-clause-one : goal.returns-in-Over-clause-one
+returns-in-Over-clause-one g c = none_served c.args.site.now g.B.Book c.args.book.now 1
 
 pub returns-in-Waits-clause-one : goal.returns-in-Waits-clause-one
 returns-in-Waits-clause-one g c = none_served c.args.site.now g.B.Book c.args.book.now 1

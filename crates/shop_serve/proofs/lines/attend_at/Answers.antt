@@ -1,19 +1,25 @@
-use Rattle.std.proofs.Common.{◌≡◌, None, refl, sym, rules, arith}
+use Rattle.std.proofs.Common.{◌≡◌, None, inl, refl, sym, rules, arith}
 use Rattle.slab.specs.Slab.{get}
 use Rattle.shop_serve.specs.Lines.{unanswered}
+use Rattle.shop_serve.specs.declared.lines.Fate.TheVariants as fate
 use Rattle.shop_serve.proofs.Turns.{none_served, stays}
-use Rattle.shop_serve.proofs.Attending.{advances-stays, advances-closed}
+use Rattle.shop_serve.proofs.Attending.{advances-stays, advances-closed, attended-closed, attended-stays}
 use Rattle.shop_serve.proofs.lines.attend_at.Goals as goal
 
-pub returns-then-not-attend_once-clause-run : goal.returns-then-not-attend_once-clause-run
-returns-then-not-attend_once-clause-run g c =
+pub returns-in-Over-clause-run : goal.returns-in-Over-clause-run
+returns-in-Over-clause-run g c =
     advances-closed g.C.Connection c.args.site.now g.B.Book c.args.book.now c.attend_once.new.book c.args.lines.now c.try_remove.new.self c.args.key c.in-Some.line.now c.attend_once.new.line
     (sym c.in-Some.ensures.value) c.attend_once.ensures.once c.attend_once.ensures.one c.try_remove.ensures.updates
 
-pub returns-else-not-attend_once-clause-run : goal.returns-else-not-attend_once-clause-run
-returns-else-not-attend_once-clause-run g c =
+pub returns-in-NoMemory-clause-run : goal.returns-in-NoMemory-clause-run
+returns-in-NoMemory-clause-run g c =
+    advances-closed g.C.Connection c.args.site.now g.B.Book c.args.book.now c.attend_once.new.book c.args.lines.now c.try_remove-in-NoMemory.new.self c.args.key c.in-Some.line.now c.attend_once.new.line
+    (sym c.in-Some.ensures.value) c.attend_once.ensures.once c.attend_once.ensures.one c.try_remove-in-NoMemory.ensures.updates
+
+pub returns-in-Stays-clause-run : goal.returns-in-Stays-clause-run
+returns-in-Stays-clause-run g c =
     advances-stays g.C.Connection c.args.site.now g.B.Book c.args.book.now c.attend_once.new.book c.args.lines.now c.args.key c.in-Some.line.now c.attend_once.new.line
-    (sym c.in-Some.ensures.value) c.attend_once.ensures.once (c.if-not-attend_once.ensures.attended refl) c.attend_once.ensures.one
+    (sym c.in-Some.ensures.value) c.attend_once.ensures.once (c.attend_once.ensures.attended c.in-Stays.is) c.attend_once.ensures.one
 
 pub returns-in_default-clause-at : goal.returns-in_default-clause-at
 returns-in_default-clause-at g c =
@@ -22,9 +28,25 @@ returns-in_default-clause-at g c =
       others = λ other differs. refl;
       absent = λ none. (none, refl);
       there = λ line is. absurd (cc (absent, is));
+      closed = λ line is. absurd (cc (absent, is));
       once = λ line is some. refl;
       one = none_served c.args.site.now g.B.Book c.args.book.now 1;
     }
 
 pub returns-in_default-clause-run : goal.returns-in_default-clause-run
 returns-in_default-clause-run g c = stays c.args.site.now g.B.Book c.args.book.now (unanswered c.args.lines.now) (unanswered c.args.lines.now) (omega arith)
+
+pub returns-in-Over-clause-at : goal.returns-in-Over-clause-at
+returns-in-Over-clause-at g c =
+    attended-closed g.C.Connection c.args.site.now g.B.Book fate.Over c.args.key c.args.lines.now c.try_remove.new.self c.in-Some.line.now c.attend_once.new.line c.args.book.now c.attend_once.new.book
+    (sym c.in-Some.ensures.value) c.try_remove.ensures.updates c.attend_once.ensures.once c.attend_once.ensures.one (c.attend_once.ensures.over c.in-Over.is)
+
+pub returns-in-NoMemory-clause-at : goal.returns-in-NoMemory-clause-at
+returns-in-NoMemory-clause-at g c =
+    attended-closed g.C.Connection c.args.site.now g.B.Book fate.NoMemory c.args.key c.args.lines.now c.try_remove-in-NoMemory.new.self c.in-Some.line.now c.attend_once.new.line c.args.book.now c.attend_once.new.book
+    (sym c.in-Some.ensures.value) c.try_remove-in-NoMemory.ensures.updates c.attend_once.ensures.once c.attend_once.ensures.one (inl refl)
+
+pub returns-in-Stays-clause-at : goal.returns-in-Stays-clause-at
+returns-in-Stays-clause-at g c =
+    attended-stays g.C.Connection c.args.site.now g.B.Book fate.Stays c.args.key c.args.lines.now c.in-Some.line.now c.attend_once.new.line c.args.book.now c.attend_once.new.book
+    (sym c.in-Some.ensures.value) c.attend_once.ensures.once c.attend_once.ensures.one (c.attend_once.ensures.attended c.in-Stays.is)

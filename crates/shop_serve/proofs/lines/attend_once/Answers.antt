@@ -1,7 +1,24 @@
-use Rattle.shop_serve.proofs.Attending.{attended-ended}
+use Rattle.std.proofs.Common.{inl, inr}
+use Rattle.shop_serve.proofs.Attending.{attended-ended, spent}
 use Rattle.shop_serve.proofs.lines.attend_once.Goals as goal
 
 pub returns-in-Whole-clause-attended : goal.returns-in-Whole-clause-attended
 returns-in-Whole-clause-attended g c stays =
     attended-ended g.C.Connection c.args.site.now g.B.Book c.args.line.now c.attend.new.line c.finish.new.line c.args.book.now c.attend.new.book
-    c.finish.ensures.kept c.finish.ensures.contents (c.attend.ensures.whole c.in-Whole.is) (c.attend.ensures.attended (λ lost. absurd (cc (lost, c.in-Whole.is))))
+    c.finish.ensures.kept c.finish.ensures.contents (c.attend.ensures.whole c.in-Whole.is) (c.attend.ensures.attended (λ lost. absurd (cc (lost, c.in-Whole.is))) (λ none. absurd (cc (none, c.in-Whole.is))))
+
+pub returns-in-Whole-clause-over : goal.returns-in-Whole-clause-over
+returns-in-Whole-clause-over g c over =
+    let whole = c.attend.ensures.whole c.in-Whole.is in
+    let attended = c.attend.ensures.attended (λ lost. absurd (cc (lost, c.in-Whole.is))) (λ none. absurd (cc (none, c.in-Whole.is))) in
+    inr (
+      c.finish.new.line,
+      inl (
+        attended-ended g.C.Connection c.args.site.now g.B.Book c.args.line.now c.attend.new.line c.finish.new.line c.args.book.now c.attend.new.book
+            c.finish.ensures.kept c.finish.ensures.contents whole attended,
+        spent g.C.Connection c.args.site.now g.B.Book c.attend.new.line c.finish.new.line c.finish.ensures.kept whole,
+      ),
+    )
+
+pub returns-in-Lost-clause-over : goal.returns-in-Lost-clause-over
+returns-in-Lost-clause-over g c over = inr (c.attend.new.line, inr (c.attend.ensures.lost c.in-Lost.is))

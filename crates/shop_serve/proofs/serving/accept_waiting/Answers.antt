@@ -9,33 +9,33 @@ use Rattle.shop_serve.proofs.serving.accept_waiting.Goals as goal
 
 pub returns-then-accepted-limit-clause-each : goal.returns-then-accepted-limit-clause-each
 returns-then-accepted-limit-clause-each g c =
-    came-all g.C.Connection c.args.site.now g.B.Book c.args.now (g.P.Port.given c.args.port.now) (g.P.Port.given c.loop.port) (g.P.Port.given c.loop.port) c.args.accepted.now c.loop.accepted c.args.lines.now c.loop.lines c.args.book.now c.loop.book
+    came-all g.C.Connection c.args.site.now g.B.Book _ c.args.now (g.P.Port.given c.args.port.now) (g.P.Port.given c.loop.port) (g.P.Port.given c.loop.port) c.args.accepted.now c.loop.accepted c.args.lines.now c.loop.lines c.args.book.now c.loop.book
     (adds-none (g.P.Port.given c.loop.port)) c.loop.invariant.each
 
 pub returns-then-not-has_room-clause-each : goal.returns-then-not-has_room-clause-each
 returns-then-not-has_room-clause-each g c =
-    came-all g.C.Connection c.args.site.now g.B.Book c.args.now (g.P.Port.given c.args.port.now) (g.P.Port.given c.loop.port) (g.P.Port.given c.loop.port) c.args.accepted.now c.loop.accepted c.args.lines.now c.loop.lines c.args.book.now c.loop.book
+    came-all g.C.Connection c.args.site.now g.B.Book _ c.args.now (g.P.Port.given c.args.port.now) (g.P.Port.given c.loop.port) (g.P.Port.given c.loop.port) c.args.accepted.now c.loop.accepted c.args.lines.now c.loop.lines c.args.book.now c.loop.book
     (adds-none (g.P.Port.given c.loop.port)) c.loop.invariant.each
 
 pub returns-clause-each : goal.returns-clause-each
 returns-clause-each g c =
-    came-all g.C.Connection c.args.site.now g.B.Book c.args.now (g.P.Port.given c.args.port.now) (g.P.Port.given c.loop.port) (g.P.Port.given c.loop.port) c.args.accepted.now c.loop.accepted c.args.lines.now c.loop.lines c.args.book.now c.loop.book
+    came-all g.C.Connection c.args.site.now g.B.Book _ c.args.now (g.P.Port.given c.args.port.now) (g.P.Port.given c.loop.port) (g.P.Port.given c.loop.port) c.args.accepted.now c.loop.accepted c.args.lines.now c.loop.lines c.args.book.now c.loop.book
     (adds-none (g.P.Port.given c.loop.port)) c.loop.invariant.each
 
 pub returns-in-Ok-None-clause-each : goal.returns-in-Ok-None-clause-each
 returns-in-Ok-None-clause-each g c =
-    came-all g.C.Connection c.args.site.now g.B.Book c.args.now (g.P.Port.given c.args.port.now) (g.P.Port.given c.loop.port) (g.P.Port.given c.accept.new.self) c.args.accepted.now c.loop.accepted c.args.lines.now c.loop.lines c.args.book.now c.loop.book
+    came-all g.C.Connection c.args.site.now g.B.Book _ c.args.now (g.P.Port.given c.args.port.now) (g.P.Port.given c.loop.port) (g.P.Port.given c.accept.new.self) c.args.accepted.now c.loop.accepted c.args.lines.now c.loop.lines c.args.book.now c.loop.book
     (subst (λ o. Adds (g.P.Port.given c.loop.port) (g.P.Port.given c.accept.new.self) (given_by {E = ServeFault} (Ok o))) c.in-Ok-None.field-0-is c.in-Ok-None.ensures.given) c.loop.invariant.each
 
 pub returns-in-Err-clause-each : goal.returns-in-Err-clause-each
 returns-in-Err-clause-each g c =
-    came-all g.C.Connection c.args.site.now g.B.Book c.args.now (g.P.Port.given c.args.port.now) (g.P.Port.given c.loop.port) (g.P.Port.given c.accept.new.self) c.args.accepted.now c.loop.accepted c.args.lines.now c.loop.lines c.args.book.now c.loop.book
+    came-all g.C.Connection c.args.site.now g.B.Book _ c.args.now (g.P.Port.given c.args.port.now) (g.P.Port.given c.loop.port) (g.P.Port.given c.accept.new.self) c.args.accepted.now c.loop.accepted c.args.lines.now c.loop.lines c.args.book.now c.loop.book
     (c.in-Err.ensures.given) c.loop.invariant.each
 
 pub loop-init : goal.loop-init
 loop-init g c =
     record {
-      each = came-none g.C.Connection c.args.site.now g.B.Book c.args.now (g.P.Port.given c.args.port.now) c.args.accepted.now c.args.lines.now c.args.book.now;
+      each = came-none g.C.Connection c.args.site.now g.B.Book _ c.args.now (g.P.Port.given c.args.port.now) c.args.accepted.now c.args.lines.now c.args.book.now;
       told = refl;
       run = stays c.args.site.now g.B.Book c.args.book.now (unanswered c.args.lines.now + c.args.accepted.now) (unanswered c.args.lines.now + c.args.accepted.now) (omega arith);
       bound = c.requires.bound;
@@ -48,7 +48,7 @@ loop-preserved g c =
     let more = c.receive.ensures in
     let given = subst (λ o. Adds (g.P.Port.given c.loop.port) (g.P.Port.given c.accept.new.self) (given_by {E = ServeFault} (Ok o))) c.in-Ok-Some.field-0-is c.in-Ok-Some.ensures.given in
     record {
-      each = came-one g.C.Connection c.args.site.now g.B.Book c.args.now (g.P.Port.given c.args.port.now) (g.P.Port.given c.loop.port) (g.P.Port.given c.receive.new.port)
+      each = came-one g.C.Connection c.args.site.now g.B.Book _ c.args.now (g.P.Port.given c.args.port.now) (g.P.Port.given c.loop.port) (g.P.Port.given c.receive.new.port)
           c.args.accepted.now c.loop.accepted c.args.lines.now c.loop.lines c.receive.new.lines c.args.book.now c.loop.book c.receive.new.book c.in-Ok-Some.stream
           (subst (λ o. Adds (g.P.Port.given c.loop.port) o (c.in-Ok-Some.stream ∷ [])) (sym more.given) given) more.received so_far.each;
       told = more.told ∙ c.accept.ensures.told ∙ so_far.told;

@@ -20,7 +20,7 @@ loop-key-preserved g c =
       each = λ lines book run.
           so_far.each lines book (subst (λ keys. AreAttended g.C.Connection c.args.site.now g.B.Book keys c.loop-key.lines lines c.loop-key.book book)
           (sym (drop_more c.args.keys.now c.loop-key.key-index 0 (omega (arith, c.loop-key-test.true))))
-          (c.attend_at.new.lines, c.attend_at.new.book, more.at, run));
+          (c.attend_at.result, c.attend_at.new.lines, c.attend_at.new.book, more.at, run));
       run = advances_more c.args.site.now g.B.Book c.args.book.now c.loop-key.book c.attend_at.new.book (unanswered c.args.lines.now) (unanswered c.loop-key.lines)
           (unanswered c.loop-key.lines) (unanswered c.attend_at.new.lines) (unanswered c.args.lines.now) (unanswered c.attend_at.new.lines) (omega arith) more.honest so_far.run more.run;
       honest = λ honest. so_far.honest (more.honest honest);

@@ -10,7 +10,7 @@ use Rattle.shop_serve.proofs.serving.serve_port.Goals as goal
 pub loop-init : goal.loop-init
 loop-init g c =
     record {
-      all = rounds-none g.C.Connection c.args.site.now g.B.Book (g.P.Port.told c.args.port.now) (g.P.Port.given c.args.port.now) c.new-lines.result c.args.book.now;
+      all = rounds-none g.C.Connection c.args.site.now g.B.Book _ (g.P.Port.told c.args.port.now) (g.P.Port.given c.args.port.now) c.new-lines.result c.args.book.now;
       run = stays c.args.site.now g.B.Book c.args.book.now 0 (unanswered c.new-lines.result) (omega (arith, unanswered-empty c.new-lines.result c.new-lines.ensures.empty));
       bound = omega arith;
       honest = λ honest. honest;
@@ -21,7 +21,7 @@ loop-preserved g c =
     let so_far = c.loop.invariant in
     let more = c.turn.ensures in
     record {
-      all = rounds-one g.C.Connection c.args.site.now g.B.Book (g.P.Port.told c.args.port.now) (g.P.Port.told c.loop.port) (g.P.Port.told c.turn.new.port) (g.P.Port.given c.args.port.now) (g.P.Port.given c.loop.port) (g.P.Port.given c.turn.new.port)
+      all = rounds-one g.C.Connection c.args.site.now g.B.Book _ (g.P.Port.told c.args.port.now) (g.P.Port.told c.loop.port) (g.P.Port.told c.turn.new.port) (g.P.Port.given c.args.port.now) (g.P.Port.given c.loop.port) (g.P.Port.given c.turn.new.port)
           c.loop.accepted c.turn.new.accepted c.new-lines.result c.loop.lines c.turn.new.lines c.args.book.now c.loop.book c.turn.new.book
           c.in-Ok.now (g.P.Port.reported c.waited.new.port) more.round.0
           (subst (λ t. Adds (g.P.Port.told c.loop.port) t (g.P.Port.reported c.waited.new.port)) (sym more.told) c.in-Ok.ensures.told)
@@ -40,7 +40,7 @@ returns-then-is_empty-clause-all g c =
       rounds = so_far.all.0;
       first = c.new-lines.result;
       last = c.loop.lines;
-      run = rounds-all g.C.Connection c.args.site.now g.B.Book (g.P.Port.told c.args.port.now) (g.P.Port.told c.loop.port) (g.P.Port.given c.args.port.now) (g.P.Port.given c.loop.port) c.loop.accepted c.new-lines.result c.loop.lines c.args.book.now c.loop.book so_far.all;
+      run = rounds-all g.C.Connection c.args.site.now g.B.Book _ (g.P.Port.told c.args.port.now) (g.P.Port.told c.loop.port) (g.P.Port.given c.args.port.now) (g.P.Port.given c.loop.port) c.loop.accepted c.new-lines.result c.loop.lines c.args.book.now c.loop.book so_far.all;
       none = λ key. rw c.new-lines.ensures.empty refl;
       closed = λ key. none-open c.loop.lines.slots (eqb-true _ _ (sym c.is_empty.ensures ∙ c.if-is_empty.true)) key;
       count = sym so_far.all.1 ∙ omega (arith, so_far.bound, c.if-accepted-limit.true);

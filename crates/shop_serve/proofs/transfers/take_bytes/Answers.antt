@@ -1,6 +1,42 @@
-use Rattle.std.proofs.Common.{inl, subst}
-use Rattle.shop_request.specs.Senses.{IsSettled}
+use Rattle.std.proofs.Common.{◌≡◌, ◌∙◌, ◌<◌, ◌++◌, inl, subst, sym, ap, length, arith}
+use Rattle.shop_request.proofs.Behind.{read_more}
+use Rattle.shop_request.specs.Senses.{IsSettled, IsUnfinished}
+use Rattle.shop_serve.specs.Lines.{AwaitsMore}
+use Rattle.shop_serve.proofs.Awaiting.{awaits-on}
 use Rattle.shop_serve.proofs.transfers.take_bytes.Goals as goal
 
 pub returns-then-is_whole-clause-whole : goal.returns-then-is_whole-clause-whole
-returns-then-is_whole-clause-whole g c whole = inl (subst IsSettled c.deref-in-loop.ensures.value (c.is_whole.ensures.settled c.if-is_whole.true))
+returns-then-is_whole-clause-whole g c whole = inl (subst IsSettled c.deref-in-loop-stream.ensures.value (c.is_whole.ensures.settled c.if-is_whole.true))
+
+pub returns-then-is_whole-clause-bytes : goal.returns-then-is_whole-clause-bytes
+returns-then-is_whole-clause-bytes g c over known =
+    let p = c.take_piece.ensures.more c.in-More.is in
+    read_more (g.C.Connection.remaining c.args.stream.now) (g.C.Connection.remaining c.loop-stream.stream) (g.C.Connection.remaining c.take_piece.new.stream)
+    c.args.came.now.items c.loop-stream.came.items c.take_piece.new.came.items p.0 c.loop-stream.invariant.read p.2 p.3
+
+pub loop-stream-preserved-then-len-needed : goal.loop-stream-preserved-then-len-needed
+loop-stream-preserved-then-len-needed g c =
+    let so_far = c.loop-stream.invariant in
+    let p = c.take_piece.ensures.more c.in-More.is in
+    record {
+      read = read_more (g.C.Connection.remaining c.args.stream.now) (g.C.Connection.remaining c.loop-stream.stream) (g.C.Connection.remaining c.take_piece.new.stream)
+          c.args.came.now.items c.loop-stream.came.items c.take_piece.new.came.items p.0 so_far.read p.2 p.3;
+      waits = λ waits. subst (λ came. AwaitsMore came c.loop-stream.needed) (sym p.2)
+          (awaits-on c.loop-stream.came.items p.0 c.loop-stream.needed (omega (arith, c.if-len-needed.true, ap length p.2)) (so_far.waits waits));
+      kept = c.take_piece.ensures.kept ∙ so_far.kept;
+    }
+
+pub loop-stream-preserved : goal.loop-stream-preserved
+loop-stream-preserved g c =
+    let so_far = c.loop-stream.invariant in
+    let p = c.take_piece.ensures.more c.in-More.is in
+    record {
+      read = read_more (g.C.Connection.remaining c.args.stream.now) (g.C.Connection.remaining c.loop-stream.stream) (g.C.Connection.remaining c.take_piece.new.stream)
+          c.args.came.now.items c.loop-stream.came.items c.take_piece.new.came.items p.0 so_far.read p.2 p.3;
+      waits = λ waits. record {
+        here = subst IsUnfinished c.deref-in-loop-stream.ensures.value (c.is_whole.ensures.waits c.if-is_whole.false);
+        later = λ more few. subst (λ came. IsUnfinished (came ++ more)) c.deref-in-loop-stream-2.ensures.value
+            (c.least_bytes.ensures.waits more (subst (λ came. length (came ++ more) < c.least_bytes.result) (sym c.deref-in-loop-stream-2.ensures.value) few));
+      };
+      kept = c.take_piece.ensures.kept ∙ so_far.kept;
+    }

@@ -1,0 +1,97 @@
+-- A connection that tells all, and brings a whole request, is answered.
+use Rattle.std.proofs.Common.{◌≡◌, ◌≢◌, ◌∙◌, ℕ, ◌+◌, ◌<◌, ◌≤◌, List, [], ◌++◌, length, take, inl, inr, refl, sym, ap, subst, arith}
+use Rattle.std.proofs.lemmas.List.{append-nil, length-append}
+use Rattle.std.specs.Io.KnownBytes.{Appends, Consumes, IsAtEnd}
+use Rattle.std.specs.Prelude.{◌⊎◌, Option, Some, None, IfSome, IsSomeAnd}
+use Rattle.slab.specs.Slab.{Slab, get}
+use Rattle.std.specs.declared.time.Instant.{Instant}
+use Rattle.shop_book.specs.declared.books.Book.{Ghosts}
+use Rattle.shop_request.specs.Reading.{IsReadOn}
+use Rattle.shop_request.specs.Senses.{IsSettled, IsUnfinished}
+use Rattle.shop_serve.specs.declared.connections.Connection.{Ghosts as ConnectionGhosts}
+use Rattle.shop_serve.specs.declared.lines.Fate.{Fate}
+use Rattle.shop_serve.specs.declared.lines.Fate.TheVariants.{NoMemory}
+use Rattle.shop_serve.specs.declared.lines.Line.{Line}
+use Rattle.shop_serve.specs.declared.sites.Site.{Site}
+use Rattle.shop_serve.specs.Known.{TellsAll, BringsRequest, HasOwnAnswer}
+use Rattle.shop_serve.specs.Lines.{AwaitsMore, IsAnsweredWhole, IsAttended, IsAttendedAt, IsClosedBy, IsFresh, IsHeard, IsSpoiled}
+use Rattle.shop_serve.specs.Serving.{IsAnswered}
+
+module _ {C : Type 0} (connection : ConnectionGhosts C) (site : Site) {B : Type 0} (book : Ghosts B)
+    (now : Instant) (stream : C) (input : List ℕ) (line : Line C) (before after : B)
+    (tells : TellsAll connection) (brings : BringsRequest connection stream input) (fresh : IsFresh now stream line) where
+  comes : connection.remaining line.stream ≡ Some input
+  comes = ap connection.remaining fresh.own ∙ brings.comes
+
+  -- what was read of it
+  read_of : (rest : Option (List ℕ)) (came : List ℕ) → IsReadOn (connection.remaining line.stream) rest line.came.items came → IsReadOn (Some input) rest [] came
+  read_of rest came read = subst (λ old. IsReadOn old rest [] came) comes (subst (λ first. IsReadOn (connection.remaining line.stream) rest first came) fresh.came read)
+
+  first_part : (rest : Option (List ℕ)) (came : List ℕ) → IsReadOn (Some input) rest [] came → (left : List ℕ) × (rest ≡ Some left) × (input ≡ came ++ left)
+  first_part None came read = absurd read.2
+  first_part (Some left) came read = (left, refl, read.2 ∙ ap (λ l. l ++ left) (sym read.1))
+
+  awaits : AwaitsMore line.came.items line.needed
+  awaits = record { here = inl fresh.came; later = λ more few. absurd (omega (arith, few, fresh.needed)) }
+
+  not_waiting : (came : List ℕ) (needed : ℕ) (left : C) → IsReadOn (connection.remaining line.stream) (connection.remaining left) line.came.items came → connection.is_drained left
+      → AwaitsMore came needed → ⊥
+  not_waiting came needed left read drained more =
+      let part = first_part (connection.remaining left) came (read_of (connection.remaining left) came read) in
+      let none : Some part.0 ≡ Some [] = sym part.1 ∙ tells.drained left drained in
+      let empty : part.0 ≡ [] = cc none in
+      brings.whole (subst IsUnfinished (sym (part.2 ∙ ap (λ l. came ++ l) empty ∙ append-nil came)) more.here)
+
+  not_spoiled : (left : Line C) → IsSpoiled connection site book line left → ⊥
+  not_spoiled left (inl (inl lost)) = tells.kept left.stream lost
+  not_spoiled left (inl (inr (read, inl ended))) =
+      let part = first_part (connection.remaining left.stream) left.came.items (read_of (connection.remaining left.stream) left.came.items read) in
+      let none : part.0 ≡ [] = subst IsAtEnd part.1 ended.1 in
+      brings.whole (inl (part.2 ∙ ap (λ l. l ++ part.0) ended.0 ∙ none))
+  not_spoiled left (inl (inr (read, inr long))) =
+      let part = first_part (connection.remaining left.stream) left.came.items (read_of (connection.remaining left.stream) left.came.items read) in
+      absurd (omega (arith, long, brings.few, ap length part.2, length-append left.came.items part.0))
+  not_spoiled left (inr over) = subst (λ o. IsSomeAnd o (λ answer. length answer.items < line.sent)) fresh.waits over
+
+  took : (held : Option (List ℕ)) (bytes : List ℕ) → Appends (Some []) held bytes → held ≡ Some bytes
+  took None bytes is = absurd is
+  took (Some ys) bytes is = ap Some is
+
+  answered : (left : Line C) → IsAttended connection site book line left before after → HasOwnAnswer connection site book input before after
+  answered left attended = by_answer left.answer refl
+    where
+      heard : IsHeard connection site book line left before after
+      heard = attended.1 fresh.waits
+
+      by_answer : (o : Option _) → left.answer ≡ o → HasOwnAnswer connection site book input before after
+      by_answer None e =
+          let w = heard.waits e in
+          absurd (not_waiting left.came.items left.needed left.stream w.read w.drained (w.awaits awaits))
+      by_answer (Some a) e =
+          let whole = subst (λ o. IfSome o (λ answer. IsAnsweredWhole connection site book line left heard.rest before after answer.items)) e heard.answered in
+          let part = first_part heard.rest left.came.items (read_of heard.rest left.came.items heard.read) in
+          let first : connection.contents line.stream ≡ Some [] = ap connection.contents fresh.own ∙ brings.took in
+          record {
+            came = left.came.items;
+            rest = part.0;
+            answer = a.items;
+            left = left.stream;
+            sent = left.sent;
+            split = part.2;
+            whole = elim whole.whole [ inl settled ↦ inl settled | inr end ↦ inr (subst IsAtEnd part.1 end) ];
+            answered = whole.answered;
+            takes = took (connection.contents left.stream) (take left.sent a.items) (whole.takes (Some []) (subst (λ held. Appends (Some []) held []) (sym first) refl));
+          }
+
+  pub whole_is_answered : (fate : Fate) (key : ℕ) (old new : Slab (Line C)) → get old key ≡ Some line → fate ≢ NoMemory
+      → IsAttendedAt connection site book fate key old new before after → HasOwnAnswer connection site book input before after
+  whole_is_answered fate key old new is known attended = by_slot (get new key) refl
+    where
+      by_reason : IsClosedBy connection site book fate line before after → HasOwnAnswer connection site book input before after
+      by_reason (inl wanting) = absurd (known wanting)
+      by_reason (inr (left, inl spent)) = answered left spent.0
+      by_reason (inr (left, inr spoiled)) = absurd (not_spoiled left spoiled)
+
+      by_slot : (slot : Option (Line C)) → get new key ≡ slot → HasOwnAnswer connection site book input before after
+      by_slot None e = by_reason (attended.closed line is e)
+      by_slot (Some left) e = answered left (subst (λ slot. IfSome slot (λ left. IsAttended connection site book line left before after)) e (attended.there line is))

@@ -1,0 +1,47 @@
+-- What is done with a connection that tells all: its one request is answered, and it takes its own answer.
+use Rattle.std.specs.Prelude.{◌≡◌, ◌≢◌, ◌⊎◌, ◌<◌, ℕ, List, [], ◌++◌, length, take, Some}
+use Rattle.slab.specs.Slab.{Slab, get}
+use Rattle.std.specs.declared.time.Instant.{Instant}
+use Rattle.shop_book.specs.declared.books.Book.{Ghosts}
+use Rattle.shop_request.specs.Requests.{most_request_reads}
+use Rattle.shop_request.specs.Senses.{IsSettled, IsUnfinished}
+use Rattle.shop_serve.specs.declared.connections.Connection.{Ghosts as ConnectionGhosts}
+use Rattle.shop_serve.specs.declared.lines.Fate.{Fate}
+use Rattle.shop_serve.specs.declared.lines.Fate.TheVariants.{NoMemory}
+use Rattle.shop_serve.specs.declared.lines.Line.{Line}
+use Rattle.shop_serve.specs.declared.sites.Site.{Site}
+use Rattle.shop_serve.specs.Lines.{IsAttendedAt, IsFresh}
+use Rattle.shop_serve.specs.Serving.{IsAnswered}
+
+module _ {C : Type 0} (connection : ConnectionGhosts C) where
+  -- nothing more came of a connection only where nothing is left of what comes, and none is lost
+  pub record TellsAll : Type 0 where
+    pub drained : (c : C) → connection.is_drained c → connection.remaining c ≡ Some []
+    pub kept : (c : C) → connection.is_lost c → ⊥
+
+  -- so many bytes are all that comes of it, a whole request or a fault among them, and it took nothing
+  pub record BringsRequest (stream : C) (input : List ℕ) : Type 0 where
+    pub comes : connection.remaining stream ≡ Some input
+    pub took : connection.contents stream ≡ Some []
+    pub whole : IsUnfinished input → ⊥
+    pub few : length input < most_request_reads
+
+  module _ (site : Site) {B : Type 0} (book : Ghosts B) where
+    -- the first of its bytes whose sense is settled, or all of them, were answered, and it took first bytes of this answer
+    pub record HasOwnAnswer (input : List ℕ) (before after : B) : Type 0 where
+      pub came : List ℕ
+      pub rest : List ℕ
+      pub answer : List ℕ
+      pub left : C
+      pub sent : ℕ
+      pub split : input ≡ came ++ rest
+      pub whole : IsSettled came ⊎ (rest ≡ [])
+      pub answered : IsAnswered site book before after came answer
+      pub takes : connection.contents left ≡ Some (take sent answer)
+
+    -- one that came now with a whole request, and is attended to, has its answer, where memory isn't wanting
+    abbrev pub WholeIsAnswered : Type 0
+    WholeIsAnswered =
+        (now : Instant) (stream : C) (input : List ℕ) (line : Line C) (fate : Fate) (key : ℕ) (old new : Slab (Line C)) (before after : B)
+        → TellsAll → BringsRequest stream input → IsFresh now stream line → get old key ≡ Some line → fate ≢ NoMemory
+        → IsAttendedAt connection site book fate key old new before after → HasOwnAnswer input before after
