@@ -3,8 +3,8 @@ use Rattle.std.proofs.Common.{◌≡◌, ◌+◌, ◌<◌, ◌≤◌, ℕ, zero,
 use Rattle.std.specs.Prelude.{Ok, Option, cond, Some, None, filter, filter_map}
 use Rattle.std.specs.FinMap.{from_sorted, values}
 use Rattle.cut_measure.specs.Names.{Name, name_cmp}
-use Rattle.shop_machine.specs.Content.{is_listed}
-use Rattle.shop_machine.specs.Listing.{is_behind}
+use Rattle.shop_records.specs.Content.{is_listed}
+use Rattle.shop_records.specs.Lists.{is_behind}
 use Rattle.shop_rows.specs.Keys.{part_key}
 use Rattle.shop_rows.specs.Open.{names_of, parts_named, AreInOrder, AreListed}
 use Rattle.shop_rows.specs.Rows.{entries_of, rise}
@@ -15,8 +15,8 @@ use Rattle.std.specs.List.{FoldsTo, cons_option}
 use Rattle.std.specs.Option.{option_to_list}
 use Rattle.std.proofs.lemmas.List.{append-nil, append_assoc, take_all, take-append-drop}
 use Rattle.std.proofs.lemmas.List.Elements.{filter-append, filter_map-append}
-use Rattle.shop_machine.specs.declared.records.Part.{Part}
-use Rattle.shop_machine.specs.Visits.{HasSeen, IsVisit}
+use Rattle.shop_records.specs.declared.records.Part.{Part}
+use Rattle.shop_records.specs.Visits.{HasSeen, IsVisit}
 use Rattle.shop_book.specs.declared.books.BookFault.{BookFault}
 
 next_found : {A X : Type 0} (at : A → Option X) (names : List A) (i : ℕ) (a : A) → i < length names → a ≡ get_or names i a

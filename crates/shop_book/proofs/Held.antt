@@ -6,24 +6,24 @@ use Rattle.std.specs.declared.cmp.Ordering.{Ordering}
 use Rattle.std.specs.declared.cmp.Ordering.TheVariants.{Less, Equal, Greater}
 use Rattle.std.specs.Option.{option_to_list}
 use Rattle.std.specs.Ordering.{is_eq, match_ordering, nat_cmp}
-use Rattle.shop_machine.specs.declared.records.Column.{Column}
-use Rattle.shop_machine.specs.declared.records.Column.TheVariants as column
+use Rattle.shop_records.specs.declared.records.Column.{Column}
+use Rattle.shop_records.specs.declared.records.Column.TheVariants as column
 use Rattle.cut_measure.specs.Codes.{code_cmp}
 use Rattle.cut_measure.specs.Names.{name_cmp}
-use Rattle.shop_machine.specs.declared.records.Material.{Material}
-use Rattle.shop_machine.specs.declared.records.Part.{Part}
-use Rattle.shop_machine.specs.declared.records.Job.{Job}
-use Rattle.shop_machine.specs.declared.records.Demand.{Demand}
-use Rattle.shop_machine.specs.Content.{Content, pair_cmp, cells_in, with_material, with_parts, with_job, with_demands, with_kept, with_import, with_number}
-use Rattle.shop_machine.specs.Soundness.{IsInRange}
+use Rattle.shop_records.specs.declared.records.Material.{Material}
+use Rattle.shop_records.specs.declared.records.Part.{Part}
+use Rattle.shop_records.specs.declared.records.Job.{Job}
+use Rattle.shop_records.specs.declared.records.Demand.{Demand}
+use Rattle.shop_records.specs.Content.{Content, pair_cmp, cells_in, with_material, with_parts, with_job, with_demands, with_kept, with_import, with_number}
+use Rattle.shop_records.specs.Soundness.{IsInRange}
 use Rattle.std.specs.Cmp.{IsTotalOrder}
 use Rattle.std.specs.BTreeMap.{insert_entry}
 use Rattle.std.specs.FinMap.{FinMap, empty, insert, from_sorted, find, put, is_sorted, get, get-from_sorted, values, entries-from_sorted, entries-insert, same_entries_map, len-entries, empty_of_len}
 use Rattle.std.specs.FinMap.Entries.{by_order, is_sorted-put}
-use Rattle.shop_machine.specs.declared.imports.ImportRow.{ImportRow}
-use Rattle.shop_machine.specs.declared.texts.Pair.{Pair}
-use Rattle.shop_machine.specs.declared.texts.Kept.{Kept}
-use Rattle.shop_machine.specs.declared.texts.KeptMessage.{KeptMessage}
+use Rattle.shop_records.specs.declared.imports.ImportRow.{ImportRow}
+use Rattle.shop_records.specs.declared.texts.Pair.{Pair}
+use Rattle.shop_records.specs.declared.texts.Kept.{Kept}
+use Rattle.shop_records.specs.declared.texts.KeptMessage.{KeptMessage}
 use Rattle.shop_book.specs.Memory.{put_kept, pairs_total}
 use Rattle.shop_rows.specs.Keys.{material_key, part_key, job_key, demand_key, import_key}
 use Rattle.shop_rows.specs.Rows.{entries_of, rise, row_at, put_each, map_of, with_rows, ArePut}

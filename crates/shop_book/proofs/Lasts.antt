@@ -4,8 +4,8 @@ use Rattle.std.specs.declared.cmp.Ordering.{Ordering}
 use Rattle.std.specs.declared.cmp.Ordering.TheVariants.{Less, Equal, Greater}
 use Rattle.std.specs.Ordering.{is_lt, nat_cmp, ordering_then}
 use Rattle.std.specs.Cmp.{nat_cmp_is, ranked}
-use Rattle.shop_machine.specs.Content.{pair_cmp}
-use Rattle.shop_machine.specs.declared.texts.Pair.{Pair}
+use Rattle.shop_records.specs.Content.{pair_cmp}
+use Rattle.shop_records.specs.declared.texts.Pair.{Pair}
 
 -- of one terminal the pair that isn't below another has no smaller number
 pub no_less : (last pair : Pair) → last.terminal ≡ pair.terminal → is_lt (pair_cmp last pair) ≡ false → pair.number ≤ last.number

@@ -19,7 +19,7 @@ use Rattle.std.specs.FinSet.{contains, insert, contains-from_list, contains-inse
 use Rattle.std.proofs.lemmas.Bool.Decides.{Decides-like}
 use Rattle.std.proofs.lemmas.Slice.Eq.{slice_eq-Decides}
 use Rattle.cut_measure.specs.Codes.{code_cmp}
-use Rattle.shop_machine.specs.Content.{with_order}
+use Rattle.shop_records.specs.Content.{with_order}
 use Rattle.shop_rows.specs.Rows.{entries_of, rise, row_at, IsPut, ArePut}
 use Rattle.shop_book.specs.Memory.{order_key, orders_in}
 use Rattle.shop_rows.proofs.Places.{tested, rise-put}

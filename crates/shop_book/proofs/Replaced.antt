@@ -12,10 +12,10 @@ use Rattle.std.proofs.lemmas.List.{take-append-drop}
 use Rattle.std.proofs.lemmas.List.Folds.{list_all-append}
 use Rattle.std.proofs.lemmas.List.Sums.{sum_by-cons, sum_by-append, sum_by-take-drop}
 use Rattle.cut_measure.specs.Names.{Name, name_cmp}
-use Rattle.shop_machine.specs.declared.records.Part.{Part}
-use Rattle.shop_machine.specs.declared.records.Column.{Column}
-use Rattle.shop_machine.specs.Content.{of_found, cells_in}
-use Rattle.shop_machine.proofs.Sums.{sum-put}
+use Rattle.shop_records.specs.declared.records.Part.{Part}
+use Rattle.shop_records.specs.declared.records.Column.{Column}
+use Rattle.shop_records.specs.Content.{of_found, cells_in}
+use Rattle.shop_records.proofs.Sums.{sum-put}
 use Rattle.shop_rows.specs.declared.sums.Sums.{Sums}
 use Rattle.shop_rows.specs.Rows.{entries_of, rise, row_at, IsPut}
 use Rattle.shop_rows.specs.Sums.{sum_at, counted_cells, cells_for, AreSumsOf, most_cells, all_small}

@@ -1,6 +1,6 @@
 -- What a book's readings and writings promise of the book, in the words that a book gives.
 use Rattle.std.specs.Prelude.{ℕ}
-use Rattle.shop_machine.specs.Content.{Content}
+use Rattle.shop_records.specs.Content.{Content}
 
 module _ {Book Left : Type 0} (is_honest : Book → Type 0) (holds : Book → Content → Type 0) (may_leave : Book → Left → Type 0) (failed : Book → ℕ) where
   -- the book is left as it was: an honest one was honest before, holds what it held, and a crash leaves nothing that it

@@ -17,32 +17,32 @@ use Rattle.cut_measure.specs.Measures.{Extent, Rule}
 use Rattle.cut_measure.specs.Names.{Name}
 use Rattle.cut_measure.specs.declared.sizes.Kind.{Kind}
 use Rattle.cut_measure.specs.declared.sizes.Kind.TheVariants.{Bar, Sheet}
-use Rattle.shop_machine.specs.declared.records.Material.{Material}
-use Rattle.shop_machine.specs.declared.records.Part.{Part}
-use Rattle.shop_machine.specs.declared.records.Job.{Job}
-use Rattle.shop_machine.specs.declared.records.JobState.{JobState}
-use Rattle.shop_machine.specs.declared.records.JobState.TheVariants as job_state
-use Rattle.shop_machine.specs.declared.records.Demand.{Demand}
-use Rattle.shop_machine.specs.declared.records.State.{State}
-use Rattle.shop_machine.specs.declared.records.State.TheVariants as state
-use Rattle.shop_machine.specs.declared.texts.Pair.{Pair}
-use Rattle.shop_machine.specs.declared.texts.Kept.{Kept}
-use Rattle.shop_machine.specs.declared.imports.Form.{Form}
-use Rattle.shop_machine.specs.declared.imports.Form.TheVariants.{Csv, Cgcut}
-use Rattle.shop_machine.specs.declared.imports.ImportRow.{ImportRow}
-use Rattle.shop_machine.specs.Content.{Content}
-use Rattle.shop_machine.specs.Same.{same_name, same_pair}
-use Rattle.shop_machine.specs.contracts.records.MaterialPartialEq.TheImpl as material_eq
+use Rattle.shop_records.specs.declared.records.Material.{Material}
+use Rattle.shop_records.specs.declared.records.Part.{Part}
+use Rattle.shop_records.specs.declared.records.Job.{Job}
+use Rattle.shop_records.specs.declared.records.JobState.{JobState}
+use Rattle.shop_records.specs.declared.records.JobState.TheVariants as job_state
+use Rattle.shop_records.specs.declared.records.Demand.{Demand}
+use Rattle.shop_records.specs.declared.records.State.{State}
+use Rattle.shop_records.specs.declared.records.State.TheVariants as state
+use Rattle.shop_records.specs.declared.texts.Pair.{Pair}
+use Rattle.shop_records.specs.declared.texts.Kept.{Kept}
+use Rattle.shop_records.specs.declared.imports.Form.{Form}
+use Rattle.shop_records.specs.declared.imports.Form.TheVariants.{Csv, Cgcut}
+use Rattle.shop_records.specs.declared.imports.ImportRow.{ImportRow}
+use Rattle.shop_records.specs.Content.{Content}
+use Rattle.shop_records.specs.Same.{same_name, same_pair}
+use Rattle.shop_records.specs.contracts.records.MaterialPartialEq.TheImpl as material_eq
 use Rattle.cut_measure.specs.contracts.sizes.KindPartialEq.TheImpl as kind_eq
-use Rattle.shop_machine.specs.contracts.records.StatePartialEq.TheImpl as state_eq
-use Rattle.shop_machine.specs.contracts.records.PartPartialEq.TheImpl as part_eq
-use Rattle.shop_machine.specs.contracts.records.JobPartialEq.TheImpl as job_eq
-use Rattle.shop_machine.specs.contracts.records.JobStatePartialEq.TheImpl as job_state_eq
-use Rattle.shop_machine.specs.contracts.records.DemandPartialEq.TheImpl as demand_eq
+use Rattle.shop_records.specs.contracts.records.StatePartialEq.TheImpl as state_eq
+use Rattle.shop_records.specs.contracts.records.PartPartialEq.TheImpl as part_eq
+use Rattle.shop_records.specs.contracts.records.JobPartialEq.TheImpl as job_eq
+use Rattle.shop_records.specs.contracts.records.JobStatePartialEq.TheImpl as job_state_eq
+use Rattle.shop_records.specs.contracts.records.DemandPartialEq.TheImpl as demand_eq
 use Rattle.cut_tree.specs.SamePatterns.{same_pattern_decides}
-use Rattle.shop_machine.specs.contracts.texts.KeptPartialEq.TheImpl as kept_eq
-use Rattle.shop_machine.specs.contracts.imports.FormPartialEq.TheImpl as form_eq
-use Rattle.shop_machine.specs.contracts.imports.ImportRowPartialEq.TheImpl as import_eq
+use Rattle.shop_records.specs.contracts.texts.KeptPartialEq.TheImpl as kept_eq
+use Rattle.shop_records.specs.contracts.imports.FormPartialEq.TheImpl as form_eq
+use Rattle.shop_records.specs.contracts.imports.ImportRowPartialEq.TheImpl as import_eq
 use Rattle.shop_book.specs.Memory.{MemoryBook}
 
 -- ---- tests, as `==` makes them

@@ -1,6 +1,6 @@
 -- What is kept of a book, and said of what it held, over the words of a book.
 use Rattle.std.specs.Prelude.{ℕ}
-use Rattle.shop_machine.specs.Content.{Content}
+use Rattle.shop_records.specs.Content.{Content}
 use Rattle.shop_book.specs.declared.books.Book.{Ghosts}
 use Rattle.shop_book.specs.Books.{Keeps}
 

@@ -4,8 +4,8 @@ use Rattle.std.specs.Ordering.{nat_cmp}
 use Rattle.std.specs.FinMap.{is_sorted}
 use Rattle.cut_measure.specs.Codes.{code_cmp}
 use Rattle.cut_measure.specs.Names.{name_cmp}
-use Rattle.shop_machine.specs.Content.{pair_cmp}
-use Rattle.shop_machine.specs.Listing.{is_open}
+use Rattle.shop_records.specs.Content.{pair_cmp}
+use Rattle.shop_records.specs.Lists.{is_open}
 use Rattle.shop_rows.specs.Rows.{rise, row_at}
 use Rattle.shop_rows.specs.Open.{own_key, waits, AreInOrder, AreListed, ListsNumbers}
 use Rattle.shop_rows.specs.Sums.{sums_key, AreSumsOf, all_small}

@@ -6,24 +6,24 @@ use Rattle.std.specs.Coded.{Coded, code_by, coded×, coded_ℕ, coded_list}
 use Rattle.std.specs.Cmp.{IsTotalOrder, on_total, then_total, nat_cmp_total}
 use Rattle.std.specs.FinMap as map
 use Rattle.std.specs.FinSet as set
-use Rattle.shop_machine.specs.contracts.records.Material as material_type
-use Rattle.shop_machine.specs.contracts.records.Part as part_type
-use Rattle.shop_machine.specs.contracts.records.Job as job_type
-use Rattle.shop_machine.specs.contracts.records.Demand as demand_type
-use Rattle.shop_machine.specs.contracts.texts.Pair as pair_type
-use Rattle.shop_machine.specs.contracts.texts.Kept as kept_type
-use Rattle.shop_machine.specs.contracts.imports.ImportRow as import_type
+use Rattle.shop_records.specs.contracts.records.Material as material_type
+use Rattle.shop_records.specs.contracts.records.Part as part_type
+use Rattle.shop_records.specs.contracts.records.Job as job_type
+use Rattle.shop_records.specs.contracts.records.Demand as demand_type
+use Rattle.shop_records.specs.contracts.texts.Pair as pair_type
+use Rattle.shop_records.specs.contracts.texts.Kept as kept_type
+use Rattle.shop_records.specs.contracts.imports.ImportRow as import_type
 use Rattle.cut_measure.specs.Codes.{code_cmp}
 use Rattle.cut_measure.specs.Names.{Name, name_cmp}
-use Rattle.shop_machine.specs.declared.records.Material.{Material}
-use Rattle.shop_machine.specs.declared.records.Part.{Part}
-use Rattle.shop_machine.specs.declared.records.Job.{Job}
-use Rattle.shop_machine.specs.declared.records.Demand.{Demand}
-use Rattle.shop_machine.specs.declared.texts.Pair.{Pair}
-use Rattle.shop_machine.specs.declared.texts.Kept.{Kept}
-use Rattle.shop_machine.specs.declared.texts.KeptMessage.{KeptMessage}
-use Rattle.shop_machine.specs.declared.imports.ImportRow.{ImportRow}
-use Rattle.shop_machine.specs.Content.{Content, pair_cmp}
+use Rattle.shop_records.specs.declared.records.Material.{Material}
+use Rattle.shop_records.specs.declared.records.Part.{Part}
+use Rattle.shop_records.specs.declared.records.Job.{Job}
+use Rattle.shop_records.specs.declared.records.Demand.{Demand}
+use Rattle.shop_records.specs.declared.texts.Pair.{Pair}
+use Rattle.shop_records.specs.declared.texts.Kept.{Kept}
+use Rattle.shop_records.specs.declared.texts.KeptMessage.{KeptMessage}
+use Rattle.shop_records.specs.declared.imports.ImportRow.{ImportRow}
+use Rattle.shop_records.specs.Content.{Content, pair_cmp}
 use Rattle.shop_rows.specs.Rows.{map_of}
 use Rattle.shop_rows.specs.Keys.{material_key, part_key, job_key, demand_key, import_key}
 

@@ -3,7 +3,7 @@
 ghost use Rattle.std.specs.Prelude.{◌≡◌, OnOk, OnErr};
 ghost use Rattle.shop_book.specs.Memory.{put_kept};
 
-use shop_machine::{Kept, KeptMessage, Pair};
+use shop_records::{Kept, KeptMessage, Pair};
 use std::alloc::AllocError;
 use std::collections::BTreeMap;
 

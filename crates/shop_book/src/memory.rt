@@ -5,15 +5,15 @@ ghost use Rattle.std.specs.Option.{option_to_list};
 ghost use Rattle.cut_measure.specs.Codes.{code_cmp};
 ghost use Rattle.cut_measure.specs.Names.{name_cmp};
 ghost use Rattle.std.specs.Ordering.{is_lt, nat_cmp};
-ghost use Rattle.shop_machine.specs.Content.{Content, material_at, part_at, job_at, has_order, demand_at, kept_at, import_at, totals_of, parts_of as listed_parts, changed, with_parts, with_moved, with_material, with_job, with_order, with_demands, pair_cmp};
-ghost use Rattle.shop_machine.specs.Listing.{IsLastNumber, is_asked_for, is_open, materials_of, open_demands, parts_behind, waiting_jobs};
-ghost use Rattle.shop_machine.specs.declared.records.Job.{Job as JobOf};
-ghost use Rattle.shop_machine.specs.declared.texts.Pair.{Pair as PairOf};
-ghost use Rattle.shop_machine.specs.Soundness.{IsInRange};
+ghost use Rattle.shop_records.specs.Content.{Content, material_at, part_at, job_at, has_order, demand_at, kept_at, import_at, totals_of, parts_of as listed_parts, changed, with_parts, with_moved, with_material, with_job, with_order, with_demands, pair_cmp};
+ghost use Rattle.shop_records.specs.Lists.{IsLastNumber, is_asked_for, is_open, materials_of, open_demands, parts_behind, waiting_jobs};
+ghost use Rattle.shop_records.specs.declared.records.Job.{Job as JobOf};
+ghost use Rattle.shop_records.specs.declared.texts.Pair.{Pair as PairOf};
+ghost use Rattle.shop_records.specs.Soundness.{IsInRange};
 ghost use Rattle.shop_rows.specs.Keys.{material_key, part_key, job_key, demand_key, import_key};
 ghost use Rattle.std.specs.FinMap.{find as find_entry};
 ghost use Rattle.shop_rows.specs.Rows.{rise, row_at, map_of, ArePut, IsPut};
-ghost use Rattle.shop_machine.specs.Visits.{HasSeen, IsVisit};
+ghost use Rattle.shop_records.specs.Visits.{HasSeen, IsVisit};
 ghost use Rattle.shop_book.specs.declared.books.BookFault.{BookFault as Fault};
 ghost use Rattle.shop_rows.specs.Open.{own_key, demands_named, names_of, parts_named, room_of, waits, AreInOrder, AreListed, HaveRoom, ListsNumbers};
 ghost use Rattle.shop_rows.specs.Sums.{sums_key, AreSumsOf, all_small};
@@ -21,7 +21,7 @@ ghost use Rattle.shop_rows.specs.Sums.{sums_key, AreSumsOf, all_small};
 use crate::books::{Book, BookFault};
 use crate::order_codes::{OrderCode, put_and_keep};
 use cut_measure::{Code, PartName};
-use shop_machine::{
+use shop_records::{
     Change, Demand, DemandList, ImportRow, Job, Kept, Material, MaterialList, NumberList, Pair,
     Part, PartList, PartVisitor, RowList, Totals,
 };
@@ -68,7 +68,7 @@ impl Model for MemBook {
 
 impl MemBook {
     ghost use Rattle.std.specs.Prelude.{◌≡◌};
-    ghost use Rattle.shop_machine.specs.Content.{fresh};
+    ghost use Rattle.shop_records.specs.Content.{fresh};
 
     /// A book of a shop in which nothing was done yet.
     pub fn new(alloc: Global) -> MemBook
@@ -177,7 +177,8 @@ fn listed(alloc: Global, parts: &[Part], names: &[PartName]) -> Result<PartList,
 
 // Hands out a part that was found.
 fn hand<V: PartVisitor>(part: Option<&Part>, visitor: &mut V) -> bool
-    ensures { HasSeen V.looks (option_to_list (option_copied part.entry)) result visitor.old visitor.new }
+    ensures { HasSeen V.looks
+        (option_to_list (option_copied part.entry)) result visitor.old visitor.new }
 {
     match part {
         Some(part) => visitor.part(part),
@@ -188,7 +189,8 @@ fn hand<V: PartVisitor>(part: Option<&Part>, visitor: &mut V) -> bool
 // Hands out the parts of these names, for as long as the visitor answers true.
 fn visit<V: PartVisitor>(parts: &[Part], names: &[PartName], visitor: &mut V) -> bool
     requires { IsTrue (rise part_key name_cmp parts.now) }
-    ensures { IsVisit V.looks {Fault = Fault} (λ what. what (parts_named names.now parts.now)) visitor.old (Ok result) visitor.new }
+    ensures { IsVisit V.looks {Fault = Fault}
+        (λ what. what (parts_named names.now parts.now)) visitor.old (Ok result) visitor.new }
 {
     for name in names {
         if !hand(at(parts, *name), visitor) {
@@ -214,7 +216,8 @@ fn push_asked(
     found: Option<Demand>,
     asked: &Option<Code>,
 ) -> Result<(), AllocError>
-    ensures { OnOk result (rows.new ≡ rows.old ++ filter (λ demand. is_asked_for asked.now demand.material) (option_to_list found)) }
+    ensures { OnOk result (rows.new ≡ rows.old
+        ++ filter (λ demand. is_asked_for asked.now demand.material) (option_to_list found)) }
 {
     let Some(demand) = found else {
         return Ok(());
@@ -234,7 +237,9 @@ fn first_asked(
     most: usize,
 ) -> Result<DemandList, AllocError>
     requires { IsTrue (rise demand_key nat_cmp demands.now) }
-    ensures { IfOk result (λ rows. rows ≡ take most (filter (λ demand. is_asked_for asked.now demand.material) (demands_named keys.now demands.now))) }
+    ensures { IfOk result (λ rows. rows
+        ≡ take most (filter (λ demand. is_asked_for asked.now demand.material)
+        (demands_named keys.now demands.now))) }
 {
     let mut rows = DemandList::new(alloc);
     for key in keys {
@@ -317,9 +322,12 @@ fn read_pair(pair: &Pair) -> Pair
 
 // The greatest of all pairs under which messages are kept.
 fn last_of_all(kept: &BTreeMap<Pair, Kept>) -> Option<Pair>
-    ensures none { IfNone result ((pair : PairOf) → find_entry pair_cmp pair kept.now.entries ≡ None) }
+    ensures none { IfNone result
+        ((pair : PairOf) → find_entry pair_cmp pair kept.now.entries ≡ None) }
     ensures kept { IfSome result (λ last. IsSome (find_entry pair_cmp last kept.now.entries)) }
-    ensures greatest { IfSome result (λ last. (pair : PairOf) → IsSome (find_entry pair_cmp pair kept.now.entries) → is_lt (pair_cmp last pair) ≡ false) }
+    ensures greatest { IfSome result
+        (λ last. (pair : PairOf) → IsSome (find_entry pair_cmp pair kept.now.entries)
+        → is_lt (pair_cmp last pair) ≡ false) }
     ensures fits { IfSome result (λ last. last.terminal < 2 ^ 32) }
 {
     match kept.last_key_value() {
@@ -330,9 +338,14 @@ fn last_of_all(kept: &BTreeMap<Pair, Kept>) -> Option<Pair>
 
 // The greatest pair of the terminals below this one.
 fn last_below(kept: &BTreeMap<Pair, Kept>, terminal: u32) -> Option<Pair>
-    ensures none { IfNone result ((pair : PairOf) → pair.terminal < terminal → find_entry pair_cmp pair kept.now.entries ≡ None) }
+    ensures none { IfNone result
+        ((pair : PairOf) → pair.terminal < terminal
+        → find_entry pair_cmp pair kept.now.entries ≡ None) }
     ensures kept { IfSome result (λ last. IsSome (find_entry pair_cmp last kept.now.entries)) }
-    ensures greatest { IfSome result (λ last. (pair : PairOf) → pair.terminal < terminal → IsSome (find_entry pair_cmp pair kept.now.entries) → is_lt (pair_cmp last pair) ≡ false) }
+    ensures greatest { IfSome result
+        (λ last. (pair : PairOf) → pair.terminal < terminal
+        → IsSome (find_entry pair_cmp pair kept.now.entries)
+        → is_lt (pair_cmp last pair) ≡ false) }
     ensures below { IfSome result (λ last. last.terminal < terminal) }
 {
     let end = Pair {
@@ -347,9 +360,14 @@ fn last_below(kept: &BTreeMap<Pair, Kept>, terminal: u32) -> Option<Pair>
 
 // The greatest pair of the terminals up to this one.
 fn last_upto(kept: &BTreeMap<Pair, Kept>, terminal: u32) -> Option<Pair>
-    ensures none { IfNone result ((pair : PairOf) → pair.terminal ≤ terminal → find_entry pair_cmp pair kept.now.entries ≡ None) }
+    ensures none { IfNone result
+        ((pair : PairOf) → pair.terminal ≤ terminal
+        → find_entry pair_cmp pair kept.now.entries ≡ None) }
     ensures kept { IfSome result (λ last. IsSome (find_entry pair_cmp last kept.now.entries)) }
-    ensures greatest { IfSome result (λ last. (pair : PairOf) → pair.terminal ≤ terminal → IsSome (find_entry pair_cmp pair kept.now.entries) → is_lt (pair_cmp last pair) ≡ false) }
+    ensures greatest { IfSome result
+        (λ last. (pair : PairOf) → pair.terminal ≤ terminal
+        → IsSome (find_entry pair_cmp pair kept.now.entries)
+        → is_lt (pair_cmp last pair) ≡ false) }
     ensures upto { IfSome result (λ last. last.terminal ≤ terminal) }
 {
     match terminal.checked_add(1) {
@@ -360,8 +378,13 @@ fn last_upto(kept: &BTreeMap<Pair, Kept>, terminal: u32) -> Option<Pair>
 
 // The greatest number under which a message of a terminal is kept, 0 where none is.
 fn last_kept(kept: &BTreeMap<Pair, Kept>, terminal: u32) -> u32
-    ensures greatest { (number : ℕ) → IsSome (find_entry pair_cmp (record { terminal = terminal; number = number }) kept.now.entries) → number ≤ result }
-    ensures kept { (result ≡ 0) ⊎ IsSome (find_entry pair_cmp (record { terminal = terminal; number = result }) kept.now.entries) }
+    ensures greatest { (number : ℕ)
+        → IsSome (find_entry pair_cmp
+        (record { terminal = terminal; number = number }) kept.now.entries)
+        → number ≤ result }
+    ensures kept { (result ≡ 0)
+        ⊎ IsSome (find_entry pair_cmp
+        (record { terminal = terminal; number = result }) kept.now.entries) }
 {
     let Some(last) = last_upto(kept, terminal) else {
         return 0;
@@ -394,7 +417,8 @@ fn put_part(parts: &mut Vec<Part>, totals: &mut Vec<Sums>, lists: &mut Vec<NameL
     ensures totals_len { vec_len totals.new ≤ vec_len totals.old + 1 }
     ensures parts_capacity { vec_capacity parts.old ≤ vec_capacity parts.new }
     ensures totals_capacity { vec_capacity totals.old ≤ vec_capacity totals.new }
-    ensures names_room { (code : List ℕ) → room_of code lists.old.items ≤ room_of code lists.new.items + 1 }
+    ensures names_room { (code : List ℕ)
+        → room_of code lists.old.items ≤ room_of code lists.new.items + 1 }
 {
     let _len = parts.len();
     let _cells = part.size.cells();
@@ -421,7 +445,8 @@ fn put_one_by_one(
     requires parts_room { vec_len parts.old + length rows.now ≤ vec_capacity parts.old }
     requires totals_room { vec_len totals.old + length rows.now ≤ vec_capacity totals.old }
     requires names_room { HaveRoom (length rows.now) rows.now lists.old.items }
-    ensures put { map_of part_key name_cmp parts.new.items ≡ with_parts rows.now (map_of part_key name_cmp parts.old.items) }
+    ensures put { map_of part_key name_cmp parts.new.items
+        ≡ with_parts rows.now (map_of part_key name_cmp parts.old.items) }
     ensures parts { IsTrue (rise part_key name_cmp parts.new.items) }
     ensures totals { IsTrue (rise sums_key code_cmp totals.new.items) }
     ensures small { IsTrue (all_small parts.new.items) }
@@ -451,14 +476,17 @@ fn insert_run(
     requires parts_room { vec_len parts.old + length rows.now ≤ vec_capacity parts.old }
     requires totals_room { vec_len totals.old + length rows.now ≤ vec_capacity totals.old }
     requires names_room { HaveRoom (length rows.now) rows.now lists.old.items }
-    ensures put { IsTrue result → map_of part_key name_cmp parts.new.items ≡ with_parts rows.now (map_of part_key name_cmp parts.old.items) }
+    ensures put { IsTrue result
+        → map_of part_key name_cmp parts.new.items
+        ≡ with_parts rows.now (map_of part_key name_cmp parts.old.items) }
     ensures parts { IsTrue result → IsTrue (rise part_key name_cmp parts.new.items) }
     ensures totals { IsTrue result → IsTrue (rise sums_key code_cmp totals.new.items) }
     ensures small { IsTrue result → IsTrue (all_small parts.new.items) }
     ensures sums { IsTrue result → AreSumsOf parts.new.items totals.new.items }
     ensures order { IsTrue result → AreInOrder lists.new.items }
     ensures listed { IsTrue result → AreListed parts.new.items lists.new.items }
-    ensures same { result ≡ false → (parts.new ≡ parts.old) × (totals.new ≡ totals.old) × (lists.new ≡ lists.old) }
+    ensures same { result ≡ false → (parts.new ≡ parts.old) × (totals.new ≡ totals.old)
+        × (lists.new ≡ lists.old) }
 {
     let Some(first) = rows.first() else {
         return false;
@@ -493,7 +521,8 @@ fn put_parts(
     requires parts_room { vec_len parts.old + length rows.now ≤ vec_capacity parts.old }
     requires totals_room { vec_len totals.old + length rows.now ≤ vec_capacity totals.old }
     requires names_room { HaveRoom (length rows.now) rows.now lists.old.items }
-    ensures put { map_of part_key name_cmp parts.new.items ≡ with_parts rows.now (map_of part_key name_cmp parts.old.items) }
+    ensures put { map_of part_key name_cmp parts.new.items
+        ≡ with_parts rows.now (map_of part_key name_cmp parts.old.items) }
     ensures parts { IsTrue (rise part_key name_cmp parts.new.items) }
     ensures totals { IsTrue (rise sums_key code_cmp totals.new.items) }
     ensures small { IsTrue (all_small parts.new.items) }
@@ -523,7 +552,8 @@ fn put_moved(
     requires parts_room { vec_len parts.old < vec_capacity parts.old }
     requires totals_room { vec_len totals.old < vec_capacity totals.old }
     requires names_room { HaveRoom 1 (option_to_list row) lists.old.items }
-    ensures put { map_of part_key name_cmp parts.new.items ≡ with_moved row (map_of part_key name_cmp parts.old.items) }
+    ensures put { map_of part_key name_cmp parts.new.items
+        ≡ with_moved row (map_of part_key name_cmp parts.old.items) }
     ensures parts { IsTrue (rise part_key name_cmp parts.new.items) }
     ensures totals { IsTrue (rise sums_key code_cmp totals.new.items) }
     ensures small { IsTrue (all_small parts.new.items) }
@@ -534,7 +564,8 @@ fn put_moved(
     ensures totals_len { vec_len totals.new ≤ vec_len totals.old + 1 }
     ensures parts_capacity { vec_capacity parts.old ≤ vec_capacity parts.new }
     ensures totals_capacity { vec_capacity totals.old ≤ vec_capacity totals.new }
-    ensures names_room { (code : List ℕ) → room_of code lists.old.items ≤ room_of code lists.new.items + 1 }
+    ensures names_room { (code : List ℕ)
+        → room_of code lists.old.items ≤ room_of code lists.new.items + 1 }
 {
     if let Some(row) = row {
         put_part(parts, totals, lists, &row);
@@ -551,7 +582,9 @@ fn reserve(
     ensures materials { materials.new.items ≡ materials.old.items }
     ensures parts { parts.new.items ≡ parts.old.items }
     ensures totals { totals.new.items ≡ totals.old.items }
-    ensures room { OnOk result ((vec_len materials.new < vec_capacity materials.new) × (vec_len parts.new + count ≤ vec_capacity parts.new)
+    ensures room { OnOk result
+        ((vec_len materials.new < vec_capacity materials.new)
+        × (vec_len parts.new + count ≤ vec_capacity parts.new)
         × (vec_len totals.new + count ≤ vec_capacity totals.new)) }
 {
     materials.reserve(1)?;
@@ -566,11 +599,13 @@ fn put_job(jobs: &mut Vec<Job>, keys: &mut Vec<u32>, job: Option<Job>)
     requires room { vec_len jobs.old < vec_capacity jobs.old }
     requires keys { IsTrue (rise own_key nat_cmp keys.old.items) }
     requires keys_room { vec_len keys.old < vec_capacity keys.old }
-    requires listed { ListsNumbers waits (λ number. row_at job_key nat_cmp number jobs.old.items) keys.old.items }
+    requires listed { ListsNumbers waits
+        (λ number. row_at job_key nat_cmp number jobs.old.items) keys.old.items }
     ensures put { ArePut job_key nat_cmp (option_to_list job) jobs.old.items jobs.new.items }
     ensures rising { IsTrue (rise job_key nat_cmp jobs.new.items) }
     ensures keys { IsTrue (rise own_key nat_cmp keys.new.items) }
-    ensures listed { ListsNumbers waits (λ number. row_at job_key nat_cmp number jobs.new.items) keys.new.items }
+    ensures listed { ListsNumbers waits
+        (λ number. row_at job_key nat_cmp number jobs.new.items) keys.new.items }
 {
     if let Some(job) = job {
         list_job(keys, &job);
@@ -584,11 +619,13 @@ fn put_demands(demands: &mut Vec<Demand>, keys: &mut Vec<u32>, rows: &[Demand])
     requires room { vec_len demands.old + length rows.now ≤ vec_capacity demands.old }
     requires keys { IsTrue (rise own_key nat_cmp keys.old.items) }
     requires keys_room { vec_len keys.old + length rows.now ≤ vec_capacity keys.old }
-    requires listed { ListsNumbers is_open (λ number. row_at demand_key nat_cmp number demands.old.items) keys.old.items }
+    requires listed { ListsNumbers is_open
+        (λ number. row_at demand_key nat_cmp number demands.old.items) keys.old.items }
     ensures put { ArePut demand_key nat_cmp rows.now demands.old.items demands.new.items }
     ensures rising { IsTrue (rise demand_key nat_cmp demands.new.items) }
     ensures keys { IsTrue (rise own_key nat_cmp keys.new.items) }
-    ensures listed { ListsNumbers is_open (λ number. row_at demand_key nat_cmp number demands.new.items) keys.new.items }
+    ensures listed { ListsNumbers is_open
+        (λ number. row_at demand_key nat_cmp number demands.new.items) keys.new.items }
 {
     list_demands(keys, rows);
     put_all(demands, rows);
@@ -604,7 +641,10 @@ fn reserve_demands(
     ensures jobs { jobs.new.items ≡ jobs.old.items }
     ensures demands { demands.new.items ≡ demands.old.items }
     ensures imports { imports.new.items ≡ imports.old.items }
-    ensures room { OnOk result ((vec_len jobs.new < vec_capacity jobs.new) × (vec_len demands.new + count ≤ vec_capacity demands.new) × (vec_len imports.new < vec_capacity imports.new)) }
+    ensures room { OnOk result
+        ((vec_len jobs.new < vec_capacity jobs.new)
+        × (vec_len demands.new + count ≤ vec_capacity demands.new)
+        × (vec_len imports.new < vec_capacity imports.new)) }
 {
     jobs.reserve(1)?;
     demands.reserve(count)?;
@@ -620,7 +660,9 @@ fn reserve_numbers(
 ) -> Result<(), AllocError>
     ensures jobs { jobs.new.items ≡ jobs.old.items }
     ensures demands { demands.new.items ≡ demands.old.items }
-    ensures room { OnOk result ((vec_len jobs.new < vec_capacity jobs.new) × (vec_len demands.new + count ≤ vec_capacity demands.new)) }
+    ensures room { OnOk result
+        ((vec_len jobs.new < vec_capacity jobs.new)
+        × (vec_len demands.new + count ≤ vec_capacity demands.new)) }
 {
     jobs.reserve(1)?;
     demands.reserve(count)?;
@@ -724,8 +766,8 @@ impl PartialEq for MemBook {
 /// Each call answers exactly, and none answers `Store` on a content as histories give it.
 impl Book for MemBook {
     ghost use Rattle.std.specs.Prelude.{◌≡◌, ⊤};
-    ghost use Rattle.shop_machine.specs.Content.{Content};
-    ghost use Rattle.shop_machine.specs.Soundness.{IsInRange};
+    ghost use Rattle.shop_records.specs.Content.{Content};
+    ghost use Rattle.shop_records.specs.Soundness.{IsInRange};
     ghost use Rattle.shop_book.specs.Failures.{CountsFailure};
     ghost use Rattle.shop_book.specs.declared.books.BookFault.TheVariants.{NoMemory};
 
@@ -780,7 +822,9 @@ impl Book for MemBook {
     }
 
     fn kept(&mut self, alloc: Global, terminal: u32, number: u32) -> Result<Option<Kept>, BookFault>
-        ensures row { IfOk result (λ row. row ≡ kept_at self.old.content (record { terminal = terminal; number = number })) }
+        ensures row { IfOk result
+            (λ row. row ≡ kept_at self.old.content
+            (record { terminal = terminal; number = number })) }
         ensures memory { IfErr result (λ fault. fault ≡ NoMemory) }
         ensures same { self.new ≡ self.old }
     {
@@ -848,7 +892,8 @@ impl Book for MemBook {
         material: Code,
         visitor: &mut V,
     ) -> Result<bool, BookFault>
-        ensures visit { IsVisit V.looks (λ what. what (listed_parts self.old.content material)) visitor.old result visitor.new }
+        ensures visit { IsVisit V.looks
+            (λ what. what (listed_parts self.old.content material)) visitor.old result visitor.new }
         ensures sure { IsOk result }
         ensures same { self.new ≡ self.old }
     {
@@ -873,7 +918,8 @@ impl Book for MemBook {
         after: Option<PartName>,
         most: usize,
     ) -> Result<PartList, BookFault>
-        ensures rows { IfOk result (λ rows. rows ≡ take most (parts_behind self.old.content material after)) }
+        ensures rows { IfOk result
+            (λ rows. rows ≡ take most (parts_behind self.old.content material after)) }
         ensures memory { IfErr result (λ fault. fault ≡ NoMemory) }
         ensures same { self.new ≡ self.old }
     {
@@ -889,7 +935,8 @@ impl Book for MemBook {
         material: Option<Code>,
         most: usize,
     ) -> Result<DemandList, BookFault>
-        ensures rows { IfOk result (λ rows. rows ≡ take most (open_demands self.old.content after material)) }
+        ensures rows { IfOk result
+            (λ rows. rows ≡ take most (open_demands self.old.content after material)) }
         ensures memory { IfErr result (λ fault. fault ≡ NoMemory) }
         ensures same { self.new ≡ self.old }
     {
@@ -904,7 +951,9 @@ impl Book for MemBook {
         after: u32,
         most: usize,
     ) -> Result<NumberList, BookFault>
-        ensures rows { IfOk result (λ numbers. numbers ≡ take most (map (λ (job : JobOf). job.act) (waiting_jobs self.old.content after))) }
+        ensures rows { IfOk result
+            (λ numbers. numbers ≡ take most
+            (map (λ (job : JobOf). job.act) (waiting_jobs self.old.content after))) }
         ensures memory { IfErr result (λ fault. fault ≡ NoMemory) }
         ensures same { self.new ≡ self.old }
     {

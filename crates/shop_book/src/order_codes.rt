@@ -8,7 +8,7 @@ ghost use Rattle.shop_rows.specs.Rows.{ArePut, IsPut};
 
 use crate::keeping::keep;
 use cut_measure::Code;
-use shop_machine::{Kept, KeptMessage, Pair};
+use shop_records::{Kept, KeptMessage, Pair};
 use std::alloc::AllocError;
 use std::cmp::Ordering;
 use std::collections::{BTreeMap, BTreeSet};
@@ -96,7 +96,8 @@ pub fn put_and_keep(
     order: Option<Code>,
     message: Option<KeptMessage>,
 ) -> Result<(), AllocError>
-    ensures orders { OnOk result (ArePut order_key code_cmp (option_to_list order) orders.old.keys orders.new.keys) }
+    ensures orders { OnOk result
+        (ArePut order_key code_cmp (option_to_list order) orders.old.keys orders.new.keys) }
     ensures kept { OnOk result (kept.new.entries ≡ put_kept message kept.old.entries) }
     ensures same_orders { OnErr result (orders.new.keys ≡ orders.old.keys) }
     ensures same_kept { OnErr result (kept.new.entries ≡ kept.old.entries) }

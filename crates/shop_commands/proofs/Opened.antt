@@ -1,8 +1,8 @@
 -- What the faults of the commands on a store come to.
 use Rattle.std.proofs.Common.{◌≡◌, ℕ, suc, List, [], ◌∷◌, length, Option, Ok, Err, inl, inr, refl, ap, sym, subst}
 use Rattle.std.specs.Prelude.{◌⊎◌, Result, OnOk, IfErr}
-use Rattle.shop_machine.specs.Content.{Content}
-use Rattle.shop_machine.specs.declared.refusals.Refusal.{Refusal}
+use Rattle.shop_records.specs.Content.{Content}
+use Rattle.shop_records.specs.declared.refusals.Refusal.{Refusal}
 use Rattle.shop_opening.specs.Shops.{ShopFailed}
 use Rattle.shop_opening.specs.declared.shops.AddFault.{AddFault}
 use Rattle.shop_opening.specs.declared.shops.AddFault.TheVariants as add

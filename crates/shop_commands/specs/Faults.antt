@@ -8,8 +8,8 @@ use Rattle.shop_files.specs.declared.problems.TextCause.TheVariants as text
 use Rattle.shop_files.specs.declared.problems.TextFault.{TextFault}
 use Rattle.shop_files.specs.declared.shops.ShopFault.{ShopFault}
 use Rattle.shop_files.specs.declared.shops.ShopFault.TheVariants as shop
-use Rattle.shop_machine.specs.declared.refusals.Refusal.TheVariants as refusal
-use Rattle.shop_machine.specs.Refusals.{refusal_number, refusal_name}
+use Rattle.shop_records.specs.declared.refusals.Refusal.TheVariants as refusal
+use Rattle.shop_records.specs.Refusals.{refusal_number, refusal_name}
 use Rattle.shop_opening.specs.declared.shops.AddFault.{AddFault}
 use Rattle.shop_opening.specs.declared.shops.AddFault.TheVariants as add
 use Rattle.shop_serve.specs.declared.faults.ServeFault.{ServeFault}

@@ -7,7 +7,8 @@ use Rattle.cut_table.specs.declared.sheet.TheConstants.{MOST_STEPS}
 use Rattle.cut_plan.specs.declared.faults.TheConstants.{MOST_WANTS}
 use Rattle.shop_files.specs.declared.limits.TheConstants.{LONGEST_TEXT, MOST_PIECES, MOST_LINES, MOST_ENTRIES}
 use Rattle.shop_machine.specs.declared.listing.TheConstants.{MOST_TOLD}
-use Rattle.shop_machine.specs.declared.receiving.TheConstants.{MOST_RECEIVED, MOST_UNITS}
+use Rattle.shop_records.specs.declared.records.TheConstants.{MOST_RECEIVED}
+use Rattle.shop_machine.specs.declared.receiving.TheConstants.{MOST_UNITS}
 use Rattle.shop_book.specs.declared.books.TheConstants.{MOST_FAILURES}
 use Rattle.shop_request.specs.Heads.{most_head, most_fields, most_body}
 use Rattle.shop_wire.specs.declared.limits.TheConstants.{MOST_HELD}

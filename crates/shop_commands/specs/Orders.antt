@@ -8,8 +8,8 @@ use Rattle.shop_files.specs.declared.limits.TheConstants.{LONGEST_TEXT, MOST_LIN
 use Rattle.shop_files.specs.declared.orders.OrderLine.{OrderLine}
 use Rattle.shop_files.specs.declared.orders.OrdersFault.{OrdersFault}
 use Rattle.shop_files.specs.declared.orders.OrdersFault.TheVariants as orders
-use Rattle.shop_machine.specs.declared.imports.Form.TheVariants.{Csv}
-use Rattle.shop_machine.specs.declared.messages.Command.TheVariants.{Import}
+use Rattle.shop_records.specs.declared.imports.Form.TheVariants.{Csv}
+use Rattle.shop_records.specs.declared.messages.Command.TheVariants.{Import}
 use Rattle.shop_rules.specs.Forms.{json_texts}
 use Rattle.shop_words.specs.declared.words.ImportAs.{ImportAs}
 use Rattle.shop_commands.specs.declared.faults.Fault.{Fault}

@@ -5,8 +5,8 @@ use Rattle.std.specs.Fmt.{decimal}
 use Rattle.shop_files.specs.Shops.{IsShop, IsShopFault}
 use Rattle.shop_files.specs.declared.shops.MaterialEntry.{MaterialEntry}
 use Rattle.shop_files.specs.declared.shops.ShopFault.{ShopFault}
-use Rattle.shop_machine.specs.Content.{Content}
-use Rattle.shop_machine.specs.declared.refusals.Refusal.{Refusal}
+use Rattle.shop_records.specs.Content.{Content}
+use Rattle.shop_records.specs.declared.refusals.Refusal.{Refusal}
 use Rattle.shop_serve.specs.Serving.{HasServed}
 use Rattle.shop_serve.specs.Sites.{HasPage}
 use Rattle.shop_serve.specs.declared.sites.Site.{Site}

@@ -5,8 +5,8 @@ ghost use Rattle.shop_commands.specs.Faults as spec;
 
 use cut_plan::PlanFault;
 use shop_files::{ShopFault, TextCause, TextFault};
-use shop_machine::Refusal;
 use shop_opening::{AddFault, EntryRefused};
+use shop_records::Refusal;
 use shop_serve::ServeFault;
 use shop_store::BookFault;
 use shop_text::PrintFault;

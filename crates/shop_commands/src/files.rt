@@ -60,7 +60,8 @@ pub fn write_text<W: Sink>(sink: &mut W, text: &str) -> Result<(), Fault>
     ensures ok { OnOk result (Adds (change_of W.Sink sink.old sink.new) text.now) }
     ensures front { AddsFront (change_of W.Sink sink.old sink.new) text.now }
     ensures written { IsWritten (change_of W.Sink sink.old sink.new) text.now }
-    ensures err { IfErr result (λ f. (f ≡ fault.Write) × SinkFailed (change_of W.Sink sink.old sink.new)) }
+    ensures err { IfErr result
+        (λ f. (f ≡ fault.Write) × SinkFailed (change_of W.Sink sink.old sink.new)) }
 {
     match write_all(sink, text.as_bytes()) {
         Ok(()) => Ok(()),

@@ -8,7 +8,7 @@ ghost use Rattle.shop_commands.specs.Sinks.{change_of};
 use crate::faults::{Fault, OrderCause, OrderFault};
 use crate::files::{read_file, write_text};
 use shop_files::{LONGEST_TEXT, MOST_LINES, OrdersFault, read_orders};
-use shop_machine::{Command, Form, Message, Text};
+use shop_records::{Command, Form, Message, Text};
 use shop_rules::message_text;
 use shop_text::Sink;
 use shop_words::ImportAs;
@@ -170,7 +170,8 @@ pub fn check_orders<R: Files, W: Sink>(
     sink: &mut W,
 ) -> Result<(), Fault>
     ensures ok { OnOk result (spec.IsOrdersDone told (change_of W.Sink sink.old sink.new)) }
-    ensures err { IfErr result (λ f. spec.IsOrdersStopped told f (change_of W.Sink sink.old sink.new)) }
+    ensures err { IfErr result
+        (λ f. spec.IsOrdersStopped told f (change_of W.Sink sink.old sink.new)) }
 {
     let bytes = read_file(rt, alloc, file)?;
     let line = orders_line(alloc, told, &bytes)?;

@@ -62,7 +62,8 @@ fn plan<R: Files, W: Sink>(
 ) -> Result<(), Fault>
     requires { kerf ≤ MOST_KERF }
     ensures ok { OnOk result (IsPlanDone kerf step (change_of W.Sink sink.old sink.new)) }
-    ensures err { IfErr result (λ f. IsPlanStopped kerf step f (change_of W.Sink sink.old sink.new)) }
+    ensures err { IfErr result
+        (λ f. IsPlanStopped kerf step f (change_of W.Sink sink.old sink.new)) }
 {
     let bytes = read_file(rt, alloc, file)?;
     let lines = plan_file(alloc, &bytes, kerf, step)?;
@@ -86,9 +87,11 @@ fn do_request<
 ) -> Result<(), Fault>
     requires { HasKerf request.now }
     ensures ok { OnOk result
-        (IsDone B.Book (O.gives stores.now) request.now (S.left source.old) (change_of W.Sink sink.old sink.new)) }
+        (IsDone B.Book (O.gives stores.now) request.now (S.left source.old)
+        (change_of W.Sink sink.old sink.new)) }
     ensures err { IfErr result (λ f.
-        IsStopped B.Book (O.gives stores.now) request.now f (S.left source.old) (change_of W.Sink sink.old sink.new)) }
+        IsStopped B.Book (O.gives stores.now) request.now f (S.left source.old)
+        (change_of W.Sink sink.old sink.new)) }
     ensures reads { S.reads source.new ≤ S.reads source.old + most_reads }
 {
     match request {
@@ -130,7 +133,8 @@ fn error_text(alloc: Global, error: &Error) -> Result<String, AllocError> {
 
 // Writes help.
 fn write_help<W: Sink, E: Sink>(alloc: Global, text: &str, sink: &mut W, errors: &mut E) -> u8
-    ensures { IsHelped (change_of W.Sink sink.old sink.new) (change_of E.Sink errors.old errors.new) result }
+    ensures { IsHelped (change_of W.Sink sink.old sink.new)
+        (change_of E.Sink errors.old errors.new) result }
 {
     match write_text(sink, text) {
         Ok(()) => 0,
@@ -147,7 +151,8 @@ fn version_line(alloc: Global) -> Result<String, AllocError>
 
 // Tells the version.
 fn write_version<W: Sink, E: Sink>(alloc: Global, sink: &mut W, errors: &mut E) -> u8
-    ensures { IsTold (change_of W.Sink sink.old sink.new) (change_of E.Sink errors.old errors.new) kind.DisplayVersion result }
+    ensures { IsTold (change_of W.Sink sink.old sink.new)
+        (change_of E.Sink errors.old errors.new) kind.DisplayVersion result }
 {
     let Ok(line) = version_line(alloc) else {
         return report_fault(alloc, Fault::NoMemory, errors);
@@ -160,7 +165,8 @@ fn write_version<W: Sink, E: Sink>(alloc: Global, sink: &mut W, errors: &mut E) 
 
 // Says what `clap` says where the words ask for nothing.
 fn explain<W: Sink, E: Sink>(alloc: Global, error: &Error, sink: &mut W, errors: &mut E) -> u8
-    ensures { IsTold (change_of W.Sink sink.old sink.new) (change_of E.Sink errors.old errors.new) (kind_of error.now) result }
+    ensures { IsTold (change_of W.Sink sink.old sink.new) (change_of E.Sink errors.old errors.new)
+        (kind_of error.now) result }
 {
     let Ok(text) = error_text(alloc, error) else {
         return report_fault(alloc, Fault::NoMemory, errors);
@@ -195,7 +201,8 @@ pub fn perform<
     errors: &mut E,
 ) -> u8
     ensures done { IsPerformed B.Book (O.gives stores.now) (map string_bytes words.now)
-        (S.left source.old) (change_of W.Sink sink.old sink.new) (change_of E.Sink errors.old errors.new) result }
+        (S.left source.old) (change_of W.Sink sink.old sink.new)
+        (change_of E.Sink errors.old errors.new) result }
     ensures reads { S.reads source.new ≤ S.reads source.old + most_reads }
 {
     match request_of(alloc, words) {

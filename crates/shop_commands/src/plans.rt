@@ -60,7 +60,8 @@ fn plan_lines(alloc: Global, proposal: &SheetProposal) -> Result<String, AllocEr
 fn plan_problem(alloc: Global, problem: &Problem, kerf: u32, step: u32) -> Result<String, Fault>
     requires pieces { ArePieces problem.now.pieces }
     requires kerf { kerf ≤ MOST_KERF }
-    ensures ok { IfOk result (λ text. spec.IsPlanText problem.now.size problem.now.pieces kerf step (string_bytes text)) }
+    ensures ok { IfOk result (λ text. spec.IsPlanText problem.now.size problem.now.pieces kerf step
+        (string_bytes text)) }
     ensures err { IfErr result (spec.IsPlanless problem.now.size problem.now.pieces kerf step) }
 {
     let wants = wants_of(alloc, problem.pieces.as_slice())?;

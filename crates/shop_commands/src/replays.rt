@@ -17,8 +17,10 @@ pub fn replay_fresh<S: Source, W: Sink>(
     source: &mut S,
     sink: &mut W,
 ) -> Result<(), Fault>
-    ensures ok { OnOk result (IsReplayDone (S.left source.old) (change_of W.Sink sink.old sink.new)) }
-    ensures err { IfErr result (λ f. IsReplayStopped f (S.left source.old) (change_of W.Sink sink.old sink.new)) }
+    ensures ok { OnOk result (IsReplayDone (S.left source.old)
+        (change_of W.Sink sink.old sink.new)) }
+    ensures err { IfErr result
+        (λ f. IsReplayStopped f (S.left source.old) (change_of W.Sink sink.old sink.new)) }
     ensures reads { S.reads source.new ≤ S.reads source.old + most_reads }
 {
     let mut book = StorelessBook::new(alloc);

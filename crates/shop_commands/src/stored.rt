@@ -53,7 +53,8 @@ fn print_text<B: Book, W: Sink>(
     text: StoreText,
     sink: &mut W,
 ) -> Result<(), PrintFault>
-    ensures { Prints B.Book book.old book.new (text_of text) (change_of W.Sink sink.old sink.new) result }
+    ensures { Prints B.Book book.old book.new (text_of text)
+        (change_of W.Sink sink.old sink.new) result }
 {
     match text {
         StoreText::Ticket(job) => ticket(alloc, book, job, sink),
@@ -70,9 +71,11 @@ pub fn print_stored<B: Book + Drop, O: Opens<B>, W: Sink>(
     sink: &mut W,
 ) -> Result<(), Fault>
     ensures ok { OnOk result
-        (IsTextDone B.Book (O.gives stores.now store.now) (text_of text) (change_of W.Sink sink.old sink.new)) }
+        (IsTextDone B.Book (O.gives stores.now store.now) (text_of text)
+        (change_of W.Sink sink.old sink.new)) }
     ensures err { IfErr result (λ f.
-        IsTextStopped B.Book (O.gives stores.now store.now) (text_of text) f (change_of W.Sink sink.old sink.new)) }
+        IsTextStopped B.Book (O.gives stores.now store.now) (text_of text) f
+        (change_of W.Sink sink.old sink.new)) }
 {
     let mut book = open_store(stores, alloc, store)?;
     let printed = print_text(alloc, &mut book, text, sink);
@@ -85,8 +88,10 @@ pub fn print_stored<B: Book + Drop, O: Opens<B>, W: Sink>(
 
 // The entries that bytes spell.
 fn entries_in(alloc: Global, bytes: &[u8]) -> Result<RowList<MaterialEntry>, Fault>
-    ensures ok { IfOk result (λ entries. IsShop bytes.now entries × (length entries ≤ MOST_ENTRIES)) }
-    ensures err { IfErr result (λ f. (g : ShopFaultOf) × IsShopFault bytes.now g × (f ≡ shop_fault g)) }
+    ensures ok { IfOk result (λ entries. IsShop bytes.now entries
+        × (length entries ≤ MOST_ENTRIES)) }
+    ensures err { IfErr result
+        (λ f. (g : ShopFaultOf) × IsShopFault bytes.now g × (f ≡ shop_fault g)) }
 {
     match read_shop(alloc, bytes) {
         Ok(entries) => Ok(entries),
@@ -175,7 +180,8 @@ fn bind_and_announce<R: Net<Listener = TcpListener, Stream = TcpStream>, W: Sink
     port: u32,
     sink: &mut W,
 ) -> Result<TcpListener, Fault>
-    ensures ok { OnOk result (Adds (change_of W.Sink sink.old sink.new) (spec.listening_line port)) }
+    ensures ok { OnOk result (Adds (change_of W.Sink sink.old sink.new)
+        (spec.listening_line port)) }
     ensures err { IfErr result (λ f. IsUnannounced port f (change_of W.Sink sink.old sink.new)) }
 {
     let listener = listen(rt, port)?;
@@ -215,9 +221,11 @@ fn serve_book<R: Net<Listener = TcpListener, Stream = TcpStream> + Clock, B: Boo
 ) -> Result<(), Fault>
     requires { length entries.now ≤ MOST_ENTRIES }
     ensures ok { OnOk result
-        (IsBookServed B.Book site.now book.old book.new entries.now port limit (change_of W.Sink sink.old sink.new)) }
+        (IsBookServed B.Book site.now book.old book.new entries.now port limit
+        (change_of W.Sink sink.old sink.new)) }
     ensures err { IfErr result (λ f.
-        IsBookUnserved B.Book site.now book.old book.new entries.now port limit f (change_of W.Sink sink.old sink.new)) }
+        IsBookUnserved B.Book site.now book.old book.new entries.now port limit f
+        (change_of W.Sink sink.old sink.new)) }
 {
     add_entries(alloc, book, entries)?;
     let listener = bind_and_announce(rt, alloc, port, sink)?;

@@ -1,10 +1,10 @@
 //! A book in memory under which no store can fail: where a number is out of range, memory is wanting.
 
 ghost use Rattle.std.specs.Prelude.{◌≡◌};
-ghost use Rattle.shop_machine.specs.Content.{fresh};
+ghost use Rattle.shop_records.specs.Content.{fresh};
 
 use cut_measure::{Code, PartName};
-use shop_machine::{
+use shop_records::{
     Change, Demand, DemandList, ImportRow, Job, Kept, Material, MaterialList, NumberList, Part,
     PartList, PartVisitor, Totals,
 };
@@ -20,7 +20,7 @@ pub struct StorelessBook {
 
 impl StorelessBook {
     ghost use Rattle.std.specs.Prelude.{◌≡◌};
-    ghost use Rattle.shop_machine.specs.Content.{fresh};
+    ghost use Rattle.shop_records.specs.Content.{fresh};
 
     /// The book of a shop in which nothing was done yet.
     pub fn new(alloc: Global) -> StorelessBook
@@ -34,7 +34,7 @@ impl StorelessBook {
 
 impl Book for StorelessBook {
     ghost use Rattle.std.specs.Prelude.{◌≡◌, ⊤};
-    ghost use Rattle.shop_machine.specs.Content.{Content};
+    ghost use Rattle.shop_records.specs.Content.{Content};
 
     ghost Left = { Content };
 

@@ -1,10 +1,10 @@
 -- The account after some messages, and after more of them.
 use Rattle.std.proofs.Common.{◌≡◌, List, [], ◌∷◌, ◌++◌, map, refl, sym, ap, subst, ◌∙◌}
 use Rattle.std.specs.Prelude.{not, ◌&&◌, if◌then◌else◌}
-use Rattle.shop_machine.specs.declared.messages.Message.{Message}
-use Rattle.shop_machine.specs.declared.messages.Reply.{Reply}
-use Rattle.shop_machine.specs.Messages.{Texts, IsMessage, is_accepted, pair_of}
-use Rattle.shop_machine.specs.Content.{Content}
+use Rattle.shop_records.specs.declared.messages.Message.{Message}
+use Rattle.shop_records.specs.declared.messages.Reply.{Reply}
+use Rattle.shop_records.specs.Messages.{Texts, IsMessage, is_accepted, pair_of}
+use Rattle.shop_records.specs.Content.{Content}
 use Rattle.shop_machine.specs.Machine.{Step}
 use Rattle.shop_machine.specs.History.{IsAccountOf, messages_of, history_after, has_pair}
 use Rattle.shop_machine.proofs.Runs.{gives_step}

@@ -4,11 +4,11 @@ use Rattle.std.specs.Prelude.{Bool, true, false, nat_lt, if◌then◌else◌, Ma
 use Rattle.std.proofs.lemmas.Bool.Decides.{nat_tests}
 use Rattle.shop_book.specs.declared.books.TheConstants.{MOST_FAILURES}
 use Rattle.shop_book.specs.Failures.{one_more_failure}
-use Rattle.shop_machine.specs.declared.refusals.Refusal.{Refusal}
-use Rattle.shop_machine.specs.declared.refusals.Refusal.TheVariants.{StoreFault}
-use Rattle.shop_machine.specs.declared.messages.Reply.{Reply}
-use Rattle.shop_machine.specs.declared.messages.Reply.TheVariants.{Refused}
-use Rattle.shop_machine.specs.Messages.{refusal_in}
+use Rattle.shop_records.specs.declared.refusals.Refusal.{Refusal}
+use Rattle.shop_records.specs.declared.refusals.Refusal.TheVariants.{StoreFault}
+use Rattle.shop_records.specs.declared.messages.Reply.{Reply}
+use Rattle.shop_records.specs.declared.messages.Reply.TheVariants.{Refused}
+use Rattle.shop_records.specs.Messages.{refusal_in}
 use Rattle.shop_desk.specs.Faults.{StoreFailed, TellOfFailures, CountsUp, CountsRefusal, CountsReply, CountsOrContradicts}
 
 pub up_same : (a b : ℕ) → b ≡ a → CountsUp a b

@@ -1,9 +1,9 @@
 -- A decision that is sure never tells of a failed store, so it goes with no failure.
 use Rattle.std.proofs.Common.{◌≡◌, ◌≢◌, ℕ, Result, Ok, Err, refl}
 use Rattle.std.specs.Prelude.{IfErr}
-use Rattle.shop_machine.specs.declared.changes.Change.{Change}
-use Rattle.shop_machine.specs.declared.refusals.Refusal.{Refusal}
-use Rattle.shop_machine.specs.declared.refusals.Refusal.TheVariants.{StoreFault}
+use Rattle.shop_records.specs.declared.changes.Change.{Change}
+use Rattle.shop_records.specs.declared.refusals.Refusal.{Refusal}
+use Rattle.shop_records.specs.declared.refusals.Refusal.TheVariants.{StoreFault}
 use Rattle.shop_desk.specs.Faults.{CountsRefusal, CountsDecision}
 
 other_refusal : (before after : ℕ) (refusal : Refusal) → (refusal ≢ StoreFault) → after ≡ before → CountsRefusal refusal before after

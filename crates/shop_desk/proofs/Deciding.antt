@@ -4,34 +4,35 @@ use Rattle.std.specs.Prelude.{Bool, true, false, Result, MatchOption}
 use Rattle.cut_measure.specs.Names.{Name}
 use Rattle.cut_tree.specs.declared.halts.Stop.{Stop}
 use Rattle.cut_tree.specs.Patterns.{Pattern}
-use Rattle.shop_machine.specs.declared.records.Material.{Material}
-use Rattle.shop_machine.specs.declared.records.Part.{Part}
+use Rattle.shop_records.specs.declared.records.Material.{Material}
+use Rattle.shop_records.specs.declared.records.Part.{Part}
 use Rattle.shop_machine.specs.declared.recounts.FoundLeaf.{FoundLeaf}
-use Rattle.shop_machine.specs.declared.records.Job.{Job}
-use Rattle.shop_machine.specs.declared.records.Totals.{Totals}
+use Rattle.shop_records.specs.declared.records.Job.{Job}
+use Rattle.shop_records.specs.declared.records.Totals.{Totals}
 use Rattle.shop_files.specs.declared.orders.OrderLine.{OrderLine}
-use Rattle.shop_machine.specs.declared.messages.Command.{Command}
-use Rattle.shop_machine.specs.declared.messages.Command.TheVariants.{AddOrder, Reserve, Import}
-use Rattle.shop_machine.specs.declared.changes.Change.{Change}
-use Rattle.shop_machine.specs.declared.refusals.Refusal.{Refusal}
-use Rattle.shop_machine.specs.declared.refusals.Refusal.TheVariants.{NoMemory, StoreFault}
-use Rattle.shop_machine.specs.Messages.{Texts}
-use Rattle.shop_machine.specs.Readings.{Reading, unread, Lines, Problem, Again, plan_in, reading_of}
-use Rattle.shop_machine.specs.Content.{Content, material_at, part_at, job_at, has_order, import_at, demand_at, material_of, part_of_job, totals_of, totals_for}
+use Rattle.shop_records.specs.declared.messages.Command.{Command}
+use Rattle.shop_records.specs.declared.messages.Command.TheVariants.{AddOrder, Reserve, Import}
+use Rattle.shop_records.specs.declared.changes.Change.{Change}
+use Rattle.shop_records.specs.declared.refusals.Refusal.{Refusal}
+use Rattle.shop_records.specs.declared.refusals.Refusal.TheVariants.{NoMemory, StoreFault}
+use Rattle.shop_records.specs.Messages.{Texts}
+use Rattle.shop_records.specs.Readings.{Reading, unread, Lines, Problem, Again, plan_in, reading_of}
+use Rattle.shop_records.specs.Content.{Content, material_at, part_at, job_at, has_order, import_at, demand_at, material_of, part_of_job, totals_of, totals_for}
 use Rattle.cut_measure.specs.Measures.{Extent}
 use Rattle.shop_files.specs.declared.problems.Piece.{Piece}
-use Rattle.shop_machine.specs.declared.imports.Form.{Form}
-use Rattle.shop_machine.specs.declared.imports.Form.TheVariants.{Csv, Cgcut}
-use Rattle.shop_machine.specs.declared.imports.ImportRow.{ImportRow}
-use Rattle.shop_machine.specs.Importing.{IsRepeat, Tells, IsImportReading, problem_lines, unread_refusal, again_refusal, problem_refusal, lines_change, problem_change}
+use Rattle.shop_records.specs.declared.imports.Form.{Form}
+use Rattle.shop_records.specs.declared.imports.Form.TheVariants.{Csv, Cgcut}
+use Rattle.shop_records.specs.declared.imports.ImportRow.{ImportRow}
+use Rattle.shop_machine.specs.Importing.{IsRepeat, IsImportReading, problem_lines, unread_refusal, again_refusal, problem_refusal, lines_change, problem_change}
+use Rattle.shop_records.specs.Keeping.{Tells}
 use Rattle.shop_machine.specs.Decisions.{Decides, no_change}
 use Rattle.shop_machine.specs.Machine.{Reads, refusal_of, Makes}
 use Rattle.shop_machine.specs.Ending.{IsWork, job_refusal, end_refusal}
 use Rattle.shop_machine.specs.Reserving.{IsReservation, reserve_refusal}
 use Rattle.shop_machine.specs.Ordering.{order_refusal, order_change}
 use Rattle.shop_machine.specs.Retiring.{turn_change}
-use Rattle.shop_machine.specs.declared.records.State.{State}
-use Rattle.shop_machine.specs.declared.messages.Reply.{Reply}
+use Rattle.shop_records.specs.declared.records.State.{State}
+use Rattle.shop_records.specs.declared.messages.Reply.{Reply}
 use Rattle.shop_desk.specs.Decided.{IsJudged, AreJobRows}
 
 -- a decision over the content's own refusal, what the text stands for being read

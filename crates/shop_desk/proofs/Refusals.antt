@@ -1,9 +1,9 @@
 -- Refusals, on whatever content.
 use Rattle.std.proofs.Common.{◌≡◌, List, [], ◌∷◌, ◌++◌, refl, sym, subst}
 use Rattle.std.specs.Prelude.{Option, Some, None, IfSome, is_some, not, true}
-use Rattle.shop_machine.specs.declared.messages.Reply.{Reply}
-use Rattle.shop_machine.specs.declared.refusals.Refusal.{Refusal}
-use Rattle.shop_machine.specs.Messages.{refusal_in, is_accepted}
+use Rattle.shop_records.specs.declared.messages.Reply.{Reply}
+use Rattle.shop_records.specs.declared.refusals.Refusal.{Refusal}
+use Rattle.shop_records.specs.Messages.{refusal_in, is_accepted}
 use Rattle.shop_book.specs.declared.books.Book.{Ghosts}
 use Rattle.shop_desk.specs.Handled.{RefusalKeeps, RefusalsKeep}
 

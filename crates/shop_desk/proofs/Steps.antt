@@ -6,19 +6,20 @@ use Rattle.shop_book.specs.declared.books.TheConstants.{MOST_FAILURES}
 use Rattle.shop_book.specs.Failures.{CountsFailure, refusal_for}
 use Rattle.shop_book.specs.declared.books.BookFault.{BookFault}
 use Rattle.shop_book.specs.declared.books.BookFault.TheVariants as fault
-use Rattle.shop_machine.specs.declared.texts.Kept.{Kept}
-use Rattle.shop_machine.specs.declared.imports.ImportRow.{ImportRow}
-use Rattle.shop_machine.specs.declared.changes.Change.{Change}
-use Rattle.shop_machine.specs.declared.messages.Message.{Message}
-use Rattle.shop_machine.specs.declared.refusals.Refusal.{Refusal}
-use Rattle.shop_machine.specs.declared.refusals.Refusal.TheVariants.{NoMemory, StoreFault, NumberReused}
-use Rattle.shop_machine.specs.declared.messages.Reply.{Reply}
-use Rattle.shop_machine.specs.declared.messages.Reply.TheVariants.{AddMaterial, Receive, AddOrder, Reserve, Done, Break, Release, Scrap, GiveBack, Import, Totals, Rack, Trace, Demand, Plan, Bound, Materials, Parts, Demands, Jobs, Job, Terminal, Refused}
-use Rattle.shop_machine.specs.Messages.{Texts, IsMessage, IsMade, refusal_in, is_accepted, pair_of}
-use Rattle.shop_machine.specs.Readings.{Reading}
-use Rattle.shop_machine.specs.Content.{Content, kept_at, changed}
-use Rattle.shop_machine.specs.Machine.{Accepts, KeepsReply, Reads, Makes, Refuses, StepNew, StepAgain, Step, Run, refusal_of, keeping}
-use Rattle.shop_machine.specs.Soundness.{IsSound, Fits}
+use Rattle.shop_records.specs.declared.texts.Kept.{Kept}
+use Rattle.shop_records.specs.declared.imports.ImportRow.{ImportRow}
+use Rattle.shop_records.specs.declared.changes.Change.{Change}
+use Rattle.shop_records.specs.declared.messages.Message.{Message}
+use Rattle.shop_records.specs.declared.refusals.Refusal.{Refusal}
+use Rattle.shop_records.specs.declared.refusals.Refusal.TheVariants.{NoMemory, StoreFault, NumberReused}
+use Rattle.shop_records.specs.declared.messages.Reply.{Reply}
+use Rattle.shop_records.specs.declared.messages.Reply.TheVariants.{AddMaterial, Receive, AddOrder, Reserve, Done, Break, Release, Scrap, GiveBack, Import, Totals, Rack, Trace, Demand, Plan, Bound, Materials, Parts, Demands, Jobs, Job, Terminal, Refused}
+use Rattle.shop_records.specs.Messages.{Texts, IsMessage, IsMade, refusal_in, is_accepted, pair_of}
+use Rattle.shop_records.specs.Readings.{Reading}
+use Rattle.shop_records.specs.Content.{Content, kept_at, changed}
+use Rattle.shop_machine.specs.Machine.{Accepts, Reads, Makes, Refuses, StepNew, StepAgain, Step, Run, refusal_of, keeping}
+use Rattle.shop_records.specs.Keeping.{KeepsReply}
+use Rattle.shop_records.specs.Soundness.{IsSound, Fits}
 use Rattle.shop_machine.proofs.Sound.{told_accepted, sound_after, fits_accepted, agrees}
 use Rattle.shop_desk.specs.Faults.{CountsRefusal, CountsReply, StoreFailed}
 use Rattle.shop_desk.specs.Decided.{BlamesStore, Contradicts, CountsOrDisagrees}

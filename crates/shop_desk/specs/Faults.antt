@@ -1,11 +1,11 @@
 -- Faults of a book as refusals, and how they are counted.
 use Rattle.std.specs.Prelude.{◌≡◌, ℕ, ◌<◌, ◌≤◌, ◌⊎◌, List, Result, Ok, Err, MatchOption}
-use Rattle.shop_machine.specs.declared.refusals.Refusal.{Refusal}
-use Rattle.shop_machine.specs.declared.refusals.Refusal.TheVariants.{StoreFault}
-use Rattle.shop_machine.specs.declared.messages.Reply.{Reply}
-use Rattle.shop_machine.specs.declared.messages.Reply.TheVariants.{Refused}
-use Rattle.shop_machine.specs.Messages.{refusal_in}
-use Rattle.shop_machine.specs.History.{IsIn}
+use Rattle.shop_records.specs.declared.refusals.Refusal.{Refusal}
+use Rattle.shop_records.specs.declared.refusals.Refusal.TheVariants.{StoreFault}
+use Rattle.shop_records.specs.declared.messages.Reply.{Reply}
+use Rattle.shop_records.specs.declared.messages.Reply.TheVariants.{Refused}
+use Rattle.shop_records.specs.Messages.{refusal_in}
+use Rattle.shop_records.specs.Elements.{IsIn}
 use Rattle.shop_book.specs.declared.books.TheConstants.{MOST_FAILURES}
 use Rattle.shop_book.specs.Failures.{one_more_failure}
 

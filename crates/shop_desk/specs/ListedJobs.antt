@@ -1,8 +1,8 @@
 -- How jobs that were found are listed.
 use Rattle.std.specs.Prelude.{Option, option_map}
-use Rattle.shop_machine.specs.declared.records.Job.{Job}
-use Rattle.shop_machine.specs.declared.records.JobRow.{JobRow}
-use Rattle.shop_machine.specs.declared.records.Part.{Part}
+use Rattle.shop_records.specs.declared.records.Job.{Job}
+use Rattle.shop_records.specs.declared.records.JobRow.{JobRow}
+use Rattle.shop_records.specs.declared.records.Part.{Part}
 use Rattle.shop_machine.specs.Listing.{job_row}
 
 -- the row of a job that was found with its part

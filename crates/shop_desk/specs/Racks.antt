@@ -1,7 +1,7 @@
 -- What is taken of the parts that are handed out for the rack.
 use Rattle.std.specs.Prelude.{◌≡◌, List, [], ◌∷◌, ◌++◌, Bool, true, false}
-use Rattle.shop_machine.specs.declared.records.Part.{Part}
-use Rattle.shop_machine.specs.Content.{rack_rows}
+use Rattle.shop_records.specs.declared.records.Part.{Part}
+use Rattle.shop_records.specs.Content.{rack_rows}
 use Rattle.shop_desk.specs.declared.racks.RackTaker.{RackTaker}
 
 -- a part with a job's name is taken as it is told, unless memory is wanting

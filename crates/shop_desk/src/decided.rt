@@ -1,17 +1,17 @@
 //! What is decided on each command, from the rows that a book has for it.
 
 ghost use Rattle.std.specs.Prelude.{◌≡◌, ◌⊎◌, option_map, IfOk, IfSome, IsTrue, All, Some};
-ghost use Rattle.shop_machine.specs.declared.imports.ImportRow.{ImportRow as ImportRowOf};
-ghost use Rattle.shop_machine.specs.Messages.{is_accepted};
+ghost use Rattle.shop_records.specs.declared.imports.ImportRow.{ImportRow as ImportRowOf};
+ghost use Rattle.shop_records.specs.Messages.{is_accepted};
 ghost use Rattle.cut_measure.specs.Names.{Name};
-ghost use Rattle.shop_machine.specs.Content.{Content, demand_at};
+ghost use Rattle.shop_records.specs.Content.{Content, demand_at};
 ghost use Rattle.shop_machine.specs.Recounts.{plan_leaves, AreDemandsFound, IsNumbered, leaves_in};
 ghost use Rattle.shop_book.specs.Failures.{CountsFailure};
 ghost use Rattle.shop_book.specs.Kept.{Unchanged, OnContent};
-ghost use Rattle.shop_machine.specs.declared.messages.Command.TheVariants.{AddMaterial, Receive, AddOrder, Reserve, Done, Break, Release, Scrap, GiveBack};
-ghost use Rattle.shop_machine.specs.declared.messages.Reply.TheVariants.{Refused};
-ghost use Rattle.shop_machine.specs.declared.refusals.Refusal.TheVariants.{BadMessage};
-ghost use Rattle.shop_machine.specs.Soundness.{IsSound};
+ghost use Rattle.shop_records.specs.declared.messages.Command.TheVariants.{AddMaterial, Receive, AddOrder, Reserve, Done, Break, Release, Scrap, GiveBack};
+ghost use Rattle.shop_records.specs.declared.messages.Reply.TheVariants.{Refused};
+ghost use Rattle.shop_records.specs.declared.refusals.Refusal.TheVariants.{BadMessage};
+ghost use Rattle.shop_records.specs.Soundness.{IsSound};
 ghost use Rattle.shop_rules.specs.Forms.{json_texts};
 ghost use Rattle.shop_desk.specs.Decided.{IsJudged, CountsOrDisagrees, AreJobRows};
 
@@ -37,7 +37,10 @@ fn add_material<B: Book>(
     min_long: u32,
     min_short: u32,
 ) -> Result<Change, Refusal>
-    ensures decision { OnContent B.Book book.old book.new (λ m. IsSound json_texts m → IsJudged json_texts m (AddMaterial material kind kerf min_long min_short) (B.failed book.old) result (B.failed book.new)) }
+    ensures decision { OnContent B.Book book.old book.new
+        (λ m. IsSound json_texts m
+        → IsJudged json_texts m (AddMaterial material kind kerf min_long min_short)
+        (B.failed book.old) result (B.failed book.new)) }
     ensures keeps { Unchanged B.Book (CountsOrDisagrees result) book.old book.new }
     ensures told { IfOk result (λ change. IsTrue (is_accepted change.reply)) }
 {
@@ -55,7 +58,10 @@ fn receive<B: Book>(
     h: u32,
     count: u32,
 ) -> Result<Change, Refusal>
-    ensures decision { OnContent B.Book book.old book.new (λ m. IsSound json_texts m → IsJudged json_texts m (Receive material batch w h count) (B.failed book.old) result (B.failed book.new)) }
+    ensures decision { OnContent B.Book book.old book.new
+        (λ m. IsSound json_texts m
+        → IsJudged json_texts m (Receive material batch w h count) (B.failed book.old) result
+        (B.failed book.new)) }
     ensures keeps { Unchanged B.Book (CountsOrDisagrees result) book.old book.new }
     ensures told { IfOk result (λ change. IsTrue (is_accepted change.reply)) }
 {
@@ -72,7 +78,10 @@ fn add_order<B: Book>(
     order: Code,
     lines: &LineList,
 ) -> Result<Change, Refusal>
-    ensures decision { OnContent B.Book book.old book.new (λ m. IsSound json_texts m → IsJudged json_texts m (AddOrder order lines.now) (B.failed book.old) result (B.failed book.new)) }
+    ensures decision { OnContent B.Book book.old book.new
+        (λ m. IsSound json_texts m
+        → IsJudged json_texts m (AddOrder order lines.now) (B.failed book.old) result
+        (B.failed book.new)) }
     ensures keeps { Unchanged B.Book (CountsOrDisagrees result) book.old book.new }
     ensures told { IfOk result (λ change. IsTrue (is_accepted change.reply)) }
 {
@@ -88,8 +97,10 @@ fn leaves_for<B: Book>(
     book: &mut B,
     plan: &Option<Plan>,
 ) -> Result<Vec<FoundLeaf>, BookFault>
-    ensures found { OnContent B.Book book.old book.new (λ m. IfOk result (λ found. AreDemandsFound (demand_at m) found.items)) }
-    ensures leaves { IfOk result (λ found. IfSome plan.now (λ p. leaves_in found.items ≡ plan_leaves p)) }
+    ensures found { OnContent B.Book book.old book.new
+        (λ m. IfOk result (λ found. AreDemandsFound (demand_at m) found.items)) }
+    ensures leaves { IfOk result
+        (λ found. IfSome plan.now (λ p. leaves_in found.items ≡ plan_leaves p)) }
     ensures numbered { IfOk result (λ found. All IsNumbered found.items) }
     ensures keeps { Unchanged B.Book (CountsFailure result) book.old book.new }
 {
@@ -105,8 +116,10 @@ fn job_leaves<B: Book>(
     book: &mut B,
     job: &Option<Job>,
 ) -> Result<Vec<FoundLeaf>, BookFault>
-    ensures found { OnContent B.Book book.old book.new (λ m. IfOk result (λ found. AreDemandsFound (demand_at m) found.items)) }
-    ensures leaves { IfOk result (λ found. IfSome job.now (λ j. leaves_in found.items ≡ plan_leaves j.plan)) }
+    ensures found { OnContent B.Book book.old book.new
+        (λ m. IfOk result (λ found. AreDemandsFound (demand_at m) found.items)) }
+    ensures leaves { IfOk result
+        (λ found. IfSome job.now (λ j. leaves_in found.items ≡ plan_leaves j.plan)) }
     ensures numbered { IfOk result (λ found. All IsNumbered found.items) }
     ensures keeps { Unchanged B.Book (CountsFailure result) book.old book.new }
 {
@@ -123,7 +136,10 @@ fn reserve<B: Book>(
     part: PartName,
     tree: &Text,
 ) -> Result<Change, Refusal>
-    ensures decision { OnContent B.Book book.old book.new (λ m. IsSound json_texts m → IsJudged json_texts m (Reserve part tree.now) (B.failed book.old) result (B.failed book.new)) }
+    ensures decision { OnContent B.Book book.old book.new
+        (λ m. IsSound json_texts m
+        → IsJudged json_texts m (Reserve part tree.now) (B.failed book.old) result
+        (B.failed book.new)) }
     ensures keeps { Unchanged B.Book (CountsOrDisagrees result) book.old book.new }
     ensures told { IfOk result (λ change. IsTrue (is_accepted change.reply)) }
 {
@@ -146,8 +162,12 @@ struct JobRows {
 }
 
 fn job_rows<B: Book>(alloc: Global, book: &mut B, number: u32) -> Result<JobRows, BookFault>
-    ensures rows { OnContent B.Book book.old book.new (λ m. IfOk result (λ rows. AreJobRows m number rows.job rows.part rows.material rows.totals rows.leaves.items)) }
-    ensures leaves { IfOk result (λ rows. IfSome rows.job (λ j. leaves_in rows.leaves.items ≡ plan_leaves j.plan)) }
+    ensures rows { OnContent B.Book book.old book.new
+        (λ m. IfOk result (λ rows.
+        AreJobRows m number rows.job rows.part rows.material rows.totals
+        rows.leaves.items)) }
+    ensures leaves { IfOk result
+        (λ rows. IfSome rows.job (λ j. leaves_in rows.leaves.items ≡ plan_leaves j.plan)) }
     ensures numbered { IfOk result (λ rows. All IsNumbered rows.leaves.items) }
     ensures keeps { Unchanged B.Book (CountsFailure result) book.old book.new }
 {
@@ -167,7 +187,9 @@ fn job_rows<B: Book>(alloc: Global, book: &mut B, number: u32) -> Result<JobRows
 
 // Finishes a job.
 fn done<B: Book>(alloc: Global, book: &mut B, number: u32) -> Result<Change, Refusal>
-    ensures decision { OnContent B.Book book.old book.new (λ m. IsSound json_texts m → IsJudged json_texts m (Done number) (B.failed book.old) result (B.failed book.new)) }
+    ensures decision { OnContent B.Book book.old book.new
+        (λ m. IsSound json_texts m
+        → IsJudged json_texts m (Done number) (B.failed book.old) result (B.failed book.new)) }
     ensures keeps { Unchanged B.Book (CountsOrDisagrees result) book.old book.new }
     ensures told { IfOk result (λ change. IsTrue (is_accepted change.reply)) }
 {
@@ -188,7 +210,10 @@ fn break_off<B: Book>(
     number: u32,
     halt: &Halt,
 ) -> Result<Change, Refusal>
-    ensures decision { OnContent B.Book book.old book.new (λ m. IsSound json_texts m → IsJudged json_texts m (Break number halt.now) (B.failed book.old) result (B.failed book.new)) }
+    ensures decision { OnContent B.Book book.old book.new
+        (λ m. IsSound json_texts m
+        → IsJudged json_texts m (Break number halt.now) (B.failed book.old) result
+        (B.failed book.new)) }
     ensures keeps { Unchanged B.Book (CountsOrDisagrees result) book.old book.new }
     ensures told { IfOk result (λ change. IsTrue (is_accepted change.reply)) }
 {
@@ -204,7 +229,10 @@ fn break_off<B: Book>(
 
 // Releases a job.
 fn release<B: Book>(alloc: Global, book: &mut B, number: u32) -> Result<Change, Refusal>
-    ensures decision { OnContent B.Book book.old book.new (λ m. IsSound json_texts m → IsJudged json_texts m (Release number) (B.failed book.old) result (B.failed book.new)) }
+    ensures decision { OnContent B.Book book.old book.new
+        (λ m. IsSound json_texts m
+        → IsJudged json_texts m (Release number) (B.failed book.old) result
+        (B.failed book.new)) }
     ensures keeps { Unchanged B.Book (CountsOrDisagrees result) book.old book.new }
     ensures told { IfOk result (λ change. IsTrue (is_accepted change.reply)) }
 {
@@ -220,7 +248,9 @@ fn release<B: Book>(alloc: Global, book: &mut B, number: u32) -> Result<Change, 
 
 // Makes a part scrap.
 fn scrap<B: Book>(alloc: Global, book: &mut B, part: PartName) -> Result<Change, Refusal>
-    ensures decision { OnContent B.Book book.old book.new (λ m. IsSound json_texts m → IsJudged json_texts m (Scrap part) (B.failed book.old) result (B.failed book.new)) }
+    ensures decision { OnContent B.Book book.old book.new
+        (λ m. IsSound json_texts m
+        → IsJudged json_texts m (Scrap part) (B.failed book.old) result (B.failed book.new)) }
     ensures keeps { Unchanged B.Book (CountsOrDisagrees result) book.old book.new }
     ensures told { IfOk result (λ change. IsTrue (is_accepted change.reply)) }
 {
@@ -231,7 +261,10 @@ fn scrap<B: Book>(alloc: Global, book: &mut B, part: PartName) -> Result<Change,
 
 // Returns a unit to its supplier.
 fn give_back<B: Book>(alloc: Global, book: &mut B, part: PartName) -> Result<Change, Refusal>
-    ensures decision { OnContent B.Book book.old book.new (λ m. IsSound json_texts m → IsJudged json_texts m (GiveBack part) (B.failed book.old) result (B.failed book.new)) }
+    ensures decision { OnContent B.Book book.old book.new
+        (λ m. IsSound json_texts m
+        → IsJudged json_texts m (GiveBack part) (B.failed book.old) result
+        (B.failed book.new)) }
     ensures keeps { Unchanged B.Book (CountsOrDisagrees result) book.old book.new }
     ensures told { IfOk result (λ change. IsTrue (is_accepted change.reply)) }
 {
@@ -242,7 +275,9 @@ fn give_back<B: Book>(alloc: Global, book: &mut B, part: PartName) -> Result<Cha
 
 /// What is decided on a command, from the rows that it needs.
 pub fn decide<B: Book>(alloc: Global, book: &mut B, command: &Command) -> Result<Change, Refusal>
-    ensures decision { OnContent B.Book book.old book.new (λ m. IsSound json_texts m → IsJudged json_texts m command.now (B.failed book.old) result (B.failed book.new)) }
+    ensures decision { OnContent B.Book book.old book.new
+        (λ m. IsSound json_texts m
+        → IsJudged json_texts m command.now (B.failed book.old) result (B.failed book.new)) }
     ensures keeps { Unchanged B.Book (CountsOrDisagrees result) book.old book.new }
     ensures told { IfOk result (λ change. IsTrue (is_accepted change.reply)) }
 {
@@ -278,7 +313,8 @@ fn telling(
     import: Option<ImportRow>,
     told: &Text,
 ) -> Result<Option<ImportRow>, AllocError>
-    ensures { IfOk result (λ row. row ≡ option_map (λ (r : ImportRowOf). record r { reply = told.now }) import) }
+    ensures { IfOk result (λ row. row
+        ≡ option_map (λ (r : ImportRowOf). record r { reply = told.now }) import) }
 {
     match import {
         Some(row) => {
@@ -296,7 +332,8 @@ pub fn keeping_message(
     message: KeptMessage,
 ) -> Result<(Change, Reply), AllocError>
     ensures change { IfOk result (λ kept. kept.0 ≡ record change {
-      import = option_map (λ (r : ImportRowOf). record r { reply = message.kept.reply }) change.import;
+      import = option_map (λ (r : ImportRowOf). record r { reply = message.kept.reply })
+          change.import;
       kept = Some message;
       reply = Refused BadMessage;
     }) }

@@ -1,16 +1,16 @@
 //! The desk's calls: a message is handled once, a query is answered, and messages are run in order.
 
 ghost use Rattle.std.specs.Prelude.{◌≡◌, ◌≢◌, IfOk, IfSome, OnErr, None, true, false};
-ghost use Rattle.shop_machine.specs.Content.{Content, demand_at, kept_at, material_at, material_of, part_at, parts_of, rack_rows};
+ghost use Rattle.shop_records.specs.Content.{Content, demand_at, kept_at, material_at, material_of, part_at, parts_of, rack_rows};
 ghost use Rattle.shop_machine.specs.Planning.{AreAsked};
-ghost use Rattle.shop_machine.specs.Messages.{IsMessage, pair_of};
+ghost use Rattle.shop_records.specs.Messages.{IsMessage, pair_of};
 ghost use Rattle.shop_machine.specs.Machine.{Answers, StepAgain};
-ghost use Rattle.shop_machine.specs.Soundness.{IsSound, IsKept};
-ghost use Rattle.shop_machine.specs.declared.texts.Pair.{Pair as PairOf};
-ghost use Rattle.shop_machine.specs.declared.messages.Message.{Message as MessageOf};
-ghost use Rattle.shop_machine.specs.declared.messages.Query.TheVariants.{Totals, Rack, Trace, Demand, Plan, Bound};
-ghost use Rattle.shop_machine.specs.declared.messages.Reply.TheVariants.{Refused, Rack as RackParts};
-ghost use Rattle.shop_machine.specs.declared.refusals.Refusal.TheVariants.{NoMemory, StoreFault};
+ghost use Rattle.shop_records.specs.Soundness.{IsSound, IsKept};
+ghost use Rattle.shop_records.specs.declared.texts.Pair.{Pair as PairOf};
+ghost use Rattle.shop_records.specs.declared.messages.Message.{Message as MessageOf};
+ghost use Rattle.shop_records.specs.declared.messages.Query.TheVariants.{Totals, Rack, Trace, Demand, Plan, Bound};
+ghost use Rattle.shop_records.specs.declared.messages.Reply.TheVariants.{Refused, Rack as RackParts};
+ghost use Rattle.shop_records.specs.declared.refusals.Refusal.TheVariants.{NoMemory, StoreFault};
 ghost use Rattle.shop_rules.specs.Forms.{json_texts};
 ghost use Rattle.shop_book.specs.Failures.{CountsFailure};
 ghost use Rattle.shop_book.specs.Kept.{Unchanged, OnContent};
@@ -39,7 +39,8 @@ fn is_same(a: &Text, b: &Text) -> bool
 
 // What is answered to a message whose pair is kept. The text is the message's.
 fn answer_again(alloc: Global, text: &Text, kept: &Kept) -> Reply
-    ensures { (message : MessageOf) → text.now ≡ json_texts.of_message message → (pair : PairOf) → IsKept json_texts pair kept.now
+    ensures { (message : MessageOf) → text.now ≡ json_texts.of_message message → (pair : PairOf)
+        → IsKept json_texts pair kept.now
         → StepAgain json_texts kept.now message result × (result ≢ Refused StoreFault) }
 {
     if !is_same(&kept.command, text) {
@@ -59,14 +60,17 @@ fn handle_new<B: Book>(
     message: &Message,
     text: Text,
 ) -> (Reply, Option<Text>)
-    ensures step { text ≡ json_texts.of_message message.now → IsMessage message.now → B.is_honest book.new → (m : Content) → B.holds book.old m
+    ensures step { text ≡ json_texts.of_message message.now → IsMessage message.now
+        → B.is_honest book.new → (m : Content) → B.holds book.old m
         → IsSound json_texts m → kept_at m (pair_of message.now) ≡ None
-        → IsHandled json_texts B.stands (B.may_leave book.old) (B.may_leave book.new) (B.holds book.new) m message.now result.0 }
+        → IsHandled json_texts B.stands (B.may_leave book.old) (B.may_leave book.new)
+        (B.holds book.new) m message.now result.0 }
     ensures refused { RefusalKeeps B.Book book.old book.new result.0 }
     ensures told { IfSome result.1 (λ text. text ≡ json_texts.of_reply result.0) }
     ensures honest { B.is_honest book.new → B.is_honest book.old }
     ensures failures { CountsOrContradicts result.0 (B.failed book.old) (B.failed book.new) }
-    ensures store_fault { IsMessage message.now → B.is_honest book.new → (m : Content) → B.holds book.old m → IsSound json_texts m
+    ensures store_fault { IsMessage message.now → B.is_honest book.new → (m : Content)
+        → B.holds book.old m → IsSound json_texts m
         → result.0 ≡ Refused StoreFault → StoreFailed (B.failed book.old) (B.failed book.new) }
 {
     let change = match decide(alloc, book, &message.command) {
@@ -103,13 +107,15 @@ pub fn handle_with_text<B: Book>(
     message: &Message,
 ) -> (Reply, Option<Text>)
     ensures step { B.is_honest book.new → (m : Content) → B.holds book.old m → IsSound json_texts m
-        → IsHandled json_texts B.stands (B.may_leave book.old) (B.may_leave book.new) (B.holds book.new) m message.now result.0 }
+        → IsHandled json_texts B.stands (B.may_leave book.old) (B.may_leave book.new)
+        (B.holds book.new) m message.now result.0 }
     ensures refused { RefusalKeeps B.Book book.old book.new result.0 }
     ensures told { IfSome result.1 (λ text. text ≡ json_texts.of_reply result.0) }
     ensures message { IsMessage message.now }
     ensures honest { B.is_honest book.new → B.is_honest book.old }
     ensures failures { CountsOrContradicts result.0 (B.failed book.old) (B.failed book.new) }
-    ensures store_fault { B.is_honest book.new → (m : Content) → B.holds book.old m → IsSound json_texts m
+    ensures store_fault { B.is_honest book.new → (m : Content) → B.holds book.old m
+        → IsSound json_texts m
         → result.0 ≡ Refused StoreFault → StoreFailed (B.failed book.old) (B.failed book.new) }
 {
     let Ok(text) = message_text(alloc, message) else {
@@ -125,12 +131,14 @@ pub fn handle_with_text<B: Book>(
 /// Handles a message as `handle_with_text` does, and gives the reply alone.
 pub fn handle<B: Book>(alloc: Global, book: &mut B, message: &Message) -> Reply
     ensures step { B.is_honest book.new → (m : Content) → B.holds book.old m → IsSound json_texts m
-        → IsHandled json_texts B.stands (B.may_leave book.old) (B.may_leave book.new) (B.holds book.new) m message.now result }
+        → IsHandled json_texts B.stands (B.may_leave book.old) (B.may_leave book.new)
+        (B.holds book.new) m message.now result }
     ensures refused { RefusalKeeps B.Book book.old book.new result }
     ensures message { IsMessage message.now }
     ensures honest { B.is_honest book.new → B.is_honest book.old }
     ensures failures { CountsOrContradicts result (B.failed book.old) (B.failed book.new) }
-    ensures store_fault { B.is_honest book.new → (m : Content) → B.holds book.old m → IsSound json_texts m
+    ensures store_fault { B.is_honest book.new → (m : Content) → B.holds book.old m
+        → IsSound json_texts m
         → result ≡ Refused StoreFault → StoreFailed (B.failed book.old) (B.failed book.new) }
 {
     handle_with_text(alloc, book, message).0
@@ -162,7 +170,9 @@ fn totals<B: Book>(book: &mut B, material: Code) -> Reply
 
 // The parts on the rack of a material that is there.
 fn known_rack<B: Book>(alloc: Global, book: &mut B, material: Code) -> Reply
-    ensures answer { OnContent B.Book book.old book.new (λ m. result ≢ Refused NoMemory → result ≢ Refused StoreFault → result ≡ RackParts material (rack_rows (parts_of m material))) }
+    ensures answer { OnContent B.Book book.old book.new
+        (λ m. result ≢ Refused NoMemory → result ≢ Refused StoreFault
+        → result ≡ RackParts material (rack_rows (parts_of m material))) }
     ensures keeps { Unchanged B.Book (CountsReply result) book.old book.new }
 {
     let mut taker = RackTaker {
@@ -247,7 +257,10 @@ fn plan_rows<B: Book>(
     part: PartName,
     numbers: &[u32],
 ) -> Result<PlanRows, BookFault>
-    ensures rows { OnContent B.Book book.old book.new (λ m. IfOk result (λ rows. (rows.part ≡ part_at m part) × (rows.material ≡ material_of m rows.part) × AreAsked (demand_at m) numbers.now rows.demands)) }
+    ensures rows { OnContent B.Book book.old book.new
+        (λ m. IfOk result (λ rows. (rows.part ≡ part_at m part)
+        × (rows.material ≡ material_of m rows.part)
+        × AreAsked (demand_at m) numbers.now rows.demands)) }
     ensures keeps { Unchanged B.Book (CountsFailure result) book.old book.new }
 {
     let part = book.part(part)?;
@@ -262,7 +275,8 @@ fn plan_rows<B: Book>(
 
 // Which plan to cut a part by.
 fn plan<B: Book>(alloc: Global, book: &mut B, part: PartName, numbers: &[u32], step: u32) -> Reply
-    ensures answer { OnContent B.Book book.old book.new (λ m. Answers m (Plan part numbers.now step) result) }
+    ensures answer { OnContent B.Book book.old book.new
+        (λ m. Answers m (Plan part numbers.now step) result) }
     ensures keeps { Unchanged B.Book (CountsReply result) book.old book.new }
 {
     match plan_rows(alloc, book, part, numbers) {
@@ -289,7 +303,9 @@ fn bound_rows<B: Book>(
     material: Code,
     numbers: &[u32],
 ) -> Result<BoundRows, BookFault>
-    ensures rows { OnContent B.Book book.old book.new (λ m. IfOk result (λ rows. (rows.material ≡ material_at m material) × AreAsked (demand_at m) numbers.now rows.demands)) }
+    ensures rows { OnContent B.Book book.old book.new
+        (λ m. IfOk result (λ rows. (rows.material ≡ material_at m material)
+        × AreAsked (demand_at m) numbers.now rows.demands)) }
     ensures keeps { Unchanged B.Book (CountsFailure result) book.old book.new }
 {
     let material = book.material(material)?;
@@ -307,7 +323,8 @@ fn bound<B: Book>(
     numbers: &[u32],
     step: u32,
 ) -> Reply
-    ensures answer { OnContent B.Book book.old book.new (λ m. Answers m (Bound material w h numbers.now step) result) }
+    ensures answer { OnContent B.Book book.old book.new
+        (λ m. Answers m (Bound material w h numbers.now step) result) }
     ensures keeps { Unchanged B.Book (CountsReply result) book.old book.new }
 {
     match bound_rows(alloc, book, material, numbers) {
@@ -325,7 +342,8 @@ fn bound<B: Book>(
 pub fn ask<B: Book>(alloc: Global, book: &mut B, query: &Query) -> Reply
     ensures answer { OnContent B.Book book.old book.new (λ m. Answers m query.now result) }
     ensures keeps { Unchanged B.Book (CountsReply result) book.old book.new }
-    ensures store_fault { result ≡ Refused StoreFault → StoreFailed (B.failed book.old) (B.failed book.new) }
+    ensures store_fault { result ≡ Refused StoreFault
+        → StoreFailed (B.failed book.old) (B.failed book.new) }
 {
     match query {
         Query::Totals { material } => totals(book, *material),
@@ -360,7 +378,10 @@ pub fn run<B: Book>(
     book: &mut B,
     messages: &[Message],
 ) -> Result<Vec<Reply>, AllocError>
-    ensures run { OnContent B.Book book.old book.new (λ m. IsSound json_texts m → IfOk result (λ replies. HasRun json_texts B.Book book.old book.new m messages.now replies.items)) }
+    ensures run { OnContent B.Book book.old book.new
+        (λ m. IsSound json_texts m
+        → IfOk result (λ replies.
+        HasRun json_texts B.Book book.old book.new m messages.now replies.items)) }
     ensures refused { IfOk result (λ replies. RefusalsKeep B.Book book.old replies.items book.new) }
     ensures err { OnErr result (book.new ≡ book.old) }
     ensures honest { B.is_honest book.new → B.is_honest book.old }

@@ -4,9 +4,9 @@ ghost use Rattle.std.specs.Prelude.{◌≡◌, ◌≤◌, ℕ, IfOk, IfSome, IsT
 ghost use Rattle.cut_tree.specs.Tree.{Tree, cut_count};
 ghost use Rattle.cut_tree.specs.Spelling.{IsSpelling};
 ghost use Rattle.cut_measure.specs.Names.{Name};
-ghost use Rattle.shop_machine.specs.declared.messages.Command.TheVariants.{Reserve};
-ghost use Rattle.shop_machine.specs.Readings.{reading_of};
-ghost use Rattle.shop_machine.specs.Content.{Content, material_at, part_at, demand_at, material_of, part_of_job, totals_for};
+ghost use Rattle.shop_records.specs.declared.messages.Command.TheVariants.{Reserve};
+ghost use Rattle.shop_records.specs.Readings.{reading_of};
+ghost use Rattle.shop_records.specs.Content.{Content, material_at, part_at, demand_at, material_of, part_of_job, totals_for};
 ghost use Rattle.shop_machine.specs.Machine.{Reads};
 ghost use Rattle.shop_machine.specs.Recounts.{plan_leaves, AreDemandsFound, IsNumbered, leaves_in};
 ghost use Rattle.shop_machine.specs.Ordering.{AreMaterialsFound, lines_in};
@@ -28,7 +28,8 @@ pub fn material_for<B: Book>(
     book: &mut B,
     part: &Option<Part>,
 ) -> Result<Option<Material>, BookFault>
-    ensures row { OnContent B.Book book.old book.new (λ m. IfOk result (λ row. row ≡ material_of m part.now)) }
+    ensures row { OnContent B.Book book.old book.new
+        (λ m. IfOk result (λ row. row ≡ material_of m part.now)) }
     ensures keeps { Unchanged B.Book (CountsFailure result) book.old book.new }
 {
     match part {
@@ -39,7 +40,8 @@ pub fn material_for<B: Book>(
 
 /// The totals of the material of a part that was found.
 pub fn totals_for<B: Book>(book: &mut B, part: &Option<Part>) -> Result<Totals, BookFault>
-    ensures row { OnContent B.Book book.old book.new (λ m. IfOk result (λ totals. totals ≡ totals_for m part.now)) }
+    ensures row { OnContent B.Book book.old book.new
+        (λ m. IfOk result (λ totals. totals ≡ totals_for m part.now)) }
     ensures keeps { Unchanged B.Book (CountsFailure result) book.old book.new }
 {
     match part {
@@ -50,7 +52,8 @@ pub fn totals_for<B: Book>(book: &mut B, part: &Option<Part>) -> Result<Totals, 
 
 /// The part of a job that was found.
 pub fn part_for<B: Book>(book: &mut B, job: &Option<Job>) -> Result<Option<Part>, BookFault>
-    ensures row { OnContent B.Book book.old book.new (λ m. IfOk result (λ row. row ≡ part_of_job m job.now)) }
+    ensures row { OnContent B.Book book.old book.new
+        (λ m. IfOk result (λ row. row ≡ part_of_job m job.now)) }
     ensures keeps { Unchanged B.Book (CountsFailure result) book.old book.new }
 {
     match job {
@@ -66,9 +69,15 @@ fn read_plan(
     material: &Material,
     tree: &str,
 ) -> Result<Option<Plan>, AllocError>
-    ensures plan { IfOk result (λ read. IfSome read (λ plan. (plan.w ≡ part.now.size.w) × (plan.h ≡ part.now.size.h) × (plan.kerf ≡ material.now.limits.kerf)
-        × IsSpelling tree.now plan.tree part.now.size.w part.now.size.h material.now.limits.kerf × (cut_count plan.tree ≤ 255))) }
-    ensures none { IfOk result (λ read. read ≡ None → (t : Tree) → IsSpelling tree.now t part.now.size.w part.now.size.h material.now.limits.kerf → cut_count t ≤ 255 → ⊥) }
+    ensures plan { IfOk result
+        (λ read. IfSome read (λ plan. (plan.w ≡ part.now.size.w) × (plan.h ≡ part.now.size.h)
+        × (plan.kerf ≡ material.now.limits.kerf)
+        × IsSpelling tree.now plan.tree part.now.size.w part.now.size.h material.now.limits.kerf
+        × (cut_count plan.tree ≤ 255))) }
+    ensures none { IfOk result
+        (λ read. read ≡ None → (t : Tree)
+        → IsSpelling tree.now t part.now.size.w part.now.size.h material.now.limits.kerf
+        → cut_count t ≤ 255 → ⊥) }
 {
     match Plan::read(alloc, tree, part.size, material.limits.kerf()) {
         Ok(plan) => {
@@ -89,7 +98,9 @@ pub fn plan_for(
     material: &Option<Material>,
     tree: &str,
 ) -> Result<Option<Plan>, AllocError>
-    ensures { IfOk result (λ read. (m : Content) → (name : Name) → part.now ≡ part_at m name → material.now ≡ material_of m part.now → Reads json_texts m (Reserve name tree.now) (reading_of read)) }
+    ensures { IfOk result (λ read. (m : Content) → (name : Name) → part.now ≡ part_at m name
+        → material.now ≡ material_of m part.now
+        → Reads json_texts m (Reserve name tree.now) (reading_of read)) }
 {
     let (Some(part), Some(material)) = (part, material) else {
         return Ok(None);
@@ -105,7 +116,8 @@ fn push_leaf(
     leaf: Leaf,
     demand: Option<Demand>,
 ) -> Result<(), AllocError>
-    ensures { OnOk result (found.new.items ≡ found.old.items ++ record { leaf = leaf; demand = demand } ∷ []) }
+    ensures { OnOk result (found.new.items ≡ found.old.items
+        ++ record { leaf = leaf; demand = demand } ∷ []) }
 {
     found.push(FoundLeaf { leaf, demand })?;
     Ok(())
@@ -116,7 +128,8 @@ fn push_line(
     line: OrderLine,
     material: Option<Material>,
 ) -> Result<(), AllocError>
-    ensures { OnOk result (found.new.items ≡ found.old.items ++ record { line = line; material = material } ∷ []) }
+    ensures { OnOk result (found.new.items ≡ found.old.items
+        ++ record { line = line; material = material } ∷ []) }
 {
     found.push(FoundLine { line, material })?;
     Ok(())
@@ -128,7 +141,8 @@ pub fn found_leaves<B: Book>(
     book: &mut B,
     plan: &Plan,
 ) -> Result<Vec<FoundLeaf>, BookFault>
-    ensures found { OnContent B.Book book.old book.new (λ m. IfOk result (λ found. AreDemandsFound (demand_at m) found.items)) }
+    ensures found { OnContent B.Book book.old book.new
+        (λ m. IfOk result (λ found. AreDemandsFound (demand_at m) found.items)) }
     ensures leaves { IfOk result (λ found. leaves_in found.items ≡ plan_leaves plan.now) }
     ensures numbered { IfOk result (λ found. All IsNumbered found.items) }
     ensures keeps { Unchanged B.Book (CountsFailure result) book.old book.new }
@@ -143,7 +157,8 @@ pub fn found_leaves<B: Book>(
 }
 
 fn push_demand(found: &mut FoundList, number: u32, demand: Option<Demand>) -> Result<(), AllocError>
-    ensures { OnOk result (found.new ≡ found.old ++ record { number = number; demand = demand } ∷ []) }
+    ensures { OnOk result (found.new ≡ found.old
+        ++ record { number = number; demand = demand } ∷ []) }
 {
     found.push(FoundDemand { number, demand })?;
     Ok(())
@@ -173,7 +188,8 @@ pub fn demands_for<B: Book>(
     book: &mut B,
     numbers: &[u32],
 ) -> Result<Option<FoundList>, BookFault>
-    ensures asked { OnContent B.Book book.old book.new (λ m. IfOk result (AreAsked (demand_at m) numbers.now)) }
+    ensures asked { OnContent B.Book book.old book.new
+        (λ m. IfOk result (AreAsked (demand_at m) numbers.now)) }
     ensures keeps { Unchanged B.Book (CountsFailure result) book.old book.new }
 {
     if !can_be_planned(numbers) {
@@ -189,7 +205,8 @@ pub fn found_lines<B: Book>(
     book: &mut B,
     lines: &[OrderLine],
 ) -> Result<Vec<FoundLine>, BookFault>
-    ensures found { OnContent B.Book book.old book.new (λ m. IfOk result (λ found. AreMaterialsFound (material_at m) found.items)) }
+    ensures found { OnContent B.Book book.old book.new
+        (λ m. IfOk result (λ found. AreMaterialsFound (material_at m) found.items)) }
     ensures lines { IfOk result (λ found. lines_in found.items ≡ lines.now) }
     ensures keeps { Unchanged B.Book (CountsFailure result) book.old book.new }
 {

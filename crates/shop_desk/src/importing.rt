@@ -6,14 +6,15 @@ ghost use Rattle.shop_files.specs.declared.orders.OrderLine.{OrderLine as OrderL
 ghost use Rattle.shop_files.specs.declared.problems.Piece.{Piece as PieceOf};
 ghost use Rattle.shop_files.specs.Orders.{IsOrders};
 ghost use Rattle.shop_files.specs.Problems.{IsProblem, ArePieces};
-ghost use Rattle.shop_machine.specs.declared.imports.Form.{Form as FormOf};
-ghost use Rattle.shop_machine.specs.declared.imports.Form.TheVariants.{Csv, Cgcut};
-ghost use Rattle.shop_machine.specs.declared.messages.Command.TheVariants.{Import};
-ghost use Rattle.shop_machine.specs.declared.messages.Reply.{Reply as ReplyOf};
-ghost use Rattle.shop_machine.specs.Messages.{IsMade, is_accepted};
-ghost use Rattle.shop_machine.specs.Content.{Content, import_at};
-ghost use Rattle.shop_machine.specs.Importing.{IsRepeat, Tells};
-ghost use Rattle.shop_machine.specs.Soundness.{IsSound};
+ghost use Rattle.shop_records.specs.declared.imports.Form.{Form as FormOf};
+ghost use Rattle.shop_records.specs.declared.imports.Form.TheVariants.{Csv, Cgcut};
+ghost use Rattle.shop_records.specs.declared.messages.Command.TheVariants.{Import};
+ghost use Rattle.shop_records.specs.declared.messages.Reply.{Reply as ReplyOf};
+ghost use Rattle.shop_records.specs.Messages.{IsMade, is_accepted};
+ghost use Rattle.shop_records.specs.Content.{Content, import_at};
+ghost use Rattle.shop_machine.specs.Importing.{IsRepeat};
+ghost use Rattle.shop_records.specs.Keeping.{Tells};
+ghost use Rattle.shop_records.specs.Soundness.{IsSound};
 ghost use Rattle.shop_rules.specs.Forms.{json_texts};
 ghost use Rattle.shop_book.specs.Failures.{CountsFailure};
 ghost use Rattle.shop_book.specs.Kept.{Unchanged, OnContent};
@@ -31,7 +32,9 @@ use std::alloc::{AllocError, Global};
 
 // The lines of an order file, where the text is one.
 fn file_lines(alloc: Global, text: &Text) -> Result<Option<LineList>, AllocError>
-    ensures { IfOk result (λ read. MatchOption read ((lines : List OrderLineOf) → IsOrders text.now lines → ⊥) (λ lines. IsOrders text.now lines)) }
+    ensures { IfOk result (λ read. MatchOption read
+        ((lines : List OrderLineOf) → IsOrders text.now lines → ⊥)
+        (λ lines. IsOrders text.now lines)) }
 {
     match read_orders(alloc, text.as_str().as_bytes()) {
         Ok(lines) => Ok(Some(lines)),
@@ -42,7 +45,10 @@ fn file_lines(alloc: Global, text: &Text) -> Result<Option<LineList>, AllocError
 
 // The problem of a problem file, where the text is one.
 fn file_problem(alloc: Global, text: &Text) -> Result<Option<Problem>, AllocError>
-    ensures spelled { IfOk result (λ read. MatchOption read ((size : Extent) (pieces : List PieceOf) → IsProblem text.now size pieces → ⊥) (λ p. IsProblem text.now p.size p.pieces)) }
+    ensures spelled { IfOk result
+        (λ read. MatchOption read
+        ((size : Extent) (pieces : List PieceOf) → IsProblem text.now size pieces → ⊥)
+        (λ p. IsProblem text.now p.size p.pieces)) }
     ensures in_range { IfOk result (λ read. IfSome read (λ p. ArePieces p.pieces)) }
 {
     match read_cgcut(alloc, text.as_str().as_bytes()) {
@@ -61,8 +67,10 @@ fn import_lines<B: Book>(
     order: Code,
     text: &Text,
 ) -> Result<Change, Refusal>
-    ensures decision { OnContent B.Book book.old book.new (λ m. IfSome (import_at m order) (λ row. IsRepeat Csv text.now row → ⊥)
-        → IsJudged json_texts m (Import order Csv text.now) (B.failed book.old) result (B.failed book.new)) }
+    ensures decision { OnContent B.Book book.old book.new
+        (λ m. IfSome (import_at m order) (λ row. IsRepeat Csv text.now row → ⊥)
+        → IsJudged json_texts m (Import order Csv text.now) (B.failed book.old) result
+        (B.failed book.new)) }
     ensures keeps { Unchanged B.Book (CountsOrDisagrees result) book.old book.new }
     ensures told { IfOk result (λ change. IsTrue (is_accepted change.reply)) }
 {
@@ -86,7 +94,8 @@ struct ReceiptRows {
 
 // The rows that a receipt of a material is decided by.
 fn receipt_rows<B: Book>(book: &mut B, material: Code) -> Result<ReceiptRows, BookFault>
-    ensures rows { OnContent B.Book book.old book.new (λ m. IfOk result (λ rows. AreReceiptRows m material rows.known rows.totals rows.act)) }
+    ensures rows { OnContent B.Book book.old book.new
+        (λ m. IfOk result (λ rows. AreReceiptRows m material rows.known rows.totals rows.act)) }
     ensures least { IfOk result (λ rows. 1 ≤ rows.act) }
     ensures keeps { Unchanged B.Book (CountsFailure result) book.old book.new }
 {
@@ -104,8 +113,10 @@ fn import_problem<B: Book>(
     material: Code,
     text: &Text,
 ) -> Result<Change, Refusal>
-    ensures decision { OnContent B.Book book.old book.new (λ m. IfSome (import_at m order) (λ row. IsRepeat (Cgcut material) text.now row → ⊥)
-        → IsJudged json_texts m (Import order (Cgcut material) text.now) (B.failed book.old) result (B.failed book.new)) }
+    ensures decision { OnContent B.Book book.old book.new
+        (λ m. IfSome (import_at m order) (λ row. IsRepeat (Cgcut material) text.now row → ⊥)
+        → IsJudged json_texts m (Import order (Cgcut material) text.now) (B.failed book.old) result
+        (B.failed book.new)) }
     ensures keeps { Unchanged B.Book (CountsOrDisagrees result) book.old book.new }
     ensures told { IfOk result (λ change. IsTrue (is_accepted change.reply)) }
 {
@@ -146,8 +157,10 @@ fn accepted(told: Option<Reply>) -> Option<Reply>
 
 // Imports once more what a kept row was imported from.
 fn import_again(alloc: Global, row: &ImportRow) -> Result<Change, Refusal>
-    ensures decision { (m : Content) → (order : List ℕ) → (form : FormOf) → (text : List ℕ) → (before after : ℕ) → IsSound json_texts m
-        → import_at m order ≡ Some row.now → IsRepeat form text row.now → IsJudged json_texts m (Import order form text) before result after }
+    ensures decision { (m : Content) → (order : List ℕ) → (form : FormOf) → (text : List ℕ)
+        → (before after : ℕ) → IsSound json_texts m
+        → import_at m order ≡ Some row.now → IsRepeat form text row.now
+        → IsJudged json_texts m (Import order form text) before result after }
     ensures told { IfOk result (λ change. IsTrue (is_accepted change.reply)) }
 {
     let earlier = accepted(kept_reply(alloc, row.reply.as_str())?);
@@ -162,8 +175,10 @@ fn import_new<B: Book>(
     form: &Form,
     text: &Text,
 ) -> Result<Change, Refusal>
-    ensures decision { OnContent B.Book book.old book.new (λ m. IfSome (import_at m order) (λ row. IsRepeat form.now text.now row → ⊥)
-        → IsJudged json_texts m (Import order form.now text.now) (B.failed book.old) result (B.failed book.new)) }
+    ensures decision { OnContent B.Book book.old book.new
+        (λ m. IfSome (import_at m order) (λ row. IsRepeat form.now text.now row → ⊥)
+        → IsJudged json_texts m (Import order form.now text.now) (B.failed book.old) result
+        (B.failed book.new)) }
     ensures keeps { Unchanged B.Book (CountsOrDisagrees result) book.old book.new }
     ensures told { IfOk result (λ change. IsTrue (is_accepted change.reply)) }
 {
@@ -182,8 +197,10 @@ fn import_known<B: Book>(
     form: &Form,
     text: &Text,
 ) -> Result<Change, Refusal>
-    ensures decision { OnContent B.Book book.old book.new (λ m. IsSound json_texts m → import_at m order ≡ Some row.now
-        → IsJudged json_texts m (Import order form.now text.now) (B.failed book.old) result (B.failed book.new)) }
+    ensures decision { OnContent B.Book book.old book.new
+        (λ m. IsSound json_texts m → import_at m order ≡ Some row.now
+        → IsJudged json_texts m (Import order form.now text.now) (B.failed book.old) result
+        (B.failed book.new)) }
     ensures keeps { Unchanged B.Book (CountsOrDisagrees result) book.old book.new }
     ensures told { IfOk result (λ change. IsTrue (is_accepted change.reply)) }
 {
@@ -202,7 +219,10 @@ pub fn import_order<B: Book>(
     form: &Form,
     text: &Text,
 ) -> Result<Change, Refusal>
-    ensures decision { OnContent B.Book book.old book.new (λ m. IsSound json_texts m → IsJudged json_texts m (Import order form.now text.now) (B.failed book.old) result (B.failed book.new)) }
+    ensures decision { OnContent B.Book book.old book.new
+        (λ m. IsSound json_texts m
+        → IsJudged json_texts m (Import order form.now text.now) (B.failed book.old) result
+        (B.failed book.new)) }
     ensures keeps { Unchanged B.Book (CountsOrDisagrees result) book.old book.new }
     ensures told { IfOk result (λ change. IsTrue (is_accepted change.reply)) }
 {

@@ -2,10 +2,11 @@
 
 ghost use Rattle.std.specs.Prelude.{◌≡◌, ◌≢◌, ◌∷◌, ◌++◌, [], IfOk, OnOk, Some, filter_map};
 ghost use Rattle.shop_machine.specs.Machine.{Answers};
-ghost use Rattle.shop_machine.specs.declared.messages.Query.TheVariants as query;
-ghost use Rattle.shop_machine.specs.declared.messages.Reply.TheVariants.{Refused, Parts, Demands};
-ghost use Rattle.shop_machine.specs.declared.refusals.Refusal.TheVariants.{NoMemory, StoreFault};
-ghost use Rattle.shop_machine.specs.Listing.{are_more, first_told, job_numbers, job_row_at, job_with_part, open_demands, parts_behind, waiting_jobs};
+ghost use Rattle.shop_records.specs.declared.messages.Query.TheVariants as query;
+ghost use Rattle.shop_records.specs.declared.messages.Reply.TheVariants.{Refused, Parts, Demands};
+ghost use Rattle.shop_records.specs.declared.refusals.Refusal.TheVariants.{NoMemory, StoreFault};
+ghost use Rattle.shop_machine.specs.Listing.{are_more, first_told, job_row_at, job_with_part};
+ghost use Rattle.shop_records.specs.Lists.{job_numbers, open_demands, parts_behind, waiting_jobs};
 ghost use Rattle.shop_book.specs.Failures.{CountsFailure};
 ghost use Rattle.shop_book.specs.Kept.{Unchanged, OnContent};
 ghost use Rattle.shop_desk.specs.Faults.{CountsReply};
@@ -37,8 +38,10 @@ fn known_parts<B: Book>(
     material: Code,
     after: Option<PartName>,
 ) -> Reply
-    ensures answer { OnContent B.Book book.old book.new (λ m. result ≢ Refused NoMemory → result ≢ Refused StoreFault
-        → result ≡ Parts material (are_more (parts_behind m material after)) (first_told (parts_behind m material after))) }
+    ensures answer { OnContent B.Book book.old book.new
+        (λ m. result ≢ Refused NoMemory → result ≢ Refused StoreFault
+        → result ≡ Parts material (are_more (parts_behind m material after))
+        (first_told (parts_behind m material after))) }
     ensures keeps { Unchanged B.Book (CountsReply result) book.old book.new }
 {
     match book.first_parts(alloc, material, after, MOST_TOLD + 1) {
@@ -49,7 +52,8 @@ fn known_parts<B: Book>(
 
 /// The standing and reserved parts of a material behind a name.
 pub fn parts<B: Book>(alloc: Global, book: &mut B, material: Code, after: Option<PartName>) -> Reply
-    ensures answer { OnContent B.Book book.old book.new (λ m. Answers m (query.Parts material after) result) }
+    ensures answer { OnContent B.Book book.old book.new
+        (λ m. Answers m (query.Parts material after) result) }
     ensures keeps { Unchanged B.Book (CountsReply result) book.old book.new }
 {
     match book.material(material) {
@@ -63,8 +67,10 @@ pub fn parts<B: Book>(alloc: Global, book: &mut B, material: Code, after: Option
 
 // The open demands behind a number, of a material that is there or of all.
 fn known_demands<B: Book>(alloc: Global, book: &mut B, after: u32, material: Option<Code>) -> Reply
-    ensures answer { OnContent B.Book book.old book.new (λ m. result ≢ Refused NoMemory → result ≢ Refused StoreFault
-        → result ≡ Demands (first_told (open_demands m after material)) (are_more (open_demands m after material))) }
+    ensures answer { OnContent B.Book book.old book.new
+        (λ m. result ≢ Refused NoMemory → result ≢ Refused StoreFault
+        → result ≡ Demands (first_told (open_demands m after material))
+        (are_more (open_demands m after material))) }
     ensures keeps { Unchanged B.Book (CountsReply result) book.old book.new }
 {
     match book.first_demands(alloc, after, material, MOST_TOLD + 1) {
@@ -75,7 +81,8 @@ fn known_demands<B: Book>(alloc: Global, book: &mut B, after: u32, material: Opt
 
 // The open demands of a material behind a number.
 fn material_demands<B: Book>(alloc: Global, book: &mut B, after: u32, material: Code) -> Reply
-    ensures answer { OnContent B.Book book.old book.new (λ m. Answers m (query.Demands after (Some material)) result) }
+    ensures answer { OnContent B.Book book.old book.new
+        (λ m. Answers m (query.Demands after (Some material)) result) }
     ensures keeps { Unchanged B.Book (CountsReply result) book.old book.new }
 {
     match book.material(material) {
@@ -89,7 +96,8 @@ fn material_demands<B: Book>(alloc: Global, book: &mut B, after: u32, material: 
 
 /// The open demands behind a number, of one material or of all.
 pub fn demands<B: Book>(alloc: Global, book: &mut B, after: u32, material: Option<Code>) -> Reply
-    ensures answer { OnContent B.Book book.old book.new (λ m. Answers m (query.Demands after material) result) }
+    ensures answer { OnContent B.Book book.old book.new
+        (λ m. Answers m (query.Demands after material) result) }
     ensures keeps { Unchanged B.Book (CountsReply result) book.old book.new }
 {
     match material {
@@ -104,7 +112,8 @@ fn job_with_part<B: Book>(
     book: &mut B,
     number: u32,
 ) -> Result<Option<(Job, Part)>, BookFault>
-    ensures found { OnContent B.Book book.old book.new (λ m. IfOk result (λ found. found ≡ job_with_part m number)) }
+    ensures found { OnContent B.Book book.old book.new
+        (λ m. IfOk result (λ found. found ≡ job_with_part m number)) }
     ensures keeps { Unchanged B.Book (CountsFailure result) book.old book.new }
 {
     let Some(job) = book.job(alloc, number)? else {
@@ -128,7 +137,8 @@ fn push_job(rows: &mut JobList, found: Option<(Job, Part)>) -> Result<(), AllocE
 
 // The rows of jobs, as they are told; none of a job that isn't there with its part.
 fn job_rows<B: Book>(alloc: Global, book: &mut B, numbers: &[u32]) -> Result<JobList, BookFault>
-    ensures rows { OnContent B.Book book.old book.new (λ m. IfOk result (λ rows. rows ≡ filter_map (job_row_at m) numbers.now)) }
+    ensures rows { OnContent B.Book book.old book.new
+        (λ m. IfOk result (λ rows. rows ≡ filter_map (job_row_at m) numbers.now)) }
     ensures keeps { Unchanged B.Book (CountsFailure result) book.old book.new }
 {
     let mut rows = JobList::new(alloc);
@@ -146,7 +156,8 @@ fn first_jobs<B: Book>(
     after: u32,
 ) -> Result<(JobList, bool), BookFault>
     ensures jobs { OnContent B.Book book.old book.new (λ m. IfOk result (λ found.
-        (found.0 ≡ filter_map (job_row_at m) (first_told (job_numbers (waiting_jobs m after)))) × (found.1 ≡ are_more (job_numbers (waiting_jobs m after))))) }
+        (found.0 ≡ filter_map (job_row_at m) (first_told (job_numbers (waiting_jobs m after))))
+        × (found.1 ≡ are_more (job_numbers (waiting_jobs m after))))) }
     ensures keeps { Unchanged B.Book (CountsFailure result) book.old book.new }
 {
     let numbers = book.first_jobs(alloc, after, MOST_TOLD + 1)?;
@@ -179,7 +190,8 @@ pub fn job<B: Book>(alloc: Global, book: &mut B, number: u32) -> Reply
 
 /// The last number of a terminal.
 pub fn terminal<B: Book>(book: &mut B, terminal: u32) -> Reply
-    ensures answer { OnContent B.Book book.old book.new (λ m. Answers m (query.Terminal terminal) result) }
+    ensures answer { OnContent B.Book book.old book.new
+        (λ m. Answers m (query.Terminal terminal) result) }
     ensures keeps { Unchanged B.Book (CountsReply result) book.old book.new }
 {
     match book.last_number(terminal) {

@@ -6,7 +6,7 @@ use crate::lines::answered;
 use crate::messages::{MESSAGES, send};
 use anyhow::{Error, Result};
 use cut_measure::{Code, Kind, Limits, PartName, Size};
-use shop_machine::{
+use shop_records::{
     Change, Demand, DemandList, Material, MaterialTotals, Part, PartList, PartVisitor, Reply,
     Totals, no_totals,
 };

@@ -6,7 +6,8 @@ use crate::lines::push_reply;
 use anyhow::{Error, Result};
 use serde_json::Value;
 use shop_desk::run;
-use shop_machine::{decide_problem, decide_receive, no_totals};
+use shop_machine::{decide_problem, decide_receive};
+use shop_records::no_totals;
 use shop_rules::{
     Change, Code, FoundLine, Kind, Limits, Material, Message, OrderLine, Refusal, Reply, Size,
     Text, Totals, read_message,

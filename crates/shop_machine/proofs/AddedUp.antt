@@ -4,13 +4,13 @@ use Rattle.std.specs.Prelude.{sum_by, ◌&&◌, not, if◌then◌else◌}
 use Rattle.std.specs.Ordering.{is_eq}
 use Rattle.std.proofs.lemmas.List.Sums.{sum_by-cons}
 use Rattle.cut_measure.specs.Codes.{code_cmp}
-use Rattle.shop_machine.specs.declared.records.Part.{Part}
-use Rattle.shop_machine.specs.declared.records.State.{State}
-use Rattle.shop_machine.specs.declared.records.State.TheVariants as state
-use Rattle.shop_machine.specs.declared.records.Column.{Column}
-use Rattle.shop_machine.specs.declared.records.Column.TheVariants.{Received, Stock, Rack, Pieces, Kerf, Scrap, Returned}
-use Rattle.shop_machine.specs.Columns.{is_whole, is_there, is_piece, is_kerf, is_scrap, is_returned}
-use Rattle.shop_machine.specs.Content.{counts_for, cells_in, totals_in, AddsUp}
+use Rattle.shop_records.specs.declared.records.Part.{Part}
+use Rattle.shop_records.specs.declared.records.State.{State}
+use Rattle.shop_records.specs.declared.records.State.TheVariants as state
+use Rattle.shop_records.specs.declared.records.Column.{Column}
+use Rattle.shop_records.specs.declared.records.Column.TheVariants.{Received, Stock, Rack, Pieces, Kerf, Scrap, Returned}
+use Rattle.shop_records.specs.Columns.{is_whole, is_there, is_piece, is_kerf, is_scrap, is_returned}
+use Rattle.shop_records.specs.Content.{counts_for, cells_in, totals_in, AddsUp}
 
 abbrev pub cells_as : Column → List ℕ → Part → ℕ
 cells_as column code part = if counts_for column code part then part.size.w * part.size.h else 0

@@ -5,17 +5,17 @@ use Rattle.std.specs.FinMap.{get, insert}
 use Rattle.std.proofs.lemmas.Bool.{and_parts, eqb-true, not-false}
 use Rattle.cut_measure.specs.declared.sizes.Kind.{Kind}
 use Rattle.cut_measure.specs.Measures.{Rule, is_rule}
-use Rattle.shop_machine.specs.declared.records.Material.{Material}
-use Rattle.shop_machine.specs.declared.changes.Change.{Change}
-use Rattle.shop_machine.specs.declared.messages.Message.{Message}
-use Rattle.shop_machine.specs.declared.refusals.Refusal.TheVariants.{BadMaterial, MaterialExists}
-use Rattle.shop_machine.specs.Messages.{Texts}
-use Rattle.shop_machine.specs.Content.{Content, material_at}
+use Rattle.shop_records.specs.declared.records.Material.{Material}
+use Rattle.shop_records.specs.declared.changes.Change.{Change}
+use Rattle.shop_records.specs.declared.messages.Message.{Message}
+use Rattle.shop_records.specs.declared.refusals.Refusal.TheVariants.{BadMaterial, MaterialExists}
+use Rattle.shop_records.specs.Messages.{Texts}
+use Rattle.shop_records.specs.Content.{Content, material_at}
 use Rattle.shop_machine.specs.Adding.{material_refusal, material_change, same_rule}
-use Rattle.shop_machine.specs.Soundness.{IsSound}
+use Rattle.shop_records.specs.Soundness.{IsSound}
 use Rattle.shop_machine.specs.History.{Deed, Rules, acts_of, material_rule}
-use Rattle.shop_machine.specs.Same.{same_kind}
-use Rattle.shop_machine.proofs.Basics.{codes_total, codes_same, key_cases, same_some, get_same, get_other}
+use Rattle.shop_records.specs.Same.{same_kind}
+use Rattle.shop_records.proofs.Basics.{codes_total, codes_same, key_cases, same_some, get_same, get_other}
 use Rattle.shop_machine.proofs.Accounts.{Follows, row_later}
 use Rattle.shop_machine.proofs.Allowed.{none_of}
 use Rattle.shop_machine.proofs.Steps.{After}

@@ -10,22 +10,22 @@ use Rattle.cut_measure.specs.declared.sizes.Kind.{Kind}
 use Rattle.cut_measure.specs.Names.{Name, name_cmp}
 use Rattle.cut_measure.specs.Measures.{Rule, is_rule}
 use Rattle.cut_measure.specs.Codes.{is_code, code_cmp}
-use Rattle.shop_machine.specs.declared.records.Material.{Material}
-use Rattle.shop_machine.specs.declared.records.Part.{Part}
-use Rattle.shop_machine.specs.declared.records.Demand.{Demand}
-use Rattle.shop_machine.specs.declared.records.Totals.{Totals}
-use Rattle.shop_machine.specs.declared.records.Column.{Column}
-use Rattle.shop_machine.specs.declared.records.Column.TheVariants.{Received, Stock, Rack, Pieces, Kerf, Scrap, Returned}
-use Rattle.shop_machine.specs.declared.messages.Message.{Message}
-use Rattle.shop_machine.specs.declared.refusals.Refusal.TheVariants.{BadMaterial}
-use Rattle.shop_machine.specs.Messages.{Texts, pair_of, IsMade}
-use Rattle.shop_machine.specs.Content.{Content, material_at, part_at, kept_at, changed, cells_in, totals_of, no_totals}
-use Rattle.shop_machine.specs.Columns.{is_counted}
+use Rattle.shop_records.specs.declared.records.Material.{Material}
+use Rattle.shop_records.specs.declared.records.Part.{Part}
+use Rattle.shop_records.specs.declared.records.Demand.{Demand}
+use Rattle.shop_records.specs.declared.records.Totals.{Totals}
+use Rattle.shop_records.specs.declared.records.Column.{Column}
+use Rattle.shop_records.specs.declared.records.Column.TheVariants.{Received, Stock, Rack, Pieces, Kerf, Scrap, Returned}
+use Rattle.shop_records.specs.declared.messages.Message.{Message}
+use Rattle.shop_records.specs.declared.refusals.Refusal.TheVariants.{BadMaterial}
+use Rattle.shop_records.specs.Messages.{Texts, pair_of, IsMade}
+use Rattle.shop_records.specs.Content.{Content, material_at, part_at, kept_at, changed, cells_in, totals_of, no_totals}
+use Rattle.shop_records.specs.Columns.{is_counted}
 use Rattle.shop_machine.specs.Adding.{material_refusal, material_change, is_other}
 use Rattle.shop_machine.specs.Machine.{keeping}
-use Rattle.shop_machine.specs.Soundness.{IsKnown, Fits, with_totals}
-use Rattle.shop_machine.proofs.Basics.{codes_total, codes_same, names_total, names_same}
-use Rattle.shop_machine.proofs.Puts.{found_one, still_there, equal, not_both, some_known, sum_no_rows}
+use Rattle.shop_records.specs.Soundness.{IsKnown, Fits, with_totals}
+use Rattle.shop_records.proofs.Basics.{codes_total, codes_same, names_total, names_same}
+use Rattle.shop_records.proofs.Puts.{found_one, still_there, equal, not_both, some_known, sum_no_rows}
 use Rattle.shop_machine.proofs.AddedUp.{cells_as}
 use Rattle.shop_machine.proofs.Tallied.{same_totals}
 use Rattle.shop_machine.proofs.Allowed.{none_of}

@@ -12,13 +12,13 @@ use Rattle.cut_tree.specs.declared.leaves.Leaf.{Leaf}
 use Rattle.cut_tree.specs.Tree.{count_of}
 use Rattle.cut_tree.specs.Patterns.{Pattern}
 use Rattle.cut_tree.proofs.LeafCounts.{counted}
-use Rattle.shop_machine.specs.declared.records.State.{State}
-use Rattle.shop_machine.specs.declared.records.State.TheVariants.{Standing, Reserved, Cut, Piece, Kerf, Scrap, Returned}
-use Rattle.shop_machine.specs.declared.refusals.Refusal.{Refusal}
-use Rattle.shop_machine.specs.Columns.{is_free}
+use Rattle.shop_records.specs.declared.records.State.{State}
+use Rattle.shop_records.specs.declared.records.State.TheVariants.{Standing, Reserved, Cut, Piece, Kerf, Scrap, Returned}
+use Rattle.shop_records.specs.declared.refusals.Refusal.{Refusal}
+use Rattle.shop_records.specs.Columns.{is_free}
 use Rattle.shop_machine.specs.Recounts.{plan_leaves}
-use Rattle.shop_machine.specs.History.{IsIn}
-use Rattle.shop_machine.proofs.Puts.{counted_in, in_counted}
+use Rattle.shop_records.specs.Elements.{IsIn}
+use Rattle.shop_records.proofs.Puts.{counted_in, in_counted}
 
 -- ---- tests
 

@@ -10,21 +10,23 @@ use Rattle.cut_measure.specs.Codes.{code_cmp}
 use Rattle.cut_measure.specs.Names.{Name}
 use Rattle.cut_measure.specs.Measures.{Extent, below}
 use Rattle.cut_tree.proofs.CellSums.{sum_cells, bit, sum_cells-same, sum_cells-add, sum_cells-zero, sum_mark, mark_in, mark_out}
-use Rattle.shop_machine.specs.declared.records.Part.{Part}
-use Rattle.shop_machine.specs.declared.records.State.{State}
-use Rattle.shop_machine.specs.declared.records.State.TheVariants.{Standing, Reserved, Cut, Piece, Kerf, Scrap, Returned}
-use Rattle.shop_machine.specs.declared.records.Column.{Column}
-use Rattle.shop_machine.specs.declared.records.Column.TheVariants as column
-use Rattle.shop_machine.specs.Same.{same_name}
-use Rattle.shop_machine.specs.Columns.{is_whole, is_there, is_piece, is_kerf, is_scrap, is_returned, is_counted}
-use Rattle.shop_machine.specs.Messages.{Texts}
-use Rattle.shop_machine.specs.Content.{Content, cells_in}
-use Rattle.shop_machine.specs.Soundness.{IsSound}
-use Rattle.shop_machine.specs.History.{Deed, Receives, acts_of, ReceivedUnit, units_in, units_of, Owner, owner_of, is_cut, standing_as, IsOwner, OneOwner, IsIn, counts_cell, cells_of_column, TotalsAreCounts}
-use Rattle.shop_machine.proofs.Basics.{name_cases, in_append, in_map}
+use Rattle.shop_records.specs.declared.records.Part.{Part}
+use Rattle.shop_records.specs.declared.records.State.{State}
+use Rattle.shop_records.specs.declared.records.State.TheVariants.{Standing, Reserved, Cut, Piece, Kerf, Scrap, Returned}
+use Rattle.shop_records.specs.declared.records.Column.{Column}
+use Rattle.shop_records.specs.declared.records.Column.TheVariants as column
+use Rattle.shop_records.specs.Same.{same_name}
+use Rattle.shop_records.specs.Columns.{is_whole, is_there, is_piece, is_kerf, is_scrap, is_returned, is_counted}
+use Rattle.shop_records.specs.Messages.{Texts}
+use Rattle.shop_records.specs.Content.{Content, cells_in}
+use Rattle.shop_records.specs.Soundness.{IsSound}
+use Rattle.shop_machine.specs.History.{Deed, Receives, acts_of, ReceivedUnit, units_in, units_of, Owner, owner_of, is_cut, standing_as, IsOwner, OneOwner, counts_cell, cells_of_column, TotalsAreCounts}
+use Rattle.shop_records.specs.Elements.{IsIn}
+use Rattle.shop_records.proofs.Basics.{name_cases, in_append, in_map}
 use Rattle.shop_machine.proofs.Accounts.{IsRow, IsWhole, Follows, unit_of, unit_acts}
-use Rattle.shop_machine.proofs.Puts.{sum_as, sum_none}
-use Rattle.shop_machine.proofs.Marks.{mark, sum_by-add, sum_by-one, Apart, apart_append, sum_values-one, each_value, sum_by-units}
+use Rattle.shop_records.proofs.Puts.{sum_as, sum_none}
+use Rattle.shop_machine.proofs.Marks.{mark, sum_by-add, sum_by-one, Apart, apart_append, sum_values-one, sum_by-units}
+use Rattle.shop_records.proofs.Entries.{each_value}
 
 abbrev unit_name : ReceivedUnit → Name
 unit_name u = u.name

@@ -11,14 +11,15 @@ use Rattle.cut_tree.specs.Tree.{Tree}
 use Rattle.cut_tree.specs.Cells.{Outcome, Spot, spot_of}
 use Rattle.cut_tree.specs.Laying as lay
 use Rattle.cut_tree.specs.Laying.{Owns, IsSpot, IsLaid}
-use Rattle.shop_machine.specs.declared.records.Part.{Part}
-use Rattle.shop_machine.specs.declared.records.State.{State}
-use Rattle.shop_machine.specs.declared.records.State.TheVariants.{Standing, Cut, Scrap}
-use Rattle.shop_machine.specs.Content.{with_parts, in_state}
+use Rattle.shop_records.specs.declared.records.Part.{Part}
+use Rattle.shop_records.specs.declared.records.State.{State}
+use Rattle.shop_records.specs.declared.records.State.TheVariants.{Standing, Cut, Scrap}
+use Rattle.shop_records.specs.Content.{with_parts, in_state}
 use Rattle.shop_machine.specs.Ending.{row_part, fate}
 use Rattle.shop_machine.specs.Receiving.{unit_part, unit_parts}
-use Rattle.shop_machine.specs.History.{Owner, owner_at, is_cut, standing_as, Holds, IsOwner, HasOwner, IsIn}
-use Rattle.shop_machine.proofs.Basics.{names_total, names_same, names_equal, name_cases, same_some, none_some, get_same, get_other, all_in, any_in, pair_in, in_map, map_in, put_cases}
+use Rattle.shop_machine.specs.History.{Owner, owner_at, is_cut, standing_as, Holds, IsOwner, HasOwner}
+use Rattle.shop_records.specs.Elements.{IsIn}
+use Rattle.shop_records.proofs.Basics.{names_total, names_same, names_equal, name_cases, same_some, none_some, get_same, get_other, all_in, any_in, pair_in, in_map, map_in, put_cases}
 
 -- each row is kept under its name
 abbrev pub Named : FinMap name_cmp Part → Type 0

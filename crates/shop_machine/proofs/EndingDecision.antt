@@ -5,23 +5,23 @@ use Rattle.cut_measure.specs.Measures.{Rule}
 use Rattle.cut_tree.specs.declared.lay.Row.{Row}
 use Rattle.cut_tree.specs.declared.halts.Stop.{Stop}
 use Rattle.cut_tree.specs.Tree.{Tree, count_of}
-use Rattle.shop_machine.specs.declared.changes.Change.{Change}
-use Rattle.shop_machine.specs.declared.messages.Reply.{Reply}
-use Rattle.shop_machine.specs.declared.records.State.TheVariants.{Cut}
-use Rattle.shop_machine.specs.declared.records.JobState.{JobState}
-use Rattle.shop_machine.specs.declared.records.Material.{Material}
-use Rattle.shop_machine.specs.declared.records.Job.{Job}
-use Rattle.shop_machine.specs.declared.records.Part.{Part}
-use Rattle.shop_machine.specs.declared.records.Demand.{Demand}
-use Rattle.shop_machine.specs.declared.records.Totals.{Totals}
+use Rattle.shop_records.specs.declared.changes.Change.{Change}
+use Rattle.shop_records.specs.declared.messages.Reply.{Reply}
+use Rattle.shop_records.specs.declared.records.State.TheVariants.{Cut}
+use Rattle.shop_records.specs.declared.records.JobState.{JobState}
+use Rattle.shop_records.specs.declared.records.Material.{Material}
+use Rattle.shop_records.specs.declared.records.Job.{Job}
+use Rattle.shop_records.specs.declared.records.Part.{Part}
+use Rattle.shop_records.specs.declared.records.Demand.{Demand}
+use Rattle.shop_records.specs.declared.records.Totals.{Totals}
 use Rattle.shop_machine.specs.Moving.{tally, moved_totals}
-use Rattle.shop_machine.specs.declared.refusals.Refusal.TheVariants.{StoreFault, BadCut, JobOver}
-use Rattle.shop_machine.specs.Columns.{is_waiting}
+use Rattle.shop_records.specs.declared.refusals.Refusal.TheVariants.{StoreFault, BadCut, JobOver}
+use Rattle.shop_records.specs.Columns.{is_waiting}
 use Rattle.shop_machine.specs.Decisions.{first_of, no_change}
 use Rattle.shop_machine.specs.Ending.{job_refusal, can_end, rests, row_part, ended_state, ended_reply, end_change}
 use Rattle.shop_machine.specs.declared.recounts.FoundLeaf.{FoundLeaf}
 use Rattle.shop_machine.specs.Recounts.{HasRow, CanBeMade, pieces_in}
-use Rattle.shop_machine.specs.Content.{in_state}
+use Rattle.shop_records.specs.Content.{in_state}
 
 -- a waiting job, by whether its rows are there
 pub job_test : (stop : Stop) (j : Job) (part : Part) (material : Material) (at : ℕ → Option Demand) (totals : Totals) (b : Bool) → is_waiting j.state ≡ true → can_end j.plan.tree stop ≡ true

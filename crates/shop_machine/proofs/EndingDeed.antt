@@ -12,25 +12,26 @@ use Rattle.cut_tree.specs.Tree.{count_of}
 use Rattle.cut_tree.specs.Cells.{Outcome, spot_of}
 use Rattle.cut_tree.specs.Stops.{outcome_of}
 use Rattle.cut_tree.specs.Laying.{IsLaid}
-use Rattle.shop_machine.specs.declared.records.Material.{Material}
-use Rattle.shop_machine.specs.declared.records.Part.{Part}
-use Rattle.shop_machine.specs.declared.records.State.TheVariants.{Standing, Reserved, Cut}
-use Rattle.shop_machine.specs.declared.records.Job.{Job}
-use Rattle.shop_machine.specs.declared.records.JobState.TheVariants as job_state
-use Rattle.shop_machine.specs.declared.records.Demand.{Demand}
-use Rattle.shop_machine.specs.declared.records.Totals.{Totals}
-use Rattle.shop_machine.specs.declared.changes.Change.{Change}
-use Rattle.shop_machine.specs.declared.messages.Message.{Message}
-use Rattle.shop_machine.specs.declared.messages.Command.{Command}
-use Rattle.shop_machine.specs.declared.messages.Command.TheVariants.{Done, Break, Release}
-use Rattle.shop_machine.specs.Messages.{Texts}
-use Rattle.shop_machine.specs.Content.{Content, material_at, part_at, job_at, in_state, demand_at, with_parts, totals_of}
+use Rattle.shop_records.specs.declared.records.Material.{Material}
+use Rattle.shop_records.specs.declared.records.Part.{Part}
+use Rattle.shop_records.specs.declared.records.State.TheVariants.{Standing, Reserved, Cut}
+use Rattle.shop_records.specs.declared.records.Job.{Job}
+use Rattle.shop_records.specs.declared.records.JobState.TheVariants as job_state
+use Rattle.shop_records.specs.declared.records.Demand.{Demand}
+use Rattle.shop_records.specs.declared.records.Totals.{Totals}
+use Rattle.shop_records.specs.declared.changes.Change.{Change}
+use Rattle.shop_records.specs.declared.messages.Message.{Message}
+use Rattle.shop_records.specs.declared.messages.Command.{Command}
+use Rattle.shop_records.specs.declared.messages.Command.TheVariants.{Done, Break, Release}
+use Rattle.shop_records.specs.Messages.{Texts}
+use Rattle.shop_records.specs.Content.{Content, material_at, part_at, job_at, in_state, demand_at, with_parts, totals_of}
 use Rattle.shop_machine.specs.Ending.{release_change, row_part, ended_state, end_change, IsEnd, IsDone, IsBroken, IsRelease, end_refusal, IsWork}
 use Rattle.shop_machine.specs.Recounts.{AreRecounted, with_freed, with_laid, pieces_in}
-use Rattle.shop_machine.specs.Soundness.{IsSound, IsWaiting}
-use Rattle.shop_machine.specs.History.{Deed, nothing, ReceivedUnit, acts_of, ordered_lines, material_rule, owner_by, owner_of, is_cut, standing_as, HasOwner, Ends, deeds, unit_material, Reservation, Owner, stands_as, owner_at, cut_owner, OneOwner, IsIn}
-use Rattle.shop_machine.specs.Readings.{Reading}
-use Rattle.shop_machine.proofs.Basics.{name_cases, same_some}
+use Rattle.shop_records.specs.Soundness.{IsSound, IsWaiting}
+use Rattle.shop_machine.specs.History.{Deed, nothing, ReceivedUnit, acts_of, ordered_lines, material_rule, owner_by, owner_of, is_cut, standing_as, HasOwner, Ends, deeds, unit_material, Reservation, Owner, stands_as, owner_at, cut_owner, OneOwner}
+use Rattle.shop_records.specs.Elements.{IsIn}
+use Rattle.shop_records.specs.Readings.{Reading}
+use Rattle.shop_records.proofs.Basics.{name_cases, same_some}
 use Rattle.shop_machine.proofs.Moved.{no_freed, no_laid}
 use Rattle.cut_tree.proofs.OneLaidList.{laid_few}
 use Rattle.shop_machine.proofs.OrderedLines.{lines_recounted}

@@ -25,35 +25,35 @@ use Rattle.cut_tree.specs.Counting.{is_demand_piece as is_owner_of}
 use Rattle.cut_tree.proofs.OneLaidList.{laid_few}
 use Rattle.cut_tree.proofs.CellCounts.{add_up, count_all}
 use Rattle.cut_tree.specs.declared.leaves.Leaf.{Leaf}
-use Rattle.shop_machine.specs.declared.records.Material.{Material}
-use Rattle.shop_machine.specs.declared.records.Part.{Part}
-use Rattle.shop_machine.specs.declared.records.State.TheVariants as state
-use Rattle.shop_machine.specs.declared.records.Job.{Job}
-use Rattle.shop_machine.specs.declared.records.JobState.{JobState}
-use Rattle.shop_machine.specs.declared.records.JobState.TheVariants as job
-use Rattle.shop_machine.specs.declared.records.Demand.{Demand}
-use Rattle.shop_machine.specs.declared.records.Totals.{Totals}
-use Rattle.shop_machine.specs.declared.changes.MaterialTotals.{MaterialTotals}
-use Rattle.shop_machine.specs.declared.records.Column.TheVariants.{Received}
-use Rattle.shop_machine.specs.declared.messages.Message.{Message}
-use Rattle.shop_machine.specs.declared.messages.Reply.{Reply}
-use Rattle.shop_machine.specs.declared.messages.Reply.TheVariants as reply
-use Rattle.shop_machine.specs.declared.refusals.Refusal.TheVariants.{JobOver, BadCut, StoreFault}
-use Rattle.shop_machine.specs.declared.records.Column.{Column}
-use Rattle.shop_machine.specs.declared.records.Column.TheVariants as column
-use Rattle.shop_machine.specs.Messages.{Texts, pair_of, IsMade, IsNumber, IsWide}
-use Rattle.shop_machine.specs.Same.{same_name}
-use Rattle.shop_machine.specs.Columns.{is_there, is_piece_for, is_waiting, state_of, is_reserved_for, is_counted}
-use Rattle.shop_machine.specs.Content.{Content, part_at, job_at, demand_at, kept_at, changed, in_state, material_of, part_of_job, totals_of, totals_for}
+use Rattle.shop_records.specs.declared.records.Material.{Material}
+use Rattle.shop_records.specs.declared.records.Part.{Part}
+use Rattle.shop_records.specs.declared.records.State.TheVariants as state
+use Rattle.shop_records.specs.declared.records.Job.{Job}
+use Rattle.shop_records.specs.declared.records.JobState.{JobState}
+use Rattle.shop_records.specs.declared.records.JobState.TheVariants as job
+use Rattle.shop_records.specs.declared.records.Demand.{Demand}
+use Rattle.shop_records.specs.declared.records.Totals.{Totals}
+use Rattle.shop_records.specs.declared.changes.MaterialTotals.{MaterialTotals}
+use Rattle.shop_records.specs.declared.records.Column.TheVariants.{Received}
+use Rattle.shop_records.specs.declared.messages.Message.{Message}
+use Rattle.shop_records.specs.declared.messages.Reply.{Reply}
+use Rattle.shop_records.specs.declared.messages.Reply.TheVariants as reply
+use Rattle.shop_records.specs.declared.refusals.Refusal.TheVariants.{JobOver, BadCut, StoreFault}
+use Rattle.shop_records.specs.declared.records.Column.{Column}
+use Rattle.shop_records.specs.declared.records.Column.TheVariants as column
+use Rattle.shop_records.specs.Messages.{Texts, pair_of, IsMade, IsNumber, IsWide}
+use Rattle.shop_records.specs.Same.{same_name}
+use Rattle.shop_records.specs.Columns.{is_there, is_piece_for, is_waiting, state_of, is_reserved_for, is_counted}
+use Rattle.shop_records.specs.Content.{Content, part_at, job_at, demand_at, kept_at, changed, in_state, material_of, part_of_job, totals_of, totals_for}
 use Rattle.shop_machine.specs.Recounts.{AreRecounted, with_laid, with_freed, pieces_in, plan_leaves}
 use Rattle.shop_machine.specs.Ending.{IsWork, fate, row_part, ended_state, ended_reply, end_change, release_change, end_refusal, can_end, has_reserved, rests, job_refusal}
 use Rattle.shop_machine.specs.Moving.{cells_counted, tally, has_cells, moved_totals}
 use Rattle.shop_machine.specs.Machine.{keeping}
-use Rattle.shop_machine.specs.History.{IsIn}
-use Rattle.shop_machine.specs.Soundness.{IsPlaced, IsOnPart, IsWaiting, IsJob, IsCounted, IsMovedJob, Fits, reserved_in}
-use Rattle.shop_machine.proofs.Basics.{in_map, same_some, map_in, earlier_node}
+use Rattle.shop_records.specs.Elements.{IsIn}
+use Rattle.shop_records.specs.Soundness.{IsPlaced, IsOnPart, IsWaiting, IsJob, IsCounted, IsMovedJob, Fits, reserved_in}
+use Rattle.shop_records.proofs.Basics.{in_map, same_some, map_in, earlier_node}
 use Rattle.shop_machine.proofs.Inside.{row_inside}
-use Rattle.shop_machine.proofs.Puts.{pairs_in, pairs_more, map_pairs, in_counted, sum_map, sum_as, sum_none, is_known, sum_over, some_known}
+use Rattle.shop_records.proofs.Puts.{pairs_in, pairs_more, map_pairs, in_counted, sum_map, sum_as, sum_none, is_known, sum_over, some_known}
 use Rattle.shop_machine.proofs.AddedUp.{cells_as, cells_left, is_uncut}
 use Rattle.shop_machine.proofs.Moved.{LeavesOthers, no_laid, no_freed}
 use Rattle.shop_machine.proofs.Grown.{IsStock, Grows, on_more}

@@ -7,21 +7,21 @@ use Rattle.cut_measure.specs.declared.sizes.Axis.TheVariants.{X, Y}
 use Rattle.cut_measure.specs.Names.{Name}
 use Rattle.cut_tree.specs.Tree.{Tree, Piece, Rest, Cut}
 use Rattle.cut_tree.specs.Cells.{spot_of}
-use Rattle.shop_machine.specs.declared.records.State.{State}
-use Rattle.shop_machine.specs.declared.records.State.TheVariants as state
-use Rattle.shop_machine.specs.declared.records.Material.{Material}
-use Rattle.shop_machine.specs.declared.refusals.Refusal.TheVariants.{NoMaterial, BadSize, BadCount, TooMuch, NumbersSpent, MaterialExists, BadMaterial}
-use Rattle.shop_machine.specs.declared.messages.Command.TheVariants.{AddMaterial, Receive, AddOrder, Reserve, Done}
+use Rattle.shop_records.specs.declared.records.State.{State}
+use Rattle.shop_records.specs.declared.records.State.TheVariants as state
+use Rattle.shop_records.specs.declared.records.Material.{Material}
+use Rattle.shop_records.specs.declared.refusals.Refusal.TheVariants.{NoMaterial, BadSize, BadCount, TooMuch, NumbersSpent, MaterialExists, BadMaterial}
+use Rattle.shop_records.specs.declared.messages.Command.TheVariants.{AddMaterial, Receive, AddOrder, Reserve, Done}
 use Rattle.shop_files.specs.declared.orders.OrderLine.{OrderLine}
-use Rattle.shop_machine.specs.declared.records.Column.TheVariants as column
-use Rattle.shop_machine.specs.Readings.{unread, Plan}
+use Rattle.shop_records.specs.declared.records.Column.TheVariants as column
+use Rattle.shop_records.specs.Readings.{unread, Plan}
 use Rattle.shop_machine.specs.Receiving.{receive_refusal, received_totals}
 use Rattle.shop_machine.specs.Adding.{material_refusal}
 use Rattle.shop_machine.specs.History.{Entry, deeds_of, Owner, acts_of, owner_of, cells_of_column, ordered_lines, nth_line, IsAccountOf}
-use Rattle.shop_machine.specs.Messages.{Texts}
-use Rattle.shop_machine.specs.Content.{Content, demand_at, no_totals}
-use Rattle.shop_machine.specs.declared.records.Totals.{Totals}
-use Rattle.shop_machine.specs.Soundness.{reserved_in, made_in}
+use Rattle.shop_records.specs.Messages.{Texts}
+use Rattle.shop_records.specs.Content.{Content, demand_at, no_totals}
+use Rattle.shop_records.specs.declared.records.Totals.{Totals}
+use Rattle.shop_records.specs.Soundness.{reserved_in, made_in}
 
 steel : Material
 steel = record { code = codes "STEEL"; kind = Bar; limits = record { kerf = 3; min_long = 20; min_short = 1 } }

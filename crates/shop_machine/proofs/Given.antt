@@ -6,17 +6,17 @@ use Rattle.std.specs.Ordering.{nat_cmp}
 use Rattle.std.specs.FinMap.{get-empty}
 use Rattle.cut_measure.specs.Codes.{code_cmp}
 use Rattle.cut_measure.specs.Names.{name_cmp}
-use Rattle.shop_machine.specs.declared.changes.Change.{Change}
-use Rattle.shop_machine.specs.declared.messages.Message.{Message}
-use Rattle.shop_machine.specs.declared.messages.Command.{Command}
-use Rattle.shop_machine.specs.declared.messages.Command.TheVariants.{AddMaterial, Receive, AddOrder, Reserve, Done, Break, Release, Scrap, GiveBack, Import}
-use Rattle.shop_machine.specs.Messages.{Texts}
-use Rattle.shop_machine.specs.Readings.{Reading}
-use Rattle.shop_machine.specs.Content.{Content, fresh, changed}
+use Rattle.shop_records.specs.declared.changes.Change.{Change}
+use Rattle.shop_records.specs.declared.messages.Message.{Message}
+use Rattle.shop_records.specs.declared.messages.Command.{Command}
+use Rattle.shop_records.specs.declared.messages.Command.TheVariants.{AddMaterial, Receive, AddOrder, Reserve, Done, Break, Release, Scrap, GiveBack, Import}
+use Rattle.shop_records.specs.Messages.{Texts}
+use Rattle.shop_records.specs.Readings.{Reading}
+use Rattle.shop_records.specs.Content.{Content, fresh, changed}
 use Rattle.shop_machine.specs.Machine.{Reads, refusal_of, Makes, keeping}
-use Rattle.shop_machine.specs.Soundness.{IsSound}
+use Rattle.shop_records.specs.Soundness.{IsSound}
 use Rattle.shop_machine.specs.History.{Entry, Deed, deeds, deeds_of, Gives, nth_line}
-use Rattle.shop_machine.proofs.Basics.{none_some}
+use Rattle.shop_records.proofs.Basics.{none_some}
 use Rattle.shop_machine.proofs.OrderedLines.{ordered_as}
 use Rattle.shop_machine.proofs.Accounts.{Follows}
 use Rattle.shop_machine.proofs.Steps.{AfterAll}

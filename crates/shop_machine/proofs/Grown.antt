@@ -6,22 +6,22 @@ use Rattle.std.specs.FinMap.{FinMap}
 use Rattle.std.proofs.lemmas.List.Elements.{All-nil}
 use Rattle.cut_measure.specs.Codes.{code_cmp}
 use Rattle.cut_measure.specs.Names.{Name, name_cmp}
-use Rattle.shop_machine.specs.declared.texts.Kept.{Kept}
-use Rattle.shop_machine.specs.declared.imports.ImportRow.{ImportRow}
-use Rattle.shop_machine.specs.declared.records.Material.{Material}
-use Rattle.shop_machine.specs.declared.records.Part.{Part}
-use Rattle.shop_machine.specs.declared.records.State.{State}
-use Rattle.shop_machine.specs.declared.records.Job.{Job}
-use Rattle.shop_machine.specs.declared.records.Demand.{Demand}
-use Rattle.shop_machine.specs.Content.{Content, pair_cmp, material_at, part_at, job_at, demand_at, kept_at, in_state}
-use Rattle.shop_machine.specs.Soundness.{IsInRange, IsKnown, IsPlaced, IsOnPart, IsWaiting, IsJob, IsDemand, IsCounted, IsSound, Fits}
-use Rattle.shop_machine.specs.declared.messages.Message.{Message}
-use Rattle.shop_machine.specs.declared.messages.Reply.{Reply}
-use Rattle.shop_machine.specs.Messages.{Texts, pair_of}
+use Rattle.shop_records.specs.declared.texts.Kept.{Kept}
+use Rattle.shop_records.specs.declared.imports.ImportRow.{ImportRow}
+use Rattle.shop_records.specs.declared.records.Material.{Material}
+use Rattle.shop_records.specs.declared.records.Part.{Part}
+use Rattle.shop_records.specs.declared.records.State.{State}
+use Rattle.shop_records.specs.declared.records.Job.{Job}
+use Rattle.shop_records.specs.declared.records.Demand.{Demand}
+use Rattle.shop_records.specs.Content.{Content, pair_cmp, material_at, part_at, job_at, demand_at, kept_at, in_state}
+use Rattle.shop_records.specs.Soundness.{IsInRange, IsKnown, IsPlaced, IsOnPart, IsWaiting, IsJob, IsDemand, IsCounted, IsSound, Fits}
+use Rattle.shop_records.specs.declared.messages.Message.{Message}
+use Rattle.shop_records.specs.declared.messages.Reply.{Reply}
+use Rattle.shop_records.specs.Messages.{Texts, pair_of}
 use Rattle.shop_machine.specs.Decisions.{no_change}
 use Rattle.shop_machine.specs.Machine.{keeping}
-use Rattle.shop_machine.proofs.Basics.{same_some, none_at}
-use Rattle.shop_machine.proofs.Puts.{some_known, is_known}
+use Rattle.shop_records.proofs.Basics.{same_some, none_at}
+use Rattle.shop_records.proofs.Puts.{some_known, is_known}
 
 -- a content with other kept messages and imports
 abbrev pub with_messages : FinMap pair_cmp Kept → FinMap code_cmp ImportRow → Content → Content

@@ -6,14 +6,14 @@ use Rattle.std.proofs.lemmas.List.{take_more, length-take-le}
 use Rattle.cut_measure.specs.Measures.{Extent}
 use Rattle.shop_files.specs.declared.orders.OrderLine.{OrderLine}
 use Rattle.shop_files.specs.declared.problems.Piece.{Piece}
-use Rattle.shop_machine.specs.declared.imports.Form.{Form}
-use Rattle.shop_machine.specs.declared.imports.ImportRow.{ImportRow}
-use Rattle.shop_machine.specs.declared.changes.Change.{Change}
-use Rattle.shop_machine.specs.declared.messages.Reply.TheVariants as reply
-use Rattle.shop_machine.specs.declared.refusals.Refusal.{Refusal}
-use Rattle.shop_machine.specs.declared.records.Material.{Material}
-use Rattle.shop_machine.specs.declared.records.Totals.{Totals}
-use Rattle.shop_machine.specs.declared.refusals.Refusal.TheVariants.{OrderExists}
+use Rattle.shop_records.specs.declared.imports.Form.{Form}
+use Rattle.shop_records.specs.declared.imports.ImportRow.{ImportRow}
+use Rattle.shop_records.specs.declared.changes.Change.{Change}
+use Rattle.shop_records.specs.declared.messages.Reply.TheVariants as reply
+use Rattle.shop_records.specs.declared.refusals.Refusal.{Refusal}
+use Rattle.shop_records.specs.declared.records.Material.{Material}
+use Rattle.shop_records.specs.declared.records.Totals.{Totals}
+use Rattle.shop_records.specs.declared.refusals.Refusal.TheVariants.{OrderExists}
 use Rattle.shop_machine.specs.Decisions.{first_of}
 use Rattle.shop_machine.specs.Receiving.{receive_refusal, receive_change}
 use Rattle.shop_machine.specs.Importing.{piece_line, lines_from, problem_lines, import_row}

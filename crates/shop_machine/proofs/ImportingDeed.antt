@@ -1,16 +1,16 @@
 -- What an import does to what a content follows.
 use Rattle.std.proofs.Common.{◌≡◌, ℕ, ◌+◌, List, [], ◌∷◌, ◌++◌, sym, subst, arith, inl, inr}
 use Rattle.std.specs.Prelude.{None}
-use Rattle.shop_machine.specs.declared.imports.Form.{Form}
-use Rattle.shop_machine.specs.declared.changes.Change.{Change}
-use Rattle.shop_machine.specs.declared.messages.Message.{Message}
-use Rattle.shop_machine.specs.declared.messages.Reply.{Reply}
-use Rattle.shop_machine.specs.Messages.{Texts}
-use Rattle.shop_machine.specs.Readings.{Reading}
-use Rattle.shop_machine.specs.Content.{Content, material_at, has_order, import_at, totals_of}
+use Rattle.shop_records.specs.declared.imports.Form.{Form}
+use Rattle.shop_records.specs.declared.changes.Change.{Change}
+use Rattle.shop_records.specs.declared.messages.Message.{Message}
+use Rattle.shop_records.specs.declared.messages.Reply.{Reply}
+use Rattle.shop_records.specs.Messages.{Texts}
+use Rattle.shop_records.specs.Readings.{Reading}
+use Rattle.shop_records.specs.Content.{Content, material_at, has_order, import_at, totals_of}
 use Rattle.shop_machine.specs.Decisions.{no_change}
 use Rattle.shop_machine.specs.Importing.{IsImportReading, import_refusal, ImportMakes}
-use Rattle.shop_machine.specs.Soundness.{IsSound}
+use Rattle.shop_records.specs.Soundness.{IsSound}
 use Rattle.shop_machine.specs.History.{Deed, nothing, Orders, Receives, import_deeds, acts_of}
 use Rattle.shop_machine.proofs.Accounts.{Follows, row_later}
 use Rattle.shop_machine.proofs.Steps.{AfterAll}

@@ -8,26 +8,27 @@ use Rattle.cut_measure.specs.Codes.{code_cmp, is_code}
 use Rattle.cut_measure.specs.Measures.{Extent, is_size}
 use Rattle.shop_files.specs.declared.orders.OrderLine.{OrderLine}
 use Rattle.shop_files.specs.declared.problems.Piece.{Piece}
-use Rattle.shop_machine.specs.declared.records.Material.{Material}
-use Rattle.shop_machine.specs.declared.texts.Kept.{Kept}
-use Rattle.shop_machine.specs.declared.imports.Form.{Form}
-use Rattle.shop_machine.specs.declared.imports.Form.TheVariants.{Csv, Cgcut}
-use Rattle.shop_machine.specs.declared.imports.ImportRow.{ImportRow}
-use Rattle.shop_machine.specs.declared.changes.Change.{Change}
-use Rattle.shop_machine.specs.declared.messages.Message.{Message}
-use Rattle.shop_machine.specs.declared.messages.Reply.{Reply}
-use Rattle.shop_machine.specs.declared.refusals.Refusal.TheVariants.{OrderExists, StoreFault}
-use Rattle.shop_machine.specs.Messages.{Texts, IsMade, pair_of}
-use Rattle.shop_machine.specs.Readings.{Reading, unread, Plan, Lines, Problem, Again}
-use Rattle.shop_machine.specs.Content.{Content, pair_cmp, material_at, has_order, import_at, kept_at, totals_of, changed}
+use Rattle.shop_records.specs.declared.records.Material.{Material}
+use Rattle.shop_records.specs.declared.texts.Kept.{Kept}
+use Rattle.shop_records.specs.declared.imports.Form.{Form}
+use Rattle.shop_records.specs.declared.imports.Form.TheVariants.{Csv, Cgcut}
+use Rattle.shop_records.specs.declared.imports.ImportRow.{ImportRow}
+use Rattle.shop_records.specs.declared.changes.Change.{Change}
+use Rattle.shop_records.specs.declared.messages.Message.{Message}
+use Rattle.shop_records.specs.declared.messages.Reply.{Reply}
+use Rattle.shop_records.specs.declared.refusals.Refusal.TheVariants.{OrderExists, StoreFault}
+use Rattle.shop_records.specs.Messages.{Texts, IsMade, pair_of}
+use Rattle.shop_records.specs.Readings.{Reading, unread, Plan, Lines, Problem, Again}
+use Rattle.shop_records.specs.Content.{Content, pair_cmp, material_at, has_order, import_at, kept_at, totals_of, changed}
 use Rattle.shop_machine.specs.Decisions.{first_of, no_change}
 use Rattle.shop_machine.specs.Receiving.{receive_refusal, receive_change}
 use Rattle.shop_machine.specs.Ordering.{lines_refusal, order_refusal}
-use Rattle.shop_machine.specs.Importing.{IsRepeat, Tells, IsImportReading, problem_lines, unit_refusal, problem_refusal, import_refusal, unread_refusal, lines_change, problem_change, ImportMakes}
+use Rattle.shop_machine.specs.Importing.{IsRepeat, IsImportReading, problem_lines, unit_refusal, problem_refusal, import_refusal, unread_refusal, lines_change, problem_change, ImportMakes}
+use Rattle.shop_records.specs.Keeping.{Tells}
 use Rattle.shop_machine.specs.Machine.{keeping}
 use Rattle.shop_machine.specs.History.{Deed, nothing, Orders, Receives, import_deeds}
-use Rattle.shop_machine.specs.Soundness.{Fits}
-use Rattle.shop_machine.proofs.Basics.{none_at}
+use Rattle.shop_records.specs.Soundness.{Fits}
+use Rattle.shop_records.proofs.Basics.{none_at}
 use Rattle.shop_machine.proofs.Agreeing.{NoFault, either, other, nothing as none}
 use Rattle.shop_machine.proofs.Allowed.{or_none}
 use Rattle.shop_machine.proofs.Grown.{IsStock, with_messages, same_stock, nothing_fits}

@@ -10,13 +10,13 @@ use Rattle.cut_tree.specs.Tree.{Tree}
 use Rattle.cut_tree.specs.Cells.{Outcome}
 use Rattle.cut_tree.specs.Laying.{IsLaid}
 use Rattle.cut_tree.proofs.CellCounts.{inside, add_up, count_all}
-use Rattle.shop_machine.specs.declared.records.Job.{Job}
-use Rattle.shop_machine.specs.declared.records.Part.{Part}
-use Rattle.shop_machine.specs.Columns.{is_reserved_for}
+use Rattle.shop_records.specs.declared.records.Job.{Job}
+use Rattle.shop_records.specs.declared.records.Part.{Part}
+use Rattle.shop_records.specs.Columns.{is_reserved_for}
 use Rattle.shop_machine.specs.Ending.{is_part_of, row_part}
-use Rattle.shop_machine.specs.History.{IsIn}
-use Rattle.shop_machine.proofs.Basics.{all_in}
-use Rattle.shop_machine.proofs.Puts.{sum_map}
+use Rattle.shop_records.specs.Elements.{IsIn}
+use Rattle.shop_records.proofs.Basics.{all_in}
+use Rattle.shop_records.proofs.Puts.{sum_map}
 
 -- a laid row has a cell and lies in the unit
 pub record IsInside (w h : ℕ) (r : Row) : Type 0 where

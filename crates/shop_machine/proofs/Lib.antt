@@ -1,7 +1,4 @@
--- numbers, lists and finite maps
-pub mod Basics
-pub mod Sums
-pub mod Puts
+-- marks of parts, and sums over cells
 pub mod Marks
 -- what is known of a command that isn't refused
 pub mod Allowed

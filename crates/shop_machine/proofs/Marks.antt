@@ -1,23 +1,22 @@
 -- Marks of parts, and sums over cells and over lists whose keys differ.
-use Rattle.std.proofs.Common.{◌≡◌, ℕ, zero, suc, ◌+◌, Bool, true, false, cond, List, [], ◌∷◌, ◌++◌, map, refl, ap, subst, sym, ◌∙◌, arith, inl, inr, true≢false}
+use Rattle.std.proofs.Common.{◌≡◌, ℕ, zero, suc, ◌+◌, Bool, true, false, List, [], ◌∷◌, ◌++◌, map, refl, ap, sym, ◌∙◌, arith, inl, inr}
 use Rattle.std.specs.Prelude.{sum_by, T, Some, if◌then◌else◌}
-use Rattle.std.specs.declared.cmp.Ordering.TheVariants.{Less, Equal}
-use Rattle.std.specs.Ordering.{is_eq, is_lt}
-use Rattle.std.specs.Cmp.{tied_itself}
 use Rattle.std.specs.List.{flat_map}
 use Rattle.std.proofs.lemmas.List.Sums.{sum_by-cons, sum_by-append, sum_by_push}
-use Rattle.std.specs.FinMap.{FinMap, entries, entries_sorted, is_sorted, find, get, get-entries, values}
+use Rattle.std.specs.FinMap.{FinMap, entries, entries_sorted, is_sorted, get, get-entries, values}
 use Rattle.std.specs.FinMap.Entries.{below_all}
 use Rattle.cut_measure.specs.Names.{Name, name_cmp}
 use Rattle.cut_measure.specs.Measures.{Extent, below, cells_of}
 use Rattle.cut_tree.specs.Counting.{sum_below}
 use Rattle.cut_tree.proofs.CellSums as rectangle
 use Rattle.cut_tree.proofs.CellSums.{sum_cells, sum_below-same}
-use Rattle.shop_machine.specs.declared.records.Part.{Part}
-use Rattle.shop_machine.specs.History.{ReceivedUnit, IsIn}
-use Rattle.shop_machine.proofs.Sums.{first, second, less}
-use Rattle.shop_machine.proofs.Basics.{names_total, names_same, name_cases, same_some, none_some, untied, in_append}
-use Rattle.shop_machine.proofs.Puts.{sum_map, sum_as, sum_none}
+use Rattle.shop_records.specs.declared.records.Part.{Part}
+use Rattle.shop_machine.specs.History.{ReceivedUnit}
+use Rattle.shop_records.specs.Elements.{IsIn}
+use Rattle.shop_records.proofs.Entries.{below_in, in_found, found_in}
+use Rattle.shop_records.proofs.Sums.{first, second}
+use Rattle.shop_records.proofs.Basics.{in_append}
+use Rattle.shop_records.proofs.Puts.{sum_map, sum_as, sum_none}
 
 -- 1 at the cells of a part, if it is asked for, else 0
 abbrev pub mark : Bool → Part → ℕ → ℕ → ℕ
@@ -92,36 +91,9 @@ sum_by-units f test units =
 
 -- ---- entries
 
-below_in : (k : Name) (es : List (Name × Part)) (e : Name × Part) → T (below_all name_cmp k es) → IsIn e es → e.0 ≡ k → ⊥
-below_in k [] e t i = λ same. i
-below_in k (f ∷ es) e t (inl is) = λ same.
-    let lt : name_cmp k f.0 ≡ Less = less (name_cmp k f.0) (first _ _ t) in
-    let tie : name_cmp k k ≡ Equal = tied_itself names_total k in
-    let eq : name_cmp k k ≡ Less = ap (name_cmp k) (sym same ∙ ap (λ (v : Name × Part). v.0) is) ∙ lt in
-    true≢false (ap is_eq (sym tie ∙ eq))
-below_in k (f ∷ es) e t (inr i) = below_in k es e (second (is_lt (name_cmp k f.0)) _ t) i
-
 entries_apart : (es : List (Name × Part)) → T (is_sorted name_cmp es) → Apart (λ (e : Name × Part). e.0) es
 entries_apart [] t = tt
 entries_apart (e ∷ es) t = ((λ f i. below_in e.0 es f (first (below_all name_cmp e.0 es) _ t) i), entries_apart es (second (below_all name_cmp e.0 es) _ t))
-
--- an entry of a map is found by its key
-pub found_in : (es : List (Name × Part)) (e : Name × Part) → T (is_sorted name_cmp es) → IsIn e es → find name_cmp e.0 es ≡ Some e.1
-found_in [] e t i = absurd i
-found_in (f ∷ es) e t (inl is) =
-    ap (λ (v : Name × Part). find name_cmp v.0 (f ∷ es)) is ∙ ap (λ b. cond b (Some f.1) (find name_cmp f.0 es)) (ap is_eq (tied_itself names_total f.0)) ∙ ap (λ (v : Name × Part). Some v.1) (sym is)
-found_in (f ∷ es) e t (inr i) =
-    ap (λ b. cond b (Some f.1) (find name_cmp e.0 es)) (untied names_total names_same e.0 f.0 (below_in f.0 es e (first (below_all name_cmp f.0 es) _ t) i)) ∙ found_in es e (second (below_all name_cmp f.0 es) _ t) i
-
-in_found : (es : List (Name × Part)) (n : Name) (p : Part) → find name_cmp n es ≡ Some p → IsIn (n, p) es
-in_found [] n p e = absurd (none_some p e)
-in_found (f ∷ es) n p e =
-    elim (name_cases n f.0) [
-      | inl y ↦ (
-          let is : f.1 ≡ p = same_some f.1 p (sym (ap (λ b. cond b (Some f.1) (find name_cmp n es)) (ap is_eq (ap (λ k. name_cmp k f.0) y.0 ∙ tied_itself names_total f.0))) ∙ e) in
-          inl (λ i. (y.0 i, sym is i)))
-      | inr off ↦ inr (in_found es n p (sym (ap (λ b. cond b (Some f.1) (find name_cmp n es)) (untied names_total names_same n f.0 off.0)) ∙ e))
-    ]
 
 -- a sum over the rows of a map to which one row adds
 pub sum_values-one : (m : FinMap name_cmp Part) (f : Part → ℕ) (n : Name) (p : Part) → get m n ≡ Some p
@@ -131,12 +103,3 @@ sum_values-one m f n p kept none =
     ∙ sum_by-one (λ (e : Name × Part). e.0) (λ e. f e.1) (entries m) (n, p) (entries_apart (entries m) (entries_sorted m))
     (in_found (entries m) n p (sym (get-entries m n) ∙ kept))
     (λ e i other. none e.0 e.1 (get-entries m e.0 ∙ found_in (entries m) e (entries_sorted m) i) other)
-
--- what is kept holds of the rows
-pub each_value : (m : FinMap name_cmp Part) (P : Part → Type 0) → ((k : Name) (q : Part) → get m k ≡ Some q → P q) → (q : Part) → IsIn q (values m) → P q
-each_value m P all q i = go (entries m) (λ e j. all e.0 e.1 (get-entries m e.0 ∙ found_in (entries m) e (entries_sorted m) j)) i
-  where
-    go : (es : List (Name × Part)) → ((e : Name × Part) → IsIn e es → P e.1) → IsIn q (map (λ (e : Name × Part). e.1) es) → P q
-    go [] h j = absurd j
-    go (e ∷ es) h (inl is) = subst P (sym is) (h e (inl refl))
-    go (e ∷ es) h (inr j) = go es (λ f k. h f (inr k)) j

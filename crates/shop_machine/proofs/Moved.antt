@@ -6,16 +6,16 @@ use Rattle.std.specs.FinMap.{FinMap, get, insert, values}
 use Rattle.cut_measure.specs.Names.{Name, name_cmp}
 use Rattle.cut_tree.specs.declared.lay.Row.{Row}
 use Rattle.cut_tree.specs.Tree.{Tree, count_of}
-use Rattle.shop_machine.specs.declared.records.Part.{Part}
-use Rattle.shop_machine.specs.declared.records.State.{State}
-use Rattle.shop_machine.specs.declared.records.Demand.{Demand}
-use Rattle.shop_machine.specs.declared.records.Column.TheVariants.{Received}
-use Rattle.shop_machine.specs.Columns.{is_piece_for}
-use Rattle.shop_machine.specs.Content.{with_parts, with_demands, cells_in, totals_in, AddsUp, in_state}
+use Rattle.shop_records.specs.declared.records.Part.{Part}
+use Rattle.shop_records.specs.declared.records.State.{State}
+use Rattle.shop_records.specs.declared.records.Demand.{Demand}
+use Rattle.shop_records.specs.declared.records.Column.TheVariants.{Received}
+use Rattle.shop_records.specs.Columns.{is_piece_for}
+use Rattle.shop_records.specs.Content.{with_parts, with_demands, cells_in, totals_in, AddsUp, in_state}
 use Rattle.shop_machine.specs.Recounts.{AreRecounted, with_reserved, with_laid, with_freed, pieces_in}
-use Rattle.shop_machine.specs.History.{IsIn}
-use Rattle.shop_machine.proofs.Basics.{all_in, any_in, same_some, names_total, names_same, get_other, put_cases, demand_cases}
-use Rattle.shop_machine.proofs.Puts.{is_known, not_both, Pairwise, put_other, sum_parts, sum_over}
+use Rattle.shop_records.specs.Elements.{IsIn}
+use Rattle.shop_records.proofs.Basics.{all_in, any_in, same_some, names_total, names_same, get_other, put_cases, demand_cases}
+use Rattle.shop_records.proofs.Puts.{is_known, not_both, Pairwise, put_other, sum_parts, sum_over}
 use Rattle.shop_machine.proofs.AddedUp.{cells_as, cells_left, adds_up, adds_up_so}
 
 -- ---- recounts

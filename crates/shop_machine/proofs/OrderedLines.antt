@@ -7,14 +7,14 @@ use Rattle.std.specs.Cmp.{nat_cmp_total}
 use Rattle.std.specs.FinMap.{FinMap, get, insert, nat_cmp-IsAntisymmetric}
 use Rattle.std.proofs.lemmas.List.{append_assoc, append-nil, length-append, length-map}
 use Rattle.cut_tree.specs.Tree.{Tree, count_of}
-use Rattle.shop_machine.specs.declared.records.Demand.{Demand}
+use Rattle.shop_records.specs.declared.records.Demand.{Demand}
 use Rattle.shop_files.specs.declared.orders.OrderLine.{OrderLine}
-use Rattle.shop_machine.specs.Content.{Content, demand_at, with_demands}
+use Rattle.shop_records.specs.Content.{Content, demand_at, with_demands}
 use Rattle.shop_machine.specs.Recounts.{AreRecounted}
 use Rattle.shop_machine.specs.Ordering.{new_demand, new_demands}
 use Rattle.shop_machine.specs.History.{Deed, OrderedLine, ordered_lines, nth_line, demand_of, DemandsAreLines}
-use Rattle.shop_machine.specs.Soundness.{IsDemand, reserved_in, made_in}
-use Rattle.shop_machine.proofs.Basics.{nat_cases, get_same, get_other, demand_cases}
+use Rattle.shop_records.specs.Soundness.{IsDemand, reserved_in, made_in}
+use Rattle.shop_records.proofs.Basics.{nat_cases, get_same, get_other, demand_cases}
 use Rattle.shop_machine.proofs.Moved.{LeavesOthers, row_recount}
 
 -- what a demand asks for, as it was ordered

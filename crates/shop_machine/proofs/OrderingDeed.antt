@@ -2,10 +2,10 @@
 use Rattle.std.proofs.Common.{◌≡◌, ℕ, ◌+◌, List, ◌∷◌, ap, arith}
 use Rattle.std.specs.FinMap.{FinMap}
 use Rattle.cut_measure.specs.Codes.{code_cmp}
-use Rattle.shop_machine.specs.declared.texts.Kept.{Kept}
-use Rattle.shop_machine.specs.declared.imports.ImportRow.{ImportRow}
+use Rattle.shop_records.specs.declared.texts.Kept.{Kept}
+use Rattle.shop_records.specs.declared.imports.ImportRow.{ImportRow}
 use Rattle.shop_files.specs.declared.orders.OrderLine.{OrderLine}
-use Rattle.shop_machine.specs.Content.{Content, pair_cmp, changed}
+use Rattle.shop_records.specs.Content.{Content, pair_cmp, changed}
 use Rattle.shop_machine.specs.Ordering.{order_change}
 use Rattle.shop_machine.specs.History.{Deed, Orders, acts_of, ordered_lines}
 use Rattle.shop_machine.proofs.Grown.{with_messages}

@@ -10,26 +10,26 @@ use Rattle.cut_measure.specs.Codes.{code_cmp}
 use Rattle.cut_measure.specs.Names.{name_cmp}
 use Rattle.cut_measure.specs.declared.ranges.TheConstants.{MOST_NUMBERS}
 use Rattle.cut_tree.specs.Tree.{count_of}
-use Rattle.shop_machine.specs.declared.records.Part.{Part}
-use Rattle.shop_machine.specs.declared.records.Job.{Job}
-use Rattle.shop_machine.specs.declared.records.Demand.{Demand}
-use Rattle.shop_machine.specs.declared.texts.Kept.{Kept}
-use Rattle.shop_machine.specs.declared.imports.ImportRow.{ImportRow}
-use Rattle.shop_machine.specs.declared.messages.Message.{Message}
+use Rattle.shop_records.specs.declared.records.Part.{Part}
+use Rattle.shop_records.specs.declared.records.Job.{Job}
+use Rattle.shop_records.specs.declared.records.Demand.{Demand}
+use Rattle.shop_records.specs.declared.texts.Kept.{Kept}
+use Rattle.shop_records.specs.declared.imports.ImportRow.{ImportRow}
+use Rattle.shop_records.specs.declared.messages.Message.{Message}
 use Rattle.shop_files.specs.declared.orders.OrderLine.{OrderLine}
 use Rattle.shop_files.specs.declared.limits.TheConstants.{MOST_LINES}
-use Rattle.shop_machine.specs.declared.records.Material.{Material}
-use Rattle.shop_machine.specs.declared.refusals.Refusal.TheVariants.{NumbersSpent, OrderExists, BadLine}
-use Rattle.shop_machine.specs.Messages.{Texts, pair_of}
-use Rattle.shop_machine.specs.Columns.{is_piece_for, is_waiting}
-use Rattle.shop_machine.specs.Content.{Content, pair_cmp, material_at, has_order, demand_at, kept_at, changed}
+use Rattle.shop_records.specs.declared.records.Material.{Material}
+use Rattle.shop_records.specs.declared.refusals.Refusal.TheVariants.{NumbersSpent, OrderExists, BadLine}
+use Rattle.shop_records.specs.Messages.{Texts, pair_of}
+use Rattle.shop_records.specs.Columns.{is_piece_for, is_waiting}
+use Rattle.shop_records.specs.Content.{Content, pair_cmp, material_at, has_order, demand_at, kept_at, changed}
 use Rattle.shop_machine.specs.Ordering.{new_demand, new_demands, order_change, order_refusal, line_refusal, lines_refusal, is_good_line}
 use Rattle.shop_machine.specs.Machine.{keeping}
-use Rattle.shop_machine.specs.History.{IsIn}
-use Rattle.shop_machine.specs.Soundness.{IsDemand, IsNewDemand, Fits, reserved_in, made_in}
+use Rattle.shop_records.specs.Elements.{IsIn}
+use Rattle.shop_records.specs.Soundness.{IsDemand, IsNewDemand, Fits, reserved_in, made_in}
 use Rattle.shop_machine.specs.Decisions.{first_of}
-use Rattle.shop_machine.proofs.Basics.{names_total, names_same, same_some, none_at, demand_cases}
-use Rattle.shop_machine.proofs.Puts.{Pairwise, all_from, pairs_from, not_both, is_known, some_known, sum_no_rows}
+use Rattle.shop_records.proofs.Basics.{names_total, names_same, same_some, none_at, demand_cases}
+use Rattle.shop_records.proofs.Puts.{Pairwise, all_from, pairs_from, not_both, is_known, some_known, sum_no_rows}
 use Rattle.shop_machine.proofs.Allowed.{none_of, or_none}
 use Rattle.shop_machine.proofs.Grown.{with_messages, IsStock, Grows, placed_more, job_more, demand_more, no_pairs}
 use Rattle.shop_machine.proofs.Agreeing.{NoFault, either, nothing, other}

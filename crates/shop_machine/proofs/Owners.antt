@@ -1,9 +1,9 @@
 -- The account of a history.
 use Rattle.std.proofs.Common.{◌≡◌, List, sym, ap, ◌∙◌, subst, arith}
-use Rattle.shop_machine.specs.declared.records.Part.{Part}
-use Rattle.shop_machine.specs.Messages.{Texts}
-use Rattle.shop_machine.specs.Content.{Content}
-use Rattle.shop_machine.specs.Soundness.{IsSound}
+use Rattle.shop_records.specs.declared.records.Part.{Part}
+use Rattle.shop_records.specs.Messages.{Texts}
+use Rattle.shop_records.specs.Content.{Content}
+use Rattle.shop_records.specs.Soundness.{IsSound}
 use Rattle.shop_machine.specs.History.{Entry, Deed, deeds_of, Gives, Holds, IsOwner, EachPartOwnsItsCells, IsAccountOf, owner_of}
 use Rattle.shop_machine.proofs.Sound.{gives_sound}
 use Rattle.shop_machine.proofs.Accounts.{Follows}

@@ -7,25 +7,25 @@ use Rattle.std.specs.FinMap.{values, nat_cmp-IsAntisymmetric}
 use Rattle.cut_measure.specs.declared.ranges.TheConstants.{MOST_NUMBERS}
 use Rattle.cut_measure.specs.Names.{Name, name_cmp}
 use Rattle.cut_tree.specs.Tree.{Tree, count_of}
-use Rattle.shop_machine.specs.declared.records.Part.{Part}
-use Rattle.shop_machine.specs.declared.records.State.{State}
-use Rattle.shop_machine.specs.declared.records.State.TheVariants as state
-use Rattle.shop_machine.specs.declared.records.Job.{Job}
-use Rattle.shop_machine.specs.declared.records.Demand.{Demand}
-use Rattle.shop_machine.specs.declared.records.Column.TheVariants.{Received}
-use Rattle.shop_machine.specs.declared.changes.Change.{Change}
-use Rattle.shop_machine.specs.declared.changes.MaterialTotals.{MaterialTotals}
-use Rattle.shop_machine.specs.declared.messages.Message.{Message}
-use Rattle.shop_machine.specs.declared.messages.Reply.{Reply}
-use Rattle.shop_machine.specs.Messages.{Texts, pair_of}
-use Rattle.shop_machine.specs.Columns.{is_there, is_piece_for}
-use Rattle.shop_machine.specs.Content.{Content, material_at, part_at, job_at, demand_at, kept_at, changed, with_number, in_state, totals_of}
+use Rattle.shop_records.specs.declared.records.Part.{Part}
+use Rattle.shop_records.specs.declared.records.State.{State}
+use Rattle.shop_records.specs.declared.records.State.TheVariants as state
+use Rattle.shop_records.specs.declared.records.Job.{Job}
+use Rattle.shop_records.specs.declared.records.Demand.{Demand}
+use Rattle.shop_records.specs.declared.records.Column.TheVariants.{Received}
+use Rattle.shop_records.specs.declared.changes.Change.{Change}
+use Rattle.shop_records.specs.declared.changes.MaterialTotals.{MaterialTotals}
+use Rattle.shop_records.specs.declared.messages.Message.{Message}
+use Rattle.shop_records.specs.declared.messages.Reply.{Reply}
+use Rattle.shop_records.specs.Messages.{Texts, pair_of}
+use Rattle.shop_records.specs.Columns.{is_there, is_piece_for}
+use Rattle.shop_records.specs.Content.{Content, material_at, part_at, job_at, demand_at, kept_at, changed, with_number, in_state, totals_of}
 use Rattle.shop_machine.specs.Recounts.{AreRecounted}
 use Rattle.shop_machine.specs.Machine.{keeping}
-use Rattle.shop_machine.specs.History.{IsIn}
-use Rattle.shop_machine.specs.Soundness.{IsPlaced, IsWaiting, IsJob, IsDemand, IsCounted, IsNewPart, IsNewJob, IsMovedJob, IsMovedDemand, TotalsFit, with_totals, Fits}
-use Rattle.shop_machine.proofs.Basics.{at_in, names_total, same_some}
-use Rattle.shop_machine.proofs.Puts.{Pairwise, all_from, pairs_from, pairs_more, not_both, found_one}
+use Rattle.shop_records.specs.Elements.{IsIn}
+use Rattle.shop_records.specs.Soundness.{IsPlaced, IsWaiting, IsJob, IsDemand, IsCounted, IsNewPart, IsNewJob, IsMovedJob, IsMovedDemand, TotalsFit, with_totals, Fits}
+use Rattle.shop_records.proofs.Basics.{at_in, names_total, same_some}
+use Rattle.shop_records.proofs.Puts.{Pairwise, all_from, pairs_from, pairs_more, not_both, found_one}
 use Rattle.shop_machine.proofs.AddedUp.{cells_as, cells_left, is_uncut}
 use Rattle.shop_machine.proofs.Moved.{LeavesOthers, IsRecount, row_recount, recount_of, demand_there, found_moved, still_moved, other_moved, received_moved, adds_up_moved, made_moved}
 use Rattle.shop_machine.proofs.Grown.{IsStock, Grows, Untouched, placed_more, job_more}

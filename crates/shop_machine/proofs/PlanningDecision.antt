@@ -7,15 +7,15 @@ use Rattle.std.proofs.lemmas.List.Elements.{recursion_from_All}
 use Rattle.cut_measure.specs.declared.sizes.Kind.{Kind}
 use Rattle.cut_measure.specs.Measures.{Extent, is_size, size_of}
 use Rattle.cut_table.specs.declared.wants.Want.{Want}
-use Rattle.shop_machine.specs.declared.records.Material.{Material}
-use Rattle.shop_machine.specs.declared.records.Part.{Part}
-use Rattle.shop_machine.specs.declared.records.Demand.{Demand}
+use Rattle.shop_records.specs.declared.records.Material.{Material}
+use Rattle.shop_records.specs.declared.records.Part.{Part}
+use Rattle.shop_records.specs.declared.records.Demand.{Demand}
 use Rattle.shop_machine.specs.declared.planning.FoundDemand.{FoundDemand}
-use Rattle.shop_machine.specs.declared.refusals.Refusal.{Refusal}
-use Rattle.shop_machine.specs.declared.refusals.Refusal.TheVariants.{NoMaterial, NotStanding, BadSize, BadWant, NoMemory}
-use Rattle.shop_machine.specs.declared.messages.Reply.{Reply}
-use Rattle.shop_machine.specs.declared.messages.Reply.TheVariants.{Refused}
-use Rattle.shop_machine.specs.Columns.{is_free}
+use Rattle.shop_records.specs.declared.refusals.Refusal.{Refusal}
+use Rattle.shop_records.specs.declared.refusals.Refusal.TheVariants.{NoMaterial, NotStanding, BadSize, BadWant, NoMemory}
+use Rattle.shop_records.specs.declared.messages.Reply.{Reply}
+use Rattle.shop_records.specs.declared.messages.Reply.TheVariants.{Refused}
+use Rattle.shop_records.specs.Columns.{is_free}
 use Rattle.shop_machine.specs.Decisions.{first_of}
 use Rattle.shop_machine.specs.Planning.{are_bad_numbers, demands_refusal, numbers_refusal, want_of, wants_of, planned_size, planning_refusal, bound_refusal, IsPlanned, IsBounded, IsPlanAnswer, IsBoundAnswer, numbers_in, AreFound, AreAsked, Tells}
 

@@ -24,30 +24,30 @@ use Rattle.cut_table.specs.Legal.{Legal, IsWantedPiece, IsWithinCounts, HasSides
 use Rattle.cut_plan.specs.declared.faults.PlanFault.{PlanFault}
 use Rattle.cut_plan.specs.declared.faults.PlanFault.TheVariants as fault
 use Rattle.cut_plan.specs.Faults.{fault_of}
-use Rattle.shop_machine.specs.declared.records.Material.{Material}
-use Rattle.shop_machine.specs.declared.records.Part.{Part}
-use Rattle.shop_machine.specs.declared.records.Demand.{Demand}
-use Rattle.shop_machine.specs.declared.refusals.Refusal.{Refusal}
-use Rattle.shop_machine.specs.declared.refusals.Refusal.TheVariants.{NoDemand, NoMaterial, NotStanding, WrongMaterial, WrongSize, BadTree, TooMany, NumbersSpent, BadWant, NoMemory, StoreFault}
-use Rattle.shop_machine.specs.declared.messages.Message.{Message}
-use Rattle.shop_machine.specs.declared.messages.Command.{Command}
-use Rattle.shop_machine.specs.declared.messages.Command.TheVariants.{Reserve}
-use Rattle.shop_machine.specs.declared.messages.Query.TheVariants as query
-use Rattle.shop_machine.specs.declared.messages.Reply.{Reply}
-use Rattle.shop_machine.specs.declared.messages.Reply.TheVariants as reply
-use Rattle.shop_machine.specs.Same.{same_code}
-use Rattle.shop_machine.specs.Columns.{is_free}
-use Rattle.shop_machine.specs.Messages.{Texts, pair_of}
-use Rattle.shop_machine.specs.Readings.{Reading, unread, Plan, plan_in, Lines, Problem, Again}
-use Rattle.shop_machine.specs.Content.{Content, material_at, part_at, demand_at, kept_at, material_of}
+use Rattle.shop_records.specs.declared.records.Material.{Material}
+use Rattle.shop_records.specs.declared.records.Part.{Part}
+use Rattle.shop_records.specs.declared.records.Demand.{Demand}
+use Rattle.shop_records.specs.declared.refusals.Refusal.{Refusal}
+use Rattle.shop_records.specs.declared.refusals.Refusal.TheVariants.{NoDemand, NoMaterial, NotStanding, WrongMaterial, WrongSize, BadTree, TooMany, NumbersSpent, BadWant, NoMemory, StoreFault}
+use Rattle.shop_records.specs.declared.messages.Message.{Message}
+use Rattle.shop_records.specs.declared.messages.Command.{Command}
+use Rattle.shop_records.specs.declared.messages.Command.TheVariants.{Reserve}
+use Rattle.shop_records.specs.declared.messages.Query.TheVariants as query
+use Rattle.shop_records.specs.declared.messages.Reply.{Reply}
+use Rattle.shop_records.specs.declared.messages.Reply.TheVariants as reply
+use Rattle.shop_records.specs.Same.{same_code}
+use Rattle.shop_records.specs.Columns.{is_free}
+use Rattle.shop_records.specs.Messages.{Texts, pair_of}
+use Rattle.shop_records.specs.Readings.{Reading, unread, Plan, plan_in, Lines, Problem, Again}
+use Rattle.shop_records.specs.Content.{Content, material_at, part_at, demand_at, kept_at, material_of}
 use Rattle.shop_machine.specs.Decisions.{first_of}
 use Rattle.shop_machine.specs.Recounts.{plan_leaves}
 use Rattle.shop_machine.specs.Reserving.{IsReading, HasNoPiece, fits_demand, leaf_refusal, leaves_refusal, is_over, is_too_many, plan_refusal, reserve_refusal}
 use Rattle.shop_machine.specs.Planning.{are_bad_numbers, is_demand_number, demand_refusal, demands_refusal, numbers_refusal, left_of, want_of, wants_of, planned_size, planning_refusal, IsProposed, HasManyCuts, IsPlanned, IsPlanAnswer, planner_refusal}
 use Rattle.shop_machine.specs.Machine.{Reads, refusal_of, Refuses, Accepts, Step, StepNew, StepAgain, Answers}
-use Rattle.shop_machine.specs.Soundness.{IsSound}
-use Rattle.shop_machine.specs.History.{IsIn}
-use Rattle.shop_machine.proofs.Basics.{all_in, same_some}
+use Rattle.shop_records.specs.Soundness.{IsSound}
+use Rattle.shop_records.specs.Elements.{IsIn}
+use Rattle.shop_records.proofs.Basics.{all_in, same_some}
 use Rattle.shop_machine.proofs.Allowed.{none_of, or_none}
 
 -- ---- wants

@@ -4,17 +4,17 @@ use Rattle.std.specs.Prelude.{Some}
 use Rattle.std.specs.FinMap.{FinMap, get}
 use Rattle.cut_measure.specs.Names.{Name, name_cmp}
 use Rattle.cut_measure.specs.Measures.{Extent, below}
-use Rattle.shop_machine.specs.declared.records.Part.{Part}
-use Rattle.shop_machine.specs.declared.records.State.TheVariants.{Standing}
+use Rattle.shop_records.specs.declared.records.Part.{Part}
+use Rattle.shop_records.specs.declared.records.State.TheVariants.{Standing}
 use Rattle.cut_measure.specs.Codes.{code_cmp}
-use Rattle.shop_machine.specs.declared.texts.Kept.{Kept}
-use Rattle.shop_machine.specs.declared.imports.ImportRow.{ImportRow}
-use Rattle.shop_machine.specs.declared.changes.Change.{Change}
-use Rattle.shop_machine.specs.Content.{Content, pair_cmp, totals_of, changed}
+use Rattle.shop_records.specs.declared.texts.Kept.{Kept}
+use Rattle.shop_records.specs.declared.imports.ImportRow.{ImportRow}
+use Rattle.shop_records.specs.declared.changes.Change.{Change}
+use Rattle.shop_records.specs.Content.{Content, pair_cmp, totals_of, changed}
 use Rattle.shop_machine.specs.Receiving.{receive_change, unit_part}
-use Rattle.shop_machine.specs.Soundness.{IsInRange}
+use Rattle.shop_records.specs.Soundness.{IsInRange}
 use Rattle.shop_machine.specs.History.{Deed, Receives, ReceivedUnit, acts_of, units_of, owner_by, owner_of, HasOwner}
-use Rattle.shop_machine.proofs.Basics.{in_append, in_first, in_map, map_in}
+use Rattle.shop_records.proofs.Basics.{in_append, in_first, in_map, map_in}
 use Rattle.shop_machine.proofs.Cells.{after_receipt, received_cases, found_unit, kept_before, still_owned, new_owned}
 use Rattle.shop_machine.proofs.Grown.{with_messages}
 use Rattle.shop_machine.proofs.Accounts.{IsRow, IsWhole, Follows, unit_of, unit_acts, if_yes, if_no, row_later}

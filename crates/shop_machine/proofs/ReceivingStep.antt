@@ -14,29 +14,30 @@ use Rattle.cut_measure.specs.Names.{Name, name_cmp}
 use Rattle.cut_measure.specs.Measures.{Extent, below, is_size}
 use Rattle.cut_measure.specs.declared.ranges.TheConstants.{MOST_NUMBERS}
 use Rattle.cut_measure.specs.declared.sizes.Kind.TheVariants.{Bar}
-use Rattle.shop_machine.specs.declared.receiving.TheConstants.{MOST_RECEIVED, MOST_UNITS}
-use Rattle.shop_machine.specs.declared.records.Material.{Material}
-use Rattle.shop_machine.specs.declared.records.Part.{Part}
-use Rattle.shop_machine.specs.declared.records.Demand.{Demand}
-use Rattle.shop_machine.specs.declared.records.Column.{Column}
-use Rattle.shop_machine.specs.declared.records.Column.TheVariants.{Received, Stock, Rack, Pieces, Kerf, Scrap, Returned}
-use Rattle.shop_machine.specs.declared.records.Totals.{Totals}
-use Rattle.shop_machine.specs.declared.texts.Kept.{Kept}
-use Rattle.shop_machine.specs.declared.imports.ImportRow.{ImportRow}
-use Rattle.shop_machine.specs.declared.messages.Message.{Message}
-use Rattle.shop_machine.specs.declared.refusals.Refusal.TheVariants.{BadSize, BadCount, TooMuch, NumbersSpent, StoreFault}
-use Rattle.shop_machine.specs.declared.messages.Command.TheVariants.{Receive}
-use Rattle.shop_machine.specs.Messages.{Texts, pair_of}
-use Rattle.shop_machine.specs.Same.{same_name}
-use Rattle.shop_machine.specs.Columns.{is_piece_for, is_counted}
-use Rattle.shop_machine.specs.Content.{Content, pair_cmp, material_at, part_at, kept_at, changed, cells_in, totals_in, totals_of, AddsUp}
+use Rattle.shop_records.specs.declared.records.TheConstants.{MOST_RECEIVED}
+use Rattle.shop_machine.specs.declared.receiving.TheConstants.{MOST_UNITS}
+use Rattle.shop_records.specs.declared.records.Material.{Material}
+use Rattle.shop_records.specs.declared.records.Part.{Part}
+use Rattle.shop_records.specs.declared.records.Demand.{Demand}
+use Rattle.shop_records.specs.declared.records.Column.{Column}
+use Rattle.shop_records.specs.declared.records.Column.TheVariants.{Received, Stock, Rack, Pieces, Kerf, Scrap, Returned}
+use Rattle.shop_records.specs.declared.records.Totals.{Totals}
+use Rattle.shop_records.specs.declared.texts.Kept.{Kept}
+use Rattle.shop_records.specs.declared.imports.ImportRow.{ImportRow}
+use Rattle.shop_records.specs.declared.messages.Message.{Message}
+use Rattle.shop_records.specs.declared.refusals.Refusal.TheVariants.{BadSize, BadCount, TooMuch, NumbersSpent, StoreFault}
+use Rattle.shop_records.specs.declared.messages.Command.TheVariants.{Receive}
+use Rattle.shop_records.specs.Messages.{Texts, pair_of}
+use Rattle.shop_records.specs.Same.{same_name}
+use Rattle.shop_records.specs.Columns.{is_piece_for, is_counted}
+use Rattle.shop_records.specs.Content.{Content, pair_cmp, material_at, part_at, kept_at, changed, cells_in, totals_in, totals_of, AddsUp}
 use Rattle.shop_machine.specs.Receiving.{unit_part, unit_parts, receive_change, receive_refusal, received_totals}
 use Rattle.shop_machine.specs.Machine.{keeping, refusal_of}
-use Rattle.shop_machine.specs.History.{IsIn}
-use Rattle.shop_machine.specs.Soundness.{IsPlaced, IsNewPart, Fits, made_in, with_totals}
-use Rattle.shop_machine.specs.Readings.{Reading}
-use Rattle.shop_machine.proofs.Basics.{in_map, in_append, codes_same, same_some, put_cases, earlier_node}
-use Rattle.shop_machine.proofs.Puts.{Pairwise, all_from, pairs_from, pairs_more, map_pairs, sum_as, is_known, equal, put_other, sum_parts}
+use Rattle.shop_records.specs.Elements.{IsIn}
+use Rattle.shop_records.specs.Soundness.{IsPlaced, IsNewPart, Fits, made_in, with_totals}
+use Rattle.shop_records.specs.Readings.{Reading}
+use Rattle.shop_records.proofs.Basics.{in_map, in_append, codes_same, same_some, put_cases, earlier_node}
+use Rattle.shop_records.proofs.Puts.{Pairwise, all_from, pairs_from, pairs_more, map_pairs, sum_as, is_known, equal, put_other, sum_parts}
 use Rattle.shop_machine.proofs.Allowed.{none_of, IsSized, sized, flat}
 use Rattle.shop_machine.proofs.AddedUp.{cells_as, cells_left, adds_up, adds_up_so}
 use Rattle.shop_machine.proofs.Grown.{with_messages, IsStock, IsStill, Grows, placed_more, job_more, none_later, demand_more, no_pairs}

@@ -10,15 +10,15 @@ use Rattle.std.proofs.Math.Seq.{take-length}
 use Rattle.cut_tree.specs.declared.leaves.Leaf.{Leaf}
 use Rattle.cut_tree.specs.Tree.{Tree, count_of}
 use Rattle.cut_tree.specs.Patterns.{Pattern}
-use Rattle.shop_machine.specs.declared.records.Demand.{Demand}
+use Rattle.shop_records.specs.declared.records.Demand.{Demand}
 use Rattle.shop_machine.specs.declared.recounts.FoundLeaf.{FoundLeaf}
 use Rattle.shop_machine.specs.declared.recounts.Recount.{Recount}
 use Rattle.shop_machine.specs.declared.recounts.Recount.TheVariants.{Reserved, Laid, Freed}
 use Rattle.shop_machine.specs.Recounts.{AreRecounted, plan_leaves, AreDemandsFound, leaves_in, recount_by, HasRoom, HasRow, IsAddedOnce}
 use Rattle.shop_machine.specs.Reserving.{is_over}
 use Rattle.shop_machine.specs.Ending.{has_reserved}
-use Rattle.shop_machine.specs.History.{IsIn}
-use Rattle.shop_machine.proofs.Basics.{at_in, in_at, in_map}
+use Rattle.shop_records.specs.Elements.{IsIn}
+use Rattle.shop_records.proofs.Basics.{at_in, in_at, in_map}
 use Rattle.shop_machine.proofs.Allowed.{leaf_with, leaf_counts}
 
 -- ---- demands over their numbers

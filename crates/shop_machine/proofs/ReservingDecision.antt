@@ -5,12 +5,12 @@ use Rattle.std.specs.Option.{option_or}
 use Rattle.std.proofs.lemmas.List.{length-map}
 use Rattle.cut_measure.specs.declared.ranges.TheConstants.{MOST_NUMBERS}
 use Rattle.cut_tree.specs.Patterns.{Pattern}
-use Rattle.shop_machine.specs.declared.records.Material.{Material}
+use Rattle.shop_records.specs.declared.records.Material.{Material}
 use Rattle.shop_machine.specs.declared.recounts.FoundLeaf.{FoundLeaf}
-use Rattle.shop_machine.specs.declared.records.Part.{Part}
-use Rattle.shop_machine.specs.declared.records.Demand.{Demand}
-use Rattle.shop_machine.specs.declared.refusals.Refusal.TheVariants.{BadTree, TooMany, NumbersSpent, NotStanding, StoreFault}
-use Rattle.shop_machine.specs.Columns.{is_free}
+use Rattle.shop_records.specs.declared.records.Part.{Part}
+use Rattle.shop_records.specs.declared.records.Demand.{Demand}
+use Rattle.shop_records.specs.declared.refusals.Refusal.TheVariants.{BadTree, TooMany, NumbersSpent, NotStanding, StoreFault}
+use Rattle.shop_records.specs.Columns.{is_free}
 use Rattle.shop_machine.specs.Recounts.{leaves_in, plan_leaves}
 use Rattle.shop_machine.specs.Decisions.{first_of}
 use Rattle.shop_machine.specs.Reserving.{plan_refusal, reserve_refusal, leaves_refusal, is_too_many}

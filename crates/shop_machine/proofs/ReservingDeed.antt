@@ -5,25 +5,25 @@ use Rattle.std.specs.Cmp.{nat_cmp_total}
 use Rattle.std.specs.FinMap.{get, insert, nat_cmp-IsAntisymmetric}
 use Rattle.cut_measure.specs.Names.{Name}
 use Rattle.cut_tree.specs.Patterns.{Pattern}
-use Rattle.shop_machine.specs.declared.records.Part.{Part}
-use Rattle.shop_machine.specs.declared.records.State.TheVariants.{Standing, Reserved}
-use Rattle.shop_machine.specs.declared.records.Job.{Job}
-use Rattle.shop_machine.specs.declared.records.JobState.TheVariants as job_state
-use Rattle.shop_machine.specs.declared.records.Demand.{Demand}
-use Rattle.shop_machine.specs.declared.changes.Change.{Change}
-use Rattle.shop_machine.specs.declared.messages.Message.{Message}
-use Rattle.shop_machine.specs.declared.messages.Command.{Command}
-use Rattle.shop_machine.specs.declared.messages.Command.TheVariants.{Reserve}
-use Rattle.shop_machine.specs.Messages.{Texts}
-use Rattle.shop_machine.specs.Content.{Content, part_at, demand_at}
+use Rattle.shop_records.specs.declared.records.Part.{Part}
+use Rattle.shop_records.specs.declared.records.State.TheVariants.{Standing, Reserved}
+use Rattle.shop_records.specs.declared.records.Job.{Job}
+use Rattle.shop_records.specs.declared.records.JobState.TheVariants as job_state
+use Rattle.shop_records.specs.declared.records.Demand.{Demand}
+use Rattle.shop_records.specs.declared.changes.Change.{Change}
+use Rattle.shop_records.specs.declared.messages.Message.{Message}
+use Rattle.shop_records.specs.declared.messages.Command.{Command}
+use Rattle.shop_records.specs.declared.messages.Command.TheVariants.{Reserve}
+use Rattle.shop_records.specs.Messages.{Texts}
+use Rattle.shop_records.specs.Content.{Content, part_at, demand_at}
 use Rattle.shop_machine.specs.Reserving.{reserve_change, IsReading, IsReservation}
 use Rattle.shop_machine.specs.Machine.{Reads}
 use Rattle.shop_machine.specs.Recounts.{AreRecounted, with_reserved}
-use Rattle.shop_machine.specs.Soundness.{IsSound}
+use Rattle.shop_records.specs.Soundness.{IsSound}
 use Rattle.shop_machine.specs.History.{Deed, Reserves, acts_of, ordered_lines, job_of, owner_of, is_cut, standing_as, deeds}
-use Rattle.shop_machine.specs.Columns.{is_free}
-use Rattle.shop_machine.specs.Readings.{Reading, Plan}
-use Rattle.shop_machine.proofs.Basics.{nat_cases, same_some, get_same, get_other}
+use Rattle.shop_records.specs.Columns.{is_free}
+use Rattle.shop_records.specs.Readings.{Reading, Plan}
+use Rattle.shop_records.proofs.Basics.{nat_cases, same_some, get_same, get_other}
 use Rattle.shop_machine.proofs.Moved.{no_reserved}
 use Rattle.shop_machine.proofs.OrderedLines.{lines_recounted}
 use Rattle.shop_machine.proofs.Cells.{restated}

@@ -13,31 +13,31 @@ use Rattle.cut_tree.specs.Tree.{Tree, Piece, Rest, Trim, Cut, count_of, cut_coun
 use Rattle.cut_tree.specs.Patterns.{Pattern, HasDemands, IsPlan}
 use Rattle.cut_tree.specs.Spelling.{AllTokens, tokens}
 use Rattle.cut_tree.specs.declared.leaves.Leaf.{Leaf}
-use Rattle.shop_machine.specs.declared.records.Part.{Part}
-use Rattle.shop_machine.specs.declared.records.State.{State}
-use Rattle.shop_machine.specs.declared.records.State.TheVariants as state
-use Rattle.shop_machine.specs.declared.records.Job.{Job}
-use Rattle.shop_machine.specs.declared.records.JobState.TheVariants as job
-use Rattle.shop_machine.specs.declared.records.Demand.{Demand}
-use Rattle.shop_machine.specs.declared.messages.Message.{Message}
-use Rattle.shop_machine.specs.declared.messages.Reply.TheVariants as reply
-use Rattle.shop_machine.specs.declared.records.Material.{Material}
-use Rattle.shop_machine.specs.declared.records.State.TheVariants.{Cut, Piece}
-use Rattle.shop_machine.specs.declared.refusals.Refusal.TheVariants.{NumbersSpent, NotStanding, BadTree, WrongMaterial, TooMany, StoreFault}
-use Rattle.shop_machine.specs.declared.messages.Command.TheVariants.{Reserve}
-use Rattle.shop_machine.specs.Messages.{Texts, pair_of}
-use Rattle.shop_machine.specs.Columns.{is_there, is_free, is_waiting}
-use Rattle.shop_machine.specs.Content.{Content, material_at, part_at, job_at, demand_at, kept_at, changed, in_state, material_of}
+use Rattle.shop_records.specs.declared.records.Part.{Part}
+use Rattle.shop_records.specs.declared.records.State.{State}
+use Rattle.shop_records.specs.declared.records.State.TheVariants as state
+use Rattle.shop_records.specs.declared.records.Job.{Job}
+use Rattle.shop_records.specs.declared.records.JobState.TheVariants as job
+use Rattle.shop_records.specs.declared.records.Demand.{Demand}
+use Rattle.shop_records.specs.declared.messages.Message.{Message}
+use Rattle.shop_records.specs.declared.messages.Reply.TheVariants as reply
+use Rattle.shop_records.specs.declared.records.Material.{Material}
+use Rattle.shop_records.specs.declared.records.State.TheVariants.{Cut, Piece}
+use Rattle.shop_records.specs.declared.refusals.Refusal.TheVariants.{NumbersSpent, NotStanding, BadTree, WrongMaterial, TooMany, StoreFault}
+use Rattle.shop_records.specs.declared.messages.Command.TheVariants.{Reserve}
+use Rattle.shop_records.specs.Messages.{Texts, pair_of}
+use Rattle.shop_records.specs.Columns.{is_there, is_free, is_waiting}
+use Rattle.shop_records.specs.Content.{Content, material_at, part_at, job_at, demand_at, kept_at, changed, in_state, material_of}
 use Rattle.shop_machine.specs.Recounts.{AreRecounted, with_reserved, plan_leaves}
 use Rattle.shop_machine.specs.Reserving.{IsReading, reserve_change, reserve_refusal, plan_refusal, leaf_refusal, leaves_refusal, is_too_many, is_over, fits_demand}
 use Rattle.shop_machine.specs.Machine.{keeping, refusal_of, Reads}
-use Rattle.shop_machine.specs.Soundness.{IsWaiting, IsJob, IsCounted, Fits, reserved_in, made_in, IsOnPart}
+use Rattle.shop_records.specs.Soundness.{IsWaiting, IsJob, IsCounted, Fits, reserved_in, made_in, IsOnPart}
 use Rattle.shop_machine.specs.Decisions.{first_of}
-use Rattle.shop_machine.specs.Same.{same_code}
-use Rattle.shop_machine.specs.History.{IsIn}
-use Rattle.shop_machine.specs.Readings.{Reading, plan_in, Plan}
-use Rattle.shop_machine.proofs.Basics.{names_total, names_same, same_some, none_at, get_same}
-use Rattle.shop_machine.proofs.Puts.{not_both, is_known, sum_new}
+use Rattle.shop_records.specs.Same.{same_code}
+use Rattle.shop_records.specs.Elements.{IsIn}
+use Rattle.shop_records.specs.Readings.{Reading, plan_in, Plan}
+use Rattle.shop_records.proofs.Basics.{names_total, names_same, same_some, none_at, get_same}
+use Rattle.shop_records.proofs.Puts.{not_both, is_known, sum_new}
 use Rattle.shop_machine.proofs.Allowed.{narrow, free_stands, none_of, or_none, any_none, leaf_with}
 use Rattle.shop_machine.proofs.AddedUp.{cells_left, is_uncut}
 use Rattle.shop_machine.proofs.Moved.{demand_there, found_moved, no_reserved}

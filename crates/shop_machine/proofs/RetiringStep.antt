@@ -5,25 +5,25 @@ use Rattle.std.specs.declared.cmp.Ordering.TheVariants.{Less}
 use Rattle.std.proofs.lemmas.List.Elements.{All-nil}
 use Rattle.std.proofs.lemmas.Bool.{not-false}
 use Rattle.cut_measure.specs.Names.{Name, name_cmp}
-use Rattle.shop_machine.specs.declared.records.Part.{Part}
-use Rattle.shop_machine.specs.declared.records.State.{State}
-use Rattle.shop_machine.specs.declared.records.State.TheVariants.{Standing, Reserved}
-use Rattle.shop_machine.specs.declared.records.Job.{Job}
-use Rattle.shop_machine.specs.declared.records.Demand.{Demand}
-use Rattle.shop_machine.specs.declared.records.Totals.{Totals}
-use Rattle.shop_machine.specs.declared.messages.Message.{Message}
-use Rattle.shop_machine.specs.declared.messages.Reply.{Reply}
-use Rattle.shop_machine.specs.declared.refusals.Refusal.TheVariants.{NotStanding}
-use Rattle.shop_machine.specs.Messages.{Texts, pair_of}
-use Rattle.shop_machine.specs.Columns.{is_whole, is_there, is_free, is_piece_for}
-use Rattle.shop_machine.specs.Content.{Content, material_at, part_at, kept_at, changed, in_state, totals_of, totals_for}
+use Rattle.shop_records.specs.declared.records.Part.{Part}
+use Rattle.shop_records.specs.declared.records.State.{State}
+use Rattle.shop_records.specs.declared.records.State.TheVariants.{Standing, Reserved}
+use Rattle.shop_records.specs.declared.records.Job.{Job}
+use Rattle.shop_records.specs.declared.records.Demand.{Demand}
+use Rattle.shop_records.specs.declared.records.Totals.{Totals}
+use Rattle.shop_records.specs.declared.messages.Message.{Message}
+use Rattle.shop_records.specs.declared.messages.Reply.{Reply}
+use Rattle.shop_records.specs.declared.refusals.Refusal.TheVariants.{NotStanding}
+use Rattle.shop_records.specs.Messages.{Texts, pair_of}
+use Rattle.shop_records.specs.Columns.{is_whole, is_there, is_free, is_piece_for}
+use Rattle.shop_records.specs.Content.{Content, material_at, part_at, kept_at, changed, in_state, totals_of, totals_for}
 use Rattle.shop_machine.specs.Moving.{has_cells, tally}
 use Rattle.shop_machine.specs.Retiring.{scrap_refusal, return_refusal, turn_change}
 use Rattle.shop_machine.specs.Machine.{keeping}
-use Rattle.shop_machine.specs.History.{IsIn}
-use Rattle.shop_machine.specs.Soundness.{IsPlaced, IsWaiting, IsNewPart, Fits, made_in}
-use Rattle.shop_machine.proofs.Basics.{same_some}
-use Rattle.shop_machine.proofs.Puts.{all_from, pairs_from, not_both}
+use Rattle.shop_records.specs.Elements.{IsIn}
+use Rattle.shop_records.specs.Soundness.{IsPlaced, IsWaiting, IsNewPart, Fits, made_in}
+use Rattle.shop_records.proofs.Basics.{same_some}
+use Rattle.shop_records.proofs.Puts.{all_from, pairs_from, not_both}
 use Rattle.shop_machine.proofs.AddedUp.{is_uncut}
 use Rattle.shop_machine.proofs.Moved.{found_moved, still_moved, other_moved, received_moved, adds_up_moved, made_moved}
 use Rattle.shop_machine.proofs.Agreeing.{NoFault, other, no_such}

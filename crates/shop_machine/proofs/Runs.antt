@@ -6,18 +6,18 @@ use Rattle.std.specs.declared.cmp.Ordering.TheVariants.{Less, Equal, Greater}
 use Rattle.std.specs.Ordering.{nat_cmp, is_eq, ordering_then, eq_by_cmp}
 use Rattle.std.proofs.lemmas.Bool.Decides.{nat_tests}
 use Rattle.std.specs.FinMap.{get-empty, get-insert}
-use Rattle.shop_machine.specs.declared.texts.Pair.{Pair}
-use Rattle.shop_machine.specs.declared.texts.Kept.{Kept}
-use Rattle.shop_machine.specs.declared.messages.Message.{Message}
-use Rattle.shop_machine.specs.declared.messages.Reply.{Reply}
-use Rattle.shop_machine.specs.declared.refusals.Refusal.{Refusal}
-use Rattle.shop_machine.specs.Messages.{Texts, IsMessage, refusal_in, is_accepted, pair_of}
-use Rattle.shop_machine.specs.Content.{Content, pair_cmp, kept_at}
-use Rattle.shop_machine.specs.Readings.{Reading}
+use Rattle.shop_records.specs.declared.texts.Pair.{Pair}
+use Rattle.shop_records.specs.declared.texts.Kept.{Kept}
+use Rattle.shop_records.specs.declared.messages.Message.{Message}
+use Rattle.shop_records.specs.declared.messages.Reply.{Reply}
+use Rattle.shop_records.specs.declared.refusals.Refusal.{Refusal}
+use Rattle.shop_records.specs.Messages.{Texts, IsMessage, refusal_in, is_accepted, pair_of}
+use Rattle.shop_records.specs.Content.{Content, pair_cmp, kept_at}
+use Rattle.shop_records.specs.Readings.{Reading}
 use Rattle.shop_machine.specs.Machine.{Accepts, Refuses, StepNew, StepAgain, Step, Run}
-use Rattle.shop_machine.specs.Same.{same_pair}
+use Rattle.shop_records.specs.Same.{same_pair}
 use Rattle.shop_machine.specs.History.{Entry, messages_of, Gives, history_after, has_pair}
-use Rattle.shop_machine.proofs.Puts.{pairs_total}
+use Rattle.shop_records.proofs.Puts.{pairs_total}
 
 module _ (texts : Texts) where
   -- a run goes on by one step

@@ -9,29 +9,29 @@ use Rattle.std.specs.Ordering.{nat_cmp, eq_by_cmp}
 use Rattle.cut_measure.specs.Codes.{code_cmp}
 use Rattle.cut_measure.specs.Names.{Name, IsName, name_cmp}
 use Rattle.cut_tree.specs.declared.halts.Stop.TheVariants as stop
-use Rattle.shop_machine.specs.declared.receiving.TheConstants.{MOST_RECEIVED}
-use Rattle.shop_machine.specs.declared.records.Material.{Material}
-use Rattle.shop_machine.specs.declared.imports.ImportRow.{ImportRow}
-use Rattle.shop_machine.specs.declared.records.Part.{Part}
-use Rattle.shop_machine.specs.declared.records.State.TheVariants as state
-use Rattle.shop_machine.specs.declared.changes.Change.{Change}
-use Rattle.shop_machine.specs.declared.messages.Command.{Command}
-use Rattle.shop_machine.specs.declared.messages.Command.TheVariants.{AddMaterial, Receive, AddOrder, Reserve, Done, Break, Release, Scrap, GiveBack, Import}
-use Rattle.shop_machine.specs.declared.messages.Message.{Message}
-use Rattle.shop_machine.specs.declared.messages.Reply.TheVariants as reply
-use Rattle.shop_machine.specs.declared.refusals.Refusal.TheVariants.{StoreFault}
-use Rattle.shop_machine.specs.declared.texts.Pair.{Pair}
-use Rattle.shop_machine.specs.declared.texts.Kept.{Kept}
-use Rattle.shop_machine.specs.Messages.{Texts, IsMessage, IsMade, pair_of, IsCommand}
-use Rattle.shop_machine.specs.Readings.{Reading, plan_in}
-use Rattle.shop_machine.specs.Content.{Content, fresh, pair_cmp, material_at, totals_in, AddsUp, has_order, kept_at, import_at, with_order, with_import, changed, part_at, demand_at, material_of, totals_of, totals_for}
+use Rattle.shop_records.specs.declared.records.TheConstants.{MOST_RECEIVED}
+use Rattle.shop_records.specs.declared.records.Material.{Material}
+use Rattle.shop_records.specs.declared.imports.ImportRow.{ImportRow}
+use Rattle.shop_records.specs.declared.records.Part.{Part}
+use Rattle.shop_records.specs.declared.records.State.TheVariants as state
+use Rattle.shop_records.specs.declared.changes.Change.{Change}
+use Rattle.shop_records.specs.declared.messages.Command.{Command}
+use Rattle.shop_records.specs.declared.messages.Command.TheVariants.{AddMaterial, Receive, AddOrder, Reserve, Done, Break, Release, Scrap, GiveBack, Import}
+use Rattle.shop_records.specs.declared.messages.Message.{Message}
+use Rattle.shop_records.specs.declared.messages.Reply.TheVariants as reply
+use Rattle.shop_records.specs.declared.refusals.Refusal.TheVariants.{StoreFault}
+use Rattle.shop_records.specs.declared.texts.Pair.{Pair}
+use Rattle.shop_records.specs.declared.texts.Kept.{Kept}
+use Rattle.shop_records.specs.Messages.{Texts, IsMessage, IsMade, pair_of, IsCommand}
+use Rattle.shop_records.specs.Readings.{Reading, plan_in}
+use Rattle.shop_records.specs.Content.{Content, fresh, pair_cmp, material_at, totals_in, AddsUp, has_order, kept_at, import_at, with_order, with_import, changed, part_at, demand_at, material_of, totals_of, totals_for}
 use Rattle.shop_machine.specs.Adding.{material_change}
 use Rattle.shop_machine.specs.Machine.{Reads, refusal_of, Makes, keeping}
 use Rattle.shop_machine.specs.History.{Entry, Gives}
-use Rattle.shop_machine.specs.Soundness.{IsSound, Fits, IsKept, IsImport}
-use Rattle.shop_machine.proofs.Basics.{codes_total, codes_same, tied}
+use Rattle.shop_records.specs.Soundness.{IsSound, Fits, IsKept, IsImport}
+use Rattle.shop_records.proofs.Basics.{codes_total, codes_same, tied}
 use Rattle.shop_machine.proofs.ImportingStep.{accepted, import_stock, import_fits, import_told, import_order, import_agrees}
-use Rattle.shop_machine.proofs.Puts.{not_both, found_one, pairs_total, pairs_exact}
+use Rattle.shop_records.proofs.Puts.{not_both, found_one, pairs_total, pairs_exact}
 use Rattle.shop_machine.proofs.OrderingStep.{order_of, order_stock, order_fits, order_agrees}
 use Rattle.shop_machine.proofs.EndingStep.{job_waits, end_stock, end_fits, release_stock, release_fits, so_far, end_told, end_agrees}
 use Rattle.shop_machine.proofs.ReceivingStep.{receive_stock, receive_fits, receipt, receive_agrees}

@@ -4,18 +4,18 @@ use Rattle.std.specs.Prelude.{Some}
 use Rattle.std.specs.Cmp.{nat_cmp_total}
 use Rattle.std.specs.FinMap.{FinMap, get, insert, nat_cmp-IsAntisymmetric}
 use Rattle.cut_measure.specs.Names.{Name, name_cmp}
-use Rattle.shop_machine.specs.declared.records.Part.{Part}
-use Rattle.shop_machine.specs.declared.records.State.{State}
-use Rattle.shop_machine.specs.declared.records.Job.{Job}
-use Rattle.shop_machine.specs.declared.records.JobState.{JobState}
-use Rattle.shop_machine.specs.declared.changes.Change.{Change}
-use Rattle.shop_machine.specs.declared.messages.Message.{Message}
-use Rattle.shop_machine.specs.Messages.{Texts}
-use Rattle.shop_machine.specs.Content.{Content, part_at, job_at, changed, in_state}
+use Rattle.shop_records.specs.declared.records.Part.{Part}
+use Rattle.shop_records.specs.declared.records.State.{State}
+use Rattle.shop_records.specs.declared.records.Job.{Job}
+use Rattle.shop_records.specs.declared.records.JobState.{JobState}
+use Rattle.shop_records.specs.declared.changes.Change.{Change}
+use Rattle.shop_records.specs.declared.messages.Message.{Message}
+use Rattle.shop_records.specs.Messages.{Texts}
+use Rattle.shop_records.specs.Content.{Content, part_at, job_at, changed, in_state}
 use Rattle.shop_machine.specs.Machine.{keeping}
-use Rattle.shop_machine.specs.Soundness.{IsSound}
+use Rattle.shop_records.specs.Soundness.{IsSound}
 use Rattle.shop_machine.specs.History.{Deed, ReceivedUnit, job_of}
-use Rattle.shop_machine.proofs.Basics.{names_total, names_same, nat_cases, name_cases, same_some, get_same, get_other}
+use Rattle.shop_records.proofs.Basics.{names_total, names_same, nat_cases, name_cases, same_some, get_same, get_other}
 use Rattle.shop_machine.proofs.Cells.{Named}
 use Rattle.shop_machine.proofs.Accounts.{IsRow, IsWhole, reservation, Follows, row_later, row_restated}
 

@@ -10,19 +10,19 @@ use Rattle.cut_measure.specs.declared.ranges.TheConstants.{MOST_WIDTH, MOST_HEIG
 use Rattle.cut_measure.specs.Codes.{code_cmp}
 use Rattle.cut_measure.specs.Measures.{Extent}
 use Rattle.cut_measure.specs.Names.{Name, name_cmp}
-use Rattle.shop_machine.specs.declared.records.Part.{Part}
-use Rattle.shop_machine.specs.declared.records.State.{State}
-use Rattle.shop_machine.specs.declared.records.State.TheVariants as state
-use Rattle.shop_machine.specs.declared.records.Totals.{Totals}
-use Rattle.shop_machine.specs.declared.records.Column.{Column}
-use Rattle.shop_machine.specs.declared.records.Column.TheVariants.{Received, Stock, Rack, Pieces, Kerf, Scrap, Returned}
-use Rattle.shop_machine.specs.Columns.{is_there, is_counted}
-use Rattle.shop_machine.specs.Content.{Content, part_at, cells_in, counts_for, totals_in, totals_of, in_state}
+use Rattle.shop_records.specs.declared.records.Part.{Part}
+use Rattle.shop_records.specs.declared.records.State.{State}
+use Rattle.shop_records.specs.declared.records.State.TheVariants as state
+use Rattle.shop_records.specs.declared.records.Totals.{Totals}
+use Rattle.shop_records.specs.declared.records.Column.{Column}
+use Rattle.shop_records.specs.declared.records.Column.TheVariants.{Received, Stock, Rack, Pieces, Kerf, Scrap, Returned}
+use Rattle.shop_records.specs.Columns.{is_there, is_counted}
+use Rattle.shop_records.specs.Content.{Content, part_at, cells_in, counts_for, totals_in, totals_of, in_state}
 use Rattle.shop_machine.specs.Moving.{cells_counted, tally, can_move, has_cells, moved_totals, AreFew}
-use Rattle.shop_machine.specs.History.{IsIn}
-use Rattle.shop_machine.specs.Soundness.{with_totals}
-use Rattle.shop_machine.proofs.Basics.{codes_total, codes_same, names_total, names_same, tied}
-use Rattle.shop_machine.proofs.Puts.{Pairwise, equal, sum_as, sum_none, sum_over}
+use Rattle.shop_records.specs.Elements.{IsIn}
+use Rattle.shop_records.specs.Soundness.{with_totals}
+use Rattle.shop_records.proofs.Basics.{codes_total, codes_same, names_total, names_same, tied}
+use Rattle.shop_records.proofs.Puts.{Pairwise, equal, sum_as, sum_none, sum_over}
 use Rattle.shop_machine.proofs.AddedUp.{cells_as}
 use Rattle.shop_machine.proofs.Moved.{moved, sum_moved}
 use Rattle.shop_machine.proofs.Grown.{IsStock}

@@ -1,9 +1,9 @@
 -- Decisions: the first refusal that holds, or else a change.
 use Rattle.std.specs.Prelude.{◌≡◌, ◌≢◌, List, [], ◌∷◌, Bool, if◌then◌else◌, Option, Some, None, Result, Ok, Err}
-use Rattle.shop_machine.specs.declared.changes.Change.{Change}
-use Rattle.shop_machine.specs.declared.refusals.Refusal.{Refusal}
-use Rattle.shop_machine.specs.declared.refusals.Refusal.TheVariants.{NoMemory}
-use Rattle.shop_machine.specs.declared.messages.Reply.{Reply}
+use Rattle.shop_records.specs.declared.changes.Change.{Change}
+use Rattle.shop_records.specs.declared.refusals.Refusal.{Refusal}
+use Rattle.shop_records.specs.declared.refusals.Refusal.TheVariants.{NoMemory}
+use Rattle.shop_records.specs.declared.messages.Reply.{Reply}
 
 -- the first refusal whose condition holds
 abbrev pub first_of : List (Bool × Refusal) → Option Refusal

@@ -13,22 +13,22 @@ use Rattle.cut_tree.specs.declared.halts.Stop.TheVariants as stop
 use Rattle.cut_tree.specs.Tree.{Tree, count_of}
 use Rattle.cut_tree.specs.Stops.{allows, outcome_of}
 use Rattle.cut_tree.specs.Laying.{IsLaid}
-use Rattle.shop_machine.specs.declared.records.Material.{Material}
-use Rattle.shop_machine.specs.declared.records.Part.{Part}
-use Rattle.shop_machine.specs.declared.records.State.{State}
-use Rattle.shop_machine.specs.declared.records.State.TheVariants.{Standing, Cut, Piece, Kerf, Scrap}
-use Rattle.shop_machine.specs.declared.records.Job.{Job}
-use Rattle.shop_machine.specs.declared.records.JobState.{JobState}
-use Rattle.shop_machine.specs.declared.records.JobState.TheVariants as job
-use Rattle.shop_machine.specs.declared.records.Demand.{Demand}
-use Rattle.shop_machine.specs.declared.records.Totals.{Totals}
-use Rattle.shop_machine.specs.declared.changes.Change.{Change}
-use Rattle.shop_machine.specs.declared.refusals.Refusal.{Refusal}
-use Rattle.shop_machine.specs.declared.refusals.Refusal.TheVariants.{NoJob, JobOver, BadCut, StoreFault}
-use Rattle.shop_machine.specs.declared.messages.Reply.{Reply}
-use Rattle.shop_machine.specs.declared.messages.Reply.TheVariants as reply
-use Rattle.shop_machine.specs.Columns.{is_reserved_for, is_waiting}
-use Rattle.shop_machine.specs.Content.{Content, material_at, part_at, job_at, demand_at, material_of, part_of_job, in_state, totals_for}
+use Rattle.shop_records.specs.declared.records.Material.{Material}
+use Rattle.shop_records.specs.declared.records.Part.{Part}
+use Rattle.shop_records.specs.declared.records.State.{State}
+use Rattle.shop_records.specs.declared.records.State.TheVariants.{Standing, Cut, Piece, Kerf, Scrap}
+use Rattle.shop_records.specs.declared.records.Job.{Job}
+use Rattle.shop_records.specs.declared.records.JobState.{JobState}
+use Rattle.shop_records.specs.declared.records.JobState.TheVariants as job
+use Rattle.shop_records.specs.declared.records.Demand.{Demand}
+use Rattle.shop_records.specs.declared.records.Totals.{Totals}
+use Rattle.shop_records.specs.declared.changes.Change.{Change}
+use Rattle.shop_records.specs.declared.refusals.Refusal.{Refusal}
+use Rattle.shop_records.specs.declared.refusals.Refusal.TheVariants.{NoJob, JobOver, BadCut, StoreFault}
+use Rattle.shop_records.specs.declared.messages.Reply.{Reply}
+use Rattle.shop_records.specs.declared.messages.Reply.TheVariants as reply
+use Rattle.shop_records.specs.Columns.{is_reserved_for, is_waiting}
+use Rattle.shop_records.specs.Content.{Content, material_at, part_at, job_at, demand_at, material_of, part_of_job, in_state, totals_for}
 use Rattle.shop_machine.specs.Moving.{tally, has_cells, moved_totals}
 use Rattle.shop_machine.specs.Decisions.{first_of, no_change}
 use Rattle.shop_machine.specs.Recounts.{plan_leaves, AreRecounted, with_laid, with_freed}

@@ -1,5 +1,5 @@
 -- What was done from the start, whose each cell is, and how many cells there are of a kind, by what was done alone.
-use Rattle.std.specs.Prelude.{◌≡◌, ℕ, zero, suc, ◌+◌, ◌<◌, ◌≤◌, ◌==◌, ◌⊎◌, ◌&&◌, List, [], ◌∷◌, ◌++◌, map, length, slice_get, Bool, true, false, not, if◌then◌else◌, Option, Some, None, count_by}
+use Rattle.std.specs.Prelude.{◌≡◌, ℕ, zero, suc, ◌+◌, ◌<◌, ◌≤◌, ◌==◌, ◌&&◌, List, [], ◌∷◌, ◌++◌, map, length, slice_get, Bool, true, false, not, if◌then◌else◌, Option, Some, None, count_by}
 use Rattle.std.specs.Ordering.{is_eq}
 use Rattle.std.specs.List.{flat_map, list_any}
 use Rattle.std.specs.Option.{option_map}
@@ -10,29 +10,30 @@ use Rattle.cut_measure.specs.Measures.{Extent, Rule, below, cells_of}
 use Rattle.cut_tree.specs.Tree.{Tree}
 use Rattle.cut_tree.specs.Cells.{Outcome, Spot, spot_of, all_made}
 use Rattle.cut_tree.specs.Stops.{outcome_after}
-use Rattle.shop_machine.specs.declared.records.Part.{Part}
-use Rattle.shop_machine.specs.declared.records.Demand.{Demand}
-use Rattle.shop_machine.specs.declared.records.Column.{Column}
-use Rattle.shop_machine.specs.declared.records.Column.TheVariants.{Received, Stock, Rack, Pieces, Kerf, Scrap, Returned}
-use Rattle.shop_machine.specs.declared.records.State.{State}
-use Rattle.shop_machine.specs.declared.records.State.TheVariants as state
-use Rattle.shop_machine.specs.declared.texts.Pair.{Pair}
-use Rattle.shop_machine.specs.declared.messages.Command.{Command}
-use Rattle.shop_machine.specs.declared.messages.Command.TheVariants.{AddMaterial, Receive, AddOrder, Reserve, Done, Break, Release, Scrap as ScrapPart, GiveBack, Import}
-use Rattle.shop_machine.specs.declared.imports.Form.{Form}
-use Rattle.shop_machine.specs.declared.imports.Form.TheVariants.{Cgcut}
-use Rattle.shop_machine.specs.declared.messages.Message.{Message}
+use Rattle.shop_records.specs.declared.records.Part.{Part}
+use Rattle.shop_records.specs.declared.records.Demand.{Demand}
+use Rattle.shop_records.specs.declared.records.Column.{Column}
+use Rattle.shop_records.specs.declared.records.Column.TheVariants.{Received, Stock, Rack, Pieces, Kerf, Scrap, Returned}
+use Rattle.shop_records.specs.declared.records.State.{State}
+use Rattle.shop_records.specs.declared.records.State.TheVariants as state
+use Rattle.shop_records.specs.declared.texts.Pair.{Pair}
+use Rattle.shop_records.specs.declared.messages.Command.{Command}
+use Rattle.shop_records.specs.declared.messages.Command.TheVariants.{AddMaterial, Receive, AddOrder, Reserve, Done, Break, Release, Scrap as ScrapPart, GiveBack, Import}
+use Rattle.shop_records.specs.declared.imports.Form.{Form}
+use Rattle.shop_records.specs.declared.imports.Form.TheVariants.{Cgcut}
+use Rattle.shop_records.specs.declared.messages.Message.{Message}
 use Rattle.shop_files.specs.declared.orders.OrderLine.{OrderLine}
-use Rattle.shop_machine.specs.declared.messages.Reply.{Reply}
-use Rattle.shop_machine.specs.Same.{same_pair, same_name, same_code}
-use Rattle.shop_machine.specs.Columns.{is_there, is_piece, is_kerf, is_scrap, is_returned, is_free}
-use Rattle.shop_machine.specs.Messages.{Texts, IsMessage, is_accepted, pair_of}
-use Rattle.shop_machine.specs.Readings.{Reading, Plan, Lines, Problem}
+use Rattle.shop_records.specs.declared.messages.Reply.{Reply}
+use Rattle.shop_records.specs.Same.{same_pair, same_name, same_code}
+use Rattle.shop_records.specs.Columns.{is_there, is_piece, is_kerf, is_scrap, is_returned, is_free}
+use Rattle.shop_records.specs.Elements.{IsIn}
+use Rattle.shop_records.specs.Messages.{Texts, IsMessage, is_accepted, pair_of}
+use Rattle.shop_records.specs.Readings.{Reading, Plan, Lines, Problem}
 use Rattle.shop_machine.specs.Importing.{problem_lines}
-use Rattle.shop_machine.specs.Content.{Content, fresh, part_at, demand_at, kept_at, totals_of, AddsUp}
+use Rattle.shop_records.specs.Content.{Content, fresh, part_at, demand_at, kept_at, totals_of, AddsUp}
 use Rattle.shop_machine.specs.Machine.{Accepts}
 use Rattle.shop_machine.specs.Ending.{fate}
-use Rattle.shop_machine.specs.Soundness.{IsCounted, reserved_in, made_in}
+use Rattle.shop_records.specs.Soundness.{IsCounted, reserved_in, made_in}
 
 -- what was done: an accepted message, and what its text was read as
 pub record Entry : Type 0 where
@@ -274,10 +275,6 @@ pub record IsOwner (owner : Owner) (x y : ℕ) (part : Part) : Type 0 where
   pub size : part.size ≡ owner.size
   pub across : part.x + owner.x ≡ x
   pub down : part.y + owner.y ≡ y
-
-abbrev pub IsIn : {X : Type 0} → X → List X → Type 0
-IsIn x [] = ⊥
-IsIn x (y ∷ ys) = (x ≡ y) ⊎ IsIn x ys
 
 -- a part row has the cell (x, y) of the unit, it is the owner's that was found, and no other row has the cell
 pub record HasOwner (parts : maps.FinMap name_cmp Part) (found : Option Owner) (unit : Name) (x y : ℕ) : Type 0 where

@@ -1,23 +1,24 @@
 -- Importing an order from a file.
-use Rattle.std.specs.Prelude.{◌≡◌, ◌≢◌, ℕ, suc, List, [], ◌∷◌, Bool, false, if◌then◌else◌, not, length, Option, Some, None, IfSome, MatchOption}
+use Rattle.std.specs.Prelude.{◌≡◌, ℕ, suc, List, [], ◌∷◌, Bool, false, if◌then◌else◌, not, length, Option, Some, None, IfSome, MatchOption}
 use Rattle.std.specs.Option.{option_or}
 use Rattle.cut_measure.specs.Measures.{Extent, is_size}
 use Rattle.shop_files.specs.declared.orders.OrderLine.{OrderLine}
 use Rattle.shop_files.specs.declared.problems.Piece.{Piece}
 use Rattle.shop_files.specs.Orders.{IsOrders}
 use Rattle.shop_files.specs.Problems.{IsProblem}
-use Rattle.shop_machine.specs.declared.records.Material.{Material}
-use Rattle.shop_machine.specs.declared.records.Totals.{Totals}
-use Rattle.shop_machine.specs.declared.imports.Form.{Form}
-use Rattle.shop_machine.specs.declared.imports.Form.TheVariants.{Csv, Cgcut}
-use Rattle.shop_machine.specs.declared.imports.ImportRow.{ImportRow}
-use Rattle.shop_machine.specs.declared.changes.Change.{Change}
-use Rattle.shop_machine.specs.declared.messages.Reply.{Reply}
-use Rattle.shop_machine.specs.declared.messages.Reply.TheVariants as reply
-use Rattle.shop_machine.specs.declared.refusals.Refusal.{Refusal}
-use Rattle.shop_machine.specs.declared.refusals.Refusal.TheVariants.{NoMaterial, BadSize, OrderExists, BadText, StoreFault}
-use Rattle.shop_machine.specs.Messages.{Texts, IsMade}
-use Rattle.shop_machine.specs.Readings.{Reading, unread, Lines, Problem, Again}
+use Rattle.shop_records.specs.declared.records.Material.{Material}
+use Rattle.shop_records.specs.declared.records.Totals.{Totals}
+use Rattle.shop_records.specs.declared.imports.Form.{Form}
+use Rattle.shop_records.specs.declared.imports.Form.TheVariants.{Csv, Cgcut}
+use Rattle.shop_records.specs.declared.imports.ImportRow.{ImportRow}
+use Rattle.shop_records.specs.declared.changes.Change.{Change}
+use Rattle.shop_records.specs.declared.messages.Reply.{Reply}
+use Rattle.shop_records.specs.declared.messages.Reply.TheVariants as reply
+use Rattle.shop_records.specs.declared.refusals.Refusal.{Refusal}
+use Rattle.shop_records.specs.declared.refusals.Refusal.TheVariants.{NoMaterial, BadSize, OrderExists, BadText, StoreFault}
+use Rattle.shop_records.specs.Messages.{Texts}
+use Rattle.shop_records.specs.Readings.{Reading, unread, Lines, Problem, Again}
+use Rattle.shop_records.specs.Keeping.{Tells}
 use Rattle.shop_machine.specs.Decisions.{first_of, no_change}
 use Rattle.shop_machine.specs.Ordering.{lines_refusal, order_refusal, order_change}
 use Rattle.shop_machine.specs.Receiving.{receive_refusal, receive_change}
@@ -27,11 +28,6 @@ use Rattle.shop_machine.specs.Receiving.{receive_refusal, receive_change}
 -- the kept import is of this form, material and text
 abbrev pub IsRepeat : Form → List ℕ → ImportRow → Type 0
 IsRepeat form text row = (row.form ≡ form) × (row.text ≡ text)
-
--- the reply that a kept import's row tells, or that it tells none
-abbrev pub Tells : Texts → ImportRow → Option Reply → Type 0
-Tells texts row (Some answer) = IsMade answer × (row.reply ≡ texts.of_reply answer)
-Tells texts row None = (answer : Reply) → IsMade answer → row.reply ≢ texts.of_reply answer
 
 -- a text of this form spells the lines of an order file, or a problem, or nothing
 abbrev pub Spells : Form → List ℕ → Reading → Type 0

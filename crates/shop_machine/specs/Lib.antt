@@ -1,9 +1,3 @@
-pub mod Same
-pub mod Columns
-pub mod Refusals
-pub mod Messages
-pub mod Readings
-pub mod Content
 pub mod Decisions
 pub mod Recounts
 pub mod Adding
@@ -16,8 +10,6 @@ pub mod Ending
 pub mod Retiring
 pub mod Planning
 pub mod Machine
-pub mod Soundness
 pub mod History
 pub mod Sharing
-pub mod Visits
 pub mod Listing

@@ -1,61 +1,18 @@
--- What lists tell of a content: its materials, and what stands, is open or waits behind a name or a number; a job with its
--- plan; and the last number of a terminal.
-use Rattle.std.specs.Prelude.{◌≡◌, ◌⊎◌, ◌≤◌, ℕ, ◌&&◌, List, length, take, filter, filter_map, map as map_list, Bool, true, false, nat_lt, Option, Some, None, IsSome, is_some, option_map, option_and_then}
-use Rattle.std.specs.Ordering.{is_lt}
-use Rattle.std.specs.FinMap as map
-use Rattle.cut_measure.specs.Names.{Name, name_cmp}
+-- What is told of a content by lists, which are cut after so many rows; of a job with its plan; and of a terminal.
+use Rattle.std.specs.Prelude.{◌≡◌, ℕ, List, length, take, filter_map, Bool, true, false, nat_lt, Option, Some, None, is_some, option_map, option_and_then}
 use Rattle.cut_tree.specs.Tree.{cut_count}
 use Rattle.cut_tree.specs.Spelling.{text_of}
 use Rattle.shop_machine.specs.declared.listing.TheConstants.{MOST_TOLD}
-use Rattle.shop_machine.specs.declared.records.Material.{Material}
-use Rattle.shop_machine.specs.declared.records.Part.{Part}
-use Rattle.shop_machine.specs.declared.records.Job.{Job}
-use Rattle.shop_machine.specs.declared.records.JobRow.{JobRow}
-use Rattle.shop_machine.specs.declared.records.Demand.{Demand}
-use Rattle.shop_machine.specs.declared.refusals.Refusal.TheVariants.{NoMaterial, NoJob}
-use Rattle.shop_machine.specs.declared.messages.Reply.{Reply}
-use Rattle.shop_machine.specs.declared.messages.Reply.TheVariants as reply
-use Rattle.shop_machine.specs.Columns.{is_waiting}
-use Rattle.shop_machine.specs.Same.{same_code}
-use Rattle.shop_machine.specs.Content.{Content, material_at, part_at, job_at, kept_at, parts_of}
-
--- all materials, by rising code
-abbrev pub materials_of : Content → List Material
-materials_of content = map.values content.materials
-
--- whether a name comes behind another one, or there is no other
-abbrev pub is_behind : Option Name → Name → Bool
-is_behind None name = true
-is_behind (Some after) name = is_lt (name_cmp after name)
-
--- the parts of a material that stand and come behind a name, by rising act and then node
-abbrev pub parts_behind : Content → List ℕ → Option Name → List Part
-parts_behind content code after = filter (λ part. is_behind after part.name) (parts_of content code)
-
--- whether a row is of the material that is asked for, or of any
-abbrev pub is_asked_for : Option (List ℕ) → List ℕ → Bool
-is_asked_for None code = true
-is_asked_for (Some asked) code = same_code code asked
-
--- not all pieces of a demand are made
-abbrev pub is_open : Demand → Bool
-is_open demand = nat_lt demand.made demand.wanted
-
--- the open demands with greater numbers, of one material or of all, rising
-abbrev pub open_demands : Content → (after : ℕ) → Option (List ℕ) → List Demand
-open_demands content after material =
-    filter (λ demand. nat_lt after demand.number && is_asked_for material demand.material && is_open demand) (map.values content.demands)
-
--- the waiting jobs with greater numbers, rising
-abbrev pub waiting_jobs : Content → (after : ℕ) → List Job
-waiting_jobs content after = filter (λ job. nat_lt after job.act && is_waiting job.state) (map.values content.jobs)
-
--- the greatest number under which a message of a terminal is kept, 0 where none is
-pub record IsLastNumber (content : Content) (terminal last : ℕ) : Type 0 where
-  pub greatest : (number : ℕ) → IsSome (kept_at content (record { terminal = terminal; number = number })) → number ≤ last
-  pub kept : last ≡ 0 ⊎ IsSome (kept_at content (record { terminal = terminal; number = last }))
-
--- ---- what is told
+use Rattle.shop_records.specs.declared.records.Material.{Material}
+use Rattle.shop_records.specs.declared.records.Part.{Part}
+use Rattle.shop_records.specs.declared.records.Job.{Job}
+use Rattle.shop_records.specs.declared.records.JobRow.{JobRow}
+use Rattle.shop_records.specs.declared.records.Demand.{Demand}
+use Rattle.shop_records.specs.declared.refusals.Refusal.TheVariants.{NoMaterial, NoJob}
+use Rattle.shop_records.specs.declared.messages.Reply.{Reply}
+use Rattle.shop_records.specs.declared.messages.Reply.TheVariants as reply
+use Rattle.shop_records.specs.Content.{Content, material_at, part_at, job_at}
+use Rattle.shop_records.specs.Lists.{IsLastNumber}
 
 -- the first rows of a list, as many as are told
 abbrev pub first_told : {T : Type 0} → List T → List T
@@ -91,9 +48,6 @@ job_row job part =
 
 abbrev pub job_row_at : Content → ℕ → Option JobRow
 job_row_at content number = option_map (λ (found : Job × Part). job_row found.0 found.1) (job_with_part content number)
-
-abbrev pub job_numbers : List Job → List ℕ
-job_numbers jobs = map_list (λ (job : Job). job.act) jobs
 
 -- the first of the jobs with these numbers are told
 abbrev pub told_jobs : Content → List ℕ → Reply

@@ -3,28 +3,29 @@ use Rattle.std.specs.Prelude.{◌≡◌, ◌≢◌, ℕ, ◌+◌, List, [], ◌�
 use Rattle.std.specs.Option.{option_map}
 use Rattle.cut_tree.specs.declared.halts.Stop.TheVariants as stop
 use Rattle.cut_tree.specs.Patterns.{Pattern}
-use Rattle.shop_machine.specs.declared.records.Material.{Material}
-use Rattle.shop_machine.specs.declared.records.Part.{Part}
-use Rattle.shop_machine.specs.declared.records.State.TheVariants as state
-use Rattle.shop_machine.specs.declared.records.Job.{Job}
-use Rattle.shop_machine.specs.declared.records.Demand.{Demand}
-use Rattle.shop_machine.specs.declared.records.Totals.{Totals}
-use Rattle.shop_machine.specs.declared.texts.Kept.{Kept}
-use Rattle.shop_machine.specs.declared.changes.Change.{Change}
-use Rattle.shop_machine.specs.declared.messages.Command.{Command}
-use Rattle.shop_machine.specs.declared.messages.Command.TheVariants.{AddMaterial, Receive, AddOrder, Reserve, Done, Break, Release, Scrap, GiveBack, Import}
-use Rattle.shop_machine.specs.declared.imports.ImportRow.{ImportRow}
-use Rattle.shop_machine.specs.declared.messages.Message.{Message}
-use Rattle.shop_machine.specs.declared.messages.Query.{Query}
-use Rattle.shop_machine.specs.declared.messages.Query.TheVariants as query
-use Rattle.shop_machine.specs.declared.refusals.Refusal.{Refusal}
-use Rattle.shop_machine.specs.declared.refusals.Refusal.TheVariants.{NumberReused, NoMaterial, NoDemand, NoPart, NoMemory, StoreFault}
-use Rattle.shop_machine.specs.declared.messages.Reply.{Reply}
-use Rattle.shop_machine.specs.declared.messages.Reply.TheVariants as reply
-use Rattle.shop_machine.specs.Columns.{state_word, state_of}
-use Rattle.shop_machine.specs.Messages.{Texts, IsMade, refusal_in, pair_of}
-use Rattle.shop_machine.specs.Readings.{Reading, unread, Plan, plan_in}
-use Rattle.shop_machine.specs.Content.{Content, material_at, part_at, job_at, has_order, demand_at, kept_at, import_at, totals_of, totals_for, parts_of, rack_rows, changed, material_of}
+use Rattle.shop_records.specs.declared.records.Material.{Material}
+use Rattle.shop_records.specs.declared.records.Part.{Part}
+use Rattle.shop_records.specs.declared.records.State.TheVariants as state
+use Rattle.shop_records.specs.declared.records.Job.{Job}
+use Rattle.shop_records.specs.declared.records.Demand.{Demand}
+use Rattle.shop_records.specs.declared.records.Totals.{Totals}
+use Rattle.shop_records.specs.declared.texts.Kept.{Kept}
+use Rattle.shop_records.specs.declared.changes.Change.{Change}
+use Rattle.shop_records.specs.declared.messages.Command.{Command}
+use Rattle.shop_records.specs.declared.messages.Command.TheVariants.{AddMaterial, Receive, AddOrder, Reserve, Done, Break, Release, Scrap, GiveBack, Import}
+use Rattle.shop_records.specs.declared.imports.ImportRow.{ImportRow}
+use Rattle.shop_records.specs.declared.messages.Message.{Message}
+use Rattle.shop_records.specs.declared.messages.Query.{Query}
+use Rattle.shop_records.specs.declared.messages.Query.TheVariants as query
+use Rattle.shop_records.specs.declared.refusals.Refusal.{Refusal}
+use Rattle.shop_records.specs.declared.refusals.Refusal.TheVariants.{NumberReused, NoMaterial, NoDemand, NoPart, NoMemory, StoreFault}
+use Rattle.shop_records.specs.declared.messages.Reply.{Reply}
+use Rattle.shop_records.specs.declared.messages.Reply.TheVariants as reply
+use Rattle.shop_records.specs.Columns.{state_word, state_of}
+use Rattle.shop_records.specs.Messages.{Texts, refusal_in, pair_of}
+use Rattle.shop_records.specs.Readings.{Reading, unread, Plan, plan_in}
+use Rattle.shop_records.specs.Keeping.{KeepsReply}
+use Rattle.shop_records.specs.Content.{Content, material_at, part_at, job_at, has_order, demand_at, kept_at, import_at, totals_of, totals_for, parts_of, rack_rows, changed, material_of}
 use Rattle.shop_machine.specs.Adding.{material_refusal, material_change}
 use Rattle.shop_machine.specs.Receiving.{receive_refusal, receive_change}
 use Rattle.shop_machine.specs.Ordering.{order_refusal, order_change}
@@ -33,7 +34,8 @@ use Rattle.shop_machine.specs.Reserving.{IsReading, reserve_refusal, IsReservati
 use Rattle.shop_machine.specs.Ending.{end_refusal, IsWork, IsDone, IsBroken, IsRelease}
 use Rattle.shop_machine.specs.Retiring.{scrap_refusal, return_refusal, turn_change}
 use Rattle.shop_machine.specs.Planning.{IsPlanAnswer, IsBoundAnswer}
-use Rattle.shop_machine.specs.Listing.{materials_of, parts_behind, open_demands, waiting_jobs, job_numbers, is_known, job_with_part, told_parts, told_demands, told_jobs, told_job, IsTerminalAnswer}
+use Rattle.shop_records.specs.Lists.{materials_of, parts_behind, open_demands, waiting_jobs, job_numbers}
+use Rattle.shop_machine.specs.Listing.{is_known, job_with_part, told_parts, told_demands, told_jobs, told_job, IsTerminalAnswer}
 
 -- ---- commands
 
@@ -127,12 +129,6 @@ StepNew texts old message answer new =
     MatchOption (refusal_in answer)
     ((read : Reading) × Accepts texts old message read answer new)
     (λ refusal. Refuses texts old message.command refusal × (new ≡ old))
-
--- the row keeps this message with this reply
-pub record KeepsReply (texts : Texts) (row : Kept) (message : Message) (answer : Reply) : Type 0 where
-  pub made : IsMade answer
-  pub command : row.command ≡ texts.of_message message
-  pub reply : row.reply ≡ texts.of_reply answer
 
 -- What it may answer to a message whose pair is kept: the kept reply to the kept message, and to another one that its
 -- number is reused.

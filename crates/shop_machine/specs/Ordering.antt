@@ -6,13 +6,13 @@ use Rattle.cut_measure.specs.declared.sizes.Kind.{Kind}
 use Rattle.cut_measure.specs.declared.sizes.Kind.TheVariants.{Bar, Sheet}
 use Rattle.cut_measure.specs.Measures.{is_size}
 use Rattle.shop_files.specs.declared.limits.TheConstants.{MOST_LINES}
-use Rattle.shop_machine.specs.declared.records.Material.{Material}
-use Rattle.shop_machine.specs.declared.records.Demand.{Demand}
-use Rattle.shop_machine.specs.declared.changes.Change.{Change}
+use Rattle.shop_records.specs.declared.records.Material.{Material}
+use Rattle.shop_records.specs.declared.records.Demand.{Demand}
+use Rattle.shop_records.specs.declared.changes.Change.{Change}
 use Rattle.shop_files.specs.declared.orders.OrderLine.{OrderLine}
-use Rattle.shop_machine.specs.declared.refusals.Refusal.{Refusal}
-use Rattle.shop_machine.specs.declared.refusals.Refusal.TheVariants.{NoMaterial, NumbersSpent, OrderExists, BadLine}
-use Rattle.shop_machine.specs.declared.messages.Reply.TheVariants as reply
+use Rattle.shop_records.specs.declared.refusals.Refusal.{Refusal}
+use Rattle.shop_records.specs.declared.refusals.Refusal.TheVariants.{NoMaterial, NumbersSpent, OrderExists, BadLine}
+use Rattle.shop_records.specs.declared.messages.Reply.TheVariants as reply
 use Rattle.shop_machine.specs.declared.ordering.FoundLine.{FoundLine}
 use Rattle.shop_machine.specs.Decisions.{first_of, no_change}
 

@@ -19,16 +19,16 @@ use Rattle.cut_plan.specs.Faults.{fault_of}
 use Rattle.cut_plan.specs.Proposals.{IsBarProposal, HasManyPieces}
 use Rattle.cut_plan.specs.Sheets.{IsSheetProposal, HasManyKept}
 use Rattle.cut_plan.specs.Bounds.{IsBound}
-use Rattle.shop_machine.specs.declared.records.Material.{Material}
-use Rattle.shop_machine.specs.declared.records.Part.{Part}
-use Rattle.shop_machine.specs.declared.records.Demand.{Demand}
+use Rattle.shop_records.specs.declared.records.Material.{Material}
+use Rattle.shop_records.specs.declared.records.Part.{Part}
+use Rattle.shop_records.specs.declared.records.Demand.{Demand}
 use Rattle.shop_machine.specs.declared.planning.FoundDemand.{FoundDemand}
-use Rattle.shop_machine.specs.declared.refusals.Refusal.{Refusal}
-use Rattle.shop_machine.specs.declared.refusals.Refusal.TheVariants.{NoMaterial, BadSize, NoDemand, NoPart, NotStanding, WrongMaterial, NothingFits, TableTooLarge, BadStep, BadWant, NoMemory, StoreFault}
-use Rattle.shop_machine.specs.declared.messages.Reply.{Reply}
-use Rattle.shop_machine.specs.declared.messages.Reply.TheVariants as reply
-use Rattle.shop_machine.specs.Columns.{is_free}
-use Rattle.shop_machine.specs.Same.{same_code}
+use Rattle.shop_records.specs.declared.refusals.Refusal.{Refusal}
+use Rattle.shop_records.specs.declared.refusals.Refusal.TheVariants.{NoMaterial, BadSize, NoDemand, NoPart, NotStanding, WrongMaterial, NothingFits, TableTooLarge, BadStep, BadWant, NoMemory, StoreFault}
+use Rattle.shop_records.specs.declared.messages.Reply.{Reply}
+use Rattle.shop_records.specs.declared.messages.Reply.TheVariants as reply
+use Rattle.shop_records.specs.Columns.{is_free}
+use Rattle.shop_records.specs.Same.{same_code}
 use Rattle.shop_machine.specs.Decisions.{first_of}
 
 -- ---- the demands of a query

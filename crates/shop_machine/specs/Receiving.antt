@@ -2,15 +2,16 @@
 use Rattle.std.specs.Prelude.{ℕ, ◌+◌, ◌*◌, ◌&&◌, List, [], ◌∷◌, map, not, nat_le, nat_lt, Option, Some, None}
 use Rattle.cut_measure.specs.declared.ranges.TheConstants.{MOST_NUMBERS}
 use Rattle.cut_measure.specs.Measures.{Extent, is_size, below}
-use Rattle.shop_machine.specs.declared.receiving.TheConstants.{MOST_RECEIVED, MOST_UNITS}
-use Rattle.shop_machine.specs.declared.records.Material.{Material}
-use Rattle.shop_machine.specs.declared.records.Part.{Part}
-use Rattle.shop_machine.specs.declared.records.Totals.{Totals}
-use Rattle.shop_machine.specs.declared.records.State.TheVariants.{Standing}
-use Rattle.shop_machine.specs.declared.changes.Change.{Change}
-use Rattle.shop_machine.specs.declared.refusals.Refusal.{Refusal}
-use Rattle.shop_machine.specs.declared.refusals.Refusal.TheVariants.{NoMaterial, BadSize, BadCount, TooMuch, NumbersSpent, StoreFault}
-use Rattle.shop_machine.specs.declared.messages.Reply.TheVariants as reply
+use Rattle.shop_records.specs.declared.records.TheConstants.{MOST_RECEIVED}
+use Rattle.shop_machine.specs.declared.receiving.TheConstants.{MOST_UNITS}
+use Rattle.shop_records.specs.declared.records.Material.{Material}
+use Rattle.shop_records.specs.declared.records.Part.{Part}
+use Rattle.shop_records.specs.declared.records.Totals.{Totals}
+use Rattle.shop_records.specs.declared.records.State.TheVariants.{Standing}
+use Rattle.shop_records.specs.declared.changes.Change.{Change}
+use Rattle.shop_records.specs.declared.refusals.Refusal.{Refusal}
+use Rattle.shop_records.specs.declared.refusals.Refusal.TheVariants.{NoMaterial, BadSize, BadCount, TooMuch, NumbersSpent, StoreFault}
+use Rattle.shop_records.specs.declared.messages.Reply.TheVariants as reply
 use Rattle.shop_machine.specs.Decisions.{first_of, no_change}
 
 -- Of a receipt: its material's row, the material's totals, and the number that the act would have. What is in stock was

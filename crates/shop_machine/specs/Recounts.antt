@@ -6,7 +6,7 @@ use Rattle.cut_tree.specs.Tree.{Tree, count_of}
 use Rattle.cut_tree.specs.Patterns.{Pattern}
 use Rattle.cut_tree.specs.Leaves.{leaves_of}
 use Rattle.cut_tree.specs.Counting.{is_demand_piece}
-use Rattle.shop_machine.specs.declared.records.Demand.{Demand}
+use Rattle.shop_records.specs.declared.records.Demand.{Demand}
 use Rattle.shop_machine.specs.declared.recounts.FoundLeaf.{FoundLeaf}
 use Rattle.shop_machine.specs.declared.recounts.Recount.{Recount}
 use Rattle.shop_machine.specs.declared.recounts.Recount.TheVariants.{Reserved, Laid, Freed}

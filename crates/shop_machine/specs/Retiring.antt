@@ -1,14 +1,14 @@
 -- Scrapping and giving back: a standing part as a whole gets another state.
 use Rattle.std.specs.Prelude.{[], ◌∷◌, not, Option, Some, None}
-use Rattle.shop_machine.specs.declared.records.Part.{Part}
-use Rattle.shop_machine.specs.declared.records.State.{State}
-use Rattle.shop_machine.specs.declared.records.Totals.{Totals}
-use Rattle.shop_machine.specs.declared.changes.Change.{Change}
-use Rattle.shop_machine.specs.declared.refusals.Refusal.{Refusal}
-use Rattle.shop_machine.specs.declared.refusals.Refusal.TheVariants.{NoPart, NotStanding, NotWhole, StoreFault}
-use Rattle.shop_machine.specs.declared.messages.Reply.{Reply}
-use Rattle.shop_machine.specs.Columns.{is_free, is_whole}
-use Rattle.shop_machine.specs.Content.{in_state}
+use Rattle.shop_records.specs.declared.records.Part.{Part}
+use Rattle.shop_records.specs.declared.records.State.{State}
+use Rattle.shop_records.specs.declared.records.Totals.{Totals}
+use Rattle.shop_records.specs.declared.changes.Change.{Change}
+use Rattle.shop_records.specs.declared.refusals.Refusal.{Refusal}
+use Rattle.shop_records.specs.declared.refusals.Refusal.TheVariants.{NoPart, NotStanding, NotWhole, StoreFault}
+use Rattle.shop_records.specs.declared.messages.Reply.{Reply}
+use Rattle.shop_records.specs.Columns.{is_free, is_whole}
+use Rattle.shop_records.specs.Content.{in_state}
 use Rattle.shop_machine.specs.Moving.{has_cells, moved_totals, tally}
 use Rattle.shop_machine.specs.Decisions.{first_of, no_change}
 

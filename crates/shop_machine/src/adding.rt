@@ -2,17 +2,13 @@
 
 ghost use Rattle.std.specs.Prelude.{◌≡◌, IfOk, IsTrue};
 ghost use Rattle.cut_measure.specs.Measures.{Rule};
-ghost use Rattle.shop_machine.specs.Messages.{is_accepted};
+ghost use Rattle.shop_records.specs.Messages.{is_accepted};
 ghost use Rattle.shop_machine.specs.Decisions.{Decides};
 ghost use Rattle.shop_machine.specs.Adding.{material_refusal, material_change};
 
-use crate::changes::{Change, MaterialTotals};
 use crate::decisions::no_change;
-use crate::messages::Reply;
-use crate::moving::no_totals;
-use crate::records::Material;
-use crate::refusals::Refusal;
 use cut_measure::{Code, Kind, Limits};
+use shop_records::{Change, Material, MaterialTotals, Refusal, Reply, no_totals};
 use std::alloc::Global;
 
 /// Adds a material: one that is known is accepted again with equal values.
@@ -25,8 +21,13 @@ pub fn decide_material(
     min_long: u32,
     min_short: u32,
 ) -> Result<Change, Refusal>
-    ensures decision { let rule : Rule = record { kerf = kerf; min_long = min_long; min_short = min_short } in
-        Decides (material_refusal known kind rule) (λ change. change ≡ material_change known material kind rule) result }
+    ensures decision { let rule : Rule = record {
+      kerf = kerf;
+      min_long = min_long;
+      min_short = min_short;
+    } in
+        Decides (material_refusal known kind rule)
+        (λ change. change ≡ material_change known material kind rule) result }
     ensures told { IfOk result (λ change. IsTrue (is_accepted change.reply)) }
 {
     let Some(limits) = Limits::new(kind, kerf, min_long, min_short) else {

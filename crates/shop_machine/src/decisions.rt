@@ -3,8 +3,7 @@
 ghost use Rattle.std.specs.Prelude.{◌≡◌};
 ghost use Rattle.shop_machine.specs.Decisions.{no_change};
 
-use crate::changes::{Change, DemandList, PartList};
-use crate::messages::Reply;
+use shop_records::{Change, DemandList, PartList, Reply};
 use std::alloc::Global;
 
 /// A change of nothing, with this reply.

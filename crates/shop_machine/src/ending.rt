@@ -7,26 +7,26 @@ ghost use Rattle.cut_tree.specs.Tree.{count_of};
 ghost use Rattle.cut_tree.specs.Laying.{IsLaid};
 ghost use Rattle.cut_tree.specs.Stops.{outcome_of, IsStopOf};
 ghost use Rattle.cut_tree.specs.declared.halts.Stop.TheVariants.{All as AllCuts, After};
-ghost use Rattle.shop_machine.specs.declared.records.Material.{Material as MaterialOf};
-ghost use Rattle.shop_machine.specs.declared.records.Demand.{Demand as DemandOf};
+ghost use Rattle.shop_records.specs.declared.records.Material.{Material as MaterialOf};
+ghost use Rattle.shop_records.specs.declared.records.Demand.{Demand as DemandOf};
 ghost use Rattle.shop_machine.specs.declared.recounts.Recount.TheVariants.{Freed};
-ghost use Rattle.shop_machine.specs.declared.records.State.TheVariants.{Cut};
-ghost use Rattle.shop_machine.specs.Messages.{is_accepted};
+ghost use Rattle.shop_records.specs.declared.records.State.TheVariants.{Cut};
+ghost use Rattle.shop_records.specs.Messages.{is_accepted};
 ghost use Rattle.shop_machine.specs.Decisions.{Decides};
 ghost use Rattle.shop_machine.specs.Recounts.{plan_leaves, AreDemandsFound, AreRecounted, leaves_in, HasRoom, HasRow, CanBeMade, IsNumbered, pieces_in, with_laid};
 ghost use Rattle.shop_machine.specs.Ending.{has_reserved, IsEnd, IsDone, IsBroken, IsRelease, ended_reply, ended_state, fate, has_begun, can_end, is_part_of, is_held, job_refusal, rests, row_part};
 ghost use Rattle.shop_machine.specs.Moving.{has_cells, tally, AreFew};
-ghost use Rattle.shop_machine.specs.Content.{in_state};
+ghost use Rattle.shop_records.specs.Content.{in_state};
 
-use crate::changes::{Change, DemandList, MaterialTotals, PartList};
 use crate::decisions::no_change;
-use crate::messages::Reply;
 use crate::moving::{has_cells, moved_totals, tally};
-use crate::records::{Demand, Job, JobState, Material, Part, State, Totals};
 use crate::recounts::{FoundLeaf, Recount, recounted_rows, wide};
-use crate::refusals::Refusal;
 use cut_measure::{Kind, Limits, MOST_HEIGHT, MOST_NUMBERS, MOST_WIDTH, PartName, Size};
 use cut_tree::{Halt, Owner, Plan, Row, Stop};
+use shop_records::{
+    Change, Demand, DemandList, Job, JobState, Material, MaterialTotals, Part, PartList, Refusal,
+    Reply, State, Totals,
+};
 use std::alloc::{AllocError, Global};
 
 // What becomes of a laid rectangle.
@@ -78,7 +78,8 @@ fn cut_parts(
     rows: &[Row],
 ) -> Result<PartList, AllocError>
     requires act { (1 ≤ act) × (act ≤ MOST_NUMBERS) }
-    requires across { All (λ row. (1 ≤ row.w) × (part.now.x + row.x + row.w ≤ MOST_WIDTH)) rows.now }
+    requires across { All (λ row. (1 ≤ row.w)
+        × (part.now.x + row.x + row.w ≤ MOST_WIDTH)) rows.now }
     requires down { All (λ row. (1 ≤ row.h) × (part.now.y + row.y + row.h ≤ MOST_HEIGHT)) rows.now }
     ensures { IfOk result (λ parts. parts ≡ map (row_part part.now limits act) rows.now) }
 {
@@ -92,8 +93,9 @@ fn cut_parts(
 // Whether of each leaf's demand all pieces of the plan are reserved.
 fn are_reserved(plan: &Plan, leaves: &[FoundLeaf]) -> bool
     requires numbered { All IsNumbered leaves.now }
-    ensures test { (at : ℕ → Option DemandOf) → AreDemandsFound at leaves.now →
-        result ≡ list_all (λ leaf. has_reserved (count_of plan.now.tree leaf.demand) (at leaf.demand)) (leaves_in leaves.now) }
+    ensures test { (at : ℕ → Option DemandOf) → AreDemandsFound at leaves.now
+        → result ≡ list_all (λ leaf. has_reserved (count_of plan.now.tree leaf.demand)
+        (at leaf.demand)) (leaves_in leaves.now) }
     ensures rows { IsTrue result → All (HasRow CanBeMade plan.now.tree) leaves.now }
 {
     let [found, more @ ..] = leaves else {
@@ -145,7 +147,9 @@ fn is_held(job: &Job, part: &Part, totals: &Totals) -> bool
 fn rests(job: &Job, part: &Part, totals: &Totals, leaves: &[FoundLeaf]) -> bool
     requires numbered { All IsNumbered leaves.now }
     requires leaves { leaves_in leaves.now ≡ plan_leaves job.now.plan }
-    ensures test { (at : ℕ → Option DemandOf) → (material : MaterialOf) → AreDemandsFound at leaves.now → result ≡ rests job.now (Some part.now) (Some material) at totals.now }
+    ensures test { (at : ℕ → Option DemandOf) → (material : MaterialOf)
+        → AreDemandsFound at leaves.now
+        → result ≡ rests job.now (Some part.now) (Some material) at totals.now }
     ensures part { IsTrue result → IsTrue (is_part_of job.now part.now) }
     ensures cells { IsTrue result → IsTrue (has_cells part.now totals.now) }
     ensures rows { IsTrue result → All (HasRow CanBeMade job.now.plan.tree) leaves.now }
@@ -192,9 +196,15 @@ fn work_of(
 ) -> Result<Work, Refusal>
     requires numbered { All IsNumbered leaves.now }
     requires leaves { IfSome job (λ j. leaves_in leaves.now ≡ plan_leaves j.plan) }
-    ensures allowed { IfOk result (λ _. (at : ℕ → Option DemandOf) → AreDemandsFound at leaves.now → job_refusal stop.now job part material at totals.now ≡ None) }
-    ensures refused { IfErr result (λ refusal. (at : ℕ → Option DemandOf) → AreDemandsFound at leaves.now → job_refusal stop.now job part material at totals.now ≡ Some refusal) }
-    ensures work { IfOk result (λ work. (job ≡ Some work.job) × (part ≡ Some work.part) × IfSome material (λ m. m.limits ≡ work.limits)) }
+    ensures allowed { IfOk result
+        (λ _. (at : ℕ → Option DemandOf) → AreDemandsFound at leaves.now
+        → job_refusal stop.now job part material at totals.now ≡ None) }
+    ensures refused { IfErr result
+        (λ refusal. (at : ℕ → Option DemandOf) → AreDemandsFound at leaves.now
+        → job_refusal stop.now job part material at totals.now ≡ Some refusal) }
+    ensures work { IfOk result
+        (λ work. (job ≡ Some work.job) × (part ≡ Some work.part)
+        × IfSome material (λ m. m.limits ≡ work.limits)) }
     ensures part { IfOk result (λ work. IsTrue (is_part_of work.job work.part)) }
     ensures cells { IfOk result (λ work. IsTrue (has_cells work.part totals.now)) }
     ensures stop { IfOk result (λ work. IsStopOf work.job.plan.tree stop.now) }
@@ -267,8 +277,11 @@ fn ended_reply(stop: &Stop, job: u32, come: &Totals) -> Reply
 // What is laid of a plan; of no demand more pieces than the plan has.
 fn laid_rows(alloc: Global, plan: &Plan, stop: &Stop) -> Result<Vec<Row>, AllocError>
     requires { IsStopOf plan.now.tree stop.now }
-    ensures laid { IfOk result (λ rows. IsLaid plan.now.tree plan.now.w plan.now.h plan.now.kerf (outcome_of stop.now) rows.items) }
-    ensures few { IfOk result (λ rows. (d : ℕ) → pieces_in d rows.items ≤ count_of plan.now.tree d) }
+    ensures laid { IfOk result
+        (λ rows. IsLaid plan.now.tree plan.now.w plan.now.h plan.now.kerf
+        (outcome_of stop.now) rows.items) }
+    ensures few { IfOk result
+        (λ rows. (d : ℕ) → pieces_in d rows.items ≤ count_of plan.now.tree d) }
 {
     let _cuts = plan.cuts();
     let rows = plan.lay_as(alloc, stop)?;
@@ -285,9 +298,12 @@ fn ended_parts(
     rows: &[Row],
 ) -> Result<(PartList, Totals), AllocError>
     requires part { IsTrue (is_part_of job.now part.now) }
-    requires laid { IsLaid job.now.plan.tree job.now.plan.w job.now.plan.h job.now.plan.kerf (outcome_of stop.now) rows.now }
-    ensures parts { IfOk result (λ made. made.0 ≡ map (row_part part.now limits job.now.act) rows.now) }
-    ensures cells { IfOk result (λ made. made.1 ≡ tally (map (row_part part.now limits job.now.act) rows.now)) }
+    requires laid { IsLaid job.now.plan.tree job.now.plan.w job.now.plan.h job.now.plan.kerf
+        (outcome_of stop.now) rows.now }
+    ensures parts { IfOk result
+        (λ made. made.0 ≡ map (row_part part.now limits job.now.act) rows.now) }
+    ensures cells { IfOk result
+        (λ made. made.1 ≡ tally (map (row_part part.now limits job.now.act) rows.now)) }
     ensures few { IfOk result (λ made. AreFew (part.now.size.w * part.now.size.h) made.1) }
 {
     let _stop = stop;
@@ -306,7 +322,8 @@ fn laid_demands(
     requires leaves { leaves_in leaves.now ≡ plan_leaves plan.now }
     requires rows { All (HasRow CanBeMade plan.now.tree) leaves.now }
     requires few { (d : ℕ) → pieces_in d rows.now ≤ count_of plan.now.tree d }
-    ensures { IfOk result (λ demands. (at : ℕ → Option DemandOf) → AreDemandsFound at leaves.now → AreRecounted at (with_laid rows.now) plan.now.tree demands) }
+    ensures { IfOk result (λ demands. (at : ℕ → Option DemandOf) → AreDemandsFound at leaves.now
+        → AreRecounted at (with_laid rows.now) plan.now.tree demands) }
 {
     recounted_rows(alloc, Recount::Laid(rows), plan, leaves)
 }
@@ -324,7 +341,9 @@ fn end(
     requires cells { IsTrue (has_cells work.part totals.now) }
     requires stop { IsStopOf work.job.plan.tree stop.now }
     requires rows { All (HasRow CanBeMade work.job.plan.tree) leaves.now }
-    ensures change { IfOk result (λ change. (at : ℕ → Option DemandOf) → AreDemandsFound at leaves.now → IsEnd stop.now work.job work.part work.limits totals.now at change) }
+    ensures change { IfOk result
+        (λ change. (at : ℕ → Option DemandOf) → AreDemandsFound at leaves.now
+        → IsEnd stop.now work.job work.part work.limits totals.now at change) }
     ensures told { IfOk result (λ change. IsTrue (is_accepted change.reply)) }
 {
     let Work { job, part, limits } = work;
@@ -356,7 +375,9 @@ fn end(
 fn release(alloc: Global, work: Work, leaves: &[FoundLeaf]) -> Result<Change, AllocError>
     requires leaves { leaves_in leaves.now ≡ plan_leaves work.job.plan }
     requires rows { All (HasRow CanBeMade work.job.plan.tree) leaves.now }
-    ensures change { IfOk result (λ change. (at : ℕ → Option DemandOf) → AreDemandsFound at leaves.now → IsRelease work.job work.part at change) }
+    ensures change { IfOk result
+        (λ change. (at : ℕ → Option DemandOf) → AreDemandsFound at leaves.now
+        → IsRelease work.job work.part at change) }
     ensures told { IfOk result (λ change. IsTrue (is_accepted change.reply)) }
 {
     let Work {
@@ -392,8 +413,11 @@ fn decide_end(
 ) -> Result<Change, Refusal>
     requires numbered { All IsNumbered leaves.now }
     requires leaves { IfSome job (λ j. leaves_in leaves.now ≡ plan_leaves j.plan) }
-    ensures decision { (at : ℕ → Option DemandOf) → AreDemandsFound at leaves.now →
-        Decides (job_refusal stop.now job part material at totals.now) (λ change. MatchOption job ⊥ (λ j. MatchOption part ⊥ (λ p. MatchOption material ⊥ (λ m. IsEnd stop.now j p m.limits totals.now at change)))) result }
+    ensures decision { (at : ℕ → Option DemandOf) → AreDemandsFound at leaves.now
+        → Decides (job_refusal stop.now job part material at totals.now)
+        (λ change. MatchOption job ⊥
+        (λ j. MatchOption part ⊥ (λ p. MatchOption material ⊥
+        (λ m. IsEnd stop.now j p m.limits totals.now at change)))) result }
     ensures told { IfOk result (λ change. IsTrue (is_accepted change.reply)) }
 {
     let work = work_of(job, part, material, totals, leaves, stop)?;
@@ -413,8 +437,11 @@ pub fn decide_done(
 ) -> Result<Change, Refusal>
     requires numbered { All IsNumbered leaves.now }
     requires leaves { IfSome job (λ j. leaves_in leaves.now ≡ plan_leaves j.plan) }
-    ensures decision { (at : ℕ → Option DemandOf) → AreDemandsFound at leaves.now →
-        Decides (job_refusal AllCuts job part material at totals) (λ change. MatchOption job ⊥ (λ j. MatchOption part ⊥ (λ p. MatchOption material ⊥ (λ m. IsDone j p m.limits totals at change)))) result }
+    ensures decision { (at : ℕ → Option DemandOf) → AreDemandsFound at leaves.now
+        → Decides (job_refusal AllCuts job part material at totals)
+        (λ change. MatchOption job ⊥
+        (λ j. MatchOption part ⊥ (λ p. MatchOption material ⊥
+        (λ m. IsDone j p m.limits totals at change)))) result }
     ensures told { IfOk result (λ change. IsTrue (is_accepted change.reply)) }
 {
     let stop = Stop::All;
@@ -434,8 +461,11 @@ pub fn decide_break(
 ) -> Result<Change, Refusal>
     requires numbered { All IsNumbered leaves.now }
     requires leaves { IfSome job (λ j. leaves_in leaves.now ≡ plan_leaves j.plan) }
-    ensures decision { (at : ℕ → Option DemandOf) → AreDemandsFound at leaves.now →
-        Decides (job_refusal (After halt.now) job part material at totals) (λ change. MatchOption job ⊥ (λ j. MatchOption part ⊥ (λ p. MatchOption material ⊥ (λ m. IsBroken halt.now j p m.limits totals at change)))) result }
+    ensures decision { (at : ℕ → Option DemandOf) → AreDemandsFound at leaves.now
+        → Decides (job_refusal (After halt.now) job part material at totals)
+        (λ change. MatchOption job ⊥
+        (λ j. MatchOption part ⊥ (λ p. MatchOption material ⊥
+        (λ m. IsBroken halt.now j p m.limits totals at change)))) result }
     ensures told { IfOk result (λ change. IsTrue (is_accepted change.reply)) }
 {
     let stop = Stop::After(halt.copy(alloc)?);
@@ -454,8 +484,11 @@ pub fn decide_release(
 ) -> Result<Change, Refusal>
     requires numbered { All IsNumbered leaves.now }
     requires leaves { IfSome job (λ j. leaves_in leaves.now ≡ plan_leaves j.plan) }
-    ensures decision { (at : ℕ → Option DemandOf) → AreDemandsFound at leaves.now →
-        Decides (job_refusal AllCuts job part material at totals) (λ change. MatchOption job ⊥ (λ j. MatchOption part ⊥ (λ p. MatchOption material ⊥ (λ _. IsRelease j p at change)))) result }
+    ensures decision { (at : ℕ → Option DemandOf) → AreDemandsFound at leaves.now
+        → Decides (job_refusal AllCuts job part material at totals)
+        (λ change. MatchOption job ⊥
+        (λ j. MatchOption part ⊥ (λ p. MatchOption material ⊥ (λ _. IsRelease j p at change))))
+        result }
     ensures told { IfOk result (λ change. IsTrue (is_accepted change.reply)) }
 {
     let stop = Stop::All;

@@ -3,23 +3,18 @@
 ghost use Rattle.std.specs.Prelude.{◌≡◌, ◌≤◌, ℕ, List, [], Option, Some, IfOk, IfSome, IsTrue, ◌↔◌, MatchOption, length};
 ghost use Rattle.cut_measure.specs.Measures.{Extent};
 ghost use Rattle.shop_files.specs.declared.limits.TheConstants.{MOST_PIECES};
-ghost use Rattle.shop_machine.specs.declared.records.Material.{Material as MaterialOf};
-ghost use Rattle.shop_machine.specs.Messages.{is_accepted};
+ghost use Rattle.shop_records.specs.declared.records.Material.{Material as MaterialOf};
+ghost use Rattle.shop_records.specs.Messages.{is_accepted};
 ghost use Rattle.shop_machine.specs.Decisions.{Decides, no_change};
 ghost use Rattle.shop_machine.specs.Ordering.{order_refusal, lines_in, AreMaterialsFound};
 ghost use Rattle.shop_machine.specs.Importing.{IsRepeat, problem_lines, piece_line, unit_refusal, problem_refusal, again_refusal, lines_change, problem_change, unread_refusal as refusal_unread};
 
-use crate::changes::Change;
 use crate::decisions::no_change;
-use crate::imports::{Form, ImportRow};
-use crate::messages::{LineList, Reply};
 use crate::ordering::{FoundLine, decide_order, lines_refusal};
 use crate::receiving::decide_receive;
-use crate::records::{Material, Totals};
-use crate::refusals::Refusal;
-use crate::texts::Text;
 use cut_measure::{Code, Size};
 use shop_files::{OrderLine, Piece};
+use shop_records::{Change, Form, ImportRow, LineList, Material, Refusal, Reply, Text, Totals};
 use std::alloc::{AllocError, Global};
 
 /// Whether an import is the one of this row: of the same form, material and text.
@@ -75,7 +70,8 @@ pub fn problem_lines(
 /// Accepts an import that came before, with the reply that was told of it.
 pub fn decide_again(alloc: Global, earlier: Option<Reply>) -> Result<Change, Refusal>
     requires { IfSome earlier (λ answer. IsTrue (is_accepted answer)) }
-    ensures decision { Decides (again_refusal earlier) (λ change. MatchOption earlier ⊥ (λ answer. change ≡ no_change answer)) result }
+    ensures decision { Decides (again_refusal earlier)
+        (λ change. MatchOption earlier ⊥ (λ answer. change ≡ no_change answer)) result }
     ensures told { IfOk result (λ change. IsTrue (is_accepted change.reply)) }
 {
     match earlier {
@@ -106,8 +102,9 @@ pub fn decide_lines(
     first: u32,
 ) -> Result<Change, Refusal>
     requires { 1 ≤ first }
-    ensures decision { (at : List ℕ → Option MaterialOf) → AreMaterialsFound at lines.now →
-        Decides (order_refusal used at (lines_in lines.now) first) (λ change. change ≡ lines_change order text (lines_in lines.now) first) result }
+    ensures decision { (at : List ℕ → Option MaterialOf) → AreMaterialsFound at lines.now
+        → Decides (order_refusal used at (lines_in lines.now) first)
+        (λ change. change ≡ lines_change order text (lines_in lines.now) first) result }
     ensures told { IfOk result (λ change. IsTrue (is_accepted change.reply)) }
 {
     let change = decide_order(alloc, used, order, lines, first)?;
@@ -142,7 +139,11 @@ fn unit_refusal(known: &Option<Material>, size: Size) -> Option<Refusal>
 
 // The change of an order, and of the receipt of its unit.
 fn with_receipt(change: Change, receipt: Change) -> Change
-    ensures { result ≡ record change { parts = receipt.parts; totals = receipt.totals; act = receipt.act } }
+    ensures { result ≡ record change {
+      parts = receipt.parts;
+      totals = receipt.totals;
+      act = receipt.act;
+    } }
 {
     let Change {
         parts,
@@ -176,9 +177,10 @@ pub fn decide_problem(
 ) -> Result<Change, Refusal>
     requires act { 1 ≤ act }
     requires first { 1 ≤ first }
-    ensures decision { (at : List ℕ → Option MaterialOf) → AreMaterialsFound at lines.now →
-        Decides (problem_refusal used at known totals act first size (lines_in lines.now))
-        (λ change. change ≡ problem_change order material text size (lines_in lines.now) totals act first) result }
+    ensures decision { (at : List ℕ → Option MaterialOf) → AreMaterialsFound at lines.now
+        → Decides (problem_refusal used at known totals act first size (lines_in lines.now))
+        (λ change. change ≡ problem_change order material text size
+        (lines_in lines.now) totals act first) result }
     ensures told { IfOk result (λ change. IsTrue (is_accepted change.reply)) }
 {
     if used {

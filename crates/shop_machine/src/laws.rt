@@ -6,20 +6,20 @@ ghost use Rattle.cut_tree.specs.declared.lay.Row.{Row};
 ghost use Rattle.cut_tree.specs.Tree.{Tree, IsShaped};
 ghost use Rattle.cut_tree.specs.Cells.{Outcome};
 ghost use Rattle.cut_tree.specs.Laying.{IsLaid};
-ghost use Rattle.shop_machine.specs.declared.changes.Change.{Change};
-ghost use Rattle.shop_machine.specs.declared.messages.Message.{Message};
-ghost use Rattle.shop_machine.specs.declared.messages.Command.TheVariants.{Reserve};
-ghost use Rattle.shop_machine.specs.declared.messages.Query.TheVariants.{Plan};
-ghost use Rattle.shop_machine.specs.declared.messages.Reply.TheVariants as told;
-ghost use Rattle.shop_machine.specs.declared.refusals.Refusal.{Refusal};
-ghost use Rattle.shop_machine.specs.declared.refusals.Refusal.TheVariants.{BadTree, NumbersSpent, NoMemory, StoreFault};
-ghost use Rattle.shop_machine.specs.Messages.{Texts, IsMessage, IsMade, pair_of};
-ghost use Rattle.shop_machine.specs.Readings.{Reading};
-ghost use Rattle.shop_machine.specs.Content.{Content, kept_at, changed};
+ghost use Rattle.shop_records.specs.declared.changes.Change.{Change};
+ghost use Rattle.shop_records.specs.declared.messages.Message.{Message};
+ghost use Rattle.shop_records.specs.declared.messages.Command.TheVariants.{Reserve};
+ghost use Rattle.shop_records.specs.declared.messages.Query.TheVariants.{Plan};
+ghost use Rattle.shop_records.specs.declared.messages.Reply.TheVariants as told;
+ghost use Rattle.shop_records.specs.declared.refusals.Refusal.{Refusal};
+ghost use Rattle.shop_records.specs.declared.refusals.Refusal.TheVariants.{BadTree, NumbersSpent, NoMemory, StoreFault};
+ghost use Rattle.shop_records.specs.Messages.{Texts, IsMessage, IsMade, pair_of};
+ghost use Rattle.shop_records.specs.Readings.{Reading};
+ghost use Rattle.shop_records.specs.Content.{Content, kept_at, changed};
 ghost use Rattle.shop_machine.specs.Reserving.{HasNoPiece};
 ghost use Rattle.shop_machine.specs.Machine.{Reads, refusal_of, Makes, keeping, Step, Answers};
 ghost use Rattle.shop_machine.specs.History.{Entry, Gives, IsAccountOf};
-ghost use Rattle.shop_machine.specs.Soundness.{IsSound, Fits};
+ghost use Rattle.shop_records.specs.Soundness.{IsSound, Fits};
 ghost use Rattle.shop_machine.specs.Sharing.{SharesCells};
 
 /// Every history gives a sound content, and has its account: each cell of each received unit has exactly one owner, a
@@ -28,40 +28,53 @@ ghost use Rattle.shop_machine.specs.Sharing.{SharesCells};
 /// is made being pieces; the last act is the number of acts, the last demand that of the ordered lines, and the demand of
 /// each number is that of the line ordered as this one, whatever the number.
 pub fn histories_have_accounts()
-    ensures sound { (texts : Texts) (history : List Entry) (content : Content) →
-        Gives texts history content → IsSound texts content }
-    ensures account { (texts : Texts) (history : List Entry) (content : Content) →
-        Gives texts history content → IsAccountOf texts history content }
+    ensures sound { (texts : Texts) (history : List Entry) (content : Content)
+        → Gives texts history content → IsSound texts content }
+    ensures account { (texts : Texts) (history : List Entry) (content : Content)
+        → Gives texts history content → IsAccountOf texts history content }
 {}
 
 /// What is accepted on a sound content fits it, gets a reply that is read back, and leaves a sound content; and rows of
 /// a sound content never contradict each other.
 pub fn accepted_changes_fit()
-    ensures fits { (texts : Texts) (m : Content) (message : Message) (read : Reading) (change : Change) →
-        IsSound texts m → Reads texts m message.command read → refusal_of m message.command read ≡ None → Makes m message.command read change →
-        kept_at m (pair_of message) ≡ None → Fits m (keeping texts message change) }
-    ensures told { (texts : Texts) (m : Content) (message : Message) (read : Reading) (change : Change) →
-        IsSound texts m → Reads texts m message.command read → refusal_of m message.command read ≡ None → Makes m message.command read change →
-        IsMessage message → IsMade change.reply }
-    ensures sound { (texts : Texts) (m : Content) (message : Message) (read : Reading) (change : Change) →
-        IsSound texts m → Reads texts m message.command read → refusal_of m message.command read ≡ None → Makes m message.command read change →
-        IsMessage message → IsSound texts (changed m (keeping texts message change)) }
-    ensures agrees { (texts : Texts) (m : Content) (message : Message) (read : Reading) →
-        IsSound texts m → Reads texts m message.command read → refusal_of m message.command read ≢ Some StoreFault }
+    ensures fits { (texts : Texts) (m : Content) (message : Message) (read : Reading)
+        (change : Change)
+        → IsSound texts m → Reads texts m message.command read
+        → refusal_of m message.command read ≡ None → Makes m message.command read change
+        → kept_at m (pair_of message) ≡ None → Fits m (keeping texts message change) }
+    ensures told { (texts : Texts) (m : Content) (message : Message) (read : Reading)
+        (change : Change)
+        → IsSound texts m → Reads texts m message.command read
+        → refusal_of m message.command read ≡ None → Makes m message.command read change
+        → IsMessage message → IsMade change.reply }
+    ensures sound { (texts : Texts) (m : Content) (message : Message) (read : Reading)
+        (change : Change)
+        → IsSound texts m → Reads texts m message.command read
+        → refusal_of m message.command read ≡ None → Makes m message.command read change
+        → IsMessage message → IsSound texts (changed m (keeping texts message change)) }
+    ensures agrees { (texts : Texts) (m : Content) (message : Message) (read : Reading)
+        → IsSound texts m → Reads texts m message.command read
+        → refusal_of m message.command read ≢ Some StoreFault }
 {}
 
 /// The tree of a plan that is told for a part can be reserved on it, as long as nothing else happens: sent under a new pair
 /// it is refused only `BadTree` for a tree without a piece, `NumbersSpent`, and for want of memory or a failed store.
 pub fn told_plans_can_be_reserved()
-    ensures { (texts : Texts) (m : Content) (part : Name) (demands : List ℕ) (step ceiling dropped worth : ℕ) (tree : List ℕ) (message : Message) (refusal : Refusal) (next : Content) →
-        IsSound texts m → Answers m (Plan part demands step) (told.Plan ceiling dropped tree worth) →
-        message.command ≡ Reserve part tree → kept_at m (pair_of message) ≡ None → Step texts m message (told.Refused refusal) next →
-        refusal ≢ NoMemory → refusal ≢ StoreFault → (refusal ≡ NumbersSpent) ⊎ ((refusal ≡ BadTree) × HasNoPiece m part tree) }
+    ensures { (texts : Texts) (m : Content) (part : Name) (demands : List ℕ)
+        (step ceiling dropped worth : ℕ) (tree : List ℕ) (message : Message) (refusal : Refusal)
+        (next : Content)
+        → IsSound texts m → Answers m (Plan part demands step)
+        (told.Plan ceiling dropped tree worth)
+        → message.command ≡ Reserve part tree → kept_at m (pair_of message) ≡ None
+        → Step texts m message (told.Refused refusal) next
+        → refusal ≢ NoMemory → refusal ≢ StoreFault → (refusal ≡ NumbersSpent)
+        ⊎ ((refusal ≡ BadTree) × HasNoPiece m part tree) }
 {}
 
 /// Rows are laid for a shaped tree exactly where they share the unit's cells out among its nodes: each row with its node's
 /// cells and no others, each cell in a row, the nodes' numbers rising. That each cell has its place inside its row follows.
 pub fn shared_cells_are_laid()
-    ensures { (t : Tree) (w h k : ℕ) (outcome : ℕ → Outcome) (rows : List Row) → IsShaped t w h k → 1 ≤ w → 1 ≤ h →
-        SharesCells t w h k outcome rows ↔ IsLaid t w h k outcome rows }
+    ensures { (t : Tree) (w h k : ℕ) (outcome : ℕ → Outcome) (rows : List Row) → IsShaped t w h k
+        → 1 ≤ w → 1 ≤ h
+        → SharesCells t w h k outcome rows ↔ IsLaid t w h k outcome rows }
 {}

@@ -2,17 +2,15 @@
 
 ghost use Rattle.std.specs.Prelude.{◌≡◌, ◌≢◌, ◌+◌, List, Some, IfOk, take};
 ghost use Rattle.shop_machine.specs.declared.listing.TheConstants.{MOST_TOLD};
-ghost use Rattle.shop_machine.specs.declared.records.Demand.{Demand as DemandOf};
-ghost use Rattle.shop_machine.specs.declared.records.Part.{Part as PartOf};
-ghost use Rattle.shop_machine.specs.declared.refusals.Refusal.TheVariants.{NoMemory, StoreFault};
-ghost use Rattle.shop_machine.specs.declared.messages.Reply.TheVariants.{Refused, Parts, Demands};
+ghost use Rattle.shop_records.specs.declared.records.Demand.{Demand as DemandOf};
+ghost use Rattle.shop_records.specs.declared.records.Part.{Part as PartOf};
+ghost use Rattle.shop_records.specs.declared.refusals.Refusal.TheVariants.{NoMemory, StoreFault};
+ghost use Rattle.shop_records.specs.declared.messages.Reply.TheVariants.{Refused, Parts, Demands};
 ghost use Rattle.shop_machine.specs.Listing as listing;
 
-use crate::messages::Reply;
 use crate::planning::tree_text;
-use crate::records::{Demand, Job, JobRow, Part};
-use crate::refusals::Refusal;
 use cut_measure::{Code, RowList};
+use shop_records::{Demand, Job, JobRow, Part, Refusal, Reply};
 use std::alloc::{AllocError, Global};
 
 /// The most rows that a list tells of parts, demands or jobs.
@@ -46,7 +44,8 @@ fn told_rows<T: Copy + Drop>(alloc: Global, rows: &[T]) -> Result<RowList<T>, Al
 /// The answer to a query for the parts of a material that is there, from the first that are listed: all, or one more than
 /// are told. Refused `NoMemory` alone.
 pub fn answer_parts(alloc: Global, material: Code, rows: &[Part]) -> Reply
-    ensures answer { (parts : List PartOf) → rows.now ≡ take (MOST_TOLD + 1) parts → result ≢ Refused NoMemory
+    ensures answer { (parts : List PartOf) → rows.now ≡ take (MOST_TOLD + 1) parts
+        → result ≢ Refused NoMemory
         → result ≡ Parts material (listing.are_more parts) (listing.first_told parts) }
     ensures store { result ≢ Refused StoreFault }
 {
@@ -63,7 +62,8 @@ pub fn answer_parts(alloc: Global, material: Code, rows: &[Part]) -> Reply
 /// The answer to a query for open demands, from the first that are listed: all, or one more than are told. Refused
 /// `NoMemory` alone.
 pub fn answer_demands(alloc: Global, rows: &[Demand]) -> Reply
-    ensures answer { (demands : List DemandOf) → rows.now ≡ take (MOST_TOLD + 1) demands → result ≢ Refused NoMemory
+    ensures answer { (demands : List DemandOf) → rows.now ≡ take (MOST_TOLD + 1) demands
+        → result ≢ Refused NoMemory
         → result ≡ Demands (listing.first_told demands) (listing.are_more demands) }
     ensures store { result ≢ Refused StoreFault }
 {
@@ -92,7 +92,8 @@ pub fn job_row(job: &Job, part: &Part) -> JobRow
 
 /// The answer to a query for a job, from its row and its part's. Refused `NoMemory` alone.
 pub fn answer_job(alloc: Global, job: &Job, part: &Part) -> Reply
-    ensures answer { result ≢ Refused NoMemory → result ≡ listing.told_job (Some (job.now, part.now)) }
+    ensures answer { result ≢ Refused NoMemory
+        → result ≡ listing.told_job (Some (job.now, part.now)) }
     ensures store { result ≢ Refused StoreFault }
 {
     match tree_text(alloc, &job.plan) {

@@ -1,25 +1,9 @@
 //! The totals of a material as a part becomes other parts: cells that go and cells that come.
 
 ghost use Rattle.std.specs.Prelude.{◌≡◌, ◌*◌, ◌<◌, ◌≤◌, ◌^◌, ◌+◌, ◌-◌, ◌∷◌, [], sum_by, IsTrue};
-ghost use Rattle.shop_machine.specs.Content.{no_totals};
 ghost use Rattle.shop_machine.specs.Moving.{cells_counted, tally, can_move, has_cells, moved_totals, AreFew};
 
-use crate::records::{Column, Part, Totals};
-
-/// The totals of a material of which nothing was received yet.
-pub fn no_totals() -> Totals
-    ensures { result ≡ no_totals }
-{
-    Totals {
-        received: 0,
-        stock: 0,
-        rack: 0,
-        pieces: 0,
-        kerf: 0,
-        scrap: 0,
-        returned: 0,
-    }
-}
+use shop_records::{Column, Part, Totals};
 
 // The cells of parts that a column counts.
 fn cells_counted(column: Column, parts: &[Part]) -> u64

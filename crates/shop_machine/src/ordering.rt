@@ -5,18 +5,15 @@ ghost use Rattle.cut_measure.specs.declared.ranges.TheConstants.{MOST_NUMBERS};
 ghost use Rattle.cut_measure.specs.Measures.{is_size};
 ghost use Rattle.shop_files.specs.declared.limits.TheConstants.{MOST_LINES};
 ghost use Rattle.cut_measure.specs.declared.sizes.Kind.TheVariants.{Sheet};
-ghost use Rattle.shop_machine.specs.declared.records.Material.{Material as MaterialOf};
-ghost use Rattle.shop_machine.specs.Messages.{is_accepted};
+ghost use Rattle.shop_records.specs.declared.records.Material.{Material as MaterialOf};
+ghost use Rattle.shop_records.specs.Messages.{is_accepted};
 ghost use Rattle.shop_machine.specs.Decisions.{Decides};
 ghost use Rattle.shop_machine.specs.Ordering.{is_good_line, line_refusal, lines_refusal, order_refusal, order_change, new_demand, new_demands, lines_in, AreMaterialsFound};
 
-use crate::changes::{Change, DemandList};
 use crate::decisions::no_change;
-use crate::messages::Reply;
-use crate::records::{Demand, Material};
-use crate::refusals::Refusal;
 use cut_measure::{Code, Kind, MOST_COUNT, MOST_NUMBERS, MOST_WORTH, Size};
 use shop_files::{MOST_LINES, OrderLine};
+use shop_records::{Change, Demand, DemandList, Material, Refusal, Reply};
 use std::alloc::{AllocError, Global};
 
 /// A line of an order, with the row of its material.
@@ -59,7 +56,8 @@ fn line_refusal(last: u32, found: &FoundLine) -> Option<Refusal>
 
 /// Why lines are refused behind the line of this number, if they are.
 pub fn lines_refusal(last: u32, lines: &[FoundLine]) -> Option<Refusal>
-    ensures refusal { (at : List ℕ → Option MaterialOf) → AreMaterialsFound at lines.now → result ≡ lines_refusal at last (lines_in lines.now) }
+    ensures refusal { (at : List ℕ → Option MaterialOf) → AreMaterialsFound at lines.now
+        → result ≡ lines_refusal at last (lines_in lines.now) }
     ensures sized { IfNone result (All (λ f. IsTrue (is_size Sheet f.line.w f.line.h)) lines.now) }
 {
     let [found, more @ ..] = lines else {
@@ -121,8 +119,9 @@ pub fn decide_order(
     first: u32,
 ) -> Result<Change, Refusal>
     requires { 1 ≤ first }
-    ensures decision { (at : List ℕ → Option MaterialOf) → AreMaterialsFound at lines.now →
-        Decides (order_refusal used at (lines_in lines.now) first) (λ change. change ≡ order_change order (lines_in lines.now) first) result }
+    ensures decision { (at : List ℕ → Option MaterialOf) → AreMaterialsFound at lines.now
+        → Decides (order_refusal used at (lines_in lines.now) first)
+        (λ change. change ≡ order_change order (lines_in lines.now) first) result }
     ensures told { IfOk result (λ change. IsTrue (is_accepted change.reply)) }
     ensures few { IfOk result (λ _. length lines.now ≤ MOST_LINES) }
 {

@@ -5,19 +5,16 @@ ghost use Rattle.cut_measure.specs.declared.ranges.TheConstants.{MOST_KERF};
 ghost use Rattle.cut_measure.specs.declared.sizes.Kind.TheVariants.{Bar, Sheet};
 ghost use Rattle.cut_plan.specs.Proposals.{AreDemands};
 ghost use Rattle.cut_tree.specs.Spelling.{text_of};
-ghost use Rattle.shop_machine.specs.declared.records.Demand.{Demand as DemandOf};
-ghost use Rattle.shop_machine.specs.declared.refusals.Refusal.TheVariants.{NoMemory, StoreFault};
-ghost use Rattle.shop_machine.specs.declared.messages.Reply.TheVariants.{Refused};
+ghost use Rattle.shop_records.specs.declared.records.Demand.{Demand as DemandOf};
+ghost use Rattle.shop_records.specs.declared.refusals.Refusal.TheVariants.{NoMemory, StoreFault};
+ghost use Rattle.shop_records.specs.declared.messages.Reply.TheVariants.{Refused};
 ghost use Rattle.shop_machine.specs.Planning as planning;
 ghost use Rattle.shop_machine.specs.Planning.{AreAsked, AreFound, HasNumber, IsPlanAnswer, IsBoundAnswer, IsPlanned, IsBounded, Tells, are_bad_numbers, numbers_in, planned_size, numbers_refusal};
 
-use crate::messages::Reply;
-use crate::records::{Demand, Material, Part};
-use crate::refusals::Refusal;
-use crate::texts::Text;
 use cut_measure::{Code, Kind, MOST_NUMBERS, RowList, Size};
-use cut_plan::{MOST_WANTS, Want, least_units, plan_bar, plan_sheet};
+use cut_plan::{MOST_WANTS, PlanFault, Want, least_units, plan_bar, plan_sheet};
 use cut_tree::Plan;
+use shop_records::{Demand, Material, Part, Refusal, Reply, Text};
 use std::alloc::{AllocError, Global};
 use std::cmp::Ordering;
 
@@ -48,7 +45,8 @@ pub fn can_be_planned(numbers: &[u32]) -> bool
 }
 
 fn demand_refusal(material: &Code, found: &FoundDemand) -> Option<Refusal>
-    ensures refusal { result ≡ planning.demand_refusal material.now found.now.number found.now.demand }
+    ensures refusal { result ≡ planning.demand_refusal material.now found.now.number
+        found.now.demand }
     ensures number { IfNone result (HasNumber found.now) }
     ensures store { result ≢ Some StoreFault }
 {
@@ -68,7 +66,8 @@ fn demand_refusal(material: &Code, found: &FoundDemand) -> Option<Refusal>
 
 // Why demands aren't planned on this material, if they aren't.
 fn demands_refusal(material: &Code, found: &[FoundDemand]) -> Option<Refusal>
-    ensures refusal { (at : ℕ → Option DemandOf) → AreFound at found.now → result ≡ planning.demands_refusal at material.now (numbers_in found.now) }
+    ensures refusal { (at : ℕ → Option DemandOf) → AreFound at found.now
+        → result ≡ planning.demands_refusal at material.now (numbers_in found.now) }
     ensures numbers { IfNone result (All HasNumber found.now) }
     ensures store { result ≢ Some StoreFault }
 {
@@ -105,7 +104,8 @@ fn want_of(found: &FoundDemand) -> Option<Want>
 // The wants for demands of which something is left.
 fn wants_of(alloc: Global, found: &[FoundDemand]) -> Result<Vec<Want>, AllocError>
     requires { All HasNumber found.now }
-    ensures wants { IfOk result (λ wants. wants.items ≡ filter_map (λ f. planning.want_of f.number f.demand) found.now) }
+    ensures wants { IfOk result
+        (λ wants. wants.items ≡ filter_map (λ f. planning.want_of f.number f.demand) found.now) }
     ensures demands { IfOk result (λ wants. AreDemands wants.items) }
 {
     found.iter().filter_map(want_of).collect(alloc)
@@ -117,9 +117,13 @@ fn asked_wants(
     material: &Code,
     demands: &Option<FoundList>,
 ) -> Result<Vec<Want>, Refusal>
-    ensures ok { IfOk result (λ wants. (at : ℕ → Option DemandOf) (numbers : List ℕ) → AreAsked at numbers demands.now
-        → (numbers_refusal at material.now numbers ≡ None) × (wants.items ≡ planning.wants_of at numbers)) }
-    ensures err { IfErr result (λ refusal. refusal ≢ NoMemory → (at : ℕ → Option DemandOf) (numbers : List ℕ) → AreAsked at numbers demands.now
+    ensures ok { IfOk result (λ wants. (at : ℕ → Option DemandOf) (numbers : List ℕ)
+        → AreAsked at numbers demands.now
+        → (numbers_refusal at material.now numbers ≡ None)
+        × (wants.items ≡ planning.wants_of at numbers)) }
+    ensures err { IfErr result
+        (λ refusal. refusal ≢ NoMemory → (at : ℕ → Option DemandOf) (numbers : List ℕ)
+        → AreAsked at numbers demands.now
         → numbers_refusal at material.now numbers ≡ Some refusal) }
     ensures demands { IfOk result (λ wants. AreDemands wants.items) }
     ensures store { IfErr result (λ refusal. refusal ≢ StoreFault) }
@@ -145,6 +149,19 @@ pub(crate) fn tree_text(alloc: Global, plan: &Plan) -> Result<Text, AllocError>
     Ok(Text::of(text))
 }
 
+// The refusal that tells of a planner's fault.
+fn planner_refusal(fault: PlanFault) -> Refusal
+    ensures { result ≡ planning.planner_refusal fault }
+{
+    match fault {
+        PlanFault::BadWant => Refusal::BadWant,
+        PlanFault::BadStep => Refusal::BadStep,
+        PlanFault::TableTooLarge => Refusal::TableTooLarge,
+        PlanFault::NothingFits => Refusal::NothingFits,
+        PlanFault::NoMemory => Refusal::NoMemory,
+    }
+}
+
 // A plan of a bar of this length.
 fn bar_reply(
     alloc: Global,
@@ -163,7 +180,7 @@ fn bar_reply(
     };
     let proposal = match plan_bar(alloc, bar, kerf, wants) {
         Ok(proposal) => proposal,
-        Err(fault) => return Err(Refusal::from(fault)),
+        Err(fault) => return Err(planner_refusal(fault)),
     };
     let _cuts = proposal.plan.cuts();
     let Ok(tree) = tree_text(alloc, &proposal.plan) else {
@@ -192,7 +209,7 @@ fn sheet_reply(
 {
     let proposal = match plan_sheet(alloc, size, kerf, step, wants) {
         Ok(proposal) => proposal,
-        Err(fault) => return Err(Refusal::from(fault)),
+        Err(fault) => return Err(planner_refusal(fault)),
     };
     let _cuts = proposal.plan.cuts();
     let Ok(tree) = tree_text(alloc, &proposal.plan) else {
@@ -215,7 +232,8 @@ fn planned(
     wants: &[Want],
 ) -> Result<Reply, Refusal>
     requires { AreDemands wants.now }
-    ensures told { Tells (IsPlanned material.now.kind (planned_size material.now.kind size) material.now.limits.kerf step wants.now) result }
+    ensures told { Tells (IsPlanned material.now.kind
+        (planned_size material.now.kind size) material.now.limits.kerf step wants.now) result }
     ensures store { planning.SparesStore result }
 {
     let kerf = material.limits.kerf();
@@ -232,7 +250,8 @@ fn plan_told(
     demands: &Option<FoundList>,
     step: u32,
 ) -> Result<Reply, Refusal>
-    ensures told { (at : ℕ → Option DemandOf) (numbers : List ℕ) → AreAsked at numbers demands.now → Tells (IsPlanAnswer part material at numbers step) result }
+    ensures told { (at : ℕ → Option DemandOf) (numbers : List ℕ) → AreAsked at numbers demands.now
+        → Tells (IsPlanAnswer part material at numbers step) result }
     ensures store { planning.SparesStore result }
 {
     let Some(part) = part else {
@@ -259,7 +278,8 @@ fn bounded(
     wants: &[Want],
 ) -> Result<Reply, Refusal>
     requires { material.now.kind ≡ Bar → size.h ≡ 1 }
-    ensures told { Tells (IsBounded material.now.kind size material.now.limits.kerf step wants.now) result }
+    ensures told { Tells (IsBounded material.now.kind size material.now.limits.kerf step wants.now)
+        result }
     ensures store { planning.SparesStore result }
 {
     match least_units(
@@ -274,7 +294,7 @@ fn bounded(
             best: bound.best,
             units: bound.units,
         }),
-        Err(fault) => Err(Refusal::from(fault)),
+        Err(fault) => Err(planner_refusal(fault)),
     }
 }
 
@@ -339,7 +359,8 @@ pub fn answer_bound(
     step: u32,
 ) -> Reply
     ensures answer { (at : ℕ → Option DemandOf) (numbers : List ℕ) → AreAsked at numbers demands.now
-        → result ≢ Refused NoMemory → IsBoundAnswer material code (record { w = w; h = h }) at numbers step result }
+        → result ≢ Refused NoMemory
+        → IsBoundAnswer material code (record { w = w; h = h }) at numbers step result }
     ensures store { result ≢ Refused StoreFault }
 {
     match bound_told(alloc, code, material, w, h, demands, step) {

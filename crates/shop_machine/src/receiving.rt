@@ -2,20 +2,16 @@
 
 ghost use Rattle.std.specs.Prelude.{◌≡◌, ◌≤◌, IfOk, IsTrue};
 ghost use Rattle.cut_measure.specs.declared.ranges.TheConstants.{MOST_NUMBERS};
-ghost use Rattle.shop_machine.specs.Messages.{is_accepted};
+ghost use Rattle.shop_records.specs.Messages.{is_accepted};
 ghost use Rattle.shop_machine.specs.Decisions.{Decides};
 ghost use Rattle.shop_machine.specs.Receiving.{receive_refusal, receive_change, unit_parts};
 
-use crate::changes::{Change, MaterialTotals, PartList};
 use crate::decisions::no_change;
-use crate::messages::Reply;
-use crate::records::{Material, Part, State, Totals};
-use crate::refusals::Refusal;
 use cut_measure::{Code, MOST_NUMBERS, PartName, Size};
+use shop_records::{
+    Change, MOST_RECEIVED, Material, MaterialTotals, Part, PartList, Refusal, Reply, State, Totals,
+};
 use std::alloc::{AllocError, Global};
-
-/// The most cells of a material that may be received in all.
-pub const MOST_RECEIVED: u64 = 1_000_000_000_000_000;
 
 /// The most units of one receipt.
 pub const MOST_UNITS: u32 = 100;
@@ -64,7 +60,8 @@ pub fn decide_receive(
 ) -> Result<Change, Refusal>
     requires { 1 ≤ act }
     ensures decision { Decides (receive_refusal known totals act w h count)
-        (λ change. change ≡ receive_change material batch (record { w = w; h = h }) act count totals) result }
+        (λ change. change ≡ receive_change material batch
+        (record { w = w; h = h }) act count totals) result }
     ensures told { IfOk result (λ change. IsTrue (is_accepted change.reply)) }
 {
     let Some(known) = known else {

@@ -3,12 +3,11 @@
 ghost use Rattle.std.specs.Prelude.{◌≡◌, ◌≢◌, IfOk, IsTrue, ℕ, Option, OnOk, All, ◌<◌, ◌^◌, Any, false};
 ghost use Rattle.cut_tree.specs.Counting.{is_demand_piece};
 ghost use Rattle.cut_tree.specs.Tree.{count_of};
-ghost use Rattle.shop_machine.specs.declared.records.Demand.{Demand as DemandOf};
+ghost use Rattle.shop_records.specs.declared.records.Demand.{Demand as DemandOf};
 ghost use Rattle.shop_machine.specs.Recounts.{AreRecounted, plan_leaves, AreDemandsFound, leaves_in, recount_by, HasRoom, HasRow, IsAddedOnce, pieces_in};
 
-use crate::changes::DemandList;
-use crate::records::Demand;
 use cut_tree::{Leaf, Owner, Plan, Row};
+use shop_records::{Demand, DemandList};
 use std::alloc::{AllocError, Global};
 
 /// A piece leaf of a plan, with the row of its demand.
@@ -93,7 +92,8 @@ fn add_once(
     demand: &Demand,
 ) -> Result<(), AllocError>
     requires { HasRoom how (count_of plan.now.tree of) demand.now }
-    ensures { OnOk result (IsAddedOnce rows.old (recount_by how.entry (count_of plan.now.tree of) demand.now) rows.new) }
+    ensures { OnOk result (IsAddedOnce rows.old
+        (recount_by how.entry (count_of plan.now.tree of) demand.now) rows.new) }
 {
     if has_number(rows.as_slice(), demand.number) {
         return Ok(());
@@ -111,7 +111,8 @@ pub fn recounted_rows(
 ) -> Result<DemandList, AllocError>
     requires leaves { leaves_in leaves.now ≡ plan_leaves plan.now }
     requires found { All (HasRow (HasRoom how) plan.now.tree) leaves.now }
-    ensures { IfOk result (λ rows. (at : ℕ → Option DemandOf) → AreDemandsFound at leaves.now → AreRecounted at (recount_by how.entry) plan.now.tree rows) }
+    ensures { IfOk result (λ rows. (at : ℕ → Option DemandOf) → AreDemandsFound at leaves.now
+        → AreRecounted at (recount_by how.entry) plan.now.tree rows) }
 {
     let mut rows = DemandList::new(alloc);
     for found in leaves {

@@ -3,21 +3,18 @@
 ghost use Rattle.std.specs.Prelude.{◌≡◌, IfOk, IsTrue, ℕ, Option, IfNone, All, Some, IfSome, is_some, MatchOption, false};
 ghost use Rattle.std.specs.List.{list_any};
 ghost use Rattle.cut_tree.specs.Tree.{count_of};
-ghost use Rattle.shop_machine.specs.declared.records.Demand.{Demand as DemandOf};
+ghost use Rattle.shop_records.specs.declared.records.Demand.{Demand as DemandOf};
 ghost use Rattle.shop_machine.specs.declared.recounts.Recount.TheVariants.{Reserved};
-ghost use Rattle.shop_machine.specs.Messages.{is_accepted};
+ghost use Rattle.shop_records.specs.Messages.{is_accepted};
 ghost use Rattle.shop_machine.specs.Decisions.{Decides};
 ghost use Rattle.shop_machine.specs.Recounts.{plan_leaves, AreDemandsFound, leaves_in, HasRoom, HasRow, IsNumbered};
 ghost use Rattle.shop_machine.specs.Reserving.{IsReservation, fits_demand, is_over, leaf_refusal, leaves_refusal, plan_refusal, reserve_refusal};
 
-use crate::changes::Change;
 use crate::decisions::no_change;
-use crate::messages::Reply;
-use crate::records::{Demand, Job, JobState, Material, Part, State};
 use crate::recounts::{FoundLeaf, Recount, recounted_rows, wide};
-use crate::refusals::Refusal;
 use cut_measure::{Code, MOST_NUMBERS};
 use cut_tree::{Leaf, Plan};
+use shop_records::{Change, Demand, Job, JobState, Material, Part, Refusal, Reply, State};
 use std::alloc::{AllocError, Global};
 use std::cmp::Ordering;
 
@@ -52,7 +49,8 @@ fn leaf_refusal(material: &Code, found: &FoundLeaf) -> Option<Refusal>
 
 // Why leaves are refused on a part of this material, if they are.
 fn leaves_refusal(material: &Code, leaves: &[FoundLeaf]) -> Option<Refusal>
-    ensures refusal { (at : ℕ → Option DemandOf) → AreDemandsFound at leaves.now → result ≡ leaves_refusal at material.now (leaves_in leaves.now) }
+    ensures refusal { (at : ℕ → Option DemandOf) → AreDemandsFound at leaves.now
+        → result ≡ leaves_refusal at material.now (leaves_in leaves.now) }
     ensures found { IfNone result (All (λ f. IsTrue (is_some f.demand)) leaves.now) }
 {
     let [found, more @ ..] = leaves else {
@@ -78,9 +76,12 @@ fn is_over(count: u32, demand: &Option<Demand>) -> bool
 
 // With the plan's pieces, some demand of the leaves would have more reserved and made than wanted.
 fn is_too_many(plan: &Plan, leaves: &[FoundLeaf]) -> bool
-    ensures test { (at : ℕ → Option DemandOf) → AreDemandsFound at leaves.now →
-        result ≡ list_any (λ leaf. is_over (count_of plan.now.tree leaf.demand) (at leaf.demand)) (leaves_in leaves.now) }
-    ensures room { result ≡ false → All (λ f. IfSome f.demand (HasRoom Reserved (count_of plan.now.tree f.leaf.demand))) leaves.now }
+    ensures test { (at : ℕ → Option DemandOf) → AreDemandsFound at leaves.now
+        → result ≡ list_any (λ leaf. is_over (count_of plan.now.tree leaf.demand) (at leaf.demand))
+        (leaves_in leaves.now) }
+    ensures room { result ≡ false
+        → All (λ f. IfSome f.demand (HasRoom Reserved (count_of plan.now.tree f.leaf.demand)))
+        leaves.now }
 {
     let [found, more @ ..] = leaves else {
         return false;
@@ -101,7 +102,9 @@ fn reservation(
 ) -> Result<Change, AllocError>
     requires leaves { leaves_in leaves.now ≡ plan_leaves plan }
     requires found { All (HasRow (HasRoom Reserved) plan.tree) leaves.now }
-    ensures change { IfOk result (λ change. (at : ℕ → Option DemandOf) → AreDemandsFound at leaves.now → IsReservation part plan at act change) }
+    ensures change { IfOk result
+        (λ change. (at : ℕ → Option DemandOf) → AreDemandsFound at leaves.now
+        → IsReservation part plan at act change) }
     ensures told { IfOk result (λ change. IsTrue (is_accepted change.reply)) }
 {
     let demands = recounted_rows(alloc, Recount::Reserved, &plan, leaves)?;
@@ -128,9 +131,12 @@ fn reservation(
 // Why a plan is refused on a part, if it is.
 fn plan_refusal(part: &Part, plan: &Plan, leaves: &[FoundLeaf], act: u32) -> Option<Refusal>
     requires leaves { leaves_in leaves.now ≡ plan_leaves plan.now }
-    ensures refusal { (at : ℕ → Option DemandOf) → AreDemandsFound at leaves.now → result ≡ plan_refusal part.now (Some plan.now) at act }
+    ensures refusal { (at : ℕ → Option DemandOf) → AreDemandsFound at leaves.now
+        → result ≡ plan_refusal part.now (Some plan.now) at act }
     ensures found { IfNone result (All (λ f. IsTrue (is_some f.demand)) leaves.now) }
-    ensures room { IfNone result (All (λ f. IfSome f.demand (HasRoom Reserved (count_of plan.now.tree f.leaf.demand))) leaves.now) }
+    ensures room { IfNone result
+        (All (λ f. IfSome f.demand (HasRoom Reserved (count_of plan.now.tree f.leaf.demand)))
+        leaves.now) }
 {
     if leaves.is_empty() {
         return Some(Refusal::BadTree);
@@ -159,8 +165,10 @@ pub fn decide_reserve(
 ) -> Result<Change, Refusal>
     requires numbered { All IsNumbered leaves.now }
     requires leaves { IfSome plan (λ p. leaves_in leaves.now ≡ plan_leaves p) }
-    ensures decision { (at : ℕ → Option DemandOf) → AreDemandsFound at leaves.now →
-        Decides (reserve_refusal part material plan at act) (λ change. MatchOption part ⊥ (λ row. MatchOption plan ⊥ (λ p. IsReservation row p at act change))) result }
+    ensures decision { (at : ℕ → Option DemandOf) → AreDemandsFound at leaves.now
+        → Decides (reserve_refusal part material plan at act)
+        (λ change. MatchOption part ⊥
+        (λ row. MatchOption plan ⊥ (λ p. IsReservation row p at act change))) result }
     ensures told { IfOk result (λ change. IsTrue (is_accepted change.reply)) }
 {
     let Some(part) = part else {

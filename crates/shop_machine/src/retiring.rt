@@ -1,19 +1,16 @@
 //! A standing part becomes scrap as a whole, or a unit goes back to its supplier: what is decided on it.
 
 ghost use Rattle.std.specs.Prelude.{◌≡◌, IfOk, IsTrue, MatchOption};
-ghost use Rattle.shop_machine.specs.declared.messages.Reply.TheVariants as reply;
-ghost use Rattle.shop_machine.specs.declared.records.State.TheVariants as state;
-ghost use Rattle.shop_machine.specs.Messages.{is_accepted};
+ghost use Rattle.shop_records.specs.declared.messages.Reply.TheVariants as reply;
+ghost use Rattle.shop_records.specs.declared.records.State.TheVariants as state;
+ghost use Rattle.shop_records.specs.Messages.{is_accepted};
 ghost use Rattle.shop_machine.specs.Decisions.{Decides};
 ghost use Rattle.shop_machine.specs.Moving.{has_cells};
 ghost use Rattle.shop_machine.specs.Retiring.{scrap_refusal, return_refusal, turn_change};
 
-use crate::changes::{Change, MaterialTotals};
 use crate::decisions::no_change;
-use crate::messages::Reply;
 use crate::moving::{has_cells, moved_totals, tally_one};
-use crate::records::{Part, State, Totals};
-use crate::refusals::Refusal;
+use shop_records::{Change, MaterialTotals, Part, Refusal, Reply, State, Totals};
 use std::alloc::Global;
 
 // The change of a part that as a whole gets another state.
@@ -35,7 +32,9 @@ fn turned(alloc: Global, part: Part, state: State, totals: &Totals, reply: Reply
 
 /// Makes a standing part scrap, from its row and the totals of its material.
 pub fn decide_scrap(alloc: Global, part: Option<Part>, totals: Totals) -> Result<Change, Refusal>
-    ensures decision { Decides (scrap_refusal part totals) (λ change. MatchOption part ⊥ (λ row. change ≡ turn_change state.Scrap row totals (reply.Scrap row.name))) result }
+    ensures decision { Decides (scrap_refusal part totals)
+        (λ change. MatchOption part ⊥
+        (λ row. change ≡ turn_change state.Scrap row totals (reply.Scrap row.name))) result }
     ensures told { IfOk result (λ change. IsTrue (is_accepted change.reply)) }
 {
     let Some(part) = part else {
@@ -57,7 +56,10 @@ pub fn decide_give_back(
     part: Option<Part>,
     totals: Totals,
 ) -> Result<Change, Refusal>
-    ensures decision { Decides (return_refusal part totals) (λ change. MatchOption part ⊥ (λ row. change ≡ turn_change state.Returned row totals (reply.GiveBack row.name))) result }
+    ensures decision { Decides (return_refusal part totals)
+        (λ change. MatchOption part ⊥
+        (λ row. change ≡ turn_change state.Returned row totals (reply.GiveBack row.name)))
+        result }
     ensures told { IfOk result (λ change. IsTrue (is_accepted change.reply)) }
 {
     let Some(part) = part else {

@@ -1,11 +1,11 @@
 -- The materials of a shop file, added as messages of terminal 0.
 use Rattle.std.specs.Prelude.{◌≡◌, ℕ, suc, ◌+◌, ◌<◌, List, [], ◌∷◌, length, take, All, Some, None, get_or}
 use Rattle.shop_files.specs.declared.shops.MaterialEntry.{MaterialEntry}
-use Rattle.shop_machine.specs.declared.messages.Command.TheVariants.{AddMaterial}
-use Rattle.shop_machine.specs.declared.messages.Message.{Message}
-use Rattle.shop_machine.specs.declared.messages.Reply.{Reply}
-use Rattle.shop_machine.specs.Messages.{refusal_in}
-use Rattle.shop_machine.specs.Soundness.{IsSound}
+use Rattle.shop_records.specs.declared.messages.Command.TheVariants.{AddMaterial}
+use Rattle.shop_records.specs.declared.messages.Message.{Message}
+use Rattle.shop_records.specs.declared.messages.Reply.{Reply}
+use Rattle.shop_records.specs.Messages.{refusal_in}
+use Rattle.shop_records.specs.Soundness.{IsSound}
 use Rattle.shop_desk.specs.Handled.{HasRun}
 use Rattle.shop_rules.specs.Forms.{json_texts}
 use Rattle.shop_book.specs.declared.books.Book.{Ghosts}

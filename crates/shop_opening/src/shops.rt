@@ -3,7 +3,7 @@
 ghost use Rattle.std.specs.Prelude.{◌≡◌, ◌≤◌, length, IfOk, OnOk, IfErr, MatchOption, All};
 ghost use Rattle.shop_desk.specs.Faults.{CountsUp};
 ghost use Rattle.shop_files.specs.declared.limits.TheConstants.{MOST_ENTRIES};
-ghost use Rattle.shop_machine.specs.Messages.{refusal_in};
+ghost use Rattle.shop_records.specs.Messages.{refusal_in};
 ghost use Rattle.shop_rules.specs.Forms.{json_texts};
 ghost use Rattle.shop_opening.specs.Shops as spec;
 ghost use Rattle.shop_opening.specs.Shops.{HasShop, IsAccepted, IsFirstRefused, ShopFailed};
@@ -11,7 +11,7 @@ ghost use Rattle.shop_book.specs.Kept.{OnContent};
 
 use shop_desk::run;
 use shop_files::MaterialEntry;
-use shop_machine::{Command, Message, Refusal, Reply};
+use shop_records::{Command, Message, Refusal, Reply};
 use shop_store::Book;
 use std::alloc::{AllocError, Global};
 

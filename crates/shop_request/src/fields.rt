@@ -98,7 +98,8 @@ fn is_number(text: &[u8]) -> bool
 // The number that digits are, where a body may have that length.
 fn short_number(digits: &[u8]) -> Option<usize>
     requires { IsTrue (list_all is_ascii_digit digits.now) }
-    ensures { MatchOption result (most_body < digits_value 10 digits.now) (λ n. (n ≡ digits_value 10 digits.now) × (n ≤ most_body)) }
+    ensures { MatchOption result (most_body < digits_value 10 digits.now)
+        (λ n. (n ≡ digits_value 10 digits.now) × (n ≤ most_body)) }
 {
     let mut value: usize = 0;
     for digit in digits {

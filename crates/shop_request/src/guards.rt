@@ -98,7 +98,8 @@ impl Guard {
     // Whether some field of this name has a strange value.
     fn has_strange(&self, mark: Mark, buf: &[u8], headers: &[HeaderSpan]) -> bool
         requires { All (IsHeaderWithin (length buf.now)) headers.now }
-        ensures { result ≡ list_any (is_strange_as self.now.port mark) (values_of (mark_name mark) (map (header_bytes buf.now) headers.now)) }
+        ensures { result ≡ list_any (is_strange_as self.now.port mark)
+            (values_of (mark_name mark) (map (header_bytes buf.now) headers.now)) }
     {
         let [first, rest @ ..] = headers else {
             return false;
@@ -113,7 +114,8 @@ impl Guard {
     // Whether fields tell a strange request.
     fn tells_strange(&self, buf: &[u8], headers: &[HeaderSpan]) -> bool
         requires { All (IsHeaderWithin (length buf.now)) headers.now }
-        ensures { result ≡ is_strange self.now.port self.now.has_page (map (header_bytes buf.now) headers.now) }
+        ensures { result ≡ is_strange self.now.port self.now.has_page
+            (map (header_bytes buf.now) headers.now) }
     {
         self.has_strange(Mark::Site, buf, headers)
             || self.has_strange(Mark::Origin, buf, headers)
@@ -130,7 +132,8 @@ impl Guard {
         minor: u8,
     ) -> Ruling
         requires { All (IsHeaderWithin (length buf.now)) headers.now }
-        ensures { result ≡ ruled_parts self.now.port self.now.has_page method.now target.now minor (map (header_bytes buf.now) headers.now) }
+        ensures { result ≡ ruled_parts self.now.port self.now.has_page method.now target.now minor
+            (map (header_bytes buf.now) headers.now) }
     {
         if !has_good_fields(minor, buf, headers) {
             return Ruling::Routed;

@@ -71,8 +71,12 @@ pub(crate) fn read_head<S: Source>(
     headers: &mut [HeaderSpan; 64],
 ) -> Result<HeadRead, StreamFault>
     requires { came.old.items ≡ [] }
-    ensures read { IfOk result (λ read. IsHeadRead (S.left source.old) (S.left source.new) came.new.items headers.new read) }
-    ensures fault { IfErr result (λ fault. (fault ≡ NoMemory) ⊎ (fault ≡ Read) × HasFailed (S.failed source.old) (S.failed source.new)) }
+    ensures read { IfOk result
+        (λ read. IsHeadRead (S.left source.old)
+        (S.left source.new) came.new.items headers.new read) }
+    ensures fault { IfErr result
+        (λ fault. (fault ≡ NoMemory) ⊎ (fault ≡ Read)
+        × HasFailed (S.failed source.old) (S.failed source.new)) }
     ensures memory { result ≡ Err NoMemory → S.failed source.new ≡ S.failed source.old }
     ensures worked { OnOk result (S.failed source.new ≡ S.failed source.old) }
     ensures reads { S.reads source.new ≤ S.reads source.old + most_head }

@@ -46,7 +46,8 @@ fn at_route<'b>(
     method: &[u8],
     said: Said,
 ) -> Result<Pleaded<'b>, Fault>
-    ensures { (length : Option ℕ) → IsSaid (Ok said) (Ok length) → pleas result ≡ by_method (takes_body route) route part.now method.now length }
+    ensures { (length : Option ℕ) → IsSaid (Ok said) (Ok length)
+        → pleas result ≡ by_method (takes_body route) route part.now method.now length }
 {
     if !route.takes_body() {
         if method != b"GET".as_slice() {
@@ -79,7 +80,8 @@ fn at_path<'b>(
     path: &'b str,
     said: Said,
 ) -> Result<Pleaded<'b>, Fault>
-    ensures { (length : Option ℕ) → IsSaid (Ok said) (Ok length) → pleas result ≡ on_route method.now path.now length (route_of path.now) }
+    ensures { (length : Option ℕ) → IsSaid (Ok said) (Ok length)
+        → pleas result ≡ on_route method.now path.now length (route_of path.now) }
 {
     match routes.find(path) {
         Some(route) => at_route(route, part_in(route, path), method, said),
@@ -97,7 +99,8 @@ fn judge_parts<'b>(
     minor: u8,
 ) -> Result<Pleaded<'b>, Fault>
     requires { All (IsHeaderWithin (length buf.now)) headers.now }
-    ensures { pleas result ≡ judged_parts method.now target.now minor (map (header_bytes buf.now) headers.now) }
+    ensures { pleas result ≡ judged_parts method.now target.now minor
+        (map (header_bytes buf.now) headers.now) }
 {
     if !has_hosts(minor, values_named(buf, headers, b"host")) {
         return Err(Fault::BadRequest);
@@ -129,7 +132,8 @@ pub(crate) fn judge<'b>(
 ) -> Result<Pleaded<'b>, Fault>
     requires within { IsRequestWithin buf.now headers.now spans.now }
     requires head { IsRequestOf buf.now headers.now spans.now }
-    ensures { (h : RequestHead) → IsRequestAt buf.now headers.now spans.now h → pleas result ≡ judged h }
+    ensures { (h : RequestHead) → IsRequestAt buf.now headers.now spans.now h
+        → pleas result ≡ judged h }
 {
     let method = spans.method.of(buf);
     let target = target_text(spans.path.of(buf));

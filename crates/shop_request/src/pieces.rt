@@ -13,9 +13,14 @@ const ROOM: usize = 8192;
 /// Reads a piece more, and tells whether there was one.
 pub(crate) fn read_piece<S: Source>(source: &mut S, came: &mut Vec<u8>) -> Result<bool, StreamFault>
     ensures kept { length came.old.items ≤ length came.new.items }
-    ensures more { result ≡ Ok true → (piece : List ℕ) × (0 < length piece) × (came.new.items ≡ came.old.items ++ piece) × Consumes (S.left source.old) (S.left source.new) piece }
-    ensures none { result ≡ Ok false → (came.new.items ≡ came.old.items) × IsAtEnd (S.left source.new) × Consumes (S.left source.old) (S.left source.new) [] }
-    ensures fault { IfErr result (λ fault. (fault ≡ NoMemory) ⊎ (fault ≡ Read) × HasFailed (S.failed source.old) (S.failed source.new)) }
+    ensures more { result ≡ Ok true → (piece : List ℕ) × (0 < length piece)
+        × (came.new.items ≡ came.old.items ++ piece)
+        × Consumes (S.left source.old) (S.left source.new) piece }
+    ensures none { result ≡ Ok false → (came.new.items ≡ came.old.items)
+        × IsAtEnd (S.left source.new) × Consumes (S.left source.old) (S.left source.new) [] }
+    ensures fault { IfErr result
+        (λ fault. (fault ≡ NoMemory) ⊎ (fault ≡ Read)
+        × HasFailed (S.failed source.old) (S.failed source.new)) }
     ensures memory { result ≡ Err NoMemory → S.failed source.new ≡ S.failed source.old }
     ensures worked { OnOk result (S.failed source.new ≡ S.failed source.old) }
     ensures reads { S.reads source.new ≤ S.reads source.old + 1 }

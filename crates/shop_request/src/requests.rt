@@ -35,11 +35,15 @@ fn read_to<S: Source>(
     count: usize,
 ) -> Result<bool, StreamFault>
     requires { start ≤ length came.old.items }
-    ensures on { OnOk result (IsReadOn (S.left source.old) (S.left source.new) came.old.items came.new.items) }
+    ensures on { OnOk result (IsReadOn (S.left source.old)
+        (S.left source.new) came.old.items came.new.items) }
     ensures start { start ≤ length came.new.items }
     ensures all { result ≡ Ok true → count ≤ length came.new.items - start }
-    ensures short { result ≡ Ok false → (length came.new.items - start < count) × IsAtEnd (S.left source.new) }
-    ensures fault { IfErr result (λ fault. (fault ≡ NoMemory) ⊎ (fault ≡ Read) × HasFailed (S.failed source.old) (S.failed source.new)) }
+    ensures short { result ≡ Ok false → (length came.new.items - start < count)
+        × IsAtEnd (S.left source.new) }
+    ensures fault { IfErr result
+        (λ fault. (fault ≡ NoMemory) ⊎ (fault ≡ Read)
+        × HasFailed (S.failed source.old) (S.failed source.new)) }
     ensures memory { result ≡ Err NoMemory → S.failed source.new ≡ S.failed source.old }
     ensures worked { OnOk result (S.failed source.new ≡ S.failed source.old) }
     ensures reads { S.reads source.new ≤ S.reads source.old + count }
@@ -62,8 +66,11 @@ pub fn read_request<S: Source>(
     routes: &Routes,
     source: &mut S,
 ) -> Result<Inbound, StreamFault>
-    ensures sense { IfOk result (λ inbound. IfSome (S.left source.old) (λ input. HasSense input (sense_of inbound))) }
-    ensures fault { IfErr result (λ fault. (fault ≡ NoMemory) ⊎ (fault ≡ Read) × HasFailed (S.failed source.old) (S.failed source.new)) }
+    ensures sense { IfOk result
+        (λ inbound. IfSome (S.left source.old) (λ input. HasSense input (sense_of inbound))) }
+    ensures fault { IfErr result
+        (λ fault. (fault ≡ NoMemory) ⊎ (fault ≡ Read)
+        × HasFailed (S.failed source.old) (S.failed source.new)) }
     ensures memory { result ≡ Err NoMemory → S.failed source.new ≡ S.failed source.old }
     ensures worked { OnOk result (S.failed source.new ≡ S.failed source.old) }
     ensures reads { S.reads source.new ≤ S.reads source.old + most_request_reads }

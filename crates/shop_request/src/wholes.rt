@@ -15,8 +15,10 @@ use httparse::spans::EMPTY_HEADER_SPAN;
 pub fn least_bytes(routes: &Routes, came: &[u8]) -> usize
     ensures settled { result ≤ length came.now → IsSettled came.now }
     ensures bound { result ≤ most_request_reads }
-    ensures waits { (more : List ℕ) → length (came.now ++ more) < result → IsUnfinished (came.now ++ more) }
-    ensures least { (more : List ℕ) → 0 < length more → length (came.now ++ more) < result → IsSettled (came.now ++ more) → ⊥ }
+    ensures waits { (more : List ℕ) → length (came.now ++ more) < result
+        → IsUnfinished (came.now ++ more) }
+    ensures least { (more : List ℕ) → 0 < length more → length (came.now ++ more) < result
+        → IsSettled (came.now ++ more) → ⊥ }
 {
     if came.is_empty() {
         return 1;

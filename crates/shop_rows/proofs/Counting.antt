@@ -6,9 +6,9 @@ use Rattle.std.specs.FinMap.Entries.{find-put}
 use Rattle.std.specs.Cmp.Lexicographic.{nat_list_cmp_total}
 use Rattle.std.specs.Ordering.{eq_by_cmp, is_eq}
 use Rattle.cut_measure.specs.Codes.{code_cmp}
-use Rattle.shop_machine.specs.Columns.{is_counted}
-use Rattle.shop_machine.specs.declared.records.Column.{Column}
-use Rattle.shop_machine.specs.declared.records.Part.{Part}
+use Rattle.shop_records.specs.Columns.{is_counted}
+use Rattle.shop_records.specs.declared.records.Column.{Column}
+use Rattle.shop_records.specs.declared.records.Part.{Part}
 use Rattle.shop_rows.specs.Adding.{IsAdded, has_sums}
 use Rattle.shop_rows.specs.Rows.{entries_of, row_at, IsPut}
 use Rattle.shop_rows.specs.Sums.{counted_cells, found_sum, sum_at, sum_in, sums_key}

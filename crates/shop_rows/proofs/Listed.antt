@@ -14,11 +14,11 @@ use Rattle.std.specs.List.Sorted.{IsPartitionedBy, IsPartitionPoint}
 use Rattle.std.proofs.lemmas.Bool.{cases_lt}
 use Rattle.cut_measure.specs.Codes.{code_cmp}
 use Rattle.cut_measure.specs.Names.{Name, name_cmp}
-use Rattle.shop_machine.specs.declared.records.Part.{Part}
-use Rattle.shop_machine.specs.Columns.{is_there}
-use Rattle.shop_machine.specs.Content.{is_listed}
-use Rattle.shop_machine.specs.Listing.{is_behind}
-use Rattle.shop_machine.specs.Same.{same_code}
+use Rattle.shop_records.specs.declared.records.Part.{Part}
+use Rattle.shop_records.specs.Columns.{is_there}
+use Rattle.shop_records.specs.Content.{is_listed}
+use Rattle.shop_records.specs.Lists.{is_behind}
+use Rattle.shop_records.specs.Same.{same_code}
 use Rattle.shop_rows.specs.Keys.{part_key, names_total, names_exact}
 use Rattle.shop_rows.specs.Open.{own_key, open_cmp, open_exact, open_key, has, has_key, is_found, finds_with, finds_with_all, names_of, IsKeySettled, ListsNumbers, ListsParts, ListsOthers, KeepsMaterial, KeepMaterials}
 use Rattle.shop_rows.specs.Rows.{entries_of, put_each, rise, row_at, ArePut, IsPut, IsSettled}

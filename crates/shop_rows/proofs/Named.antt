@@ -9,10 +9,10 @@ use Rattle.std.specs.Cmp.{IsTotalOrder, nat_cmp_total, tied_itself}
 use Rattle.std.specs.FinMap.{IsAntisymmetric, find, nat_cmp-IsAntisymmetric}
 use Rattle.std.specs.FinMap.Entries.{below_all, find-where_key}
 use Rattle.cut_measure.specs.Names.{Name, name_cmp}
-use Rattle.shop_machine.specs.declared.records.Part.{Part}
-use Rattle.shop_machine.specs.Content.{is_listed}
-use Rattle.shop_machine.specs.Listing.{is_behind}
-use Rattle.shop_machine.proofs.Sums.{first, second, less, none_below}
+use Rattle.shop_records.specs.declared.records.Part.{Part}
+use Rattle.shop_records.specs.Content.{is_listed}
+use Rattle.shop_records.specs.Lists.{is_behind}
+use Rattle.shop_records.proofs.Sums.{first, second, less, none_below}
 use Rattle.shop_rows.specs.Keys.{part_key, names_total, names_exact}
 use Rattle.shop_rows.specs.Open.{own_key, has, is_found, names_of, AreInOrder, ListsNumbers, ListsParts, parts_named}
 use Rattle.shop_rows.specs.Rows.{entries_of, rise, row_at}

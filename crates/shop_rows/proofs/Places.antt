@@ -15,7 +15,7 @@ use Rattle.std.proofs.lemmas.Bool.{cases_lt}
 use Rattle.std.proofs.lemmas.Option.{get_or_from_slice_get}
 use Rattle.std.proofs.lemmas.List.Elements.{filter-append}
 use Rattle.std.proofs.lemmas.List.{append_assoc, get_or_default, set_split, map-append, take-append-drop}
-use Rattle.shop_machine.proofs.Sums.{first, second, less}
+use Rattle.shop_records.proofs.Sums.{first, second, less}
 use Rattle.shop_rows.specs.Rows.{entry_of, entries_of, rise, row_at, put_each, IsPut, IsSettled, IsTaken, ArePut}
 
 pub lesser : (r : Ordering) → r ≡ Less → T (is_lt r)

@@ -12,10 +12,10 @@ use Rattle.std.proofs.lemmas.Bool.{leb-true, le-leb}
 use Rattle.std.proofs.lemmas.List.Folds.{list_all_more}
 use Rattle.std.proofs.lemmas.List.Sums.{sum_by-cons, sum_by_more}
 use Rattle.cut_measure.specs.Codes.{code_cmp}
-use Rattle.shop_machine.specs.declared.records.Part.{Part}
-use Rattle.shop_machine.specs.declared.records.Column.{Column}
-use Rattle.shop_machine.specs.Columns.{is_counted}
-use Rattle.shop_machine.specs.Content.{counts_for, cells_in}
+use Rattle.shop_records.specs.declared.records.Part.{Part}
+use Rattle.shop_records.specs.declared.records.Column.{Column}
+use Rattle.shop_records.specs.Columns.{is_counted}
+use Rattle.shop_records.specs.Content.{counts_for, cells_in}
 use Rattle.shop_rows.specs.declared.sums.Sums.{Sums}
 use Rattle.shop_rows.specs.Rows.{entries_of, row_at, IsPut}
 use Rattle.shop_rows.specs.Sums.{sum_in, sums_key, found_sum, sum_at, counted_cells, cells_for, most_cells, all_small}

@@ -1,8 +1,8 @@
 -- What adding a part makes of sums.
 use Rattle.std.specs.Prelude.{◌≡◌, ℕ, ◌+◌, ◌≤◌, ◌^◌, List, Bool, false, is_some}
 use Rattle.cut_measure.specs.Codes.{code_cmp}
-use Rattle.shop_machine.specs.declared.records.Column.{Column}
-use Rattle.shop_machine.specs.declared.records.Part.{Part}
+use Rattle.shop_records.specs.declared.records.Column.{Column}
+use Rattle.shop_records.specs.declared.records.Part.{Part}
 use Rattle.shop_rows.specs.Rows.{row_at}
 use Rattle.shop_rows.specs.Sums.{cells_for, counted_cells, sum_at, sums_key}
 use Rattle.shop_rows.specs.declared.sums.Sums.{Sums}

@@ -8,11 +8,11 @@ use Rattle.std.specs.FinMap.{IsAntisymmetric, slice_cmp-IsAntisymmetric, nat_cmp
 use Rattle.std.proofs.lemmas.Map.Lookups.{exact_pairs}
 use Rattle.cut_measure.specs.Codes.{code_cmp}
 use Rattle.cut_measure.specs.Names.{Name, name_cmp}
-use Rattle.shop_machine.specs.declared.records.Part.{Part}
-use Rattle.shop_machine.specs.declared.records.Job.{Job}
-use Rattle.shop_machine.specs.declared.records.Demand.{Demand}
-use Rattle.shop_machine.specs.Columns.{is_waiting}
-use Rattle.shop_machine.specs.Content.{is_listed}
+use Rattle.shop_records.specs.declared.records.Part.{Part}
+use Rattle.shop_records.specs.declared.records.Job.{Job}
+use Rattle.shop_records.specs.declared.records.Demand.{Demand}
+use Rattle.shop_records.specs.Columns.{is_waiting}
+use Rattle.shop_records.specs.Content.{is_listed}
 use Rattle.shop_rows.specs.Keys.{demand_key, part_key, names_exact}
 use Rattle.shop_rows.specs.Rows.{has_row, rise, row_at}
 use Rattle.shop_rows.specs.declared.names.OpenPart.{OpenPart}

@@ -2,7 +2,7 @@
 
 use crate::rows::Row;
 use cut_measure::{Code, PartName};
-use shop_machine::{Demand, ImportRow, Job, Material, Part};
+use shop_records::{Demand, ImportRow, Job, Material, Part};
 use std::cmp::Ordering;
 
 impl Row for Material {

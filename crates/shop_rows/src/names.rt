@@ -3,8 +3,8 @@
 ghost use Rattle.std.specs.Prelude.{◌≡◌, ◌+◌, ◌<◌, ◌≤◌, List, ℕ, None, Option, IfOk, OnOk, IsTrue, false, filter, length, vec_len, vec_capacity};
 ghost use Rattle.std.specs.Option.{option_to_list};
 ghost use Rattle.cut_measure.specs.Names.{Name, name_cmp};
-ghost use Rattle.shop_machine.specs.Listing.{is_behind};
-ghost use Rattle.shop_machine.specs.declared.records.Part.{Part as PartOf};
+ghost use Rattle.shop_records.specs.Lists.{is_behind};
+ghost use Rattle.shop_records.specs.declared.records.Part.{Part as PartOf};
 ghost use Rattle.cut_measure.specs.Codes.{code_cmp};
 ghost use Rattle.shop_rows.specs.Keys.{part_key};
 ghost use Rattle.shop_rows.specs.Open.{own_key, open_key, list_key, names_of, room_of, finds_with, finds_with_all, AreInOrder, HaveRoom, IsKeySettled, KeepsMaterial, KeepMaterials, ListsParts, ListsOthers};
@@ -12,7 +12,7 @@ ghost use Rattle.shop_rows.specs.Rows.{rise, row_at, IsSettled};
 
 use crate::rows::{Row, at, place_near, put, settle};
 use cut_measure::{Code, PartName};
-use shop_machine::Part;
+use shop_records::Part;
 use std::alloc::{AllocError, Global};
 use std::cmp::Ordering;
 
@@ -87,7 +87,8 @@ fn widen(list: &mut NameList, count: usize) -> Result<(), AllocError>
 fn begin_list(lists: &mut Vec<NameList>, material: Code, count: usize) -> Result<(), AllocError>
     requires order { AreInOrder lists.old.items }
     requires none { row_at list_key code_cmp material lists.old.items ≡ None }
-    ensures names { (code : List ℕ) → names_of code lists.new.items ≡ names_of code lists.old.items }
+    ensures names { (code : List ℕ)
+        → names_of code lists.new.items ≡ names_of code lists.old.items }
     ensures order { AreInOrder lists.new.items }
     ensures room { OnOk result (count ≤ room_of material lists.new.items) }
     ensures more { (code : List ℕ) → room_of code lists.old.items ≤ room_of code lists.new.items }
@@ -108,7 +109,8 @@ pub fn make_room(
     count: usize,
 ) -> Result<usize, AllocError>
     requires order { AreInOrder lists.old.items }
-    ensures names { (code : List ℕ) → names_of code lists.new.items ≡ names_of code lists.old.items }
+    ensures names { (code : List ℕ)
+        → names_of code lists.new.items ≡ names_of code lists.old.items }
     ensures order { AreInOrder lists.new.items }
     ensures room { OnOk result (count ≤ room_of material lists.new.items) }
     ensures more { (code : List ℕ) → room_of code lists.old.items ≤ room_of code lists.new.items }
@@ -128,7 +130,8 @@ pub fn make_room(
 // Makes room for so many names of the material of each of these parts.
 fn reserve_each(lists: &mut Vec<NameList>, parts: &[Part], count: usize) -> Result<(), AllocError>
     requires order { AreInOrder lists.old.items }
-    ensures names { (code : List ℕ) → names_of code lists.new.items ≡ names_of code lists.old.items }
+    ensures names { (code : List ℕ)
+        → names_of code lists.new.items ≡ names_of code lists.old.items }
     ensures order { AreInOrder lists.new.items }
     ensures room { OnOk result (HaveRoom count parts.now lists.new.items) }
     ensures more { (code : List ℕ) → room_of code lists.old.items ≤ room_of code lists.new.items }
@@ -147,7 +150,8 @@ fn reserve_some(
     count: usize,
 ) -> Result<(), AllocError>
     requires order { AreInOrder lists.old.items }
-    ensures names { (code : List ℕ) → names_of code lists.new.items ≡ names_of code lists.old.items }
+    ensures names { (code : List ℕ)
+        → names_of code lists.new.items ≡ names_of code lists.old.items }
     ensures order { AreInOrder lists.new.items }
     ensures room { OnOk result (HaveRoom count (option_to_list part.now) lists.new.items) }
 {
@@ -165,9 +169,11 @@ pub fn reserve_names(
     parts: &[Part],
 ) -> Result<(), AllocError>
     requires order { AreInOrder lists.old.items }
-    ensures names { (code : List ℕ) → names_of code lists.new.items ≡ names_of code lists.old.items }
+    ensures names { (code : List ℕ)
+        → names_of code lists.new.items ≡ names_of code lists.old.items }
     ensures order { AreInOrder lists.new.items }
-    ensures moved { OnOk result (HaveRoom (length parts.now + 1) (option_to_list moved.now) lists.new.items) }
+    ensures moved { OnOk result
+        (HaveRoom (length parts.now + 1) (option_to_list moved.now) lists.new.items) }
     ensures parts { OnOk result (HaveRoom (length parts.now + 1) parts.now lists.new.items) }
 {
     let count = parts.len() + 1;
@@ -182,7 +188,8 @@ fn settle_name(list: &mut NameList, name: PartName, is_there: bool)
     requires rising { IsTrue (rise own_key name_cmp list.old.names.items) }
     requires room { IsTrue is_there → vec_len list.old.names < vec_capacity list.old.names }
     ensures material { list.new.material ≡ list.old.material }
-    ensures settled { IsSettled own_key name_cmp name is_there list.old.names.items list.new.names.items }
+    ensures settled { IsSettled own_key name_cmp name is_there list.old.names.items
+        list.new.names.items }
     ensures rising { IsTrue (rise own_key name_cmp list.new.names.items) }
     ensures len { vec_len list.new.names ≤ vec_len list.old.names + 1 }
     ensures less { is_there ≡ false → vec_len list.new.names ≤ vec_len list.old.names }
@@ -197,8 +204,10 @@ fn settle_key(lists: &mut Vec<NameList>, near: usize, key: OpenPart, is_there: b
     requires room { IsTrue is_there → 1 ≤ room_of key.material lists.old.items }
     ensures settled { IsKeySettled key is_there lists.old.items lists.new.items }
     ensures order { AreInOrder lists.new.items }
-    ensures room { (code : List ℕ) → room_of code lists.old.items ≤ room_of code lists.new.items + 1 }
-    ensures less { is_there ≡ false → (code : List ℕ) → room_of code lists.old.items ≤ room_of code lists.new.items }
+    ensures room { (code : List ℕ)
+        → room_of code lists.old.items ≤ room_of code lists.new.items + 1 }
+    ensures less { is_there ≡ false → (code : List ℕ)
+        → room_of code lists.old.items ≤ room_of code lists.new.items }
 {
     match place_near(lists, key.material, near) {
         Ok(i) => {
@@ -212,7 +221,8 @@ fn settle_key(lists: &mut Vec<NameList>, near: usize, key: OpenPart, is_there: b
 // Takes the key of a part that another one replaces, where that is of another material.
 fn unlist(lists: &mut Vec<NameList>, replaced: Option<Part>, part: &Part)
     requires { AreInOrder lists.old.items }
-    ensures others { (find : Name → Option PartOf) → ListsParts find lists.old.items → find part.now.name ≡ replaced
+    ensures others { (find : Name → Option PartOf) → ListsParts find lists.old.items
+        → find part.now.name ≡ replaced
         → ListsOthers part.now (finds_with name_cmp part.now.name part.now find) lists.new.items }
     ensures order { AreInOrder lists.new.items }
     ensures room { (code : List ℕ) → room_of code lists.old.items ≤ room_of code lists.new.items }
@@ -234,10 +244,12 @@ fn unlist(lists: &mut Vec<NameList>, replaced: Option<Part>, part: &Part)
 pub fn list_part(lists: &mut Vec<NameList>, replaced: Option<Part>, part: &Part)
     requires order { AreInOrder lists.old.items }
     requires room { 1 ≤ room_of part.now.material lists.old.items }
-    ensures lists { (find : Name → Option PartOf) → ListsParts find lists.old.items → find part.now.name ≡ replaced
+    ensures lists { (find : Name → Option PartOf) → ListsParts find lists.old.items
+        → find part.now.name ≡ replaced
         → ListsParts (finds_with name_cmp part.now.name part.now find) lists.new.items }
     ensures order { AreInOrder lists.new.items }
-    ensures room { (code : List ℕ) → room_of code lists.old.items ≤ room_of code lists.new.items + 1 }
+    ensures room { (code : List ℕ)
+        → room_of code lists.old.items ≤ room_of code lists.new.items + 1 }
 {
     unlist(lists, replaced, part);
     let is_there = part.is_listed(&part.material);
@@ -249,10 +261,12 @@ pub fn list_part(lists: &mut Vec<NameList>, replaced: Option<Part>, part: &Part)
 pub fn list_in_place(lists: &mut Vec<NameList>, near: usize, part: &Part) -> usize
     requires order { AreInOrder lists.old.items }
     requires room { 1 ≤ room_of part.now.material lists.old.items }
-    ensures lists { (find : Name → Option PartOf) → ListsParts find lists.old.items → KeepsMaterial find part.now
+    ensures lists { (find : Name → Option PartOf) → ListsParts find lists.old.items
+        → KeepsMaterial find part.now
         → ListsParts (finds_with name_cmp part.now.name part.now find) lists.new.items }
     ensures order { AreInOrder lists.new.items }
-    ensures room { (code : List ℕ) → room_of code lists.old.items ≤ room_of code lists.new.items + 1 }
+    ensures room { (code : List ℕ)
+        → room_of code lists.old.items ≤ room_of code lists.new.items + 1 }
 {
     let stands = part.is_listed(&part.material);
     settle_key(lists, near, OpenPart::of(part), stands)
@@ -262,7 +276,8 @@ pub fn list_in_place(lists: &mut Vec<NameList>, near: usize, part: &Part) -> usi
 pub fn list_all(lists: &mut Vec<NameList>, parts: &[Part])
     requires order { AreInOrder lists.old.items }
     requires room { HaveRoom (length parts.now) parts.now lists.old.items }
-    ensures lists { (find : Name → Option PartOf) → ListsParts find lists.old.items → KeepMaterials find parts.now
+    ensures lists { (find : Name → Option PartOf) → ListsParts find lists.old.items
+        → KeepMaterials find parts.now
         → ListsParts (finds_with_all part_key name_cmp parts.now find) lists.new.items }
     ensures order { AreInOrder lists.new.items }
 {
@@ -301,7 +316,8 @@ pub fn names_behind(lists: &[NameList], material: Code, after: Option<PartName>)
 
 // The same names of the same material.
 fn copy_list(alloc: Global, list: &NameList) -> Result<NameList, AllocError>
-    ensures { IfOk result (λ copy. (copy.material ≡ list.now.material) × (copy.names.items ≡ list.now.names.items)) }
+    ensures { IfOk result (λ copy. (copy.material ≡ list.now.material)
+        × (copy.names.items ≡ list.now.names.items)) }
 {
     let names = Vec::from_slice(alloc, &list.names)?;
     Ok(NameList {
@@ -314,7 +330,8 @@ fn copy_list(alloc: Global, list: &NameList) -> Result<NameList, AllocError>
 pub fn copy_lists(alloc: Global, lists: &[NameList]) -> Result<Vec<NameList>, AllocError>
     requires { AreInOrder lists.now }
     ensures order { IfOk result (λ copy. AreInOrder copy.items) }
-    ensures names { IfOk result (λ copy. (code : List ℕ) → names_of code copy.items ≡ names_of code lists.now) }
+    ensures names { IfOk result
+        (λ copy. (code : List ℕ) → names_of code copy.items ≡ names_of code lists.now) }
 {
     let mut copies = Vec::new(alloc);
     for list in lists {

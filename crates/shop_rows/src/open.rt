@@ -1,9 +1,9 @@
 //! Lists of the keys of what is open: standing parts, waiting jobs, and demands that aren't made yet.
 
 ghost use Rattle.std.specs.Prelude.{◌≡◌, ◌+◌, ◌<◌, ◌≤◌, ℕ, Option, IsTrue, filter, length, nat_lt, vec_len, vec_capacity};
-ghost use Rattle.shop_machine.specs.declared.records.Job.{Job as JobOf};
-ghost use Rattle.shop_machine.specs.declared.records.Demand.{Demand as DemandOf};
-ghost use Rattle.shop_machine.specs.Listing.{is_open};
+ghost use Rattle.shop_records.specs.declared.records.Job.{Job as JobOf};
+ghost use Rattle.shop_records.specs.declared.records.Demand.{Demand as DemandOf};
+ghost use Rattle.shop_records.specs.Lists.{is_open};
 ghost use Rattle.std.specs.Ordering.{nat_cmp};
 ghost use Rattle.shop_rows.specs.Keys.{demand_key};
 ghost use Rattle.shop_rows.specs.Rows.{rise};
@@ -11,7 +11,7 @@ ghost use Rattle.shop_rows.specs.Open.{own_key, finds_with, finds_with_all, List
 
 use crate::names::{NameList, copy_lists};
 use crate::rows::settle;
-use shop_machine::{Demand, Job};
+use shop_records::{Demand, Job};
 use std::alloc::{AllocError, Global};
 
 /// The keys of what is open, in lists that rise.
@@ -46,7 +46,9 @@ impl OpenRows {
     pub fn copy(&self, alloc: Global) -> Result<OpenRows, AllocError>
         requires { AreInOrder self.now.parts.items }
         ensures order { IfOk result (λ copy. AreInOrder copy.parts.items) }
-        ensures parts { IfOk result (λ copy. (code : List ℕ) → names_of code copy.parts.items ≡ names_of code self.now.parts.items) }
+        ensures parts { IfOk result
+            (λ copy. (code : List ℕ) → names_of code copy.parts.items
+            ≡ names_of code self.now.parts.items) }
         ensures jobs { IfOk result (λ copy. copy.jobs.items ≡ self.now.jobs.items) }
         ensures demands { IfOk result (λ copy. copy.demands.items ≡ self.now.demands.items) }
     {
@@ -65,7 +67,8 @@ impl OpenRows {
 pub fn list_job(keys: &mut Vec<u32>, job: &Job)
     requires rising { IsTrue (rise own_key nat_cmp keys.old.items) }
     requires room { vec_len keys.old < vec_capacity keys.old }
-    ensures lists { (find : ℕ → Option JobOf) → ListsNumbers waits find keys.old.items → ListsNumbers waits (finds_with nat_cmp job.now.act job.now find) keys.new.items }
+    ensures lists { (find : ℕ → Option JobOf) → ListsNumbers waits find keys.old.items
+        → ListsNumbers waits (finds_with nat_cmp job.now.act job.now find) keys.new.items }
     ensures rising { IsTrue (rise own_key nat_cmp keys.new.items) }
 {
     settle(keys, job.act, job.state.is_waiting());
@@ -76,7 +79,8 @@ fn list_demand(keys: &mut Vec<u32>, demand: &Demand)
     requires rising { IsTrue (rise own_key nat_cmp keys.old.items) }
     requires room { vec_len keys.old < vec_capacity keys.old }
     ensures lists { (find : ℕ → Option DemandOf) → ListsNumbers is_open find keys.old.items
-        → ListsNumbers is_open (finds_with nat_cmp demand.now.number demand.now find) keys.new.items }
+        → ListsNumbers is_open (finds_with nat_cmp demand.now.number demand.now find)
+        keys.new.items }
     ensures rising { IsTrue (rise own_key nat_cmp keys.new.items) }
     ensures len { vec_len keys.new ≤ vec_len keys.old + 1 }
     ensures capacity { vec_capacity keys.old ≤ vec_capacity keys.new }

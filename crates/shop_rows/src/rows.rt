@@ -8,7 +8,7 @@ ghost use Rattle.std.specs.List.Sorted.{IsBinarySearchResult, IsSearchInRange};
 ghost use Rattle.std.specs.Option.{option_to_list};
 ghost use Rattle.shop_rows.specs.Rows.{rise, row_at, IsPut, IsSettled, IsTaken, ArePut};
 
-use shop_machine::RowList;
+use shop_records::RowList;
 use std::alloc::{AllocError, Global};
 use std::cmp::Ordering;
 use std::mem::replace;
@@ -43,7 +43,8 @@ pub trait Row: Drop {
 
 // Whether the row of a key stands at this place.
 fn stands_at<R: Row>(rows: &[R], key: R::Key, i: usize) -> bool
-    ensures { IsTrue result → i < length rows.now × HoldsAt (λ row. R.cmp (R.key_of row) key ≡ Equal) rows.now i }
+    ensures { IsTrue result → i < length rows.now
+        × HoldsAt (λ row. R.cmp (R.key_of row) key ≡ Equal) rows.now i }
 {
     match rows.get(i) {
         Some(row) => matches!(row.compare(key), Ordering::Equal),
@@ -53,7 +54,8 @@ fn stands_at<R: Row>(rows: &[R], key: R::Key, i: usize) -> bool
 
 // Whether a key comes behind the last row.
 fn is_behind<R: Row>(rows: &[R], key: R::Key) -> bool
-    ensures { IsTrue result → IsBinarySearchResult (λ row. R.cmp (R.key_of row) key) rows.now (Err (length rows.now)) }
+    ensures { IsTrue result → IsBinarySearchResult (λ row. R.cmp (R.key_of row) key) rows.now
+        (Err (length rows.now)) }
 {
     match rows.last() {
         Some(row) => matches!(row.compare(key), Ordering::Less),
@@ -98,7 +100,8 @@ pub fn rises<R: Row>(rows: &[R]) -> bool
 
 // Whether a key comes before the row at a place, or there is none.
 fn is_before<R: Row>(rows: &[R], i: usize, key: R::Key) -> bool
-    ensures { IsTrue result → i < length rows.now → HoldsAt (λ row. R.cmp (R.key_of row) key ≡ Greater) rows.now i }
+    ensures { IsTrue result → i < length rows.now
+        → HoldsAt (λ row. R.cmp (R.key_of row) key ≡ Greater) rows.now i }
 {
     match rows.get(i) {
         Some(row) => matches!(row.compare(key), Ordering::Greater),
@@ -110,9 +113,12 @@ fn is_before<R: Row>(rows: &[R], i: usize, key: R::Key) -> bool
 pub(crate) fn run_place<R: Row>(rows: &[R], added: &[R]) -> Option<usize>
     requires { IsTrue (rise R.key_of R.cmp rows.now) }
     ensures range { IfSome result (λ i. i ≤ length rows.now) }
-    ensures put { IfSome result (λ i. ArePut R.key_of R.cmp added.now rows.now (insert_slice rows.now i added.now)) }
-    ensures new { IfSome result (λ i. All (λ row. row_at R.key_of R.cmp (R.key_of row) rows.now ≡ None) added.now) }
-    ensures rising { IfSome result (λ i. IsTrue (rise R.key_of R.cmp (insert_slice rows.now i added.now))) }
+    ensures put { IfSome result
+        (λ i. ArePut R.key_of R.cmp added.now rows.now (insert_slice rows.now i added.now)) }
+    ensures new { IfSome result
+        (λ i. All (λ row. row_at R.key_of R.cmp (R.key_of row) rows.now ≡ None) added.now) }
+    ensures rising { IfSome result
+        (λ i. IsTrue (rise R.key_of R.cmp (insert_slice rows.now i added.now))) }
 {
     let Some(first) = added.first() else {
         return None;
@@ -201,7 +207,8 @@ pub fn take_row<R: Row>(rows: &mut Vec<R>, key: R::Key) -> Option<R>
 pub fn settle<R: Row>(rows: &mut Vec<R>, row: R, is_there: bool)
     requires rising { IsTrue (rise R.key_of R.cmp rows.old.items) }
     requires room { IsTrue is_there → vec_len rows.old < vec_capacity rows.old }
-    ensures settled { IsSettled R.key_of R.cmp (R.key_of row) is_there rows.old.items rows.new.items }
+    ensures settled { IsSettled R.key_of R.cmp
+        (R.key_of row) is_there rows.old.items rows.new.items }
     ensures rising { IsTrue (rise R.key_of R.cmp rows.new.items) }
     ensures len { vec_len rows.new ≤ vec_len rows.old + 1 }
     ensures less { is_there ≡ false → vec_len rows.new ≤ vec_len rows.old }
@@ -230,7 +237,8 @@ pub fn put_some<R: Row>(rows: &mut Vec<R>, row: Option<R>)
 pub(crate) fn move_to<R: Row>(rows: &mut [R], from: usize, i: usize)
     requires order { i ≤ from }
     requires range { from ≤ length rows.old }
-    ensures { (front back : List R) → rows.old ≡ front ++ back → length front ≡ from → rows.new ≡ insert_slice front i back }
+    ensures { (front back : List R) → rows.old ≡ front ++ back → length front ≡ from
+        → rows.new ≡ insert_slice front i back }
 {
     rows[i..].rotate_left(from - i);
 }
@@ -240,8 +248,10 @@ pub fn put_run<R: Row + Copy>(rows: &mut Vec<R>, added: &[R]) -> bool
     requires rising { IsTrue (rise R.key_of R.cmp rows.old.items) }
     requires room { vec_len rows.old + length added.now ≤ vec_capacity rows.old }
     ensures put { IsTrue result → ArePut R.key_of R.cmp added.now rows.old.items rows.new.items }
-    ensures new { IsTrue result → All (λ row. row_at R.key_of R.cmp (R.key_of row) rows.old.items ≡ None) added.now }
-    ensures run { IsTrue result → (i : ℕ) × (rows.new.items ≡ insert_slice rows.old.items i added.now) }
+    ensures new { IsTrue result
+        → All (λ row. row_at R.key_of R.cmp (R.key_of row) rows.old.items ≡ None) added.now }
+    ensures run { IsTrue result → (i : ℕ)
+        × (rows.new.items ≡ insert_slice rows.old.items i added.now) }
     ensures rising { IsTrue result → IsTrue (rise R.key_of R.cmp rows.new.items) }
     ensures same { result ≡ false → rows.new ≡ rows.old }
 {

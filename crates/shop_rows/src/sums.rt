@@ -2,19 +2,19 @@
 
 ghost use Rattle.std.specs.Prelude.{◌≡◌, ◌⊎◌, ◌+◌, ◌*◌, ◌<◌, ◌≤◌, ◌^◌, ℕ, All, List, true, false, IsTrue, IfSome, IfNone, IsSome, length, vec_len, vec_capacity, slice_index};
 ghost use Rattle.cut_measure.specs.Codes.{code_cmp};
-ghost use Rattle.shop_machine.specs.declared.records.Column.{Column as ColumnOf};
+ghost use Rattle.shop_records.specs.declared.records.Column.{Column as ColumnOf};
 ghost use Rattle.shop_rows.specs.Rows.{rise};
 ghost use Rattle.std.specs.Bool.{Decides};
 ghost use Rattle.std.specs.Option.{ForSome};
-ghost use Rattle.shop_machine.specs.Content.{of_found, cells_in};
+ghost use Rattle.shop_records.specs.Content.{of_found, cells_in};
 ghost use Rattle.std.specs.Ordering.{is_eq};
 ghost use Rattle.shop_rows.specs.Adding.{IsAdded, IsLost, IsOver};
-ghost use Rattle.shop_machine.specs.Columns.{is_counted};
+ghost use Rattle.shop_records.specs.Columns.{is_counted};
 ghost use Rattle.shop_rows.specs.Sums.{totals_from, sum_in, sums_key, sum_at, counted_cells, cells_for, most_cells, all_small};
 
 use crate::rows::{Row, find, put};
 use cut_measure::Code;
-use shop_machine::{Column, MaterialTotals, Part, State, Totals};
+use shop_records::{Column, MaterialTotals, Part, State, Totals};
 use std::cmp::Ordering;
 
 // The least number that 64 bits don't hold.
@@ -101,9 +101,11 @@ fn lowered(sum: u128, part: &Part, column: Column) -> u128
 
 // The sums with a part more.
 fn with_part(sums: Sums, part: &Part) -> Sums
-    requires { (column : ColumnOf) → sum_in column sums + part.now.size.w * part.now.size.h < 2 ^ 128 }
+    requires { (column : ColumnOf)
+        → sum_in column sums + part.now.size.w * part.now.size.h < 2 ^ 128 }
     ensures code { result.code ≡ sums.code }
-    ensures sums { (column : ColumnOf) → sum_in column result ≡ sum_in column sums + counted_cells column part.now }
+    ensures sums { (column : ColumnOf)
+        → sum_in column result ≡ sum_in column sums + counted_cells column part.now }
 {
     Sums {
         code: sums.code,
@@ -121,8 +123,11 @@ fn with_part(sums: Sums, part: &Part) -> Sums
 pub fn with_all(sums: Sums, parts: &[Part]) -> Option<Sums>
     requires { (column : ColumnOf) → sum_in column sums + length parts.now * most_cells < 2 ^ 128 }
     ensures code { IfSome result (λ more. more.code ≡ sums.code) }
-    ensures sums { IfSome result (λ more. (column : ColumnOf) → sum_in column more ≡ sum_in column sums + cells_in column sums.code parts.now) }
-    ensures others { IsSome result → (column : ColumnOf) (code : List ℕ) → is_eq (code_cmp sums.code code) ≡ false → cells_in column code parts.now ≡ 0 }
+    ensures sums { IfSome result
+        (λ more. (column : ColumnOf)
+        → sum_in column more ≡ sum_in column sums + cells_in column sums.code parts.now) }
+    ensures others { IsSome result → (column : ColumnOf) (code : List ℕ)
+        → is_eq (code_cmp sums.code code) ≡ false → cells_in column code parts.now ≡ 0 }
     ensures small { IsSome result → IsTrue (all_small parts.now) }
     ensures own { IsSome result → All (λ part. part.material ≡ sums.code) parts.now }
 {
@@ -141,7 +146,8 @@ pub fn with_all(sums: Sums, parts: &[Part]) -> Option<Sums>
 fn without_part(sums: Sums, part: &Part) -> Sums
     requires { (column : ColumnOf) → counted_cells column part.now ≤ sum_in column sums }
     ensures code { result.code ≡ sums.code }
-    ensures sums { (column : ColumnOf) → sum_in column result + counted_cells column part.now ≡ sum_in column sums }
+    ensures sums { (column : ColumnOf)
+        → sum_in column result + counted_cells column part.now ≡ sum_in column sums }
 {
     Sums {
         code: sums.code,
@@ -171,8 +177,12 @@ pub fn sums_of(rows: &[Sums], code: Code) -> Sums
 pub fn add_part(rows: &mut Vec<Sums>, part: &Part)
     requires rising { IsTrue (rise sums_key code_cmp rows.old.items) }
     requires room { vec_len rows.old < vec_capacity rows.old }
-    requires fits { (column : ColumnOf) → sum_at column part.now.material rows.old.items + part.now.size.w * part.now.size.h < 2 ^ 128 }
-    ensures adds { (column : ColumnOf) (code : List ℕ) → sum_at column code rows.new.items ≡ sum_at column code rows.old.items + cells_for column code part.now }
+    requires fits { (column : ColumnOf)
+        → sum_at column part.now.material rows.old.items + part.now.size.w * part.now.size.h
+        < 2 ^ 128 }
+    ensures adds { (column : ColumnOf) (code : List ℕ)
+        → sum_at column code rows.new.items
+        ≡ sum_at column code rows.old.items + cells_for column code part.now }
     ensures rising { IsTrue (rise sums_key code_cmp rows.new.items) }
     ensures len { vec_len rows.new ≤ vec_len rows.old + 1 }
     ensures capacity { vec_capacity rows.old ≤ vec_capacity rows.new }
@@ -246,12 +256,15 @@ fn has_cells(part: &Part) -> bool
 pub fn count_part(rows: &mut Vec<Sums>, part: &Part) -> bool
     requires rising { IsTrue (rise sums_key code_cmp rows.old.items) }
     requires room { vec_len rows.old < vec_capacity rows.old }
-    requires small { (column : ColumnOf) (code : List ℕ) → sum_at column code rows.old.items < 2 ^ 64 }
-    ensures small { (column : ColumnOf) (code : List ℕ) → sum_at column code rows.new.items < 2 ^ 64 }
+    requires small { (column : ColumnOf) (code : List ℕ)
+        → sum_at column code rows.old.items < 2 ^ 64 }
+    ensures small { (column : ColumnOf) (code : List ℕ)
+        → sum_at column code rows.new.items < 2 ^ 64 }
     ensures adds { IsTrue result → IsAdded part.now rows.old.items rows.new.items }
     ensures rising { IsTrue (rise sums_key code_cmp rows.new.items) }
     ensures room { vec_len rows.new < vec_capacity rows.new }
-    ensures stopped { result ≡ false → IsLost part.now rows.old.items ⊎ IsOver part.now rows.old.items }
+    ensures stopped { result ≡ false → IsLost part.now rows.old.items
+        ⊎ IsOver part.now rows.old.items }
 {
     let Some(sums) = find(rows, part.material) else {
         return !has_cells(part);
@@ -269,8 +282,11 @@ pub fn count_part(rows: &mut Vec<Sums>, part: &Part) -> bool
 fn take_part(rows: &mut Vec<Sums>, part: &Part)
     requires rising { IsTrue (rise sums_key code_cmp rows.old.items) }
     requires room { vec_len rows.old < vec_capacity rows.old }
-    requires held { (column : ColumnOf) → counted_cells column part.now ≤ sum_at column part.now.material rows.old.items }
-    ensures takes { (column : ColumnOf) (code : List ℕ) → sum_at column code rows.new.items + cells_for column code part.now ≡ sum_at column code rows.old.items }
+    requires held { (column : ColumnOf)
+        → counted_cells column part.now ≤ sum_at column part.now.material rows.old.items }
+    ensures takes { (column : ColumnOf) (code : List ℕ)
+        → sum_at column code rows.new.items + cells_for column code part.now
+        ≡ sum_at column code rows.old.items }
     ensures rising { IsTrue (rise sums_key code_cmp rows.new.items) }
     ensures len { vec_len rows.new ≡ vec_len rows.old }
     ensures capacity { vec_capacity rows.old ≤ vec_capacity rows.new }
@@ -285,8 +301,12 @@ fn take_part(rows: &mut Vec<Sums>, part: &Part)
 pub fn take_replaced(rows: &mut Vec<Sums>, replaced: Option<Part>)
     requires rising { IsTrue (rise sums_key code_cmp rows.old.items) }
     requires room { vec_len rows.old < vec_capacity rows.old }
-    requires held { ForSome replaced (λ part. (column : ColumnOf) → counted_cells column part ≤ sum_at column part.material rows.old.items) }
-    ensures takes { (column : ColumnOf) (code : List ℕ) → sum_at column code rows.new.items + of_found (cells_for column code) replaced ≡ sum_at column code rows.old.items }
+    requires held { ForSome replaced
+        (λ part. (column : ColumnOf)
+        → counted_cells column part ≤ sum_at column part.material rows.old.items) }
+    ensures takes { (column : ColumnOf) (code : List ℕ)
+        → sum_at column code rows.new.items + of_found (cells_for column code) replaced
+        ≡ sum_at column code rows.old.items }
     ensures rising { IsTrue (rise sums_key code_cmp rows.new.items) }
     ensures len { vec_len rows.new ≡ vec_len rows.old }
     ensures capacity { vec_capacity rows.old ≤ vec_capacity rows.new }
@@ -323,7 +343,8 @@ pub fn has_totals(rows: &[Sums], row: &MaterialTotals) -> bool
 pub fn totals_in(rows: &[Sums], material: Code) -> Option<Totals>
     requires { IsTrue (rise sums_key code_cmp rows.now) }
     ensures value { IfSome result (λ totals. totals ≡ totals_from material rows.now) }
-    ensures sure { ((column : ColumnOf) → sum_at column material rows.now < 2 ^ 64) → IsSome result }
+    ensures sure { ((column : ColumnOf) → sum_at column material rows.now < 2 ^ 64)
+        → IsSome result }
 {
     let sums = sums_of(rows, material);
     Some(Totals {

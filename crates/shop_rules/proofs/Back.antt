@@ -7,15 +7,15 @@ use Rattle.cut_tree.specs.declared.halts.Halt.{Halt}
 use Rattle.cut_tree.specs.declared.halts.Halt.TheVariants.{First, Listed}
 use Rattle.std.specs.Option.{option_or}
 use Rattle.std.specs.Cmp.Derive.{both_true}
-use Rattle.shop_machine.specs.declared.messages.Command.{Command}
-use Rattle.shop_machine.specs.declared.messages.Command.TheVariants.{AddMaterial, Receive, AddOrder, Reserve, Done, Break, Release, Scrap, GiveBack, Import}
-use Rattle.shop_machine.specs.declared.imports.Form.TheVariants.{Csv, Cgcut}
-use Rattle.shop_machine.specs.declared.messages.Message.{Message}
+use Rattle.shop_records.specs.declared.messages.Command.{Command}
+use Rattle.shop_records.specs.declared.messages.Command.TheVariants.{AddMaterial, Receive, AddOrder, Reserve, Done, Break, Release, Scrap, GiveBack, Import}
+use Rattle.shop_records.specs.declared.imports.Form.TheVariants.{Csv, Cgcut}
+use Rattle.shop_records.specs.declared.messages.Message.{Message}
 use Rattle.shop_files.specs.declared.orders.OrderLine.{OrderLine}
-use Rattle.shop_machine.specs.declared.messages.Query.{Query}
-use Rattle.shop_machine.specs.declared.messages.Reply.{Reply}
-use Rattle.shop_machine.specs.declared.messages.Reply.TheVariants as reply
-use Rattle.shop_machine.specs.Messages.{IsMessage, IsCommand, IsMade, IsNumber}
+use Rattle.shop_records.specs.declared.messages.Query.{Query}
+use Rattle.shop_records.specs.declared.messages.Reply.{Reply}
+use Rattle.shop_records.specs.declared.messages.Reply.TheVariants as reply
+use Rattle.shop_records.specs.Messages.{IsMessage, IsCommand, IsMade, IsNumber}
 use Rattle.std.proofs.Math.Nat.{max-le}
 use Rattle.json.proofs.Printed.Decimals.{IsNumber-decimal}
 use Rattle.json.proofs.Printed.Tokens.{tokens-print}
@@ -33,7 +33,7 @@ use Rattle.json.specs.Token.{Token}
 use Rattle.serde_json.proofs.Texts.{print-outline}
 use Rattle.shop_rules.specs.Forms.{message_of, sent_head, sent_of, from_one, command_of, material_command, receive_command, order_command, reserve_command, import_in, problem_command, import_by, import_command, query_of, asked_of, reply_of, made_of, order_made, reserve_made, ended_cells, first_cuts, listed_cuts, lost_cut, list_data, break_command, has_few_cuts, lines_data, message_data, reply_data, json_texts, kept_reply_of}
 use Rattle.shop_rules.specs.Told.{HasWideNumbers}
-use Rattle.shop_machine.specs.Refusals.{refusal_number}
+use Rattle.shop_records.specs.Refusals.{refusal_number}
 use Rattle.shop_rules.proofs.Racks.{rack_numbers, rack_shallow, rack_json}
 use Rattle.shop_rules.proofs.ListedRows.{materials_numbers, materials_shallow, materials_json, parts_numbers, parts_shallow, parts_json, demands_numbers, demands_shallow, demands_json, jobs_numbers, jobs_shallow, jobs_json, shallow_first_of_two, shallow_first_of_three, shallow_fourth}
 use Rattle.shop_rules.specs.Fields.{kind_text, small, number_at}

@@ -12,7 +12,7 @@ use Rattle.serde_json.specs.Read.{of_items}
 use Rattle.serde_json.specs.View.{items_of}
 use Rattle.serde_json.specs.Written.{items_outline}
 use Rattle.serde_json.proofs.Numbers.{number_of-decimal}
-use Rattle.shop_machine.specs.Messages.{IsNumber}
+use Rattle.shop_records.specs.Messages.{IsNumber}
 use Rattle.shop_rules.specs.Fields.{elements, all_of, number_of, numbers_at}
 use Rattle.shop_rules.specs.Forms.{list_data}
 use Rattle.shop_rules.proofs.FieldFacts.{small_is}

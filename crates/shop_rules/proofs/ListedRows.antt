@@ -11,11 +11,11 @@ use Rattle.serde_json.specs.Read.{of_json, of_items}
 use Rattle.serde_json.specs.View.{items_of}
 use Rattle.serde_json.specs.Written.{outline, items_outline}
 use Rattle.serde_json.proofs.Numbers.{number_of-decimal}
-use Rattle.shop_machine.specs.declared.records.Demand.{Demand}
-use Rattle.shop_machine.specs.declared.records.JobRow.{JobRow}
-use Rattle.shop_machine.specs.declared.records.Material.{Material}
-use Rattle.shop_machine.specs.declared.records.Part.{Part}
-use Rattle.shop_machine.specs.Columns.{state_of}
+use Rattle.shop_records.specs.declared.records.Demand.{Demand}
+use Rattle.shop_records.specs.declared.records.JobRow.{JobRow}
+use Rattle.shop_records.specs.declared.records.Material.{Material}
+use Rattle.shop_records.specs.declared.records.Part.{Part}
+use Rattle.shop_records.specs.Columns.{state_of}
 use Rattle.shop_rules.specs.Told.{HasWideLimits, HasWidePart, HasWideDemand, HasWideJob}
 use Rattle.shop_rules.specs.Forms.{material_data, part_data, open_demand_data, job_row_data}
 

@@ -16,7 +16,7 @@ use Rattle.serde_json.specs.Written.{outline, items_outline}
 use Rattle.serde_json.specs.declared.value.Value.{Value}
 use Rattle.serde_json.proofs.Numbers.{number_of-decimal}
 use Rattle.shop_files.specs.declared.orders.OrderLine.{OrderLine}
-use Rattle.shop_machine.specs.Messages.{IsLine}
+use Rattle.shop_records.specs.Messages.{IsLine}
 use Rattle.shop_rules.specs.Fields.{elements, all_of}
 use Rattle.shop_rules.specs.Forms.{line_fields, line_of, lines_at, line_data, lines_data}
 use Rattle.shop_rules.proofs.FieldFacts.{number_there, code_there, flag_there}

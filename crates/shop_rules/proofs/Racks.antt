@@ -11,7 +11,7 @@ use Rattle.serde_json.specs.Read.{of_json, of_items}
 use Rattle.serde_json.specs.View.{items_of}
 use Rattle.serde_json.specs.Written.{outline, items_outline}
 use Rattle.serde_json.proofs.Numbers.{number_of-decimal}
-use Rattle.shop_machine.specs.declared.records.RackRow.{RackRow}
+use Rattle.shop_records.specs.declared.records.RackRow.{RackRow}
 use Rattle.shop_rules.specs.Told.{HasWideSides}
 use Rattle.shop_rules.specs.Forms.{rack_row_data}
 

@@ -5,10 +5,10 @@ use Rattle.cut_measure.specs.declared.sizes.Kind.{Kind}
 use Rattle.cut_measure.specs.declared.sizes.Kind.TheVariants.{Bar, Sheet}
 use Rattle.cut_measure.specs.Codes.{code_of}
 use Rattle.cut_measure.specs.Names.{Name, spelled_name, name_text}
-use Rattle.shop_machine.specs.declared.records.JobState.{JobState}
-use Rattle.shop_machine.specs.declared.records.JobState.TheVariants.{Waiting, Done, Broken, Released}
-use Rattle.shop_machine.specs.declared.records.StateWord.{StateWord}
-use Rattle.shop_machine.specs.declared.records.StateWord.TheVariants as state
+use Rattle.shop_records.specs.declared.records.JobState.{JobState}
+use Rattle.shop_records.specs.declared.records.JobState.TheVariants.{Waiting, Done, Broken, Released}
+use Rattle.shop_records.specs.declared.records.StateWord.{StateWord}
+use Rattle.shop_records.specs.declared.records.StateWord.TheVariants as state
 use Rattle.serde_json.specs.Data.{Data, boolean, number, string, unsigned, Items, no_items, item, Members, member}
 use Rattle.serde_json.specs.Find.{get, as_array, as_bool, as_number, as_u64, as_str, as_object}
 use Rattle.serde_json.specs.Events.{members_len}

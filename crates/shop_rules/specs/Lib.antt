@@ -7,12 +7,13 @@ pub mod Told
 pub use Rattle.cut_measure.specs.Codes
 pub use Rattle.cut_measure.specs.Measures
 pub use Rattle.cut_measure.specs.Names
-pub use Rattle.shop_machine.specs.Same
-pub use Rattle.shop_machine.specs.Columns
-pub use Rattle.shop_machine.specs.Refusals
-pub use Rattle.shop_machine.specs.Messages
-pub use Rattle.shop_machine.specs.Readings
-pub use Rattle.shop_machine.specs.Content
+pub use Rattle.shop_records.specs.Same
+pub use Rattle.shop_records.specs.Columns
+pub use Rattle.shop_records.specs.Refusals
+pub use Rattle.shop_records.specs.Messages
+pub use Rattle.shop_records.specs.Readings
+pub use Rattle.shop_records.specs.Keeping
+pub use Rattle.shop_records.specs.Content
 pub use Rattle.shop_machine.specs.Decisions
 pub use Rattle.shop_machine.specs.Recounts
 pub use Rattle.shop_machine.specs.Adding
@@ -22,5 +23,5 @@ pub use Rattle.shop_machine.specs.Importing
 pub use Rattle.shop_machine.specs.Reserving
 pub use Rattle.shop_machine.specs.Ending
 pub use Rattle.shop_machine.specs.Machine
-pub use Rattle.shop_machine.specs.Soundness
+pub use Rattle.shop_records.specs.Soundness
 pub use Rattle.shop_machine.specs.History

@@ -1,15 +1,15 @@
 -- What a reply's text needs to be read back.
 use Rattle.std.specs.Prelude.{All}
-use Rattle.shop_machine.specs.declared.messages.Reply.{Reply}
-use Rattle.shop_machine.specs.declared.messages.Reply.TheVariants as reply
-use Rattle.shop_machine.specs.declared.records.RackRow.{RackRow}
-use Rattle.shop_machine.specs.declared.records.Material.{Material}
-use Rattle.shop_machine.specs.declared.records.Part.{Part}
-use Rattle.shop_machine.specs.declared.records.Demand.{Demand}
-use Rattle.shop_machine.specs.declared.records.JobRow.{JobRow}
-use Rattle.shop_machine.specs.Columns.{state_of}
-use Rattle.shop_machine.specs.Messages.{IsWide}
-use Rattle.shop_machine.specs.Refusals.{refusal_number}
+use Rattle.shop_records.specs.declared.messages.Reply.{Reply}
+use Rattle.shop_records.specs.declared.messages.Reply.TheVariants as reply
+use Rattle.shop_records.specs.declared.records.RackRow.{RackRow}
+use Rattle.shop_records.specs.declared.records.Material.{Material}
+use Rattle.shop_records.specs.declared.records.Part.{Part}
+use Rattle.shop_records.specs.declared.records.Demand.{Demand}
+use Rattle.shop_records.specs.declared.records.JobRow.{JobRow}
+use Rattle.shop_records.specs.Columns.{state_of}
+use Rattle.shop_records.specs.Messages.{IsWide}
+use Rattle.shop_records.specs.Refusals.{refusal_number}
 
 -- each number of a part on the rack has 64 bits
 abbrev pub HasWideSides : RackRow → Type 0

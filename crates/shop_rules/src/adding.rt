@@ -2,8 +2,8 @@
 
 ghost use Rattle.std.specs.Prelude.{◌≡◌, OnOk};
 ghost use Rattle.serde_json.specs.View.{view};
-ghost use Rattle.shop_machine.specs.declared.messages.Command.TheVariants.{AddMaterial};
-ghost use Rattle.shop_machine.specs.declared.messages.Reply.TheVariants as reply;
+ghost use Rattle.shop_records.specs.declared.messages.Command.TheVariants.{AddMaterial};
+ghost use Rattle.shop_records.specs.declared.messages.Reply.TheVariants as reply;
 ghost use Rattle.shop_rules.specs.Fields.{row};
 ghost use Rattle.shop_rules.specs.Forms as form;
 ghost use Rattle.shop_rules.specs.Forms.{message_data, reply_data};
@@ -15,7 +15,7 @@ use crate::writing::{Member, write_object};
 use cut_measure::Kind;
 use json::Writer;
 use serde_json::Value;
-use shop_machine::{Command, Reply};
+use shop_records::{Command, Reply};
 use std::alloc::AllocError;
 
 // The command to add a material.
@@ -49,7 +49,12 @@ pub(crate) fn write_material(
     min_long: u64,
     min_short: u64,
 ) -> Result<(), AllocError>
-    ensures { OnOk result (AddsValue writer.old writer.new (message_data (record { terminal = pair.0; number = pair.1; command = AddMaterial material.now kind kerf min_long min_short }))) }
+    ensures { OnOk result (AddsValue writer.old writer.new
+        (message_data (record {
+          terminal = pair.0;
+          number = pair.1;
+          command = AddMaterial material.now kind kerf min_long min_short;
+        }))) }
 {
     write_object(
         writer,
@@ -79,7 +84,8 @@ pub(crate) fn material_made(value: &Value) -> Option<Reply>
 
 // Writes the reply to it.
 pub(crate) fn tell_material(writer: &mut Writer, material: &str) -> Result<(), AllocError>
-    ensures { OnOk result (AddsValue writer.old writer.new (reply_data (reply.AddMaterial material.now))) }
+    ensures { OnOk result (AddsValue writer.old writer.new
+        (reply_data (reply.AddMaterial material.now))) }
 {
     write_object(
         writer,

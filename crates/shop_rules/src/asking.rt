@@ -2,7 +2,7 @@
 
 ghost use Rattle.std.specs.Prelude.{◌≡◌, IfOk, OnOk, All};
 ghost use Rattle.serde_json.specs.View.{view};
-ghost use Rattle.shop_machine.specs.declared.messages.Reply.TheVariants as reply;
+ghost use Rattle.shop_records.specs.declared.messages.Reply.TheVariants as reply;
 ghost use Rattle.shop_rules.specs.Fields.{row};
 ghost use Rattle.shop_rules.specs.Forms as form;
 ghost use Rattle.shop_rules.specs.Forms.{reply_data};
@@ -16,7 +16,7 @@ use crate::writing::{Member, write_object, write_text};
 use cut_measure::PartName;
 use json::Writer;
 use serde_json::Value;
-use shop_machine::{Query, RackRow, StateWord};
+use shop_records::{Query, RackRow, StateWord};
 use std::alloc::{AllocError, Global};
 
 // The query for a material's cells.
@@ -39,8 +39,13 @@ pub(crate) fn tell_totals(
     scrap: u64,
     returned: u64,
 ) -> Result<(), AllocError>
-    ensures value { OnOk result (AddsValue writer.old writer.new (reply_data (reply.Totals material.now received stock rack pieces kerf scrap returned))) }
-    ensures wide { OnOk result (HasWideNumbers (reply.Totals material.now received stock rack pieces kerf scrap returned)) }
+    ensures value { OnOk result
+        (AddsValue writer.old writer.new
+        (reply_data (reply.Totals material.now received stock rack pieces kerf scrap
+        returned))) }
+    ensures wide { OnOk result
+        (HasWideNumbers (reply.Totals material.now received stock rack pieces kerf scrap
+        returned)) }
 {
     write_object(
         writer,
@@ -102,7 +107,8 @@ pub(crate) fn tell_rack(
     material: &str,
     parts: &[RackRow],
 ) -> Result<(), AllocError>
-    ensures value { OnOk result (AddsValue writer.old writer.new (reply_data (reply.Rack material.now parts.now))) }
+    ensures value { OnOk result
+        (AddsValue writer.old writer.new (reply_data (reply.Rack material.now parts.now))) }
     ensures wide { OnOk result (HasWideNumbers (reply.Rack material.now parts.now)) }
 {
     writer.begin_object()?;
@@ -142,8 +148,13 @@ pub(crate) fn tell_trace<'a>(
     state: StateWord,
     place: Place,
 ) -> Result<(), AllocError>
-    ensures value { OnOk result (AddsValue writer.old writer.new (reply_data (reply.Trace batch.now place.h of part.now root.now state place.w place.x place.y))) }
-    ensures wide { OnOk result (HasWideNumbers (reply.Trace batch.now place.h of part.now root.now state place.w place.x place.y)) }
+    ensures value { OnOk result
+        (AddsValue writer.old writer.new
+        (reply_data (reply.Trace batch.now place.h of part.now root.now state place.w place.x
+        place.y))) }
+    ensures wide { OnOk result
+        (HasWideNumbers (reply.Trace batch.now place.h of part.now root.now state place.w place.x
+        place.y)) }
 {
     write_object(
         writer,
@@ -187,8 +198,13 @@ pub(crate) fn tell_demand<'a>(
     order: &'a str,
     counts: Counts,
 ) -> Result<(), AllocError>
-    ensures value { OnOk result (AddsValue writer.old writer.new (reply_data (reply.Demand demand line counts.made material.now order.now counts.reserved counts.wanted))) }
-    ensures wide { OnOk result (HasWideNumbers (reply.Demand demand line counts.made material.now order.now counts.reserved counts.wanted)) }
+    ensures value { OnOk result
+        (AddsValue writer.old writer.new
+        (reply_data (reply.Demand demand line counts.made material.now order.now counts.reserved
+        counts.wanted))) }
+    ensures wide { OnOk result
+        (HasWideNumbers (reply.Demand demand line counts.made material.now order.now counts.reserved
+        counts.wanted)) }
 {
     write_object(
         writer,
@@ -234,7 +250,8 @@ pub(crate) fn tell_plan(
     tree: &str,
     worth: u64,
 ) -> Result<(), AllocError>
-    ensures value { OnOk result (AddsValue writer.old writer.new (reply_data (reply.Plan ceiling dropped tree.now worth))) }
+    ensures value { OnOk result
+        (AddsValue writer.old writer.new (reply_data (reply.Plan ceiling dropped tree.now worth))) }
     ensures wide { OnOk result (HasWideNumbers (reply.Plan ceiling dropped tree.now worth)) }
 {
     write_object(
@@ -280,7 +297,8 @@ fn bound_query(alloc: Global, value: &Value) -> Result<Option<Query>, AllocError
 
 // Writes the reply to it.
 pub(crate) fn tell_bound(writer: &mut Writer, best: u64, units: u64) -> Result<(), AllocError>
-    ensures value { OnOk result (AddsValue writer.old writer.new (reply_data (reply.Bound best units))) }
+    ensures value { OnOk result
+        (AddsValue writer.old writer.new (reply_data (reply.Bound best units))) }
     ensures wide { OnOk result (HasWideNumbers (reply.Bound best units)) }
 {
     write_object(

@@ -23,7 +23,8 @@ pub(crate) enum CommandWord {
 // What a word of `do` asks for, and a word of `ok` tells of.
 pub(crate) fn command_word_of(word: &str) -> Option<CommandWord>
     ensures some { IfSome result (λ command_word. word.now ≡ command_word_text command_word) }
-    ensures none { IfNone result ((d : Data) → (command_of word.now d ≡ None) × (made_of word.now d ≡ None)) }
+    ensures none { IfNone result
+        ((d : Data) → (command_of word.now d ≡ None) × (made_of word.now d ≡ None)) }
 {
     if word == "material" {
         Some(CommandWord::Material)

@@ -2,9 +2,9 @@
 
 ghost use Rattle.std.specs.Prelude.{◌≡◌, OnOk};
 ghost use Rattle.serde_json.specs.View.{view};
-ghost use Rattle.shop_machine.specs.declared.messages.Command.TheVariants.{Done, Release};
-ghost use Rattle.shop_machine.specs.declared.messages.Reply.TheVariants as reply;
-ghost use Rattle.shop_machine.specs.Messages.{IsWide};
+ghost use Rattle.shop_records.specs.declared.messages.Command.TheVariants.{Done, Release};
+ghost use Rattle.shop_records.specs.declared.messages.Reply.TheVariants as reply;
+ghost use Rattle.shop_records.specs.Messages.{IsWide};
 ghost use Rattle.shop_rules.specs.Fields.{row};
 ghost use Rattle.shop_rules.specs.Forms as form;
 ghost use Rattle.shop_rules.specs.Forms.{message_data, reply_data};
@@ -15,7 +15,7 @@ use crate::fields::{has_keys, number_at, wide_at};
 use crate::writing::{Member, write_object};
 use json::Writer;
 use serde_json::Value;
-use shop_machine::{Command, Reply};
+use shop_records::{Command, Reply};
 use std::alloc::AllocError;
 
 // The command that a job is done.
@@ -31,7 +31,8 @@ pub(crate) fn done_command(value: &Value) -> Option<Command>
 
 // Writes a message that ends a job.
 pub(crate) fn write_done(writer: &mut Writer, pair: (u64, u64), job: u64) -> Result<(), AllocError>
-    ensures { OnOk result (AddsValue writer.old writer.new (message_data (record { terminal = pair.0; number = pair.1; command = Done job }))) }
+    ensures { OnOk result (AddsValue writer.old writer.new
+        (message_data (record { terminal = pair.0; number = pair.1; command = Done job }))) }
 {
     write_object(
         writer,
@@ -83,8 +84,10 @@ pub(crate) fn tell_ended(
     rack: u64,
     scrap: u64,
 ) -> Result<(), AllocError>
-    ensures value { OnOk result (AddsValue writer.old writer.new (form.ended_told word.now job kerf pieces rack scrap)) }
-    ensures wide { OnOk result (IsWide job × IsWide kerf × IsWide pieces × IsWide rack × IsWide scrap) }
+    ensures value { OnOk result
+        (AddsValue writer.old writer.new (form.ended_told word.now job kerf pieces rack scrap)) }
+    ensures wide { OnOk result
+        (IsWide job × IsWide kerf × IsWide pieces × IsWide rack × IsWide scrap) }
 {
     write_object(
         writer,
@@ -116,7 +119,8 @@ pub(crate) fn write_release(
     pair: (u64, u64),
     job: u64,
 ) -> Result<(), AllocError>
-    ensures { OnOk result (AddsValue writer.old writer.new (message_data (record { terminal = pair.0; number = pair.1; command = Release job }))) }
+    ensures { OnOk result (AddsValue writer.old writer.new
+        (message_data (record { terminal = pair.0; number = pair.1; command = Release job }))) }
 {
     write_object(
         writer,

@@ -74,7 +74,8 @@ pub(crate) fn kind_at(value: &Value, key: &str) -> Option<Kind>
 
 // The text at a key of an object without the other key.
 pub(crate) fn word_at<'a>(value: &'a Value, key: &str, other: &str) -> Option<&'a str>
-    ensures { option_map (λ text. text.now) result ≡ form.word_at key.now other.now (view value.now) }
+    ensures { option_map (λ text. text.now) result
+        ≡ form.word_at key.now other.now (view value.now) }
 {
     match value.get(other) {
         Some(_) => None,
@@ -84,7 +85,8 @@ pub(crate) fn word_at<'a>(value: &'a Value, key: &str, other: &str) -> Option<&'
 
 // The elements of the list at a key.
 pub(crate) fn elements_at<'a>(value: &'a Value, key: &str) -> Option<&'a Vec<Value>>
-    ensures { option_map (λ values. map view values.now.items) result ≡ form.elements_at key.now (view value.now) }
+    ensures { option_map (λ values. map view values.now.items) result
+        ≡ form.elements_at key.now (view value.now) }
 {
     value.get(key)?.as_array()
 }

@@ -2,8 +2,8 @@
 
 ghost use Rattle.std.specs.Prelude.{◌≡◌, IfOk, OnOk, All, codes};
 ghost use Rattle.serde_json.specs.View.{view};
-ghost use Rattle.shop_machine.specs.declared.messages.Command.TheVariants.{Break};
-ghost use Rattle.shop_machine.specs.Messages.{IsNumber, IsHalt};
+ghost use Rattle.shop_records.specs.declared.messages.Command.TheVariants.{Break};
+ghost use Rattle.shop_records.specs.Messages.{IsNumber, IsHalt};
 ghost use Rattle.shop_rules.specs.Fields.{row};
 ghost use Rattle.shop_rules.specs.Forms as form;
 ghost use Rattle.shop_rules.specs.Forms.{message_data};
@@ -17,7 +17,7 @@ use crate::writing::{Member, write_object};
 use cut_tree::{Halt, MOST_CUTS};
 use json::Writer;
 use serde_json::Value;
-use shop_machine::{Command, Reply};
+use shop_records::{Command, Reply};
 use std::alloc::{AllocError, Global};
 
 // The cut that went wrong by its number, or `false` where none did.
@@ -117,7 +117,12 @@ pub(crate) fn write_break(
     job: u64,
     halt: &Halt,
 ) -> Result<(), AllocError>
-    ensures { OnOk result (AddsValue writer.old writer.new (message_data (record { terminal = pair.0; number = pair.1; command = Break job halt.now }))) }
+    ensures { OnOk result (AddsValue writer.old writer.new
+        (message_data (record {
+          terminal = pair.0;
+          number = pair.1;
+          command = Break job halt.now;
+        }))) }
 {
     write_object(
         writer,

@@ -2,9 +2,9 @@
 
 ghost use Rattle.std.specs.Prelude.{◌≡◌, IfOk, OnOk};
 ghost use Rattle.serde_json.specs.View.{view};
-ghost use Rattle.shop_machine.specs.declared.messages.Command.TheVariants.{Import};
-ghost use Rattle.shop_machine.specs.declared.messages.Reply.TheVariants as reply;
-ghost use Rattle.shop_machine.specs.declared.imports.Form.TheVariants.{Csv, Cgcut};
+ghost use Rattle.shop_records.specs.declared.messages.Command.TheVariants.{Import};
+ghost use Rattle.shop_records.specs.declared.messages.Reply.TheVariants as reply;
+ghost use Rattle.shop_records.specs.declared.imports.Form.TheVariants.{Csv, Cgcut};
 ghost use Rattle.shop_rules.specs.Fields.{row};
 ghost use Rattle.shop_rules.specs.Forms as forms;
 ghost use Rattle.shop_rules.specs.Forms.{message_data, reply_data};
@@ -15,7 +15,7 @@ use crate::fields::{code_at, has_keys, number_at, text_at};
 use crate::writing::{Member, write_object};
 use json::Writer;
 use serde_json::Value;
-use shop_machine::{Command, Form, Reply, Text};
+use shop_records::{Command, Form, Reply, Text};
 use std::alloc::{AllocError, Global};
 
 // An import in a form that was read.
@@ -81,7 +81,12 @@ pub(crate) fn write_csv<'a>(
     order: &'a str,
     text: &'a str,
 ) -> Result<(), AllocError>
-    ensures { OnOk result (AddsValue writer.old writer.new (message_data (record { terminal = pair.0; number = pair.1; command = Import order.now Csv text.now }))) }
+    ensures { OnOk result (AddsValue writer.old writer.new
+        (message_data (record {
+          terminal = pair.0;
+          number = pair.1;
+          command = Import order.now Csv text.now;
+        }))) }
 {
     write_object(
         writer,
@@ -104,7 +109,12 @@ pub(crate) fn write_problem<'a>(
     order: &'a str,
     text: &'a str,
 ) -> Result<(), AllocError>
-    ensures { OnOk result (AddsValue writer.old writer.new (message_data (record { terminal = pair.0; number = pair.1; command = Import order.now (Cgcut material.now) text.now }))) }
+    ensures { OnOk result (AddsValue writer.old writer.new
+        (message_data (record {
+          terminal = pair.0;
+          number = pair.1;
+          command = Import order.now (Cgcut material.now) text.now;
+        }))) }
 {
     write_object(
         writer,
@@ -147,7 +157,8 @@ pub(crate) fn tell_import(
     first: u64,
     order: &str,
 ) -> Result<(), AllocError>
-    ensures value { OnOk result (AddsValue writer.old writer.new (reply_data (reply.Import act count first order.now))) }
+    ensures value { OnOk result
+        (AddsValue writer.old writer.new (reply_data (reply.Import act count first order.now))) }
     ensures wide { OnOk result (HasWideNumbers (reply.Import act count first order.now)) }
 {
     write_object(

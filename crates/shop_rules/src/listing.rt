@@ -3,7 +3,7 @@
 ghost use Rattle.std.specs.Prelude.{◌≡◌, OnOk, All, codes, map};
 ghost use Rattle.serde_json.specs.Data.{Data, array};
 ghost use Rattle.serde_json.specs.View.{view, items_of};
-ghost use Rattle.shop_machine.specs.declared.messages.Reply.TheVariants as reply;
+ghost use Rattle.shop_records.specs.declared.messages.Reply.TheVariants as reply;
 ghost use Rattle.shop_rules.specs.Fields.{behind_at, row};
 ghost use Rattle.shop_rules.specs.Forms as form;
 ghost use Rattle.shop_rules.specs.Forms.{reply_data};
@@ -17,7 +17,7 @@ use crate::writing::{Member, write_flag, write_object, write_text};
 use cut_measure::PartName;
 use json::Writer;
 use serde_json::Value;
-use shop_machine::{Demand, JobRow, JobState, Material, Part, Query};
+use shop_records::{Demand, JobRow, JobState, Material, Part, Query};
 use std::alloc::{AllocError, Global};
 
 // ---- what is read
@@ -229,7 +229,8 @@ impl Listed for JobRow {
 
 // Writes a list of rows.
 fn write_rows<T: Listed>(alloc: Global, writer: &mut Writer, rows: &[T]) -> Result<(), AllocError>
-    ensures value { OnOk result (AddsValue writer.old writer.new (array (items_of (map T.said rows.now)))) }
+    ensures value { OnOk result
+        (AddsValue writer.old writer.new (array (items_of (map T.said rows.now)))) }
     ensures wide { OnOk result (All T.is_wide rows.now) }
 {
     writer.begin_array()?;
@@ -246,7 +247,8 @@ pub(crate) fn tell_materials(
     writer: &mut Writer,
     materials: &[Material],
 ) -> Result<(), AllocError>
-    ensures value { OnOk result (AddsValue writer.old writer.new (reply_data (reply.Materials materials.now))) }
+    ensures value { OnOk result
+        (AddsValue writer.old writer.new (reply_data (reply.Materials materials.now))) }
     ensures wide { OnOk result (HasWideNumbers (reply.Materials materials.now)) }
 {
     writer.begin_object()?;
@@ -265,7 +267,8 @@ pub(crate) fn tell_parts(
     more: bool,
     parts: &[Part],
 ) -> Result<(), AllocError>
-    ensures value { OnOk result (AddsValue writer.old writer.new (reply_data (reply.Parts material.now more parts.now))) }
+    ensures value { OnOk result
+        (AddsValue writer.old writer.new (reply_data (reply.Parts material.now more parts.now))) }
     ensures wide { OnOk result (HasWideNumbers (reply.Parts material.now more parts.now)) }
 {
     writer.begin_object()?;
@@ -286,7 +289,8 @@ pub(crate) fn tell_behind<T: Listed>(
     rows: &[T],
     more: bool,
 ) -> Result<(), AllocError>
-    ensures value { OnOk result (AddsValue writer.old writer.new (form.behind_told word.now T.said rows.now more)) }
+    ensures value { OnOk result
+        (AddsValue writer.old writer.new (form.behind_told word.now T.said rows.now more)) }
     ensures wide { OnOk result (All T.is_wide rows.now) }
 {
     writer.begin_object()?;
@@ -318,8 +322,13 @@ pub(crate) fn tell_job<'a>(
     state: JobState,
     tree: &'a str,
 ) -> Result<(), AllocError>
-    ensures value { OnOk result (AddsValue writer.old writer.new (reply_data (reply.Job numbers.cuts numbers.h numbers.job numbers.kerf material.now part.now state tree.now numbers.w))) }
-    ensures wide { OnOk result (HasWideNumbers (reply.Job numbers.cuts numbers.h numbers.job numbers.kerf material.now part.now state tree.now numbers.w)) }
+    ensures value { OnOk result
+        (AddsValue writer.old writer.new
+        (reply_data (reply.Job numbers.cuts numbers.h numbers.job numbers.kerf material.now
+        part.now state tree.now numbers.w))) }
+    ensures wide { OnOk result
+        (HasWideNumbers (reply.Job numbers.cuts numbers.h numbers.job numbers.kerf material.now
+        part.now state tree.now numbers.w)) }
 {
     write_object(
         writer,
@@ -340,7 +349,8 @@ pub(crate) fn tell_job<'a>(
 
 // Writes the reply to the query for a terminal's last number.
 pub(crate) fn tell_terminal(writer: &mut Writer, last: u64, terminal: u64) -> Result<(), AllocError>
-    ensures value { OnOk result (AddsValue writer.old writer.new (reply_data (reply.Terminal last terminal))) }
+    ensures value { OnOk result
+        (AddsValue writer.old writer.new (reply_data (reply.Terminal last terminal))) }
     ensures wide { OnOk result (HasWideNumbers (reply.Terminal last terminal)) }
 {
     write_object(

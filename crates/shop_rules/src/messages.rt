@@ -2,8 +2,8 @@
 
 ghost use Rattle.std.specs.Prelude.{◌≡◌, ◌≢◌, ◌⊎◌, IfOk, IfErr, OnOk, Some, None, option_map};
 ghost use Rattle.serde_json.specs.View.{view};
-ghost use Rattle.shop_machine.specs.Messages.{IsMessage};
-ghost use Rattle.shop_machine.specs.declared.refusals.Refusal.TheVariants.{BadMessage, NoMemory};
+ghost use Rattle.shop_records.specs.Messages.{IsMessage};
+ghost use Rattle.shop_records.specs.declared.refusals.Refusal.TheVariants.{BadMessage, NoMemory};
 ghost use Rattle.shop_rules.specs.Forms as form;
 ghost use Rattle.shop_rules.specs.Forms.{message_data, json_texts};
 ghost use Rattle.shop_rules.specs.Tokens.{AddsValue};
@@ -23,7 +23,7 @@ use crate::words::{see_part, wide};
 use crate::writing::{new_writer, value_of, written_text};
 use json::Writer;
 use serde_json::Value;
-use shop_machine::{Command, Form, Message, Query, Refusal, Text};
+use shop_records::{Command, Form, Message, Query, Refusal, Text};
 use std::alloc::{AllocError, Global};
 
 // The command that a value stands for, by the word of `do`.
@@ -49,7 +49,8 @@ fn command(alloc: Global, value: &Value, word: &str) -> Result<Option<Command>, 
 
 // The word of `do`, the terminal and the number.
 fn head(value: &Value) -> Option<(&str, u32, u32)>
-    ensures { option_map (λ head. (head.0.now, head.1, head.2)) result ≡ form.sent_head (view value.now) }
+    ensures { option_map (λ head. (head.0.now, head.1, head.2)) result
+        ≡ form.sent_head (view value.now) }
 {
     let word = word_at(value, "do", "ask")?;
     let terminal = number_at(value, "terminal")?;
@@ -78,7 +79,9 @@ fn sent(alloc: Global, value: &Value) -> Result<Option<Message>, AllocError>
 /// it lists over 255 cuts, and `NoMemory` where memory runs out.
 pub fn read_message(alloc: Global, value: &Value) -> Result<Message, Refusal>
     ensures ok { IfOk result (λ message. form.message_of (view value.now) ≡ Some message) }
-    ensures err { IfErr result (λ refusal. refusal ≢ NoMemory → (refusal ≡ BadMessage) × (form.message_of (view value.now) ≡ None)) }
+    ensures err { IfErr result
+        (λ refusal. refusal ≢ NoMemory → (refusal ≡ BadMessage)
+        × (form.message_of (view value.now) ≡ None)) }
 {
     match sent(alloc, value) {
         Ok(Some(message)) => {
@@ -194,7 +197,9 @@ pub fn message_value(alloc: Global, message: &Message) -> Result<Value, AllocErr
 /// The query that a value stands for; refused `BadMessage` where it stands for none, and `NoMemory` where memory runs out.
 pub fn read_query(alloc: Global, value: &Value) -> Result<Query, Refusal>
     ensures ok { IfOk result (λ query. form.query_of (view value.now) ≡ Some query) }
-    ensures err { IfErr result (λ refusal. (refusal ≡ NoMemory) ⊎ ((refusal ≡ BadMessage) × (form.query_of (view value.now) ≡ None))) }
+    ensures err { IfErr result
+        (λ refusal. (refusal ≡ NoMemory)
+        ⊎ ((refusal ≡ BadMessage) × (form.query_of (view value.now) ≡ None))) }
 {
     let query = asked(alloc, value)?;
     query.ok_or(Refusal::BadMessage)

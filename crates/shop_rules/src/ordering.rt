@@ -2,9 +2,9 @@
 
 ghost use Rattle.std.specs.Prelude.{◌≡◌, IfOk, OnOk, All, map};
 ghost use Rattle.serde_json.specs.View.{view};
-ghost use Rattle.shop_machine.specs.declared.messages.Command.TheVariants.{AddOrder};
-ghost use Rattle.shop_machine.specs.declared.messages.Reply.TheVariants as reply;
-ghost use Rattle.shop_machine.specs.Messages.{IsLine};
+ghost use Rattle.shop_records.specs.declared.messages.Command.TheVariants.{AddOrder};
+ghost use Rattle.shop_records.specs.declared.messages.Reply.TheVariants as reply;
+ghost use Rattle.shop_records.specs.Messages.{IsLine};
 ghost use Rattle.shop_rules.specs.Fields.{all_of, row};
 ghost use Rattle.shop_rules.specs.Forms as form;
 ghost use Rattle.shop_rules.specs.Forms.{message_data, reply_data};
@@ -16,7 +16,7 @@ use crate::words::wide;
 use crate::writing::{Member, write_number, write_object, write_text};
 use json::Writer;
 use serde_json::Value;
-use shop_machine::{Command, LineList, OrderLine, Reply};
+use shop_records::{Command, LineList, OrderLine, Reply};
 use std::alloc::{AllocError, Global};
 
 fn line_fields(value: &Value) -> Option<OrderLine>
@@ -127,7 +127,12 @@ pub(crate) fn write_order(
     order: &str,
     lines: &[OrderLine],
 ) -> Result<(), AllocError>
-    ensures { OnOk result (AddsValue writer.old writer.new (message_data (record { terminal = pair.0; number = pair.1; command = AddOrder order.now lines.now }))) }
+    ensures { OnOk result (AddsValue writer.old writer.new
+        (message_data (record {
+          terminal = pair.0;
+          number = pair.1;
+          command = AddOrder order.now lines.now;
+        }))) }
 {
     writer.begin_object()?;
     write_text(writer, "do", "order")?;
@@ -187,7 +192,8 @@ pub(crate) fn tell_order(
     first: u64,
     order: &str,
 ) -> Result<(), AllocError>
-    ensures value { OnOk result (AddsValue writer.old writer.new (reply_data (reply.AddOrder count first order.now))) }
+    ensures value { OnOk result
+        (AddsValue writer.old writer.new (reply_data (reply.AddOrder count first order.now))) }
     ensures wide { OnOk result (HasWideNumbers (reply.AddOrder count first order.now)) }
 {
     write_object(

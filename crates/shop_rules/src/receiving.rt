@@ -2,8 +2,8 @@
 
 ghost use Rattle.std.specs.Prelude.{◌≡◌, OnOk};
 ghost use Rattle.serde_json.specs.View.{view};
-ghost use Rattle.shop_machine.specs.declared.messages.Command.TheVariants.{Receive};
-ghost use Rattle.shop_machine.specs.declared.messages.Reply.TheVariants as reply;
+ghost use Rattle.shop_records.specs.declared.messages.Command.TheVariants.{Receive};
+ghost use Rattle.shop_records.specs.declared.messages.Reply.TheVariants as reply;
 ghost use Rattle.shop_rules.specs.Fields.{row};
 ghost use Rattle.shop_rules.specs.Forms as form;
 ghost use Rattle.shop_rules.specs.Forms.{message_data, reply_data};
@@ -14,7 +14,7 @@ use crate::fields::{code_at, has_keys, number_at};
 use crate::writing::{Member, write_object};
 use json::Writer;
 use serde_json::Value;
-use shop_machine::{Command, Reply};
+use shop_records::{Command, Reply};
 use std::alloc::AllocError;
 
 // The command to receive units.
@@ -48,7 +48,12 @@ pub(crate) fn write_receive<'a>(
     h: u64,
     count: u64,
 ) -> Result<(), AllocError>
-    ensures { OnOk result (AddsValue writer.old writer.new (message_data (record { terminal = pair.0; number = pair.1; command = Receive material.now batch.now w h count }))) }
+    ensures { OnOk result (AddsValue writer.old writer.new
+        (message_data (record {
+          terminal = pair.0;
+          number = pair.1;
+          command = Receive material.now batch.now w h count;
+        }))) }
 {
     write_object(
         writer,
@@ -79,7 +84,8 @@ pub(crate) fn receive_made(value: &Value) -> Option<Reply>
 
 // Writes the reply to it.
 pub(crate) fn tell_receive(writer: &mut Writer, act: u64, count: u64) -> Result<(), AllocError>
-    ensures value { OnOk result (AddsValue writer.old writer.new (reply_data (reply.Receive act count))) }
+    ensures value { OnOk result
+        (AddsValue writer.old writer.new (reply_data (reply.Receive act count))) }
     ensures wide { OnOk result (HasWideNumbers (reply.Receive act count)) }
 {
     write_object(

@@ -3,10 +3,10 @@
 ghost use Rattle.std.specs.Prelude.{◌≡◌, IfOk, OnOk, Some};
 ghost use Rattle.std.specs.Option.{ok_or};
 ghost use Rattle.serde_json.specs.View.{view};
-ghost use Rattle.shop_machine.specs.Messages.{IsMade};
-ghost use Rattle.shop_machine.specs.declared.messages.Reply.{Reply as ReplyOf};
-ghost use Rattle.shop_machine.specs.declared.messages.Reply.TheVariants as answer;
-ghost use Rattle.shop_machine.specs.declared.refusals.Refusal.TheVariants.{BadMessage};
+ghost use Rattle.shop_records.specs.Messages.{IsMade};
+ghost use Rattle.shop_records.specs.declared.messages.Reply.{Reply as ReplyOf};
+ghost use Rattle.shop_records.specs.declared.messages.Reply.TheVariants as answer;
+ghost use Rattle.shop_records.specs.declared.refusals.Refusal.TheVariants.{BadMessage};
 ghost use Rattle.shop_rules.specs.Forms as form;
 ghost use Rattle.shop_rules.specs.Forms.{reply_data, json_texts};
 ghost use Rattle.shop_rules.specs.Told.{HasWideNumbers};
@@ -32,7 +32,7 @@ use crate::words::wide;
 use crate::writing::{Member, new_writer, value_of, write_object, written_text};
 use json::Writer;
 use serde_json::Value;
-use shop_machine::{Refusal, Reply, Text};
+use shop_records::{Refusal, Reply, Text};
 use std::alloc::{AllocError, Global};
 
 // The reply of an accepted message that a value stands for, by the word of `ok`.
@@ -63,7 +63,8 @@ pub fn read_reply(value: &Value) -> Result<Reply, Refusal>
 /// The reply that a kept text is, where it is one. A reply that an accepted message can get is read back from its text.
 pub fn kept_reply(alloc: Global, text: &str) -> Result<Option<Reply>, AllocError>
     ensures reading { IfOk result (λ kept. kept ≡ form.kept_reply_of text.now) }
-    ensures back { (reply : ReplyOf) → IsMade reply → text.now ≡ form.json_texts.of_reply reply → IfOk result (λ kept. kept ≡ Some reply) }
+    ensures back { (reply : ReplyOf) → IsMade reply → text.now ≡ form.json_texts.of_reply reply
+        → IfOk result (λ kept. kept ≡ Some reply) }
 {
     match Value::from_str(alloc, text) {
         Ok(value) => Ok(made(&value)),
@@ -78,7 +79,8 @@ pub fn kept_reply(alloc: Global, text: &str) -> Result<Option<Reply>, AllocError
 
 // Writes the reply of a refused message or query.
 fn tell_refusal(writer: &mut Writer, refusal: Refusal) -> Result<(), AllocError>
-    ensures value { OnOk result (AddsValue writer.old writer.new (reply_data (answer.Refused refusal))) }
+    ensures value { OnOk result
+        (AddsValue writer.old writer.new (reply_data (answer.Refused refusal))) }
     ensures wide { OnOk result (HasWideNumbers (answer.Refused refusal)) }
 {
     write_object(

@@ -2,8 +2,8 @@
 
 ghost use Rattle.std.specs.Prelude.{◌≡◌, IfOk, OnOk};
 ghost use Rattle.serde_json.specs.View.{view};
-ghost use Rattle.shop_machine.specs.declared.messages.Command.TheVariants.{Reserve};
-ghost use Rattle.shop_machine.specs.declared.messages.Reply.TheVariants as reply;
+ghost use Rattle.shop_records.specs.declared.messages.Command.TheVariants.{Reserve};
+ghost use Rattle.shop_records.specs.declared.messages.Reply.TheVariants as reply;
 ghost use Rattle.shop_rules.specs.Fields.{row};
 ghost use Rattle.shop_rules.specs.Forms as form;
 ghost use Rattle.shop_rules.specs.Forms.{message_data, reply_data};
@@ -15,7 +15,7 @@ use crate::writing::{Member, write_object};
 use cut_measure::PartName;
 use json::Writer;
 use serde_json::Value;
-use shop_machine::{Command, Reply, Text};
+use shop_records::{Command, Reply, Text};
 use std::alloc::{AllocError, Global};
 
 // The command to reserve a part.
@@ -45,7 +45,12 @@ pub(crate) fn write_reserve<'a>(
     part: &'a PartName,
     tree: &'a str,
 ) -> Result<(), AllocError>
-    ensures { OnOk result (AddsValue writer.old writer.new (message_data (record { terminal = pair.0; number = pair.1; command = Reserve part.now tree.now }))) }
+    ensures { OnOk result (AddsValue writer.old writer.new
+        (message_data (record {
+          terminal = pair.0;
+          number = pair.1;
+          command = Reserve part.now tree.now;
+        }))) }
 {
     write_object(
         writer,
@@ -73,7 +78,8 @@ pub(crate) fn reserve_made(value: &Value) -> Option<Reply>
 
 // Writes the reply to it.
 pub(crate) fn tell_reserve(writer: &mut Writer, cuts: u64, job: u64) -> Result<(), AllocError>
-    ensures value { OnOk result (AddsValue writer.old writer.new (reply_data (reply.Reserve cuts job))) }
+    ensures value { OnOk result
+        (AddsValue writer.old writer.new (reply_data (reply.Reserve cuts job))) }
     ensures wide { OnOk result (HasWideNumbers (reply.Reserve cuts job)) }
 {
     write_object(

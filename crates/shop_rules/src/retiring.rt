@@ -3,8 +3,8 @@
 ghost use Rattle.std.specs.Prelude.{◌≡◌, OnOk, codes};
 ghost use Rattle.serde_json.specs.Data.{object, no_members};
 ghost use Rattle.serde_json.specs.View.{view};
-ghost use Rattle.shop_machine.specs.declared.messages.Command.TheVariants.{Scrap, GiveBack};
-ghost use Rattle.shop_machine.specs.declared.messages.Reply.TheVariants as reply;
+ghost use Rattle.shop_records.specs.declared.messages.Command.TheVariants.{Scrap, GiveBack};
+ghost use Rattle.shop_records.specs.declared.messages.Reply.TheVariants as reply;
 ghost use Rattle.shop_rules.specs.Fields.{row, text_member, name_member};
 ghost use Rattle.shop_rules.specs.Forms as form;
 ghost use Rattle.shop_rules.specs.Forms.{message_data};
@@ -15,7 +15,7 @@ use crate::writing::{Member, write_object};
 use cut_measure::PartName;
 use json::Writer;
 use serde_json::Value;
-use shop_machine::{Command, Reply};
+use shop_records::{Command, Reply};
 use std::alloc::{AllocError, Global};
 
 // The command that makes a part scrap.
@@ -36,7 +36,12 @@ pub(crate) fn write_scrap(
     pair: (u64, u64),
     part: &PartName,
 ) -> Result<(), AllocError>
-    ensures { OnOk result (AddsValue writer.old writer.new (message_data (record { terminal = pair.0; number = pair.1; command = Scrap part.now }))) }
+    ensures { OnOk result (AddsValue writer.old writer.new
+        (message_data (record {
+          terminal = pair.0;
+          number = pair.1;
+          command = Scrap part.now;
+        }))) }
 {
     write_object(
         writer,
@@ -67,7 +72,9 @@ pub(crate) fn tell_turned<'a>(
     word: &'a str,
     part: &'a PartName,
 ) -> Result<(), AllocError>
-    ensures { OnOk result (AddsValue writer.old writer.new (object (text_member (codes "ok") word.now (name_member (codes "part") part.now no_members)))) }
+    ensures { OnOk result (AddsValue writer.old writer.new
+        (object (text_member (codes "ok") word.now
+        (name_member (codes "part") part.now no_members)))) }
 {
     write_object(
         writer,
@@ -93,7 +100,12 @@ pub(crate) fn write_return(
     pair: (u64, u64),
     part: &PartName,
 ) -> Result<(), AllocError>
-    ensures { OnOk result (AddsValue writer.old writer.new (message_data (record { terminal = pair.0; number = pair.1; command = GiveBack part.now }))) }
+    ensures { OnOk result (AddsValue writer.old writer.new
+        (message_data (record {
+          terminal = pair.0;
+          number = pair.1;
+          command = GiveBack part.now;
+        }))) }
 {
     write_object(
         writer,

@@ -2,11 +2,11 @@
 
 ghost use Rattle.std.specs.Prelude.{◌≡◌};
 ghost use Rattle.cut_measure.specs.Names.{IsName};
-ghost use Rattle.shop_machine.specs.Messages.{IsNumber};
+ghost use Rattle.shop_records.specs.Messages.{IsNumber};
 ghost use Rattle.shop_rules.specs.Fields.{job_state_text, kind_text, state_text};
 
 use cut_measure::{Kind, PartName};
-use shop_machine::{JobState, StateWord};
+use shop_records::{JobState, StateWord};
 
 pub(crate) fn kind_word(kind: Kind) -> &'static str
     ensures { result.now ≡ kind_text kind }

@@ -17,7 +17,7 @@ use crate::words::wide;
 use cut_measure::PartName;
 use json::Writer;
 use serde_json::Value;
-use shop_machine::Text;
+use shop_records::Text;
 use std::alloc::{AllocError, Global};
 
 // A writer into memory of its own, with room for most texts where there is memory for it.
@@ -79,7 +79,8 @@ fn write_member(writer: &mut Writer, member: &Member<'_>) -> Result<(), AllocErr
 
 // Writes a key with a text.
 pub(crate) fn write_text(writer: &mut Writer, key: &str, text: &str) -> Result<(), AllocError>
-    ensures { OnOk result (Adds writer.old writer.new (token.key key.now ∷ token.string text.now ∷ [])) }
+    ensures { OnOk result (Adds writer.old writer.new
+        (token.key key.now ∷ token.string text.now ∷ [])) }
 {
     writer.key(key)?;
     writer.string(text)?;
@@ -88,7 +89,8 @@ pub(crate) fn write_text(writer: &mut Writer, key: &str, text: &str) -> Result<(
 
 // Writes a key with a number.
 pub(crate) fn write_number(writer: &mut Writer, key: &str, n: u64) -> Result<(), AllocError>
-    ensures { OnOk result (Adds writer.old writer.new (token.key key.now ∷ token.number (decimal n) ∷ [])) }
+    ensures { OnOk result (Adds writer.old writer.new
+        (token.key key.now ∷ token.number (decimal n) ∷ [])) }
 {
     writer.key(key)?;
     writer.u64(n)?;
@@ -97,7 +99,8 @@ pub(crate) fn write_number(writer: &mut Writer, key: &str, n: u64) -> Result<(),
 
 // Writes a key with a flag.
 pub(crate) fn write_flag(writer: &mut Writer, key: &str, flag: bool) -> Result<(), AllocError>
-    ensures { OnOk result (Adds writer.old writer.new (token.key key.now ∷ token.boolean flag ∷ [])) }
+    ensures { OnOk result (Adds writer.old writer.new
+        (token.key key.now ∷ token.boolean flag ∷ [])) }
 {
     writer.key(key)?;
     writer.boolean(flag)?;
@@ -106,7 +109,8 @@ pub(crate) fn write_flag(writer: &mut Writer, key: &str, flag: bool) -> Result<(
 
 // Writes a key with numbers.
 fn write_numbers(writer: &mut Writer, key: &str, numbers: &[u32]) -> Result<(), AllocError>
-    ensures { OnOk result (Adds writer.old writer.new (token.key key.now ∷ json_tokens (outline (list_data numbers.now)))) }
+    ensures { OnOk result (Adds writer.old writer.new
+        (token.key key.now ∷ json_tokens (outline (list_data numbers.now)))) }
 {
     writer.key(key)?;
     write_list(writer, numbers)
@@ -131,7 +135,8 @@ fn write_name(
     key: &str,
     part: &PartName,
 ) -> Result<(), AllocError>
-    ensures { OnOk result (Adds writer.old writer.new (token.key key.now ∷ token.string (name_text part.now) ∷ [])) }
+    ensures { OnOk result (Adds writer.old writer.new
+        (token.key key.now ∷ token.string (name_text part.now) ∷ [])) }
 {
     let mut name = String::new(alloc);
     part.write(&mut name)?;

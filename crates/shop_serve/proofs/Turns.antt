@@ -7,7 +7,7 @@ use Rattle.shop_desk.specs.Handled.{HasAccount}
 use Rattle.shop_desk.specs.Faults.{CountsUp}
 use Rattle.shop_desk.proofs.Accounts.{account_same, account_more}
 use Rattle.shop_desk.proofs.Blame.{up_more, failed_first, failed_last}
-use Rattle.shop_machine.specs.Content.{Content}
+use Rattle.shop_records.specs.Content.{Content}
 use Rattle.shop_request.specs.Guards.{HasRuling}
 use Rattle.shop_request.specs.declared.guards.Ruling.{Ruling}
 use Rattle.shop_request.specs.declared.guards.Ruling.TheVariants.{Routed, Forbidden, Page, OnlyGet}

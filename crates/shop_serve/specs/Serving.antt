@@ -3,13 +3,13 @@ use Rattle.std.specs.Prelude.{◌≡◌, ◌≢◌, ◌⊎◌, ◌<◌, ◌≤�
 use Rattle.std.specs.List.{flat_map}
 use Rattle.shop_desk.specs.Faults.{CountsUp, StoreFailed}
 use Rattle.shop_desk.specs.Handled.{HasAccount}
-use Rattle.shop_machine.specs.Content.{Content}
-use Rattle.shop_machine.specs.History.{IsIn}
-use Rattle.shop_machine.specs.Soundness.{IsSound}
-use Rattle.shop_machine.specs.declared.messages.Message.{Message}
-use Rattle.shop_machine.specs.declared.messages.Reply.{Reply}
-use Rattle.shop_machine.specs.declared.messages.Reply.TheVariants.{Refused}
-use Rattle.shop_machine.specs.declared.refusals.Refusal.TheVariants.{StoreFault}
+use Rattle.shop_records.specs.Content.{Content}
+use Rattle.shop_records.specs.Elements.{IsIn}
+use Rattle.shop_records.specs.Soundness.{IsSound}
+use Rattle.shop_records.specs.declared.messages.Message.{Message}
+use Rattle.shop_records.specs.declared.messages.Reply.{Reply}
+use Rattle.shop_records.specs.declared.messages.Reply.TheVariants.{Refused}
+use Rattle.shop_records.specs.declared.refusals.Refusal.TheVariants.{StoreFault}
 use Rattle.shop_request.specs.Guards.{HasRuling}
 use Rattle.shop_request.specs.declared.guards.Ruling.{Ruling}
 use Rattle.shop_request.specs.declared.guards.Ruling.TheVariants.{Routed}

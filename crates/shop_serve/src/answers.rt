@@ -61,7 +61,9 @@ impl Sink for Answer {
 fn routed_answer<B: Book>(alloc: Global, site: &Site, came: &[u8], book: &mut B) -> Option<Vec<u8>>
     requires some { 0 < length came.now }
     requires goes { HasRuling site.now.guard.port site.now.guard.has_page came.now ruling.Routed }
-    ensures told { IfSome result (λ answer. IsServed B.Book book.old book.new (Some came.now) (Some []) (Some answer.items) []) }
+    ensures told { IfSome result
+        (λ answer. IsServed B.Book book.old book.new (Some came.now) (Some [])
+        (Some answer.items) []) }
     ensures step { HasServed site.now B.Book book.old book.new 1 }
     ensures honest { B.is_honest book.new → B.is_honest book.old }
 {
@@ -78,7 +80,8 @@ fn routed_answer<B: Book>(alloc: Global, site: &Site, came: &[u8], book: &mut B)
 
 // The text that a page's answer has before and behind its length.
 fn page_head(alloc: Global, length: usize) -> Result<String, AllocError>
-    ensures { IfOk result (λ text. string_bytes text ≡ page_start ++ decimal length ++ page_fields) }
+    ensures { IfOk result (λ text. string_bytes text ≡ page_start ++ decimal length
+        ++ page_fields) }
 {
     format!(in alloc; "{PAGE_START}{length}{PAGE_FIELDS}")
 }
@@ -121,7 +124,8 @@ pub(crate) fn answer_of<B: Book>(
     book: &mut B,
 ) -> Option<Vec<u8>>
     requires { 0 < length came.now }
-    ensures told { IfSome result (λ answer. IsAnswered site.now B.Book book.old book.new came.now answer.items) }
+    ensures told { IfSome result
+        (λ answer. IsAnswered site.now B.Book book.old book.new came.now answer.items) }
     ensures step { HasServed site.now B.Book book.old book.new 1 }
     ensures honest { B.is_honest book.new → B.is_honest book.old }
 {

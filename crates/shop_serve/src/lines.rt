@@ -52,10 +52,15 @@ pub(crate) enum Fate {
 // Hands over what is left of the answer, as far as it is taken.
 fn answer_on<C: Connection>(line: &mut Line<C>) -> Given
     ensures kept { (line.new.came ≡ line.old.came) × (line.new.answer ≡ line.old.answer) }
-    ensures takes { result ≢ given.Lost → IfSome line.old.answer (λ answer. TakesAnswer C.Connection answer.items line.old.stream line.old.sent line.new.stream line.new.sent) }
-    ensures whole { result ≡ given.Whole → IsSomeAnd line.new.answer (λ answer. line.new.sent ≡ length answer.items) }
+    ensures takes { result ≢ given.Lost
+        → IfSome line.old.answer (λ answer.
+        TakesAnswer C.Connection answer.items line.old.stream line.old.sent line.new.stream
+        line.new.sent) }
+    ensures whole { result ≡ given.Whole
+        → IsSomeAnd line.new.answer (λ answer. line.new.sent ≡ length answer.items) }
     ensures full { result ≡ given.Waits → IsSome line.old.answer → C.is_full line.new.stream }
-    ensures lost { result ≡ given.Lost → C.is_lost line.new.stream ⊎ IsSomeAnd line.old.answer (λ answer. length answer.items < line.old.sent) }
+    ensures lost { result ≡ given.Lost → C.is_lost line.new.stream
+        ⊎ IsSomeAnd line.old.answer (λ answer. length answer.items < line.old.sent) }
     ensures memory { result ≢ given.NoMemory }
 {
     let Some(answer) = &line.answer else {
@@ -77,14 +82,21 @@ fn ask<C: Connection, B: Book>(
 ) -> Taken
     requires waits { line.old.answer ≡ None }
     ensures read { result ≢ taken.Over → result ≢ taken.NoMemory
-        → IsReadOn (C.remaining line.old.stream) (C.remaining line.new.stream) line.old.came.items line.new.came.items }
+        → IsReadOn (C.remaining line.old.stream)
+        (C.remaining line.new.stream) line.old.came.items line.new.came.items }
     ensures kept { C.contents line.new.stream ≡ C.contents line.old.stream }
-    ensures waits { result ≡ taken.Waits → (line.new.answer ≡ None) × (book.new ≡ book.old) × C.is_drained line.new.stream }
-    ensures awaits { result ≡ taken.Waits → AwaitsMore line.old.came.items line.old.needed → AwaitsMore line.new.came.items line.new.needed }
-    ensures over { result ≡ taken.Over → IsMute C.Connection line.old.stream line.old.came.items line.new.stream line.new.came.items }
+    ensures waits { result ≡ taken.Waits → (line.new.answer ≡ None) × (book.new ≡ book.old)
+        × C.is_drained line.new.stream }
+    ensures awaits { result ≡ taken.Waits → AwaitsMore line.old.came.items line.old.needed
+        → AwaitsMore line.new.came.items line.new.needed }
+    ensures over { result ≡ taken.Over
+        → IsMute C.Connection line.old.stream line.old.came.items line.new.stream
+        line.new.came.items }
     ensures begins { result ≡ taken.Whole → IsSome line.new.answer × (line.new.sent ≡ 0) }
-    ensures whole { result ≡ taken.Whole → IsSettled line.new.came.items ⊎ IsAtEnd (C.remaining line.new.stream) }
-    ensures own { IfSome line.new.answer (λ answer. IsAnswered site.now B.Book book.old book.new line.new.came.items answer.items) }
+    ensures whole { result ≡ taken.Whole → IsSettled line.new.came.items
+        ⊎ IsAtEnd (C.remaining line.new.stream) }
+    ensures own { IfSome line.new.answer
+        (λ answer. IsAnswered site.now B.Book book.old book.new line.new.came.items answer.items) }
     ensures one { HasServed site.now B.Book book.old book.new 1 }
     ensures honest { B.is_honest book.new → B.is_honest book.old }
 {
@@ -116,9 +128,11 @@ fn attend<C: Connection, B: Book>(
     now: Instant,
     book: &mut B,
 ) -> Given
-    ensures attended { result ≢ given.Lost → result ≢ given.NoMemory → IsAttended C.Connection site.now B.Book line.old line.new book.old book.new }
+    ensures attended { result ≢ given.Lost → result ≢ given.NoMemory
+        → IsAttended C.Connection site.now B.Book line.old line.new book.old book.new }
     ensures lost { result ≡ given.Lost → IsSpoiled C.Connection site.now B.Book line.old line.new }
-    ensures whole { result ≡ given.Whole → IsSomeAnd line.new.answer (λ answer. line.new.sent ≡ length answer.items) }
+    ensures whole { result ≡ given.Whole
+        → IsSomeAnd line.new.answer (λ answer. line.new.sent ≡ length answer.items) }
     ensures once { IsSome line.old.answer → book.new ≡ book.old }
     ensures one { HasServed site.now B.Book book.old book.new 1 }
     ensures honest { B.is_honest book.new → B.is_honest book.old }
@@ -138,7 +152,8 @@ fn attend<C: Connection, B: Book>(
 // Ends an answer that was handed over, and drops what still comes. The connection stays while more of the request may come: to
 // close before its end would lose the answer.
 fn finish<C: Connection>(line: &mut Line<C>) -> Fate
-    ensures kept { (line.new.came ≡ line.old.came) × (line.new.answer ≡ line.old.answer) × (line.new.sent ≡ line.old.sent) }
+    ensures kept { (line.new.came ≡ line.old.came) × (line.new.answer ≡ line.old.answer)
+        × (line.new.sent ≡ line.old.sent) }
     ensures contents { C.contents line.new.stream ≡ C.contents line.old.stream }
 {
     line.stream.end_writing();
@@ -159,8 +174,10 @@ fn attend_once<C: Connection, B: Book>(
     now: Instant,
     book: &mut B,
 ) -> Fate
-    ensures attended { result ≡ fate.Stays → IsAttended C.Connection site.now B.Book line.old line.new book.old book.new }
-    ensures over { result ≡ fate.Over → IsClosedBy C.Connection site.now B.Book fate.Over line.old book.old book.new }
+    ensures attended { result ≡ fate.Stays
+        → IsAttended C.Connection site.now B.Book line.old line.new book.old book.new }
+    ensures over { result ≡ fate.Over
+        → IsClosedBy C.Connection site.now B.Book fate.Over line.old book.old book.new }
     ensures once { IsSome line.old.answer → book.new ≡ book.old }
     ensures one { HasServed site.now B.Book book.old book.new 1 }
     ensures honest { B.is_honest book.new → B.is_honest book.old }
@@ -182,8 +199,10 @@ pub(crate) fn attend_at<C: Connection + Drop, B: Book>(
     now: Instant,
     book: &mut B,
 ) -> Fate
-    ensures at { IsAttendedAt C.Connection site.now B.Book result key lines.old lines.new book.old book.new }
-    ensures run { Advances site.now B.Book book.old book.new (unanswered lines.old) (unanswered lines.new) }
+    ensures at { IsAttendedAt C.Connection site.now B.Book result key lines.old lines.new book.old
+        book.new }
+    ensures run { Advances site.now B.Book book.old book.new (unanswered lines.old)
+        (unanswered lines.new) }
     ensures honest { B.is_honest book.new → B.is_honest book.old }
 {
     let Some(line) = lines.get_mut(key) else {

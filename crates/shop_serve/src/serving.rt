@@ -33,10 +33,12 @@ fn receive<C: Connection + Drop, P: Port<C>, B: Book>(
     lines: &mut Slab<Line<C>>,
     book: &mut B,
 )
-    ensures received { IsReceived C.Connection site.now B.Book ((p : P) × P.is_deaf p) now stream lines.old lines.new book.old book.new }
+    ensures received { IsReceived C.Connection site.now B.Book
+        ((p : P) × P.is_deaf p) now stream lines.old lines.new book.old book.new }
     ensures told { P.told port.new ≡ P.told port.old }
     ensures given { P.given port.new ≡ P.given port.old }
-    ensures run { Advances site.now B.Book book.old book.new (unanswered lines.old + 1) (unanswered lines.new) }
+    ensures run { Advances site.now B.Book book.old book.new (unanswered lines.old + 1)
+        (unanswered lines.new) }
     ensures honest { B.is_honest book.new → B.is_honest book.old }
 {
     if let Some(key) = open_line(alloc, port, stream, now, lines) {
@@ -57,10 +59,13 @@ fn accept_waiting<C: Connection + Drop, P: Port<C>, B: Book>(
     book: &mut B,
 ) -> Option<Duration>
     requires bound { accepted.old ≤ limit }
-    ensures each { (came : List C) × (accepted.new ≡ accepted.old + length came) × Adds (P.given port.old) (P.given port.new) came
-        × AreReceived C.Connection site.now B.Book ((p : P) × P.is_deaf p) now came lines.old lines.new book.old book.new }
+    ensures each { (came : List C) × (accepted.new ≡ accepted.old + length came)
+        × Adds (P.given port.old) (P.given port.new) came
+        × AreReceived C.Connection site.now B.Book
+        ((p : P) × P.is_deaf p) now came lines.old lines.new book.old book.new }
     ensures told { P.told port.new ≡ P.told port.old }
-    ensures run { Advances site.now B.Book book.old book.new (unanswered lines.old + accepted.new) (unanswered lines.new + accepted.old) }
+    ensures run { Advances site.now B.Book book.old book.new (unanswered lines.old + accepted.new)
+        (unanswered lines.new + accepted.old) }
     ensures bound { accepted.new ≤ limit }
     ensures honest { B.is_honest book.new → B.is_honest book.old }
 {
@@ -91,8 +96,10 @@ fn attend_reported<C: Connection + Drop, B: Book>(
     lines: &mut Slab<Line<C>>,
     book: &mut B,
 )
-    ensures each { AreAttended C.Connection site.now B.Book keys.now lines.old lines.new book.old book.new }
-    ensures run { Advances site.now B.Book book.old book.new (unanswered lines.old) (unanswered lines.new) }
+    ensures each { AreAttended C.Connection site.now B.Book keys.now lines.old lines.new book.old
+        book.new }
+    ensures run { Advances site.now B.Book book.old book.new (unanswered lines.old)
+        (unanswered lines.new) }
     ensures honest { B.is_honest book.new → B.is_honest book.old }
 {
     for key in keys {
@@ -113,10 +120,14 @@ fn turn<C: Connection + Drop, P: Port<C>, B: Book>(
     book: &mut B,
 ) -> Option<Duration>
     requires bound { accepted.old ≤ limit }
-    ensures round { (came : List C) × (accepted.new ≡ accepted.old + length came) × Adds (P.given port.old) (P.given port.new) came
-        × IsRound C.Connection site.now B.Book ((p : P) × P.is_deaf p) (record { now = now; keys = P.reported port.old; came = came }) lines.old lines.new book.old book.new }
+    ensures round { (came : List C) × (accepted.new ≡ accepted.old + length came)
+        × Adds (P.given port.old) (P.given port.new) came
+        × IsRound C.Connection site.now B.Book ((p : P) × P.is_deaf p)
+        (record { now = now; keys = P.reported port.old; came = came }) lines.old lines.new book.old
+        book.new }
     ensures told { P.told port.new ≡ P.told port.old }
-    ensures run { Advances site.now B.Book book.old book.new (unanswered lines.old + accepted.new) (unanswered lines.new + accepted.old) }
+    ensures run { Advances site.now B.Book book.old book.new (unanswered lines.old + accepted.new)
+        (unanswered lines.new + accepted.old) }
     ensures bound { accepted.new ≤ limit }
     ensures honest { B.is_honest book.new → B.is_honest book.old }
 {
@@ -151,7 +162,9 @@ fn serve_port<R: Clock, C: Connection + Drop, P: Port<C>, B: Book>(
     site: &Site,
     book: &mut B,
 ) -> Result<(), ServeFault>
-    ensures all { OnOk result (HasServedAll C.Connection site.now B.Book ((p : P) × P.is_deaf p) limit (P.told port.old) (P.told port.new) (P.given port.old) (P.given port.new) book.old book.new) }
+    ensures all { OnOk result
+        (HasServedAll C.Connection site.now B.Book ((p : P) × P.is_deaf p) limit (P.told port.old)
+        (P.told port.new) (P.given port.old) (P.given port.new) book.old book.new) }
     ensures served { HasServed site.now B.Book book.old book.new limit }
     ensures fault { IfErr result (λ fault. fault ≡ Fault) }
     ensures honest { B.is_honest book.new → B.is_honest book.old }

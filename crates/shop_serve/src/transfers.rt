@@ -41,9 +41,14 @@ pub(crate) enum Taken {
 
 // Takes a piece more, where there is one.
 fn take_piece<C: Connection>(stream: &mut C, came: &mut Vec<u8>) -> Piece
-    ensures more { result ≡ piece.More → (p : List ℕ) × (0 < length p) × (came.new.items ≡ came.old.items ++ p) × Consumes (C.remaining stream.old) (C.remaining stream.new) p }
-    ensures end { result ≡ piece.End → (came.new.items ≡ came.old.items) × IsAtEnd (C.remaining stream.new) × Consumes (C.remaining stream.old) (C.remaining stream.new) [] }
-    ensures waits { result ≡ piece.Waits → (came.new.items ≡ came.old.items) × Consumes (C.remaining stream.old) (C.remaining stream.new) [] }
+    ensures more { result ≡ piece.More → (p : List ℕ) × (0 < length p)
+        × (came.new.items ≡ came.old.items ++ p)
+        × Consumes (C.remaining stream.old) (C.remaining stream.new) p }
+    ensures end { result ≡ piece.End → (came.new.items ≡ came.old.items)
+        × IsAtEnd (C.remaining stream.new)
+        × Consumes (C.remaining stream.old) (C.remaining stream.new) [] }
+    ensures waits { result ≡ piece.Waits → (came.new.items ≡ came.old.items)
+        × Consumes (C.remaining stream.old) (C.remaining stream.new) [] }
     ensures drained { result ≡ piece.Waits → C.is_drained stream.new }
     ensures lost { result ≡ piece.Lost → C.is_lost stream.new }
     ensures kept { C.contents stream.new ≡ C.contents stream.old }
@@ -86,10 +91,13 @@ pub(crate) fn take_bytes<C: Connection>(
     ensures bytes { result ≢ taken.Over → result ≢ taken.NoMemory
         → IsReadOn (C.remaining stream.old) (C.remaining stream.new) came.old.items came.new.items }
     ensures some { result ≡ taken.Whole → 0 < length came.new.items }
-    ensures whole { result ≡ taken.Whole → IsSettled came.new.items ⊎ IsAtEnd (C.remaining stream.new) }
-    ensures waits { result ≡ taken.Waits → AwaitsMore came.old.items needed.old → AwaitsMore came.new.items needed.new }
+    ensures whole { result ≡ taken.Whole → IsSettled came.new.items
+        ⊎ IsAtEnd (C.remaining stream.new) }
+    ensures waits { result ≡ taken.Waits → AwaitsMore came.old.items needed.old
+        → AwaitsMore came.new.items needed.new }
     ensures drained { result ≡ taken.Waits → C.is_drained stream.new }
-    ensures over { result ≡ taken.Over → IsMute C.Connection stream.old came.old.items stream.new came.new.items }
+    ensures over { result ≡ taken.Over
+        → IsMute C.Connection stream.old came.old.items stream.new came.new.items }
     ensures kept { C.contents stream.new ≡ C.contents stream.old }
 {
     while came.len() < MOST_BYTES {
@@ -125,7 +133,8 @@ pub(crate) enum Given {
 pub(crate) fn hand_over<C: Connection>(stream: &mut C, answer: &[u8], sent: &mut usize) -> Given
     requires { sent.old ≤ length answer.now }
     ensures within { sent.new ≤ length answer.now }
-    ensures bytes { result ≢ given.Lost → (before : Option (List ℕ)) → Appends before (C.contents stream.old) (take sent.old answer.now)
+    ensures bytes { result ≢ given.Lost → (before : Option (List ℕ))
+        → Appends before (C.contents stream.old) (take sent.old answer.now)
         → Appends before (C.contents stream.new) (take sent.new answer.now) }
     ensures whole { result ≡ given.Whole → sent.new ≡ length answer.now }
     ensures full { result ≡ given.Waits → C.is_full stream.new }

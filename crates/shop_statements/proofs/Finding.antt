@@ -15,8 +15,8 @@ use Rattle.sqlite.specs.Schema.{Schema}
 use Rattle.sqlite.specs.State.{State, Shown}
 use Rattle.cut_measure.specs.Codes.{code_cmp}
 use Rattle.cut_measure.specs.Names.{Name, name_cmp}
-use Rattle.shop_machine.specs.Content.{pair_cmp}
-use Rattle.shop_machine.specs.declared.texts.Pair.{Pair}
+use Rattle.shop_records.specs.Content.{pair_cmp}
+use Rattle.shop_records.specs.declared.texts.Pair.{Pair}
 use Rattle.shop_statements.specs.Rows.{AreRows, meta_row, meta_entries, material_columns, material_row, part_columns, part_row, job_columns, job_row, order_row, demand_columns, demand_row, kept_columns, kept_row, import_columns, import_row, totals_columns, totals_row}
 use Rattle.shop_statements.specs.Shown.{Books, Shows}
 use Rattle.shop_statements.proofs.Selects.{selects, selected}

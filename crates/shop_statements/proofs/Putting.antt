@@ -9,15 +9,15 @@ use Rattle.sqlite.specs.State.{State, Executes}
 use Rattle.sqlite_rules.specs.Edit.{next_rowid}
 use Rattle.cut_measure.specs.Codes.{code_cmp, is_code}
 use Rattle.cut_tree.specs.Spelling.{text_of}
-use Rattle.shop_machine.specs.Columns.{state_of}
-use Rattle.shop_machine.specs.Content.{has_order}
-use Rattle.shop_machine.specs.declared.records.Material.{Material}
-use Rattle.shop_machine.specs.declared.records.Part.{Part}
-use Rattle.shop_machine.specs.declared.records.Job.{Job}
-use Rattle.shop_machine.specs.declared.records.Demand.{Demand}
-use Rattle.shop_machine.specs.declared.records.Totals.{Totals}
-use Rattle.shop_machine.specs.declared.imports.ImportRow.{ImportRow}
-use Rattle.shop_machine.specs.declared.texts.KeptMessage.{KeptMessage}
+use Rattle.shop_records.specs.Columns.{state_of}
+use Rattle.shop_records.specs.Content.{has_order}
+use Rattle.shop_records.specs.declared.records.Material.{Material}
+use Rattle.shop_records.specs.declared.records.Part.{Part}
+use Rattle.shop_records.specs.declared.records.Job.{Job}
+use Rattle.shop_records.specs.declared.records.Demand.{Demand}
+use Rattle.shop_records.specs.declared.records.Totals.{Totals}
+use Rattle.shop_records.specs.declared.imports.ImportRow.{ImportRow}
+use Rattle.shop_records.specs.declared.texts.KeptMessage.{KeptMessage}
 use Rattle.shop_statements.specs.Layout.{loosened, materials_table, parts_table, jobs_table, orders_table, demands_table, kept_table, imports_table, totals2_table}
 use Rattle.shop_statements.specs.Rows.{IsOwnJob, kind_number, state_number, job_state_number, turn_number, form_number, form_material, material_row, part_row, job_row, order_row, demand_row, kept_row, import_row, totals_row, job_columns, demand_columns}
 use Rattle.shop_statements.specs.Changes.{with_material, with_part, with_job, with_order, with_demand, with_kept, with_import, with_totals}

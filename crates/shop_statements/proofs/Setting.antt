@@ -12,14 +12,14 @@ use Rattle.sqlite.specs.State.{State, Executes}
 use Rattle.cut_measure.specs.Codes.{code_cmp}
 use Rattle.cut_measure.specs.Names.{Name, name_cmp}
 use Rattle.cut_tree.specs.Spelling.{text_of}
-use Rattle.shop_machine.specs.Columns.{state_of}
-use Rattle.shop_machine.specs.Content.{in_state}
-use Rattle.shop_machine.specs.declared.records.Part.{Part}
-use Rattle.shop_machine.specs.declared.records.State.{State as PartState}
-use Rattle.shop_machine.specs.declared.records.Job.{Job}
-use Rattle.shop_machine.specs.declared.records.JobState.{JobState}
-use Rattle.shop_machine.specs.declared.records.Demand.{Demand}
-use Rattle.shop_machine.specs.declared.records.Totals.{Totals}
+use Rattle.shop_records.specs.Columns.{state_of}
+use Rattle.shop_records.specs.Content.{in_state}
+use Rattle.shop_records.specs.declared.records.Part.{Part}
+use Rattle.shop_records.specs.declared.records.State.{State as PartState}
+use Rattle.shop_records.specs.declared.records.Job.{Job}
+use Rattle.shop_records.specs.declared.records.JobState.{JobState}
+use Rattle.shop_records.specs.declared.records.Demand.{Demand}
+use Rattle.shop_records.specs.declared.records.Totals.{Totals}
 use Rattle.shop_statements.specs.Layout.{loosened, meta_table, parts_table, jobs_table, demands_table, totals2_table}
 use Rattle.shop_statements.specs.Rows.{AreRows, IsKeyed, IsOwnJob, state_number, job_state_number, turn_number, meta_row, meta_entries, part_row, job_row, demand_row, totals_row, part_columns, job_columns, demand_columns, totals_columns}
 use Rattle.shop_statements.specs.Changes.{with_last_act, with_last_demand}

@@ -10,14 +10,14 @@ use Rattle.sqlite.specs.State.{State}
 use Rattle.sqlite_trees.specs.Tree.{Trees}
 use Rattle.cut_measure.specs.Codes.{code_cmp}
 use Rattle.cut_measure.specs.Names.{name_cmp}
-use Rattle.shop_machine.specs.Content.{Content, pair_cmp}
-use Rattle.shop_machine.specs.declared.records.Material.{Material}
-use Rattle.shop_machine.specs.declared.records.Part.{Part}
-use Rattle.shop_machine.specs.declared.records.Job.{Job}
-use Rattle.shop_machine.specs.declared.records.Demand.{Demand}
-use Rattle.shop_machine.specs.declared.records.Totals.{Totals}
-use Rattle.shop_machine.specs.declared.imports.ImportRow.{ImportRow}
-use Rattle.shop_machine.specs.declared.texts.Kept.{Kept}
+use Rattle.shop_records.specs.Content.{Content, pair_cmp}
+use Rattle.shop_records.specs.declared.records.Material.{Material}
+use Rattle.shop_records.specs.declared.records.Part.{Part}
+use Rattle.shop_records.specs.declared.records.Job.{Job}
+use Rattle.shop_records.specs.declared.records.Demand.{Demand}
+use Rattle.shop_records.specs.declared.records.Totals.{Totals}
+use Rattle.shop_records.specs.declared.imports.ImportRow.{ImportRow}
+use Rattle.shop_records.specs.declared.texts.Kept.{Kept}
 use Rattle.shop_statements.specs.Layout.{IsShop}
 use Rattle.shop_statements.specs.Rows.{AreRows, AreOrders, IsKeyed, Stands, meta_row, meta_entries, material_row, part_row, job_row, demand_row, kept_row, import_row, totals_row}
 use Rattle.shop_statements.specs.Shown.{Books, Shows}

@@ -5,7 +5,7 @@ use Rattle.std.proofs.lemmas.List.Elements.{All-cons, All-contains}
 use Rattle.std.proofs.lemmas.List.Sorted.{IsPermutation-sym}
 use Rattle.sqlite_value.specs.Order.{Row}
 use Rattle.sqlite_value.specs.declared.value.Value.TheVariants.{Int}
-use Rattle.shop_machine.specs.declared.records.Job.{Job}
+use Rattle.shop_records.specs.declared.records.Job.{Job}
 use Rattle.shop_statements.specs.Found.{AreJobColumns, IsJobUnder, IsUnder, has_key, columns_of}
 use Rattle.shop_statements.proofs.Keys.{none_permutation}
 use Rattle.shop_statements.proofs.Versions.{shown_of}

@@ -2,13 +2,13 @@
 use Rattle.std.specs.Prelude.{ℕ, List}
 use Rattle.std.specs.FinMap.{insert}
 use Rattle.std.specs.FinSet as set
-use Rattle.shop_machine.specs.declared.records.Material.{Material}
-use Rattle.shop_machine.specs.declared.records.Part.{Part}
-use Rattle.shop_machine.specs.declared.records.Job.{Job}
-use Rattle.shop_machine.specs.declared.records.Demand.{Demand}
-use Rattle.shop_machine.specs.declared.records.Totals.{Totals}
-use Rattle.shop_machine.specs.declared.imports.ImportRow.{ImportRow}
-use Rattle.shop_machine.specs.declared.texts.KeptMessage.{KeptMessage}
+use Rattle.shop_records.specs.declared.records.Material.{Material}
+use Rattle.shop_records.specs.declared.records.Part.{Part}
+use Rattle.shop_records.specs.declared.records.Job.{Job}
+use Rattle.shop_records.specs.declared.records.Demand.{Demand}
+use Rattle.shop_records.specs.declared.records.Totals.{Totals}
+use Rattle.shop_records.specs.declared.imports.ImportRow.{ImportRow}
+use Rattle.shop_records.specs.declared.texts.KeptMessage.{KeptMessage}
 use Rattle.shop_statements.specs.Shown.{Books}
 
 abbrev pub with_material : Material → Books → Books

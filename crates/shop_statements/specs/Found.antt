@@ -9,7 +9,7 @@ use Rattle.sqlite_sql.specs.declared.ops.CompareOp.TheVariants.{Eq}
 use Rattle.sqlite_sql.specs.Ops.{binary, is_true}
 use Rattle.sqlite.specs.State.{State}
 use Rattle.cut_tree.specs.Spelling.{IsSpelling}
-use Rattle.shop_machine.specs.declared.records.Job.{Job}
+use Rattle.shop_records.specs.declared.records.Job.{Job}
 use Rattle.shop_statements.specs.Rows.{job_state_number}
 
 -- SQL takes them for equal

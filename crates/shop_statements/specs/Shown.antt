@@ -10,8 +10,8 @@ use Rattle.sqlite.specs.Effect.{IsDatabase}
 use Rattle.sqlite_catalog.specs.Listing.{IsSound}
 use Rattle.sqlite_schema.specs.declared.schema.Schema.{Schema}
 use Rattle.cut_measure.specs.Codes.{code_cmp}
-use Rattle.shop_machine.specs.Content.{Content, fresh}
-use Rattle.shop_machine.specs.declared.records.Totals.{Totals}
+use Rattle.shop_records.specs.Content.{Content, fresh}
+use Rattle.shop_records.specs.declared.records.Totals.{Totals}
 use Rattle.shop_statements.specs.Layout.{IsShop, shop_schema}
 use Rattle.shop_statements.specs.Rows.{Stands, IsKeyed}
 

@@ -4,8 +4,8 @@ use Rattle.cut_measure.specs.Codes.{is_code}
 use Rattle.cut_measure.specs.Measures.{is_size}
 use Rattle.cut_measure.specs.Names.{IsName}
 use Rattle.cut_measure.specs.declared.sizes.Kind.TheVariants.{Sheet}
-use Rattle.shop_machine.specs.Columns.{state_of}
-use Rattle.shop_machine.specs.declared.records.Part.{Part}
+use Rattle.shop_records.specs.Columns.{state_of}
+use Rattle.shop_records.specs.declared.records.Part.{Part}
 
 -- a bar's size is a sheet's too
 pub record IsPartValue (p : Part) : Type 0 where

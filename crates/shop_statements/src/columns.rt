@@ -4,12 +4,12 @@ ghost use Rattle.std.specs.Prelude.{◌≡◌, ◌<◌, ◌+◌, pos, IfOk, IfSo
 ghost use Rattle.sqlite_value.specs.declared.value.Value.TheVariants.{Int, Text as Word};
 ghost use Rattle.sqlite_value.specs.Order.{column};
 ghost use Rattle.cut_measure.specs.declared.ranges.TheConstants.{MOST_NUMBERS};
-ghost use Rattle.shop_machine.specs.Columns.{state_of};
+ghost use Rattle.shop_records.specs.Columns.{state_of};
 ghost use Rattle.shop_statements.specs.Rows.{kind_number, state_number, job_state_number, turn_number, form_number, form_material};
 
 use crate::TableFault;
 use cut_measure::{Code, Kind, Limits, MOST_NUMBERS, PartName, Size};
-use shop_machine::{Form, JobState, State, Text};
+use shop_records::{Form, JobState, State, Text};
 use sqlite::Row;
 use sqlite::types::ValueRef;
 
@@ -80,7 +80,8 @@ pub(crate) fn limits_in(kind: Kind, row: &Row, at: usize) -> Result<Limits, Tabl
     requires { at < 100 }
     ensures kerf { IfOk result (λ limits. column row.now at ≡ Int (pos limits.kerf)) }
     ensures min_long { IfOk result (λ limits. column row.now (at + 1) ≡ Int (pos limits.min_long)) }
-    ensures min_short { IfOk result (λ limits. column row.now (at + 2) ≡ Int (pos limits.min_short)) }
+    ensures min_short { IfOk result
+        (λ limits. column row.now (at + 2) ≡ Int (pos limits.min_short)) }
 {
     let kerf = number_in(row, at)?;
     let min_long = number_in(row, at + 1)?;

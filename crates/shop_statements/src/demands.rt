@@ -3,8 +3,8 @@
 ghost use Rattle.std.specs.Prelude.{◌≡◌, ◌++◌, false, IfOk, IfSome};
 ghost use Rattle.sqlite.specs.Held.{state};
 ghost use Rattle.sqlite_value.specs.Order.{Row as Values};
-ghost use Rattle.shop_machine.specs.Content.{demand_at};
-ghost use Rattle.shop_machine.specs.declared.records.Demand.{Demand as DemandRecord};
+ghost use Rattle.shop_records.specs.Content.{demand_at};
+ghost use Rattle.shop_records.specs.declared.records.Demand.{Demand as DemandRecord};
 ghost use Rattle.shop_statements.specs.Rows.{demand_columns};
 ghost use Rattle.shop_statements.specs.Shown.{Leaves, OnBooks, IsRowOf};
 ghost use Rattle.std.specs.Prelude.{Some, None, OnOk};
@@ -20,13 +20,14 @@ use crate::TableFault;
 use crate::columns::{code_in, number_in, number_of_turn, size_in, turn_in};
 use crate::rows::row_by_number;
 use crate::running::run;
-use shop_machine::Demand;
+use shop_records::Demand;
 use sqlite::{Alter, Connection, Error, Row, Transaction, params};
 
 /// The demand of a number, of its columns; the columns behind them don't matter.
 pub fn read_demand(number: u32, row: &Row) -> Result<Demand, TableFault>
     ensures key { IfOk result (λ read. read.number ≡ number) }
-    ensures row { (demand : DemandRecord) (behind : Values) → demand.number ≡ number → row.now ≡ demand_columns demand ++ behind → IfOk result (λ read. read ≡ demand) }
+    ensures row { (demand : DemandRecord) (behind : Values) → demand.number ≡ number
+        → row.now ≡ demand_columns demand ++ behind → IfOk result (λ read. read ≡ demand) }
     ensures exact { IfOk result (λ read. columns_of 10 0 row.now ≡ demand_columns read) }
 {
     Ok(Demand {
@@ -44,8 +45,13 @@ pub fn read_demand(number: u32, row: &Row) -> Result<Demand, TableFault>
 }
 
 fn demand_row<S: Alter>(conn: &mut Connection<S>, number: u32) -> Result<Option<Row>, Error>
-    ensures row { OnBooks (state S.Store conn.old) (state S.Store conn.new) (λ books. IfOk result (IsRowOf (λ (demand : DemandRecord). demand.number ≡ number) demand_columns (demand_at books.content number))) }
-    ensures stands { HasCleanDisk (state S.Store conn.new) → IsShop conn.old.schema → IfOk result (λ found. IsUnder ((state S.Store conn.old).now.trees 9) 0 (Int (pos number) ∷ []) 10 2 found) }
+    ensures row { OnBooks (state S.Store conn.old) (state S.Store conn.new)
+        (λ books. IfOk result (IsRowOf
+        (λ (demand : DemandRecord). demand.number ≡ number) demand_columns
+        (demand_at books.content number))) }
+    ensures stands { HasCleanDisk (state S.Store conn.new) → IsShop conn.old.schema
+        → IfOk result (λ found. IsUnder ((state S.Store conn.old).now.trees 9) 0
+        (Int (pos number) ∷ []) 10 2 found) }
     ensures leaves { Leaves (state S.Store conn.old) (state S.Store conn.new) }
     ensures mode { conn.old.in_transaction ≡ false → conn.new.in_transaction ≡ false }
 {
@@ -61,9 +67,12 @@ pub fn find_demand<S: Alter>(
     conn: &mut Connection<S>,
     number: u32,
 ) -> Result<Option<Demand>, TableFault>
-    ensures row { OnBooks (state S.Store conn.old) (state S.Store conn.new) (λ books. IfOk result (λ row. row ≡ demand_at books.content number)) }
+    ensures row { OnBooks (state S.Store conn.old) (state S.Store conn.new)
+        (λ books. IfOk result (λ row. row ≡ demand_at books.content number)) }
     ensures key { IfOk result (λ row. IfSome row (λ demand. demand.number ≡ number)) }
-    ensures stands { HasCleanDisk (state S.Store conn.new) → IsShop conn.old.schema → IfOk result (λ found. IsUnder ((state S.Store conn.old).now.trees 9) 0 (Int (pos number) ∷ []) 10 2 (option_map demand_columns found)) }
+    ensures stands { HasCleanDisk (state S.Store conn.new) → IsShop conn.old.schema
+        → IfOk result (λ found. IsUnder ((state S.Store conn.old).now.trees 9) 0
+        (Int (pos number) ∷ []) 10 2 (option_map demand_columns found)) }
     ensures leaves { Leaves (state S.Store conn.old) (state S.Store conn.new) }
     ensures mode { conn.old.in_transaction ≡ false → conn.new.in_transaction ≡ false }
 {
@@ -77,8 +86,11 @@ pub fn find_demand<S: Alter>(
 /// Puts a new demand.
 pub fn put_demand<S: Alter>(tx: &mut Transaction<'_, S>, demand: &Demand) -> Result<(), TableFault>
     ensures same_reference { tx.new.conn.ghost_name ≡ tx.old.conn.ghost_name }
-    ensures ran { OnOk result (Ran (state S.Store tx.old.conn.now) (state S.Store tx.new.conn.now)) }
-    ensures put { (b : Books) → demand_at b.content demand.now.number ≡ None → OnOk result (Makes (state S.Store tx.old.conn.now) (state S.Store tx.new.conn.now) b (with_demand demand.now b)) }
+    ensures ran { OnOk result
+        (Ran (state S.Store tx.old.conn.now) (state S.Store tx.new.conn.now)) }
+    ensures put { (b : Books) → demand_at b.content demand.now.number ≡ None
+        → OnOk result (Makes (state S.Store tx.old.conn.now) (state S.Store tx.new.conn.now) b
+        (with_demand demand.now b)) }
     ensures within { Within (state S.Store tx.old.conn.now) (state S.Store tx.new.conn.now) }
 {
     run(
@@ -106,8 +118,13 @@ pub fn count_demand<S: Alter>(
     demand: &Demand,
 ) -> Result<(), TableFault>
     ensures same_reference { tx.new.conn.ghost_name ≡ tx.old.conn.ghost_name }
-    ensures ran { OnOk result (Ran (state S.Store tx.old.conn.now) (state S.Store tx.new.conn.now)) }
-    ensures put { (b : Books) → (was : DemandRecord) → demand_at b.content demand.now.number ≡ Some was → demand.now ≡ record was { reserved = demand.now.reserved; made = demand.now.made } → OnOk result (Makes (state S.Store tx.old.conn.now) (state S.Store tx.new.conn.now) b (with_demand demand.now b)) }
+    ensures ran { OnOk result
+        (Ran (state S.Store tx.old.conn.now) (state S.Store tx.new.conn.now)) }
+    ensures put { (b : Books) → (was : DemandRecord)
+        → demand_at b.content demand.now.number ≡ Some was
+        → demand.now ≡ record was { reserved = demand.now.reserved; made = demand.now.made }
+        → OnOk result (Makes (state S.Store tx.old.conn.now) (state S.Store tx.new.conn.now) b
+        (with_demand demand.now b)) }
     ensures within { Within (state S.Store tx.old.conn.now) (state S.Store tx.new.conn.now) }
 {
     run(

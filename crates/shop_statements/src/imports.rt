@@ -2,8 +2,8 @@
 
 ghost use Rattle.std.specs.Prelude.{◌≡◌, false, IfOk};
 ghost use Rattle.sqlite.specs.Held.{state};
-ghost use Rattle.shop_machine.specs.Content.{import_at};
-ghost use Rattle.shop_machine.specs.declared.imports.ImportRow.{ImportRow as ImportRecord};
+ghost use Rattle.shop_records.specs.Content.{import_at};
+ghost use Rattle.shop_records.specs.declared.imports.ImportRow.{ImportRow as ImportRecord};
 ghost use Rattle.shop_statements.specs.Rows.{import_columns};
 ghost use Rattle.shop_statements.specs.Shown.{Leaves, OnBooks, IsRowOf};
 ghost use Rattle.std.specs.Prelude.{None, OnOk};
@@ -20,11 +20,12 @@ use crate::columns::{form_in, material_of_form, number_of_form, text_in};
 use crate::rows::row_by_text;
 use crate::running::run;
 use cut_measure::Code;
-use shop_machine::ImportRow;
+use shop_records::ImportRow;
 use sqlite::{Alter, Connection, Error, Row, Transaction, params};
 
 fn read_import(order: Code, row: &Row) -> Result<ImportRow, TableFault>
-    ensures row { (import : ImportRecord) → import.order ≡ order → row.now ≡ import_columns import → IfOk result (λ read. read ≡ import) }
+    ensures row { (import : ImportRecord) → import.order ≡ order → row.now ≡ import_columns import
+        → IfOk result (λ read. read ≡ import) }
     ensures exact { IfOk result (λ read. columns_of 4 0 row.now ≡ import_columns read) }
 {
     Ok(ImportRow {
@@ -36,8 +37,13 @@ fn read_import(order: Code, row: &Row) -> Result<ImportRow, TableFault>
 }
 
 fn import_row<S: Alter>(conn: &mut Connection<S>, order: Code) -> Result<Option<Row>, Error>
-    ensures row { OnBooks (state S.Store conn.old) (state S.Store conn.new) (λ books. IfOk result (IsRowOf (λ (import : ImportRecord). import.order ≡ order) import_columns (import_at books.content order))) }
-    ensures stands { HasCleanDisk (state S.Store conn.new) → IsShop conn.old.schema → IfOk result (λ found. IsUnder ((state S.Store conn.old).now.trees 13) 1 (Word order ∷ []) 4 2 found) }
+    ensures row { OnBooks (state S.Store conn.old) (state S.Store conn.new)
+        (λ books. IfOk result (IsRowOf
+        (λ (import : ImportRecord). import.order ≡ order) import_columns
+        (import_at books.content order))) }
+    ensures stands { HasCleanDisk (state S.Store conn.new) → IsShop conn.old.schema
+        → IfOk result (λ found. IsUnder ((state S.Store conn.old).now.trees 13) 1
+        (Word order ∷ []) 4 2 found) }
     ensures leaves { Leaves (state S.Store conn.old) (state S.Store conn.new) }
     ensures mode { conn.old.in_transaction ≡ false → conn.new.in_transaction ≡ false }
 {
@@ -53,8 +59,11 @@ pub fn find_import<S: Alter>(
     conn: &mut Connection<S>,
     order: Code,
 ) -> Result<Option<ImportRow>, TableFault>
-    ensures row { OnBooks (state S.Store conn.old) (state S.Store conn.new) (λ books. IfOk result (λ row. row ≡ import_at books.content order)) }
-    ensures stands { HasCleanDisk (state S.Store conn.new) → IsShop conn.old.schema → IfOk result (λ found. IsUnder ((state S.Store conn.old).now.trees 13) 1 (Word order ∷ []) 4 2 (option_map import_columns found)) }
+    ensures row { OnBooks (state S.Store conn.old) (state S.Store conn.new)
+        (λ books. IfOk result (λ row. row ≡ import_at books.content order)) }
+    ensures stands { HasCleanDisk (state S.Store conn.new) → IsShop conn.old.schema
+        → IfOk result (λ found. IsUnder ((state S.Store conn.old).now.trees 13) 1
+        (Word order ∷ []) 4 2 (option_map import_columns found)) }
     ensures leaves { Leaves (state S.Store conn.old) (state S.Store conn.new) }
     ensures mode { conn.old.in_transaction ≡ false → conn.new.in_transaction ≡ false }
 {
@@ -71,8 +80,11 @@ pub fn put_import<S: Alter>(
     import: &ImportRow,
 ) -> Result<(), TableFault>
     ensures same_reference { tx.new.conn.ghost_name ≡ tx.old.conn.ghost_name }
-    ensures ran { OnOk result (Ran (state S.Store tx.old.conn.now) (state S.Store tx.new.conn.now)) }
-    ensures put { (b : Books) → import_at b.content import.now.order ≡ None → OnOk result (Makes (state S.Store tx.old.conn.now) (state S.Store tx.new.conn.now) b (with_import import.now b)) }
+    ensures ran { OnOk result
+        (Ran (state S.Store tx.old.conn.now) (state S.Store tx.new.conn.now)) }
+    ensures put { (b : Books) → import_at b.content import.now.order ≡ None
+        → OnOk result (Makes (state S.Store tx.old.conn.now) (state S.Store tx.new.conn.now) b
+        (with_import import.now b)) }
     ensures within { Within (state S.Store tx.old.conn.now) (state S.Store tx.new.conn.now) }
 {
     run(

@@ -11,10 +11,10 @@ ghost use Rattle.cut_measure.specs.declared.ranges.TheConstants.{MOST_KERF};
 ghost use Rattle.cut_measure.specs.Measures.{Extent};
 ghost use Rattle.cut_tree.specs.Patterns.{Pattern, IsPlan};
 ghost use Rattle.cut_tree.specs.Spelling.{IsSpelling, text_of};
-ghost use Rattle.shop_machine.specs.Content.{job_at, part_at, material_at};
-ghost use Rattle.shop_machine.specs.declared.records.Job.{Job as JobRecord};
-ghost use Rattle.shop_machine.specs.declared.records.Part.{Part as PartRecord};
-ghost use Rattle.shop_machine.specs.declared.records.Material.{Material as MaterialRecord};
+ghost use Rattle.shop_records.specs.Content.{job_at, part_at, material_at};
+ghost use Rattle.shop_records.specs.declared.records.Job.{Job as JobRecord};
+ghost use Rattle.shop_records.specs.declared.records.Part.{Part as PartRecord};
+ghost use Rattle.shop_records.specs.declared.records.Material.{Material as MaterialRecord};
 ghost use Rattle.shop_statements.specs.Rows.{job_columns, IsOwnJob};
 ghost use Rattle.shop_statements.specs.Shown.{Leaves, OnBooks, IsRowOf};
 ghost use Rattle.std.specs.Prelude.{None, OnOk, string_bytes};
@@ -29,13 +29,17 @@ use crate::rows::row_by_number;
 use crate::running::run;
 use cut_measure::{MOST_KERF, PartName, Size};
 use cut_tree::{Cause, Plan};
-use shop_machine::Job;
+use shop_records::Job;
 use sqlite::{Alter, Connection, Error, Row, Transaction, params};
 use std::alloc::{AllocError, Global};
 
 fn job_row<S: Alter>(conn: &mut Connection<S>, number: u32) -> Result<Option<Row>, Error>
-    ensures row { OnBooks (state S.Store conn.old) (state S.Store conn.new) (λ books. IfOk result (IsRowOf (IsOwnJob books.content number) job_columns (job_at books.content number))) }
-    ensures stands { HasCleanDisk (state S.Store conn.new) → IsShop conn.old.schema → IfOk result (λ found. IsUnder ((state S.Store conn.old).now.trees 6) 0 (Int (pos number) ∷ []) 4 2 found) }
+    ensures row { OnBooks (state S.Store conn.old) (state S.Store conn.new)
+        (λ books. IfOk result (IsRowOf (IsOwnJob books.content number) job_columns
+        (job_at books.content number))) }
+    ensures stands { HasCleanDisk (state S.Store conn.new) → IsShop conn.old.schema
+        → IfOk result (λ found. IsUnder ((state S.Store conn.old).now.trees 6) 0
+        (Int (pos number) ∷ []) 4 2 found) }
     ensures leaves { Leaves (state S.Store conn.old) (state S.Store conn.new) }
     ensures mode { conn.old.in_transaction ≡ false → conn.new.in_transaction ≡ false }
 {
@@ -48,7 +52,10 @@ fn job_row<S: Alter>(conn: &mut Connection<S>, number: u32) -> Result<Option<Row
 
 // A part's size, and the kerf of its material.
 fn cut_of<S: Alter>(conn: &mut Connection<S>, name: PartName) -> Result<(Size, u32), TableFault>
-    ensures sides { OnBooks (state S.Store conn.old) (state S.Store conn.new) (λ books. (part : PartRecord) (material : MaterialRecord) → part_at books.content name ≡ Some part → material_at books.content part.material ≡ Some material
+    ensures sides { OnBooks (state S.Store conn.old) (state S.Store conn.new)
+        (λ books. (part : PartRecord) (material : MaterialRecord)
+        → part_at books.content name ≡ Some part
+        → material_at books.content part.material ≡ Some material
         → IfOk result (λ cut. (cut.0 ≡ part.size) × (cut.1 ≡ material.limits.kerf))) }
     ensures narrow { IfOk result (λ cut. cut.1 ≤ MOST_KERF) }
     ensures leaves { Leaves (state S.Store conn.old) (state S.Store conn.new) }
@@ -66,8 +73,11 @@ fn cut_of<S: Alter>(conn: &mut Connection<S>, name: PartName) -> Result<(Size, u
 // The plan of a tree's text.
 fn read_plan(alloc: Global, row: &Row, size: Size, kerf: u32) -> Result<Plan, TableFault>
     requires { kerf ≤ MOST_KERF }
-    ensures spelled { IfOk result (λ plan. (text : List ℕ) × (column row.now 2 ≡ Word text) × IsSpelling text plan.tree plan.w plan.h plan.kerf) }
-    ensures read { (plan : Pattern) → IsPlan plan → column row.now 2 ≡ Word (text_of plan.tree) → plan.w ≡ size.w → plan.h ≡ size.h → plan.kerf ≡ kerf → IfOk result (λ read. read ≡ plan) }
+    ensures spelled { IfOk result
+        (λ plan. (text : List ℕ) × (column row.now 2 ≡ Word text)
+        × IsSpelling text plan.tree plan.w plan.h plan.kerf) }
+    ensures read { (plan : Pattern) → IsPlan plan → column row.now 2 ≡ Word (text_of plan.tree)
+        → plan.w ≡ size.w → plan.h ≡ size.h → plan.kerf ≡ kerf → IfOk result (λ read. read ≡ plan) }
 {
     let text = word_in(row, 2)?;
     match Plan::read(alloc, text, size, kerf) {
@@ -86,8 +96,12 @@ fn read_job(
     cut: (Size, u32),
 ) -> Result<Job, TableFault>
     requires { cut.1 ≤ MOST_KERF }
-    ensures exact { IfOk result (λ job. column row.now 0 ≡ Int (pos part.act) → column row.now 1 ≡ Int (pos part.node) → AreJobColumns (columns_of 4 0 row.now) job) }
-    ensures read { (job : JobRecord) → job.act ≡ number → IsPlan job.plan → job.kerf ≡ job.plan.kerf → job.part ≡ part → job.plan.w ≡ cut.0.w → job.plan.h ≡ cut.0.h → job.kerf ≡ cut.1 → row.now ≡ job_columns job → IfOk result (λ read. read ≡ job) }
+    ensures exact { IfOk result
+        (λ job. column row.now 0 ≡ Int (pos part.act) → column row.now 1 ≡ Int (pos part.node)
+        → AreJobColumns (columns_of 4 0 row.now) job) }
+    ensures read { (job : JobRecord) → job.act ≡ number → IsPlan job.plan → job.kerf ≡ job.plan.kerf
+        → job.part ≡ part → job.plan.w ≡ cut.0.w → job.plan.h ≡ cut.0.h → job.kerf ≡ cut.1
+        → row.now ≡ job_columns job → IfOk result (λ read. read ≡ job) }
 {
     let (size, kerf) = cut;
     let plan = read_plan(alloc, row, size, kerf)?;
@@ -108,7 +122,9 @@ fn job_of_row<S: Alter>(
     row: &Row,
 ) -> Result<Job, TableFault>
     ensures exact { IfOk result (AreJobColumns (columns_of 4 0 row.now)) }
-    ensures read { OnBooks (state S.Store conn.old) (state S.Store conn.new) (λ books. (job : JobRecord) → IsOwnJob books.content number job → row.now ≡ job_columns job → IfOk result (λ read. read ≡ job)) }
+    ensures read { OnBooks (state S.Store conn.old) (state S.Store conn.new)
+        (λ books. (job : JobRecord) → IsOwnJob books.content number job → row.now ≡ job_columns job
+        → IfOk result (λ read. read ≡ job)) }
     ensures leaves { Leaves (state S.Store conn.old) (state S.Store conn.new) }
     ensures mode { conn.old.in_transaction ≡ false → conn.new.in_transaction ≡ false }
 {
@@ -123,8 +139,10 @@ pub fn find_job<S: Alter>(
     conn: &mut Connection<S>,
     number: u32,
 ) -> Result<Option<Job>, TableFault>
-    ensures row { OnBooks (state S.Store conn.old) (state S.Store conn.new) (λ books. IfOk result (λ row. row ≡ job_at books.content number)) }
-    ensures stands { HasCleanDisk (state S.Store conn.new) → IsShop conn.old.schema → IfOk result (IsJobUnder ((state S.Store conn.old).now.trees 6) number) }
+    ensures row { OnBooks (state S.Store conn.old) (state S.Store conn.new)
+        (λ books. IfOk result (λ row. row ≡ job_at books.content number)) }
+    ensures stands { HasCleanDisk (state S.Store conn.new) → IsShop conn.old.schema
+        → IfOk result (IsJobUnder ((state S.Store conn.old).now.trees 6) number) }
     ensures leaves { Leaves (state S.Store conn.old) (state S.Store conn.new) }
     ensures mode { conn.old.in_transaction ≡ false → conn.new.in_transaction ≡ false }
 {
@@ -150,8 +168,12 @@ pub fn put_job<S: Alter>(
     job: &Job,
 ) -> Result<(), TableFault>
     ensures same_reference { tx.new.conn.ghost_name ≡ tx.old.conn.ghost_name }
-    ensures ran { OnOk result (Ran (state S.Store tx.old.conn.now) (state S.Store tx.new.conn.now)) }
-    ensures put { (b : Books) → job_at b.content job.now.act ≡ None → IsOwnJob b.content job.now.act job.now → OnOk result (Makes (state S.Store tx.old.conn.now) (state S.Store tx.new.conn.now) b (with_job job.now b)) }
+    ensures ran { OnOk result
+        (Ran (state S.Store tx.old.conn.now) (state S.Store tx.new.conn.now)) }
+    ensures put { (b : Books) → job_at b.content job.now.act ≡ None
+        → IsOwnJob b.content job.now.act job.now
+        → OnOk result (Makes (state S.Store tx.old.conn.now) (state S.Store tx.new.conn.now) b
+        (with_job job.now b)) }
     ensures within { Within (state S.Store tx.old.conn.now) (state S.Store tx.new.conn.now) }
 {
     let tree = tree_text(alloc, job)?;
@@ -171,8 +193,12 @@ pub fn put_job<S: Alter>(
 /// Gives a job that is there the state of this one, which is the same but for it.
 pub fn move_job<S: Alter>(tx: &mut Transaction<'_, S>, job: &Job) -> Result<(), TableFault>
     ensures same_reference { tx.new.conn.ghost_name ≡ tx.old.conn.ghost_name }
-    ensures ran { OnOk result (Ran (state S.Store tx.old.conn.now) (state S.Store tx.new.conn.now)) }
-    ensures put { (b : Books) → (was : JobRecord) → job_at b.content job.now.act ≡ Some was → job.now ≡ record was { state = job.now.state } → OnOk result (Makes (state S.Store tx.old.conn.now) (state S.Store tx.new.conn.now) b (with_job job.now b)) }
+    ensures ran { OnOk result
+        (Ran (state S.Store tx.old.conn.now) (state S.Store tx.new.conn.now)) }
+    ensures put { (b : Books) → (was : JobRecord) → job_at b.content job.now.act ≡ Some was
+        → job.now ≡ record was { state = job.now.state }
+        → OnOk result (Makes (state S.Store tx.old.conn.now) (state S.Store tx.new.conn.now) b
+        (with_job job.now b)) }
     ensures within { Within (state S.Store tx.old.conn.now) (state S.Store tx.new.conn.now) }
 {
     run(

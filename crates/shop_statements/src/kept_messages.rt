@@ -2,8 +2,8 @@
 
 ghost use Rattle.std.specs.Prelude.{◌≡◌, false, IfOk};
 ghost use Rattle.sqlite.specs.Held.{state};
-ghost use Rattle.shop_machine.specs.Content.{kept_at};
-ghost use Rattle.shop_machine.specs.declared.texts.Kept.{Kept as KeptRecord};
+ghost use Rattle.shop_records.specs.Content.{kept_at};
+ghost use Rattle.shop_records.specs.declared.texts.Kept.{Kept as KeptRecord};
 ghost use Rattle.shop_statements.specs.Rows.{kept_columns};
 ghost use Rattle.shop_statements.specs.Shown.{Leaves, OnBooks, IsRowOf};
 ghost use Rattle.std.specs.Prelude.{None, OnOk};
@@ -19,11 +19,12 @@ use crate::TableFault;
 use crate::columns::text_in;
 use crate::rows::row_by_two;
 use crate::running::run;
-use shop_machine::{Kept, KeptMessage, Pair};
+use shop_records::{Kept, KeptMessage, Pair};
 use sqlite::{Alter, Connection, Error, Row, Transaction, params};
 
 fn read_kept(row: &Row) -> Result<Kept, TableFault>
-    ensures row { (kept : KeptRecord) → row.now ≡ kept_columns kept → IfOk result (λ read. read ≡ kept) }
+    ensures row { (kept : KeptRecord) → row.now ≡ kept_columns kept
+        → IfOk result (λ read. read ≡ kept) }
     ensures exact { IfOk result (λ read. columns_of 2 0 row.now ≡ kept_columns read) }
 {
     Ok(Kept {
@@ -33,8 +34,12 @@ fn read_kept(row: &Row) -> Result<Kept, TableFault>
 }
 
 fn kept_row<S: Alter>(conn: &mut Connection<S>, pair: Pair) -> Result<Option<Row>, Error>
-    ensures row { OnBooks (state S.Store conn.old) (state S.Store conn.new) (λ books. IfOk result (IsRowOf (λ (kept : KeptRecord). Unit {0}) kept_columns (kept_at books.content pair))) }
-    ensures stands { HasCleanDisk (state S.Store conn.new) → IsShop conn.old.schema → IfOk result (λ found. IsUnder ((state S.Store conn.old).now.trees 11) 1 (Int (pos pair.terminal) ∷ Int (pos pair.number) ∷ []) 2 3 found) }
+    ensures row { OnBooks (state S.Store conn.old) (state S.Store conn.new)
+        (λ books. IfOk result (IsRowOf (λ (kept : KeptRecord). Unit {0}) kept_columns
+        (kept_at books.content pair))) }
+    ensures stands { HasCleanDisk (state S.Store conn.new) → IsShop conn.old.schema
+        → IfOk result (λ found. IsUnder ((state S.Store conn.old).now.trees 11) 1
+        (Int (pos pair.terminal) ∷ Int (pos pair.number) ∷ []) 2 3 found) }
     ensures leaves { Leaves (state S.Store conn.old) (state S.Store conn.new) }
     ensures mode { conn.old.in_transaction ≡ false → conn.new.in_transaction ≡ false }
 {
@@ -48,8 +53,12 @@ fn kept_row<S: Alter>(conn: &mut Connection<S>, pair: Pair) -> Result<Option<Row
 
 /// What is kept of the accepted message with this pair.
 pub fn find_kept<S: Alter>(conn: &mut Connection<S>, pair: Pair) -> Result<Option<Kept>, TableFault>
-    ensures row { OnBooks (state S.Store conn.old) (state S.Store conn.new) (λ books. IfOk result (λ row. row ≡ kept_at books.content pair)) }
-    ensures stands { HasCleanDisk (state S.Store conn.new) → IsShop conn.old.schema → IfOk result (λ found. IsUnder ((state S.Store conn.old).now.trees 11) 1 (Int (pos pair.terminal) ∷ Int (pos pair.number) ∷ []) 2 3 (option_map kept_columns found)) }
+    ensures row { OnBooks (state S.Store conn.old) (state S.Store conn.new)
+        (λ books. IfOk result (λ row. row ≡ kept_at books.content pair)) }
+    ensures stands { HasCleanDisk (state S.Store conn.new) → IsShop conn.old.schema
+        → IfOk result (λ found. IsUnder ((state S.Store conn.old).now.trees 11) 1
+        (Int (pos pair.terminal) ∷ Int (pos pair.number) ∷ []) 2 3
+        (option_map kept_columns found)) }
     ensures leaves { Leaves (state S.Store conn.old) (state S.Store conn.new) }
     ensures mode { conn.old.in_transaction ≡ false → conn.new.in_transaction ≡ false }
 {
@@ -66,8 +75,11 @@ pub fn put_kept<S: Alter>(
     message: &KeptMessage,
 ) -> Result<(), TableFault>
     ensures same_reference { tx.new.conn.ghost_name ≡ tx.old.conn.ghost_name }
-    ensures ran { OnOk result (Ran (state S.Store tx.old.conn.now) (state S.Store tx.new.conn.now)) }
-    ensures put { (b : Books) → kept_at b.content message.now.pair ≡ None → OnOk result (Makes (state S.Store tx.old.conn.now) (state S.Store tx.new.conn.now) b (with_kept message.now b)) }
+    ensures ran { OnOk result
+        (Ran (state S.Store tx.old.conn.now) (state S.Store tx.new.conn.now)) }
+    ensures put { (b : Books) → kept_at b.content message.now.pair ≡ None
+        → OnOk result (Makes (state S.Store tx.old.conn.now) (state S.Store tx.new.conn.now) b
+        (with_kept message.now b)) }
     ensures within { Within (state S.Store tx.old.conn.now) (state S.Store tx.new.conn.now) }
 {
     run(

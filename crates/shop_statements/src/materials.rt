@@ -3,8 +3,8 @@
 ghost use Rattle.std.specs.Prelude.{◌≡◌, ◌++◌, false, IfOk};
 ghost use Rattle.sqlite.specs.Held.{state};
 ghost use Rattle.sqlite_value.specs.Order.{Row as Values};
-ghost use Rattle.shop_machine.specs.Content.{material_at};
-ghost use Rattle.shop_machine.specs.declared.records.Material.{Material as MaterialRecord};
+ghost use Rattle.shop_records.specs.Content.{material_at};
+ghost use Rattle.shop_records.specs.declared.records.Material.{Material as MaterialRecord};
 ghost use Rattle.shop_statements.specs.Rows.{material_columns};
 ghost use Rattle.shop_statements.specs.Shown.{Leaves, OnBooks, IsRowOf};
 ghost use Rattle.std.specs.Prelude.{None, OnOk};
@@ -21,12 +21,13 @@ use crate::columns::{kind_in, limits_in, number_of_kind};
 use crate::rows::row_by_text;
 use crate::running::run;
 use cut_measure::Code;
-use shop_machine::Material;
+use shop_records::Material;
 use sqlite::{Alter, Connection, Error, Row, Transaction, params};
 
 /// The material of a code, of its columns; the columns behind them don't matter.
 pub fn read_material(code: Code, row: &Row) -> Result<Material, TableFault>
-    ensures row { (material : MaterialRecord) (behind : Values) → material.code ≡ code → row.now ≡ material_columns material ++ behind → IfOk result (λ read. read ≡ material) }
+    ensures row { (material : MaterialRecord) (behind : Values) → material.code ≡ code
+        → row.now ≡ material_columns material ++ behind → IfOk result (λ read. read ≡ material) }
     ensures exact { IfOk result (λ read. columns_of 4 0 row.now ≡ material_columns read) }
 {
     let kind = kind_in(row, 0)?;
@@ -38,8 +39,13 @@ pub fn read_material(code: Code, row: &Row) -> Result<Material, TableFault>
 }
 
 fn material_row<S: Alter>(conn: &mut Connection<S>, code: Code) -> Result<Option<Row>, Error>
-    ensures row { OnBooks (state S.Store conn.old) (state S.Store conn.new) (λ books. IfOk result (IsRowOf (λ (material : MaterialRecord). material.code ≡ code) material_columns (material_at books.content code))) }
-    ensures stands { HasCleanDisk (state S.Store conn.new) → IsShop conn.old.schema → IfOk result (λ found. IsUnder ((state S.Store conn.old).now.trees 2) 1 (Word code ∷ []) 4 2 found) }
+    ensures row { OnBooks (state S.Store conn.old) (state S.Store conn.new)
+        (λ books. IfOk result (IsRowOf
+        (λ (material : MaterialRecord). material.code ≡ code) material_columns
+        (material_at books.content code))) }
+    ensures stands { HasCleanDisk (state S.Store conn.new) → IsShop conn.old.schema
+        → IfOk result (λ found. IsUnder ((state S.Store conn.old).now.trees 2) 1
+        (Word code ∷ []) 4 2 found) }
     ensures leaves { Leaves (state S.Store conn.old) (state S.Store conn.new) }
     ensures mode { conn.old.in_transaction ≡ false → conn.new.in_transaction ≡ false }
 {
@@ -55,8 +61,11 @@ pub fn find_material<S: Alter>(
     conn: &mut Connection<S>,
     code: Code,
 ) -> Result<Option<Material>, TableFault>
-    ensures row { OnBooks (state S.Store conn.old) (state S.Store conn.new) (λ books. IfOk result (λ row. row ≡ material_at books.content code)) }
-    ensures stands { HasCleanDisk (state S.Store conn.new) → IsShop conn.old.schema → IfOk result (λ found. IsUnder ((state S.Store conn.old).now.trees 2) 1 (Word code ∷ []) 4 2 (option_map material_columns found)) }
+    ensures row { OnBooks (state S.Store conn.old) (state S.Store conn.new)
+        (λ books. IfOk result (λ row. row ≡ material_at books.content code)) }
+    ensures stands { HasCleanDisk (state S.Store conn.new) → IsShop conn.old.schema
+        → IfOk result (λ found. IsUnder ((state S.Store conn.old).now.trees 2) 1
+        (Word code ∷ []) 4 2 (option_map material_columns found)) }
     ensures leaves { Leaves (state S.Store conn.old) (state S.Store conn.new) }
     ensures mode { conn.old.in_transaction ≡ false → conn.new.in_transaction ≡ false }
 {
@@ -73,8 +82,11 @@ pub fn put_material<S: Alter>(
     material: &Material,
 ) -> Result<(), TableFault>
     ensures same_reference { tx.new.conn.ghost_name ≡ tx.old.conn.ghost_name }
-    ensures ran { OnOk result (Ran (state S.Store tx.old.conn.now) (state S.Store tx.new.conn.now)) }
-    ensures put { (b : Books) → material_at b.content material.now.code ≡ None → OnOk result (Makes (state S.Store tx.old.conn.now) (state S.Store tx.new.conn.now) b (with_material material.now b)) }
+    ensures ran { OnOk result
+        (Ran (state S.Store tx.old.conn.now) (state S.Store tx.new.conn.now)) }
+    ensures put { (b : Books) → material_at b.content material.now.code ≡ None
+        → OnOk result (Makes (state S.Store tx.old.conn.now) (state S.Store tx.new.conn.now) b
+        (with_material material.now b)) }
     ensures within { Within (state S.Store tx.old.conn.now) (state S.Store tx.new.conn.now) }
 {
     run(

@@ -23,9 +23,15 @@ use sqlite::{Alter, Connection, Error, Row, Transaction, params};
 
 /// The row of the number under a word.
 pub fn number_row<S: Alter>(conn: &mut Connection<S>, word: &str) -> Result<Option<Row>, Error>
-    ensures row { OnBooks (state S.Store conn.old) (state S.Store conn.new) (λ books. (n : ℕ) → filter (λ e. eq_by_cmp code_cmp e.0 word.now) (meta_entries books.content) ≡ (word.now, n) ∷ [] → IfOk result (GivesNumber n)) }
-    ensures earlier { OnBooksEarlier (state S.Store conn.old) (state S.Store conn.new) (λ books. (n : ℕ) → filter (λ e. eq_by_cmp code_cmp e.0 word.now) (earlier_entries books.content) ≡ (word.now, n) ∷ [] → IfOk result (GivesNumber n)) }
-    ensures stands { HasCleanDisk (state S.Store conn.new) → IsShop conn.old.schema ⊎ (conn.old.schema ≡ earlier_schema) → IfOk result (λ row. IfSome row (IsNumberRow (state S.Store conn.old) word.now)) }
+    ensures row { OnBooks (state S.Store conn.old) (state S.Store conn.new)
+        (λ books. (n : ℕ) → filter (λ e. eq_by_cmp code_cmp e.0 word.now)
+        (meta_entries books.content) ≡ (word.now, n) ∷ [] → IfOk result (GivesNumber n)) }
+    ensures earlier { OnBooksEarlier (state S.Store conn.old) (state S.Store conn.new)
+        (λ books. (n : ℕ) → filter (λ e. eq_by_cmp code_cmp e.0 word.now)
+        (earlier_entries books.content) ≡ (word.now, n) ∷ [] → IfOk result (GivesNumber n)) }
+    ensures stands { HasCleanDisk (state S.Store conn.new) → IsShop conn.old.schema
+        ⊎ (conn.old.schema ≡ earlier_schema)
+        → IfOk result (λ row. IfSome row (IsNumberRow (state S.Store conn.old) word.now)) }
     ensures leaves { Leaves (state S.Store conn.old) (state S.Store conn.new) }
     ensures mode { conn.old.in_transaction ≡ false → conn.new.in_transaction ≡ false }
 {
@@ -34,8 +40,13 @@ pub fn number_row<S: Alter>(conn: &mut Connection<S>, word: &str) -> Result<Opti
 
 // The number that stands under a word.
 fn number_of<S: Alter>(conn: &mut Connection<S>, word: &str) -> Result<u32, TableFault>
-    ensures number { OnBooks (state S.Store conn.old) (state S.Store conn.new) (λ books. (n : ℕ) → filter (λ e. eq_by_cmp code_cmp e.0 word.now) (meta_entries books.content) ≡ (word.now, n) ∷ [] → IfOk result (λ number. number ≡ n)) }
-    ensures stands { HasCleanDisk (state S.Store conn.new) → IsShop conn.old.schema → IfOk result (λ number. IsNumberRow (state S.Store conn.old) word.now (Int (pos number) ∷ [])) }
+    ensures number { OnBooks (state S.Store conn.old) (state S.Store conn.new)
+        (λ books. (n : ℕ) → filter (λ e. eq_by_cmp code_cmp e.0 word.now)
+        (meta_entries books.content) ≡ (word.now, n) ∷ []
+        → IfOk result (λ number. number ≡ n)) }
+    ensures stands { HasCleanDisk (state S.Store conn.new) → IsShop conn.old.schema
+        → IfOk result (λ number. IsNumberRow (state S.Store conn.old) word.now
+        (Int (pos number) ∷ [])) }
     ensures leaves { Leaves (state S.Store conn.old) (state S.Store conn.new) }
     ensures mode { conn.old.in_transaction ≡ false → conn.new.in_transaction ≡ false }
 {
@@ -47,8 +58,11 @@ fn number_of<S: Alter>(conn: &mut Connection<S>, word: &str) -> Result<u32, Tabl
 
 /// The number of the last act, 0 at first.
 pub fn find_last_act<S: Alter>(conn: &mut Connection<S>) -> Result<u32, TableFault>
-    ensures number { OnBooks (state S.Store conn.old) (state S.Store conn.new) (λ books. IfOk result (λ number. number ≡ books.content.last_act)) }
-    ensures stands { HasCleanDisk (state S.Store conn.new) → IsShop conn.old.schema → IfOk result (λ number. IsNumberRow (state S.Store conn.old) (codes "act") (Int (pos number) ∷ [])) }
+    ensures number { OnBooks (state S.Store conn.old) (state S.Store conn.new)
+        (λ books. IfOk result (λ number. number ≡ books.content.last_act)) }
+    ensures stands { HasCleanDisk (state S.Store conn.new) → IsShop conn.old.schema
+        → IfOk result (λ number. IsNumberRow (state S.Store conn.old) (codes "act")
+        (Int (pos number) ∷ [])) }
     ensures leaves { Leaves (state S.Store conn.old) (state S.Store conn.new) }
     ensures mode { conn.old.in_transaction ≡ false → conn.new.in_transaction ≡ false }
 {
@@ -57,8 +71,11 @@ pub fn find_last_act<S: Alter>(conn: &mut Connection<S>) -> Result<u32, TableFau
 
 /// The number of the last demand, 0 at first.
 pub fn find_last_demand<S: Alter>(conn: &mut Connection<S>) -> Result<u32, TableFault>
-    ensures number { OnBooks (state S.Store conn.old) (state S.Store conn.new) (λ books. IfOk result (λ number. number ≡ books.content.last_demand)) }
-    ensures stands { HasCleanDisk (state S.Store conn.new) → IsShop conn.old.schema → IfOk result (λ number. IsNumberRow (state S.Store conn.old) (codes "demand") (Int (pos number) ∷ [])) }
+    ensures number { OnBooks (state S.Store conn.old) (state S.Store conn.new)
+        (λ books. IfOk result (λ number. number ≡ books.content.last_demand)) }
+    ensures stands { HasCleanDisk (state S.Store conn.new) → IsShop conn.old.schema
+        → IfOk result (λ number. IsNumberRow (state S.Store conn.old) (codes "demand")
+        (Int (pos number) ∷ [])) }
     ensures leaves { Leaves (state S.Store conn.old) (state S.Store conn.new) }
     ensures mode { conn.old.in_transaction ≡ false → conn.new.in_transaction ≡ false }
 {
@@ -68,8 +85,11 @@ pub fn find_last_demand<S: Alter>(conn: &mut Connection<S>) -> Result<u32, Table
 /// Gives the last act this number.
 pub fn set_last_act<S: Alter>(tx: &mut Transaction<'_, S>, act: u32) -> Result<(), TableFault>
     ensures same_reference { tx.new.conn.ghost_name ≡ tx.old.conn.ghost_name }
-    ensures ran { OnOk result (Ran (state S.Store tx.old.conn.now) (state S.Store tx.new.conn.now)) }
-    ensures put { (b : Books) → OnOk result (Makes (state S.Store tx.old.conn.now) (state S.Store tx.new.conn.now) b (with_last_act act b)) }
+    ensures ran { OnOk result
+        (Ran (state S.Store tx.old.conn.now) (state S.Store tx.new.conn.now)) }
+    ensures put { (b : Books)
+        → OnOk result (Makes (state S.Store tx.old.conn.now) (state S.Store tx.new.conn.now) b
+        (with_last_act act b)) }
     ensures within { Within (state S.Store tx.old.conn.now) (state S.Store tx.new.conn.now) }
 {
     run(
@@ -82,8 +102,11 @@ pub fn set_last_act<S: Alter>(tx: &mut Transaction<'_, S>, act: u32) -> Result<(
 /// Gives the last demand this number.
 pub fn set_last_demand<S: Alter>(tx: &mut Transaction<'_, S>, demand: u32) -> Result<(), TableFault>
     ensures same_reference { tx.new.conn.ghost_name ≡ tx.old.conn.ghost_name }
-    ensures ran { OnOk result (Ran (state S.Store tx.old.conn.now) (state S.Store tx.new.conn.now)) }
-    ensures put { (b : Books) → OnOk result (Makes (state S.Store tx.old.conn.now) (state S.Store tx.new.conn.now) b (with_last_demand demand b)) }
+    ensures ran { OnOk result
+        (Ran (state S.Store tx.old.conn.now) (state S.Store tx.new.conn.now)) }
+    ensures put { (b : Books)
+        → OnOk result (Makes (state S.Store tx.old.conn.now) (state S.Store tx.new.conn.now) b
+        (with_last_demand demand b)) }
     ensures within { Within (state S.Store tx.old.conn.now) (state S.Store tx.new.conn.now) }
 {
     run(

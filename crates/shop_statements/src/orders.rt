@@ -2,7 +2,7 @@
 
 ghost use Rattle.std.specs.Prelude.{◌≡◌, false, is_some, IfOk};
 ghost use Rattle.sqlite.specs.Held.{state};
-ghost use Rattle.shop_machine.specs.Content.{has_order};
+ghost use Rattle.shop_records.specs.Content.{has_order};
 ghost use Rattle.shop_statements.specs.Shown.{Leaves, OnBooks};
 ghost use Rattle.std.specs.Prelude.{OnOk};
 ghost use Rattle.shop_statements.specs.Changes.{with_order};
@@ -15,7 +15,8 @@ use cut_measure::Code;
 use sqlite::{Alter, Connection, Error, Row, Transaction, params};
 
 fn found_row<S: Alter>(conn: &mut Connection<S>, code: Code) -> Result<Option<Row>, Error>
-    ensures there { OnBooks (state S.Store conn.old) (state S.Store conn.new) (λ books. IfOk result (λ row. is_some row ≡ has_order books.content code)) }
+    ensures there { OnBooks (state S.Store conn.old) (state S.Store conn.new)
+        (λ books. IfOk result (λ row. is_some row ≡ has_order books.content code)) }
     ensures leaves { Leaves (state S.Store conn.old) (state S.Store conn.new) }
     ensures mode { conn.old.in_transaction ≡ false → conn.new.in_transaction ≡ false }
 {
@@ -24,7 +25,8 @@ fn found_row<S: Alter>(conn: &mut Connection<S>, code: Code) -> Result<Option<Ro
 
 /// Whether there is an order of this code.
 pub fn find_order<S: Alter>(conn: &mut Connection<S>, code: Code) -> Result<bool, TableFault>
-    ensures there { OnBooks (state S.Store conn.old) (state S.Store conn.new) (λ books. IfOk result (λ there. there ≡ has_order books.content code)) }
+    ensures there { OnBooks (state S.Store conn.old) (state S.Store conn.new)
+        (λ books. IfOk result (λ there. there ≡ has_order books.content code)) }
     ensures leaves { Leaves (state S.Store conn.old) (state S.Store conn.new) }
     ensures mode { conn.old.in_transaction ≡ false → conn.new.in_transaction ≡ false }
 {
@@ -34,8 +36,11 @@ pub fn find_order<S: Alter>(conn: &mut Connection<S>, code: Code) -> Result<bool
 /// Puts a new order's code.
 pub fn put_order<S: Alter>(tx: &mut Transaction<'_, S>, code: Code) -> Result<(), TableFault>
     ensures same_reference { tx.new.conn.ghost_name ≡ tx.old.conn.ghost_name }
-    ensures ran { OnOk result (Ran (state S.Store tx.old.conn.now) (state S.Store tx.new.conn.now)) }
-    ensures put { (b : Books) → has_order b.content code ≡ false → OnOk result (Makes (state S.Store tx.old.conn.now) (state S.Store tx.new.conn.now) b (with_order code b)) }
+    ensures ran { OnOk result
+        (Ran (state S.Store tx.old.conn.now) (state S.Store tx.new.conn.now)) }
+    ensures put { (b : Books) → has_order b.content code ≡ false
+        → OnOk result (Makes (state S.Store tx.old.conn.now) (state S.Store tx.new.conn.now) b
+        (with_order code b)) }
     ensures within { Within (state S.Store tx.old.conn.now) (state S.Store tx.new.conn.now) }
 {
     run(

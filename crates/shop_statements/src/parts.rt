@@ -2,12 +2,12 @@
 
 ghost use Rattle.std.specs.Prelude.{◌≡◌, false, IfOk};
 ghost use Rattle.sqlite.specs.Held.{state};
-ghost use Rattle.shop_machine.specs.Content.{part_at};
-ghost use Rattle.shop_machine.specs.declared.records.Part.{Part as PartRecord};
+ghost use Rattle.shop_records.specs.Content.{part_at};
+ghost use Rattle.shop_records.specs.declared.records.Part.{Part as PartRecord};
 ghost use Rattle.shop_statements.specs.Rows.{part_columns};
 ghost use Rattle.shop_statements.specs.Shown.{Leaves, OnBooks, IsRowOf};
 ghost use Rattle.std.specs.Prelude.{Some, None, OnOk};
-ghost use Rattle.shop_machine.specs.Content.{in_state};
+ghost use Rattle.shop_records.specs.Content.{in_state};
 ghost use Rattle.shop_statements.specs.Changes.{with_part};
 ghost use Rattle.shop_statements.specs.Shown.{Books, Makes, Ran, Within};
 ghost use Rattle.shop_statements.specs.Values.{IsPartValue};
@@ -22,12 +22,13 @@ use crate::columns::{code_in, name_in, number_in, number_of_state, size_in, stat
 use crate::rows::row_by_two;
 use crate::running::run;
 use cut_measure::PartName;
-use shop_machine::Part;
+use shop_records::Part;
 use sqlite::{Alter, Connection, Error, Row, Transaction, params};
 
 // The part under this name that the columns from `at` on are of.
 pub(crate) fn read_part(name: PartName, row: &Row) -> Result<Part, TableFault>
-    ensures row { (part : PartRecord) → part.name ≡ name → row.now ≡ part_columns part → IfOk result (λ read. read ≡ part) }
+    ensures row { (part : PartRecord) → part.name ≡ name → row.now ≡ part_columns part
+        → IfOk result (λ read. read ≡ part) }
     ensures exact { IfOk result (λ read. columns_of 10 0 row.now ≡ part_columns read) }
 {
     Ok(Part {
@@ -43,8 +44,12 @@ pub(crate) fn read_part(name: PartName, row: &Row) -> Result<Part, TableFault>
 }
 
 fn part_row<S: Alter>(conn: &mut Connection<S>, name: PartName) -> Result<Option<Row>, Error>
-    ensures row { OnBooks (state S.Store conn.old) (state S.Store conn.new) (λ books. IfOk result (IsRowOf (λ (part : PartRecord). part.name ≡ name) part_columns (part_at books.content name))) }
-    ensures stands { HasCleanDisk (state S.Store conn.new) → IsShop conn.old.schema → IfOk result (λ found. IsUnder ((state S.Store conn.old).now.trees 4) 1 (Int (pos name.act) ∷ Int (pos name.node) ∷ []) 10 3 found) }
+    ensures row { OnBooks (state S.Store conn.old) (state S.Store conn.new)
+        (λ books. IfOk result (IsRowOf (λ (part : PartRecord). part.name ≡ name) part_columns
+        (part_at books.content name))) }
+    ensures stands { HasCleanDisk (state S.Store conn.new) → IsShop conn.old.schema
+        → IfOk result (λ found. IsUnder ((state S.Store conn.old).now.trees 4) 1
+        (Int (pos name.act) ∷ Int (pos name.node) ∷ []) 10 3 found) }
     ensures leaves { Leaves (state S.Store conn.old) (state S.Store conn.new) }
     ensures mode { conn.old.in_transaction ≡ false → conn.new.in_transaction ≡ false }
 {
@@ -61,8 +66,12 @@ pub fn find_part<S: Alter>(
     conn: &mut Connection<S>,
     name: PartName,
 ) -> Result<Option<Part>, TableFault>
-    ensures row { OnBooks (state S.Store conn.old) (state S.Store conn.new) (λ books. IfOk result (λ row. row ≡ part_at books.content name)) }
-    ensures stands { HasCleanDisk (state S.Store conn.new) → IsShop conn.old.schema → IfOk result (λ found. IsUnder ((state S.Store conn.old).now.trees 4) 1 (Int (pos name.act) ∷ Int (pos name.node) ∷ []) 10 3 (option_map part_columns found)) }
+    ensures row { OnBooks (state S.Store conn.old) (state S.Store conn.new)
+        (λ books. IfOk result (λ row. row ≡ part_at books.content name)) }
+    ensures stands { HasCleanDisk (state S.Store conn.new) → IsShop conn.old.schema
+        → IfOk result (λ found. IsUnder ((state S.Store conn.old).now.trees 4) 1
+        (Int (pos name.act) ∷ Int (pos name.node) ∷ []) 10 3
+        (option_map part_columns found)) }
     ensures leaves { Leaves (state S.Store conn.old) (state S.Store conn.new) }
     ensures mode { conn.old.in_transaction ≡ false → conn.new.in_transaction ≡ false }
 {
@@ -83,8 +92,11 @@ fn in_ranges(part: Part)
 /// Puts a new part.
 pub fn put_part<S: Alter>(tx: &mut Transaction<'_, S>, part: &Part) -> Result<(), TableFault>
     ensures same_reference { tx.new.conn.ghost_name ≡ tx.old.conn.ghost_name }
-    ensures ran { OnOk result (Ran (state S.Store tx.old.conn.now) (state S.Store tx.new.conn.now)) }
-    ensures put { (b : Books) → part_at b.content part.now.name ≡ None → OnOk result (Makes (state S.Store tx.old.conn.now) (state S.Store tx.new.conn.now) b (with_part part.now b)) }
+    ensures ran { OnOk result
+        (Ran (state S.Store tx.old.conn.now) (state S.Store tx.new.conn.now)) }
+    ensures put { (b : Books) → part_at b.content part.now.name ≡ None
+        → OnOk result (Makes (state S.Store tx.old.conn.now) (state S.Store tx.new.conn.now) b
+        (with_part part.now b)) }
     ensures within { Within (state S.Store tx.old.conn.now) (state S.Store tx.new.conn.now) }
 {
     in_ranges(*part);
@@ -111,8 +123,12 @@ pub fn put_part<S: Alter>(tx: &mut Transaction<'_, S>, part: &Part) -> Result<()
 /// Gives a part that is there the state of this one, which is the same but for it.
 pub fn move_part<S: Alter>(tx: &mut Transaction<'_, S>, part: &Part) -> Result<(), TableFault>
     ensures same_reference { tx.new.conn.ghost_name ≡ tx.old.conn.ghost_name }
-    ensures ran { OnOk result (Ran (state S.Store tx.old.conn.now) (state S.Store tx.new.conn.now)) }
-    ensures put { (b : Books) → (was : PartRecord) → part_at b.content part.now.name ≡ Some was → part.now ≡ in_state part.now.state was → OnOk result (Makes (state S.Store tx.old.conn.now) (state S.Store tx.new.conn.now) b (with_part part.now b)) }
+    ensures ran { OnOk result
+        (Ran (state S.Store tx.old.conn.now) (state S.Store tx.new.conn.now)) }
+    ensures put { (b : Books) → (was : PartRecord) → part_at b.content part.now.name ≡ Some was
+        → part.now ≡ in_state part.now.state was
+        → OnOk result (Makes (state S.Store tx.old.conn.now) (state S.Store tx.new.conn.now) b
+        (with_part part.now b)) }
     ensures within { Within (state S.Store tx.old.conn.now) (state S.Store tx.new.conn.now) }
 {
     run(

@@ -17,8 +17,11 @@ pub fn all_rows<S: Alter>(
     sql: &str,
     params: &[ValueRef<'_>],
 ) -> Result<Vec<Row>, Error>
-    ensures rows { HasCleanDisk (state S.Store conn.new) → IfOk result (λ rows. Shown sql.now (bound params.now) (state S.Store conn.old) (state S.Store conn.new) rows.items) }
-    ensures leaves { is_select sql.now ≡ true → Leaves (state S.Store conn.old) (state S.Store conn.new) }
+    ensures rows { HasCleanDisk (state S.Store conn.new)
+        → IfOk result (λ rows. Shown sql.now (bound params.now) (state S.Store conn.old)
+        (state S.Store conn.new) rows.items) }
+    ensures leaves { is_select sql.now ≡ true
+        → Leaves (state S.Store conn.old) (state S.Store conn.new) }
     ensures mode { conn.old.in_transaction ≡ false → conn.new.in_transaction ≡ false }
 {
     let rows = conn.query_all(sql, params)?;
@@ -30,8 +33,11 @@ fn one_row<S: Alter>(
     sql: &str,
     params: &[ValueRef<'_>],
 ) -> Result<Option<Row>, Error>
-    ensures row { HasCleanDisk (state S.Store conn.new) → IfOk result (GivesRow sql.now (bound params.now) (state S.Store conn.old) (state S.Store conn.new)) }
-    ensures leaves { is_select sql.now ≡ true → Leaves (state S.Store conn.old) (state S.Store conn.new) }
+    ensures row { HasCleanDisk (state S.Store conn.new)
+        → IfOk result (GivesRow sql.now (bound params.now) (state S.Store conn.old)
+        (state S.Store conn.new)) }
+    ensures leaves { is_select sql.now ≡ true
+        → Leaves (state S.Store conn.old) (state S.Store conn.new) }
     ensures mode { conn.old.in_transaction ≡ false → conn.new.in_transaction ≡ false }
 {
     let mut rows = all_rows(conn, sql, params)?;
@@ -44,8 +50,11 @@ pub(crate) fn row_by_text<S: Alter>(
     sql: &str,
     text: &str,
 ) -> Result<Option<Row>, Error>
-    ensures row { HasCleanDisk (state S.Store conn.new) → IfOk result (GivesRow sql.now (Word text.now ∷ []) (state S.Store conn.old) (state S.Store conn.new)) }
-    ensures leaves { is_select sql.now ≡ true → Leaves (state S.Store conn.old) (state S.Store conn.new) }
+    ensures row { HasCleanDisk (state S.Store conn.new)
+        → IfOk result (GivesRow sql.now (Word text.now ∷ []) (state S.Store conn.old)
+        (state S.Store conn.new)) }
+    ensures leaves { is_select sql.now ≡ true
+        → Leaves (state S.Store conn.old) (state S.Store conn.new) }
     ensures mode { conn.old.in_transaction ≡ false → conn.new.in_transaction ≡ false }
 {
     one_row(conn, sql, params![text])
@@ -57,8 +66,11 @@ pub fn row_by_number<S: Alter>(
     sql: &str,
     number: u32,
 ) -> Result<Option<Row>, Error>
-    ensures row { HasCleanDisk (state S.Store conn.new) → IfOk result (GivesRow sql.now (Int (pos number) ∷ []) (state S.Store conn.old) (state S.Store conn.new)) }
-    ensures leaves { is_select sql.now ≡ true → Leaves (state S.Store conn.old) (state S.Store conn.new) }
+    ensures row { HasCleanDisk (state S.Store conn.new)
+        → IfOk result (GivesRow sql.now (Int (pos number) ∷ []) (state S.Store conn.old)
+        (state S.Store conn.new)) }
+    ensures leaves { is_select sql.now ≡ true
+        → Leaves (state S.Store conn.old) (state S.Store conn.new) }
     ensures mode { conn.old.in_transaction ≡ false → conn.new.in_transaction ≡ false }
 {
     one_row(conn, sql, params![number])
@@ -71,8 +83,11 @@ pub(crate) fn row_by_two<S: Alter>(
     one: u32,
     other: u32,
 ) -> Result<Option<Row>, Error>
-    ensures row { HasCleanDisk (state S.Store conn.new) → IfOk result (GivesRow sql.now (Int (pos one) ∷ Int (pos other) ∷ []) (state S.Store conn.old) (state S.Store conn.new)) }
-    ensures leaves { is_select sql.now ≡ true → Leaves (state S.Store conn.old) (state S.Store conn.new) }
+    ensures row { HasCleanDisk (state S.Store conn.new)
+        → IfOk result (GivesRow sql.now (Int (pos one) ∷ Int (pos other) ∷ [])
+        (state S.Store conn.old) (state S.Store conn.new)) }
+    ensures leaves { is_select sql.now ≡ true
+        → Leaves (state S.Store conn.old) (state S.Store conn.new) }
     ensures mode { conn.old.in_transaction ≡ false → conn.new.in_transaction ≡ false }
 {
     one_row(conn, sql, params![one, other])

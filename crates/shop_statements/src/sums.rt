@@ -4,7 +4,7 @@ ghost use Rattle.std.specs.Prelude.{◌≡◌, ◌++◌, false, IfOk};
 ghost use Rattle.std.specs.FinMap.{get};
 ghost use Rattle.sqlite.specs.Held.{state};
 ghost use Rattle.sqlite_value.specs.Order.{Row as Values};
-ghost use Rattle.shop_machine.specs.declared.records.Totals.{Totals as TotalsRecord};
+ghost use Rattle.shop_records.specs.declared.records.Totals.{Totals as TotalsRecord};
 ghost use Rattle.shop_statements.specs.Rows.{totals_columns, totals_row};
 ghost use Rattle.shop_statements.specs.Shown.{Leaves, OnBooks, IsRowOf};
 ghost use Rattle.std.specs.Prelude.{pos, Some, None, OnOk};
@@ -21,12 +21,13 @@ use crate::columns::{count_in, counted};
 use crate::rows::row_by_text;
 use crate::running::run;
 use cut_measure::Code;
-use shop_machine::Totals;
+use shop_records::Totals;
 use sqlite::{Alter, Connection, Error, Row, Transaction, params};
 
 /// The totals, of their columns; the columns behind them don't matter.
 pub fn read_totals(row: &Row) -> Result<Totals, TableFault>
-    ensures row { (totals : TotalsRecord) (behind : Values) → row.now ≡ totals_columns totals ++ behind → IfOk result (λ read. read ≡ totals) }
+    ensures row { (totals : TotalsRecord) (behind : Values)
+        → row.now ≡ totals_columns totals ++ behind → IfOk result (λ read. read ≡ totals) }
     ensures exact { IfOk result (λ read. columns_of 7 0 row.now ≡ totals_columns read) }
 {
     Ok(Totals {
@@ -41,8 +42,12 @@ pub fn read_totals(row: &Row) -> Result<Totals, TableFault>
 }
 
 fn totals_row<S: Alter>(conn: &mut Connection<S>, material: Code) -> Result<Option<Row>, Error>
-    ensures row { OnBooks (state S.Store conn.old) (state S.Store conn.new) (λ books. IfOk result (IsRowOf (λ (totals : TotalsRecord). Unit {0}) totals_columns (get books.totals material))) }
-    ensures stands { HasCleanDisk (state S.Store conn.new) → IsShop conn.old.schema → IfOk result (λ found. IsUnder ((state S.Store conn.old).now.trees 17) 1 (Word material ∷ []) 7 2 found) }
+    ensures row { OnBooks (state S.Store conn.old) (state S.Store conn.new)
+        (λ books. IfOk result (IsRowOf (λ (totals : TotalsRecord). Unit {0}) totals_columns
+        (get books.totals material))) }
+    ensures stands { HasCleanDisk (state S.Store conn.new) → IsShop conn.old.schema
+        → IfOk result (λ found. IsUnder ((state S.Store conn.old).now.trees 17) 1
+        (Word material ∷ []) 7 2 found) }
     ensures leaves { Leaves (state S.Store conn.old) (state S.Store conn.new) }
     ensures mode { conn.old.in_transaction ≡ false → conn.new.in_transaction ≡ false }
 {
@@ -58,8 +63,11 @@ pub fn find_totals<S: Alter>(
     conn: &mut Connection<S>,
     material: Code,
 ) -> Result<Option<Totals>, TableFault>
-    ensures row { OnBooks (state S.Store conn.old) (state S.Store conn.new) (λ books. IfOk result (λ row. row ≡ get books.totals material)) }
-    ensures stands { HasCleanDisk (state S.Store conn.new) → IsShop conn.old.schema → IfOk result (λ found. IsUnder ((state S.Store conn.old).now.trees 17) 1 (Word material ∷ []) 7 2 (option_map totals_columns found)) }
+    ensures row { OnBooks (state S.Store conn.old) (state S.Store conn.new)
+        (λ books. IfOk result (λ row. row ≡ get books.totals material)) }
+    ensures stands { HasCleanDisk (state S.Store conn.new) → IsShop conn.old.schema
+        → IfOk result (λ found. IsUnder ((state S.Store conn.old).now.trees 17) 1
+        (Word material ∷ []) 7 2 (option_map totals_columns found)) }
     ensures leaves { Leaves (state S.Store conn.old) (state S.Store conn.new) }
     ensures mode { conn.old.in_transaction ≡ false → conn.new.in_transaction ≡ false }
 {
@@ -112,8 +120,11 @@ fn run_totals<S: Alter>(
     totals: &Totals,
 ) -> Result<(), TableFault>
     ensures same_reference { tx.new.conn.ghost_name ≡ tx.old.conn.ghost_name }
-    ensures ran { OnOk result (Ran (state S.Store tx.old.conn.now) (state S.Store tx.new.conn.now)) }
-    ensures has_run { OnOk result (HasRun sql.now (totals_row (material, totals.now)) (state S.Store tx.old.conn.now) (state S.Store tx.new.conn.now)) }
+    ensures ran { OnOk result
+        (Ran (state S.Store tx.old.conn.now) (state S.Store tx.new.conn.now)) }
+    ensures has_run { OnOk result
+        (HasRun sql.now (totals_row (material, totals.now)) (state S.Store tx.old.conn.now)
+        (state S.Store tx.new.conn.now)) }
     ensures within { Within (state S.Store tx.old.conn.now) (state S.Store tx.new.conn.now) }
 {
     let counts = counts_of(totals)?;
@@ -140,8 +151,11 @@ pub fn put_totals<S: Alter>(
     totals: &Totals,
 ) -> Result<(), TableFault>
     ensures same_reference { tx.new.conn.ghost_name ≡ tx.old.conn.ghost_name }
-    ensures ran { OnOk result (Ran (state S.Store tx.old.conn.now) (state S.Store tx.new.conn.now)) }
-    ensures put { (b : Books) → get b.totals material ≡ None → OnOk result (Makes (state S.Store tx.old.conn.now) (state S.Store tx.new.conn.now) b (with_totals material totals.now b)) }
+    ensures ran { OnOk result
+        (Ran (state S.Store tx.old.conn.now) (state S.Store tx.new.conn.now)) }
+    ensures put { (b : Books) → get b.totals material ≡ None
+        → OnOk result (Makes (state S.Store tx.old.conn.now) (state S.Store tx.new.conn.now) b
+        (with_totals material totals.now b)) }
     ensures within { Within (state S.Store tx.old.conn.now) (state S.Store tx.new.conn.now) }
 {
     run_totals(
@@ -159,8 +173,11 @@ pub fn set_totals<S: Alter>(
     totals: &Totals,
 ) -> Result<(), TableFault>
     ensures same_reference { tx.new.conn.ghost_name ≡ tx.old.conn.ghost_name }
-    ensures ran { OnOk result (Ran (state S.Store tx.old.conn.now) (state S.Store tx.new.conn.now)) }
-    ensures put { (b : Books) → (was : TotalsRecord) → get b.totals material ≡ Some was → OnOk result (Makes (state S.Store tx.old.conn.now) (state S.Store tx.new.conn.now) b (with_totals material totals.now b)) }
+    ensures ran { OnOk result
+        (Ran (state S.Store tx.old.conn.now) (state S.Store tx.new.conn.now)) }
+    ensures put { (b : Books) → (was : TotalsRecord) → get b.totals material ≡ Some was
+        → OnOk result (Makes (state S.Store tx.old.conn.now) (state S.Store tx.new.conn.now) b
+        (with_totals material totals.now b)) }
     ensures within { Within (state S.Store tx.old.conn.now) (state S.Store tx.new.conn.now) }
 {
     run_totals(

@@ -4,8 +4,8 @@ use Rattle.std.specs.FinMap.{FinMap, empty, get, same_map}
 use Rattle.sqlite.specs.State.{State, HasCleanDisk, Survives}
 use Rattle.sqlite.proofs.StateLemmas.{survives_weaker}
 use Rattle.cut_measure.specs.Codes.{code_cmp}
-use Rattle.shop_machine.specs.Content.{Content, fresh, no_totals}
-use Rattle.shop_machine.specs.declared.records.Totals.{Totals}
+use Rattle.shop_records.specs.Content.{Content, fresh, no_totals}
+use Rattle.shop_records.specs.declared.records.Totals.{Totals}
 use Rattle.shop_tables.specs.Adopting.{LeavesBooks}
 use Rattle.shop_tables.specs.declared.adopting.AdoptFault.{AdoptFault}
 use Rattle.shop_tables.specs.declared.adopting.AdoptFault.TheVariants as adopt

@@ -11,7 +11,7 @@ use Rattle.sqlite.specs.Effect.{Database}
 use Rattle.sqlite.specs.Files.{file_state}
 use Rattle.sqlite.specs.Held.{Held, state}
 use Rattle.sqlite.specs.State.{State, HasCleanDisk, Survives}
-use Rattle.shop_machine.specs.Content.{Content}
+use Rattle.shop_records.specs.Content.{Content}
 use Rattle.shop_tables.specs.Held.{books, IsSettledAt, LeavesOnly, StandsFor}
 use Rattle.shop_statements.specs.Shown.{StandsIn}
 use Rattle.shop_tables.proofs.Commits.{stands_in}

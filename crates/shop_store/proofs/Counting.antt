@@ -11,13 +11,13 @@ use Rattle.std.specs.Ordering.{eq_by_cmp, is_eq}
 use Rattle.std.proofs.lemmas.List.{take_more}
 use Rattle.std.proofs.lemmas.List.Sums.{sum_by-append, sum_by-cons, sum_by_push}
 use Rattle.cut_measure.specs.Codes.{code_cmp}
-use Rattle.shop_machine.specs.Content.{cells_in, no_totals, totals_of}
-use Rattle.shop_machine.specs.Visits.{GoesOn, HasSeen, IsVisit}
-use Rattle.shop_machine.specs.declared.changes.MaterialTotals.{MaterialTotals}
-use Rattle.shop_machine.specs.declared.records.Column.{Column}
-use Rattle.shop_machine.specs.declared.records.Column.TheVariants.{Received, Stock, Rack, Pieces, Kerf, Scrap, Returned}
-use Rattle.shop_machine.specs.declared.records.Part.{Part}
-use Rattle.shop_machine.specs.declared.records.Totals.{Totals}
+use Rattle.shop_records.specs.Content.{cells_in, no_totals, totals_of}
+use Rattle.shop_records.specs.Visits.{GoesOn, HasSeen, IsVisit}
+use Rattle.shop_records.specs.declared.changes.MaterialTotals.{MaterialTotals}
+use Rattle.shop_records.specs.declared.records.Column.{Column}
+use Rattle.shop_records.specs.declared.records.Column.TheVariants.{Received, Stock, Rack, Pieces, Kerf, Scrap, Returned}
+use Rattle.shop_records.specs.declared.records.Part.{Part}
+use Rattle.shop_records.specs.declared.records.Totals.{Totals}
 use Rattle.shop_tables.specs.Changing.{HasSums}
 use Rattle.shop_tables.specs.Listing.{AreAllTotals, HaveTotals, named}
 use Rattle.shop_statements.specs.Shown.{Books}
@@ -192,7 +192,7 @@ added_all b list old new visited good all none there went visit told =
       λ has. told.1 (subst (AreSumsIn new.sums.items) (sym all.1) (conversely b new.sums.items counted has)),
     )
 
-held_in : (m : Rattle.shop_machine.specs.Content.Content) (code : List ℕ) (t : Totals) → t ≡ totals_of m code → (column : Column) → total_in column t ≡ cells_in column code (values m.parts)
+held_in : (m : Rattle.shop_records.specs.Content.Content) (code : List ℕ) (t : Totals) → t ≡ totals_of m code → (column : Column) → total_in column t ≡ cells_in column code (values m.parts)
 held_in m code t e Received = ap (λ (t : Totals). t.received) e
 held_in m code t e Stock = ap (λ (t : Totals). t.stock) e
 held_in m code t e Rack = ap (λ (t : Totals). t.rack) e

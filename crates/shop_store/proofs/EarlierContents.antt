@@ -1,7 +1,7 @@
 -- What is known of tables of version 1 is known of a content in them.
 use Rattle.sqlite.specs.State.{State, Survives}
 use Rattle.sqlite.proofs.StateLemmas.{survives_then, survives_weaker}
-use Rattle.shop_machine.specs.Content.{Content}
+use Rattle.shop_records.specs.Content.{Content}
 use Rattle.shop_statements.specs.Earlier.{HoldsEarlier}
 use Rattle.shop_tables.specs.Held.{books, StandsFor}
 use Rattle.shop_statements.specs.Shown.{Books, Leaves, StandsIn}

@@ -6,10 +6,10 @@ use Rattle.std.specs.declared.cmp.Ordering.TheVariants.{Less}
 use Rattle.std.specs.Ordering.{eq_by_cmp, is_eq, ordering_reverse}
 use Rattle.std.specs.FinMap.{FinMap, get, get-insert, insert}
 use Rattle.cut_measure.specs.Names.{Name, name_cmp}
-use Rattle.shop_machine.specs.Content.{Content, changed, part_at, with_moved, with_parts}
-use Rattle.shop_machine.specs.Soundness.{Fits, IsMovedPart, IsNewPart}
-use Rattle.shop_machine.specs.declared.changes.Change.{Change}
-use Rattle.shop_machine.specs.declared.records.Part.{Part}
+use Rattle.shop_records.specs.Content.{Content, changed, part_at, with_moved, with_parts}
+use Rattle.shop_records.specs.Soundness.{Fits, IsMovedPart, IsNewPart}
+use Rattle.shop_records.specs.declared.changes.Change.{Change}
+use Rattle.shop_records.specs.declared.records.Part.{Part}
 use Rattle.shop_rows.specs.Keys.{part_key, names_total, names_exact}
 use Rattle.shop_rows.specs.Open.{finds_with, finds_with_all, KeepMaterials, KeepsMaterial}
 use Rattle.shop_rows.proofs.Listed.{tie}

@@ -6,7 +6,7 @@ use Rattle.std.specs.declared.cmp.Ordering.{Ordering}
 use Rattle.std.specs.Ordering.{eq_by_cmp}
 use Rattle.std.specs.Cmp.{IsTotalOrder}
 use Rattle.std.specs.FinMap.{IsAntisymmetric, from_sorted, get-from_sorted, same_map, values}
-use Rattle.shop_machine.proofs.Sums.{first, second}
+use Rattle.shop_records.proofs.Sums.{first, second}
 use Rattle.shop_rows.specs.Open.{own_key, has, is_found}
 use Rattle.shop_rows.specs.Rows.{entries_of, rise, row_at}
 use Rattle.shop_rows.proofs.Listed.{tie}

@@ -13,7 +13,7 @@ use Rattle.sqlite.specs.Files.{file_state, image_of, HoldsDatabase, IsOpened, Fi
 use Rattle.sqlite.specs.Held.{Held, AreDatabases}
 use Rattle.sqlite.specs.State.{HasCleanDisk, Survives}
 use Rattle.sqlite.proofs.Theorems.{opens_again}
-use Rattle.shop_machine.specs.Content.{Content}
+use Rattle.shop_records.specs.Content.{Content}
 use Rattle.shop_statements.specs.Earlier.{StandsInEarlier}
 use Rattle.shop_tables.specs.Held.{books, StandsFor}
 use Rattle.shop_statements.specs.Shown.{StandsIn}

@@ -5,9 +5,9 @@ use Rattle.std.specs.Result.{IsErr}
 use Rattle.std.proofs.lemmas.Fn.{FoldsTo-push}
 use Rattle.std.proofs.lemmas.List.{append_assoc, take_all, take_more, take-append-drop}
 use Rattle.std.proofs.lemmas.List.Elements.{filter-append}
-use Rattle.shop_machine.specs.Content.{Content}
-use Rattle.shop_machine.specs.declared.records.Part.{Part}
-use Rattle.shop_machine.specs.Visits.{GoesOn, HasSeen, IsVisit}
+use Rattle.shop_records.specs.Content.{Content}
+use Rattle.shop_records.specs.declared.records.Part.{Part}
+use Rattle.shop_records.specs.Visits.{GoesOn, HasSeen, IsVisit}
 use Rattle.shop_store.specs.declared.takers.PartTaker.{PartTaker}
 use Rattle.shop_store.specs.SqlBooks.{told}
 use Rattle.shop_store.specs.NamedParts.{AreStanding, IsTaken}

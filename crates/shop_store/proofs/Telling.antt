@@ -3,7 +3,7 @@ use Rattle.std.proofs.Common.{◌≡◌, ℕ, Result, Ok, Err, OnOk, OnErr, IfOk
 use Rattle.sqlite_trees.specs.declared.store.Store.{Ghosts}
 use Rattle.sqlite.specs.State.{HasCleanDisk}
 use Rattle.sqlite.specs.Held.{Held, state}
-use Rattle.shop_machine.specs.Content.{Content}
+use Rattle.shop_records.specs.Content.{Content}
 use Rattle.shop_statements.specs.Shown.{Books, Leaves, OnBooks}
 use Rattle.shop_tables.specs.Held.{books, HoldsContent}
 use Rattle.shop_statements.specs.declared.faults.TableFault.{TableFault}

@@ -9,7 +9,7 @@ use Rattle.std.specs.Cmp.{IsTotalOrder, tied_itself}
 use Rattle.std.specs.FinMap.{IsAntisymmetric, find, is_sorted}
 use Rattle.std.specs.FinMap.Entries.{below_all}
 use Rattle.std.proofs.lemmas.List.Sums.{sum_by-cons}
-use Rattle.shop_machine.proofs.Sums.{first, second, less, none_below}
+use Rattle.shop_records.proofs.Sums.{first, second, less, none_below}
 use Rattle.shop_rows.proofs.Listed.{tie}
 
 module _ {K X : Type 0} (key_of : X → K) (cmp : K → K → Ordering) (o : IsTotalOrder cmp) (exact : IsAntisymmetric cmp) (test : X → Bool) (size : X → ℕ) where

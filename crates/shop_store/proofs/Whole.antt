@@ -15,12 +15,12 @@ use Rattle.cut_measure.specs.Measures.{is_size}
 use Rattle.cut_measure.specs.Names.{Name, name_cmp}
 use Rattle.cut_measure.specs.declared.ranges.TheConstants.{MOST_HEIGHT}
 use Rattle.cut_measure.specs.declared.sizes.Kind.TheVariants.{Sheet}
-use Rattle.shop_machine.specs.Columns.{is_there, is_whole}
-use Rattle.shop_machine.specs.Content.{Content, fresh, no_totals, cells_in, counts_for, is_listed, part_at, parts_of, totals_of}
-use Rattle.shop_machine.specs.declared.records.Column.TheVariants.{Stock, Rack}
-use Rattle.shop_machine.specs.declared.records.Part.{Part}
-use Rattle.shop_machine.specs.declared.records.Totals.{Totals}
-use Rattle.shop_machine.proofs.Sums.{first, second, less, none_below}
+use Rattle.shop_records.specs.Columns.{is_there, is_whole}
+use Rattle.shop_records.specs.Content.{Content, fresh, no_totals, cells_in, counts_for, is_listed, part_at, parts_of, totals_of}
+use Rattle.shop_records.specs.declared.records.Column.TheVariants.{Stock, Rack}
+use Rattle.shop_records.specs.declared.records.Part.{Part}
+use Rattle.shop_records.specs.declared.records.Totals.{Totals}
+use Rattle.shop_records.proofs.Sums.{first, second, less, none_below}
 use Rattle.shop_rows.specs.Keys.{part_key, names_total, names_exact}
 use Rattle.shop_rows.specs.Rows.{entries_of, rise}
 use Rattle.shop_rows.proofs.Listed.{tie}

@@ -13,12 +13,12 @@ use Rattle.shop_tables.specs.Held.{books}
 use Rattle.shop_statements.specs.Shown.{Books, Holds}
 use Rattle.sqlite_trees.proofs.ListLemmas.{filter-map}
 use Rattle.cut_tree.proofs.FirstWords.{all_taken}
-use Rattle.shop_machine.specs.Columns.{is_waiting}
-use Rattle.shop_machine.specs.Content.{Content, changed, demand_at, fresh, with_demands, with_job}
-use Rattle.shop_machine.specs.Listing.{is_asked_for, is_open, open_demands, waiting_jobs}
-use Rattle.shop_machine.specs.declared.changes.Change.{Change}
-use Rattle.shop_machine.specs.declared.records.Demand.{Demand}
-use Rattle.shop_machine.specs.declared.records.Job.{Job}
+use Rattle.shop_records.specs.Columns.{is_waiting}
+use Rattle.shop_records.specs.Content.{Content, changed, demand_at, fresh, with_demands, with_job}
+use Rattle.shop_records.specs.Lists.{is_asked_for, is_open, open_demands, waiting_jobs}
+use Rattle.shop_records.specs.declared.changes.Change.{Change}
+use Rattle.shop_records.specs.declared.records.Demand.{Demand}
+use Rattle.shop_records.specs.declared.records.Job.{Job}
 use Rattle.shop_rows.specs.Keys.{demand_key, job_key}
 use Rattle.std.specs.FinMap.Entries.{find-put, find-where_key}
 use Rattle.shop_rows.specs.Open.{own_key, has, is_found, finds_with, finds_with_all, waits, ListsNumbers}

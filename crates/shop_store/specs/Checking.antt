@@ -3,9 +3,9 @@ use Rattle.std.specs.Prelude.{◌≡◌, ◌⊎◌, ℕ, ◌<◌, ◌^◌, ⊤, 
 use Rattle.std.specs.List.{AllByRecursion}
 use Rattle.std.specs.Ordering.{eq_by_cmp}
 use Rattle.cut_measure.specs.Codes.{code_cmp}
-use Rattle.shop_machine.specs.declared.changes.MaterialTotals.{MaterialTotals}
-use Rattle.shop_machine.specs.declared.records.Column.{Column}
-use Rattle.shop_machine.specs.declared.records.Part.{Part}
+use Rattle.shop_records.specs.declared.changes.MaterialTotals.{MaterialTotals}
+use Rattle.shop_records.specs.declared.records.Column.{Column}
+use Rattle.shop_records.specs.declared.records.Part.{Part}
 use Rattle.std.specs.FinMap.{entries}
 use Rattle.shop_tables.specs.Listing.{HaveTotals, named}
 use Rattle.shop_statements.specs.Shown.{Books}

@@ -2,10 +2,10 @@
 use Rattle.std.specs.Prelude.{◌≡◌, ℕ, List, [], ◌∷◌, ◌++◌, Some, true, IsTrue}
 use Rattle.std.specs.List.{AllByRecursion}
 use Rattle.cut_measure.specs.Names.{Name, name_cmp}
-use Rattle.shop_machine.specs.Content.{Content, cells_in, is_listed, part_at}
-use Rattle.shop_machine.specs.declared.records.Column.TheVariants.{Stock, Rack}
-use Rattle.shop_machine.specs.declared.records.Part.{Part}
-use Rattle.shop_machine.specs.declared.records.Totals.{Totals}
+use Rattle.shop_records.specs.Content.{Content, cells_in, is_listed, part_at}
+use Rattle.shop_records.specs.declared.records.Column.TheVariants.{Stock, Rack}
+use Rattle.shop_records.specs.declared.records.Part.{Part}
+use Rattle.shop_records.specs.declared.records.Totals.{Totals}
 use Rattle.shop_rows.specs.Keys.{part_key}
 use Rattle.shop_rows.specs.Rows.{rise}
 

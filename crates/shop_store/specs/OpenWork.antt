@@ -4,10 +4,10 @@ use Rattle.std.proofs.lemmas.Map.Entries.{option_filter}
 use Rattle.std.specs.FinMap as map
 use Rattle.std.specs.Ordering.{nat_cmp}
 use Rattle.sqlite.specs.State.{State, HasCleanDisk}
-use Rattle.shop_machine.specs.declared.records.Job.{Job}
-use Rattle.shop_machine.specs.declared.records.Demand.{Demand}
-use Rattle.shop_machine.specs.Content.{Content, job_at, demand_at}
-use Rattle.shop_machine.specs.Listing.{is_open, job_numbers}
+use Rattle.shop_records.specs.declared.records.Job.{Job}
+use Rattle.shop_records.specs.declared.records.Demand.{Demand}
+use Rattle.shop_records.specs.Content.{Content, job_at, demand_at}
+use Rattle.shop_records.specs.Lists.{is_open, job_numbers}
 use Rattle.shop_rows.specs.Keys.{demand_key}
 use Rattle.shop_rows.specs.Open.{own_key, waits}
 use Rattle.shop_rows.specs.Rows.{rise, row_at}

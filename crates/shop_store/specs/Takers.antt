@@ -1,6 +1,6 @@
 -- What is taken of the parts that are handed out.
 use Rattle.std.specs.Prelude.{◌≡◌, [], ◌∷◌, ◌++◌, Bool, true, false}
-use Rattle.shop_machine.specs.declared.records.Part.{Part}
+use Rattle.shop_records.specs.declared.records.Part.{Part}
 use Rattle.shop_store.specs.declared.takers.PartTaker.{PartTaker}
 
 -- each part is taken, unless memory is wanting

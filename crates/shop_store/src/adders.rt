@@ -2,7 +2,7 @@
 
 ghost use Rattle.std.specs.Prelude.{◌<◌, ◌^◌, ℕ, List, IsTrue, vec_len, vec_capacity};
 ghost use Rattle.cut_measure.specs.Codes.{code_cmp};
-ghost use Rattle.shop_machine.specs.declared.records.Column.{Column};
+ghost use Rattle.shop_records.specs.declared.records.Column.{Column};
 ghost use Rattle.shop_rows.specs.Open.{AreInOrder};
 ghost use Rattle.shop_rows.specs.Rows.{rise};
 ghost use Rattle.shop_rows.specs.Sums.{sum_at, sums_key};

@@ -4,7 +4,7 @@ ghost use Rattle.std.specs.Prelude.{◌≡◌, ◌<◌, ◌^◌, ℕ, List, fals
 ghost use Rattle.std.specs.Bool.{Decides};
 ghost use Rattle.sqlite.specs.Held.{state};
 ghost use Rattle.cut_measure.specs.Codes.{code_cmp};
-ghost use Rattle.shop_machine.specs.declared.records.Column.{Column as ColumnOf};
+ghost use Rattle.shop_records.specs.declared.records.Column.{Column as ColumnOf};
 ghost use Rattle.shop_tables.specs.Changing.{HasSums};
 ghost use Rattle.shop_statements.specs.Earlier.{OnBooksEarlier};
 ghost use Rattle.shop_statements.specs.Shown.{Leaves, OnBooks};
@@ -16,7 +16,7 @@ ghost use Rattle.shop_rows.specs.Sums.{sum_at, sums_key, total_in};
 
 use crate::adders::PartAdder;
 use crate::names::{PartNames, note_part};
-use shop_machine::{MaterialTotals, Part, PartVisitor, Totals};
+use shop_records::{MaterialTotals, Part, PartVisitor, Totals};
 use shop_rows::{Sums, count_part, has_totals, no_sums, put};
 use shop_tables::{Lent, TableFault, lend_all_parts, list_earlier_totals, list_totals};
 use sqlite::{Alter, Connection};
@@ -40,8 +40,11 @@ fn in_range(totals: Totals)
 
 // Sums of nothing for each of these materials.
 fn adder_for(alloc: Global, totals: &[MaterialTotals]) -> Result<PartAdder, AllocError>
-    ensures none { IfOk result (λ adder. (column : ColumnOf) (code : List ℕ) → sum_at column code adder.sums.items ≡ 0) }
-    ensures there { IfOk result (λ adder. (code : List ℕ) → has_sums code adder.sums.items ≡ are_totals_for code totals.now) }
+    ensures none { IfOk result
+        (λ adder. (column : ColumnOf) (code : List ℕ) → sum_at column code adder.sums.items ≡ 0) }
+    ensures there { IfOk result
+        (λ adder. (code : List ℕ)
+        → has_sums code adder.sums.items ≡ are_totals_for code totals.now) }
     ensures narrow { IfOk result (λ _. AreNarrow totals.now) }
 {
     let mut sums = Vec::new(alloc);
@@ -90,8 +93,10 @@ fn are_sums_of_parts<S: Alter>(
 ) -> Result<bool, TableFault>
     requires order { AreInOrder names.old.lists.items }
     ensures order { AreInOrder names.new.lists.items }
-    ensures sums { OnBooks (state S.Store conn.old) (state S.Store conn.new) (λ books. IsListOf books totals.now → IfOk result (λ good. Decides good (HasSums books))) }
-    ensures earlier { OnBooksEarlier (state S.Store conn.old) (state S.Store conn.new) (λ books. IsListOf books totals.now → IfOk result (λ good. Decides good (HasSums books))) }
+    ensures sums { OnBooks (state S.Store conn.old) (state S.Store conn.new)
+        (λ books. IsListOf books totals.now → IfOk result (λ good. Decides good (HasSums books))) }
+    ensures earlier { OnBooksEarlier (state S.Store conn.old) (state S.Store conn.new)
+        (λ books. IsListOf books totals.now → IfOk result (λ good. Decides good (HasSums books))) }
     ensures leaves { Leaves (state S.Store conn.old) (state S.Store conn.new) }
     ensures mode { conn.old.in_transaction ≡ false → conn.new.in_transaction ≡ false }
 {
@@ -112,7 +117,8 @@ pub fn have_sums<S: Alter>(
 ) -> Result<bool, TableFault>
     requires order { AreInOrder names.old.lists.items }
     ensures order { AreInOrder names.new.lists.items }
-    ensures sums { OnBooks (state S.Store conn.old) (state S.Store conn.new) (λ books. IfOk result (λ good. Decides good (HasSums books))) }
+    ensures sums { OnBooks (state S.Store conn.old) (state S.Store conn.new)
+        (λ books. IfOk result (λ good. Decides good (HasSums books))) }
     ensures leaves { Leaves (state S.Store conn.old) (state S.Store conn.new) }
     ensures mode { conn.old.in_transaction ≡ false → conn.new.in_transaction ≡ false }
 {
@@ -130,7 +136,8 @@ pub fn have_earlier_sums<S: Alter>(
 ) -> Result<bool, TableFault>
     requires order { AreInOrder names.old.lists.items }
     ensures order { AreInOrder names.new.lists.items }
-    ensures sums { OnBooksEarlier (state S.Store conn.old) (state S.Store conn.new) (λ books. IfOk result (λ good. Decides good (HasSums books))) }
+    ensures sums { OnBooksEarlier (state S.Store conn.old) (state S.Store conn.new)
+        (λ books. IfOk result (λ good. Decides good (HasSums books))) }
     ensures leaves { Leaves (state S.Store conn.old) (state S.Store conn.new) }
     ensures mode { conn.old.in_transaction ≡ false → conn.new.in_transaction ≡ false }
 {

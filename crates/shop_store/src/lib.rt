@@ -13,5 +13,5 @@ mod takers;
 
 pub use reopening::{left_commits_are_found, left_renewals_are_found, reopen_book};
 pub use shop_book::{Book, BookFault, MOST_FAILURES, MemBook};
-pub use shop_machine::PartVisitor;
+pub use shop_records::PartVisitor;
 pub use sql::SqlBook;

@@ -4,10 +4,10 @@
 ghost use Rattle.std.specs.Prelude.{◌≡◌, ◌++◌, [], ◌∷◌, false, filter, take, Ok, IfOk, IfSome, IsTrue, OnOk};
 ghost use Rattle.cut_measure.specs.Names.{name_cmp};
 ghost use Rattle.sqlite.specs.Held.{state};
-ghost use Rattle.shop_machine.specs.Content.{parts_of};
-ghost use Rattle.shop_machine.specs.Listing.{is_behind, parts_behind};
-ghost use Rattle.shop_machine.specs.Visits.{IsVisit};
-ghost use Rattle.shop_machine.specs.declared.records.Part.{Part as PartOf};
+ghost use Rattle.shop_records.specs.Content.{parts_of};
+ghost use Rattle.shop_records.specs.Lists.{is_behind, parts_behind};
+ghost use Rattle.shop_records.specs.Visits.{IsVisit};
+ghost use Rattle.shop_records.specs.declared.records.Part.{Part as PartOf};
 ghost use Rattle.shop_tables.specs.Changing.{HasSums};
 ghost use Rattle.shop_statements.specs.Shown.{Leaves, OnBooks};
 ghost use Rattle.shop_rows.specs.Keys.{part_key};
@@ -19,7 +19,7 @@ use crate::passing::{Test, first_passing};
 use crate::sql::totals_of;
 use crate::takers::PartTaker;
 use cut_measure::{Code, PartName};
-use shop_machine::{Part, PartList, PartVisitor, Totals};
+use shop_records::{Part, PartList, PartVisitor, Totals};
 use shop_rows::{no_sums, rises, with_all};
 use shop_tables::{TableFault, find_part, lend_parts, list_first_parts};
 use sqlite::{Alter, Connection};
@@ -33,7 +33,9 @@ fn take_named<S: Alter>(
     name: PartName,
     parts: &mut PartList,
 ) -> Result<bool, TableFault>
-    ensures taken { OnBooks (state S.Store conn.old) (state S.Store conn.new) (λ books. IfOk result (λ there. IsTrue there → IsTaken books.content material parts.old parts.new)) }
+    ensures taken { OnBooks (state S.Store conn.old) (state S.Store conn.new)
+        (λ books. IfOk result (λ there. IsTrue there
+        → IsTaken books.content material parts.old parts.new)) }
     ensures leaves { Leaves (state S.Store conn.old) (state S.Store conn.new) }
     ensures mode { conn.old.in_transaction ≡ false → conn.new.in_transaction ≡ false }
 {
@@ -54,7 +56,8 @@ fn named_parts<S: Alter>(
     material: Code,
     names: &[PartName],
 ) -> Result<Option<PartList>, TableFault>
-    ensures standing { OnBooks (state S.Store conn.old) (state S.Store conn.new) (λ books. IfOk result (λ found. IfSome found (AreStanding books.content material))) }
+    ensures standing { OnBooks (state S.Store conn.old) (state S.Store conn.new)
+        (λ books. IfOk result (λ found. IfSome found (AreStanding books.content material))) }
     ensures leaves { Leaves (state S.Store conn.old) (state S.Store conn.new) }
     ensures mode { conn.old.in_transaction ≡ false → conn.new.in_transaction ≡ false }
 {
@@ -98,7 +101,9 @@ fn whole_parts<S: Alter>(
     material: Code,
     names: Option<&[PartName]>,
 ) -> Result<Option<PartList>, TableFault>
-    ensures rows { OnBooks (state S.Store conn.old) (state S.Store conn.new) (λ books. HasSums books → IfOk result (λ found. IfSome found (λ parts. parts ≡ parts_of books.content material))) }
+    ensures rows { OnBooks (state S.Store conn.old) (state S.Store conn.new)
+        (λ books. HasSums books → IfOk result
+        (λ found. IfSome found (λ parts. parts ≡ parts_of books.content material))) }
     ensures leaves { Leaves (state S.Store conn.old) (state S.Store conn.new) }
     ensures mode { conn.old.in_transaction ≡ false → conn.new.in_transaction ≡ false }
 {
@@ -121,7 +126,8 @@ fn searched_parts<S: Alter>(
     conn: &mut Connection<S>,
     material: Code,
 ) -> Result<PartList, TableFault>
-    ensures rows { OnBooks (state S.Store conn.old) (state S.Store conn.new) (λ books. IfOk result (λ rows. rows ≡ parts_of books.content material)) }
+    ensures rows { OnBooks (state S.Store conn.old) (state S.Store conn.new)
+        (λ books. IfOk result (λ rows. rows ≡ parts_of books.content material)) }
     ensures leaves { Leaves (state S.Store conn.old) (state S.Store conn.new) }
     ensures mode { conn.old.in_transaction ≡ false → conn.new.in_transaction ≡ false }
 {
@@ -143,7 +149,8 @@ pub fn listed_parts<S: Alter>(
     material: Code,
     names: Option<&[PartName]>,
 ) -> Result<PartList, TableFault>
-    ensures rows { OnBooks (state S.Store conn.old) (state S.Store conn.new) (λ books. HasSums books → IfOk result (λ rows. rows ≡ parts_of books.content material)) }
+    ensures rows { OnBooks (state S.Store conn.old) (state S.Store conn.new)
+        (λ books. HasSums books → IfOk result (λ rows. rows ≡ parts_of books.content material)) }
     ensures leaves { Leaves (state S.Store conn.old) (state S.Store conn.new) }
     ensures mode { conn.old.in_transaction ≡ false → conn.new.in_transaction ≡ false }
 {
@@ -155,7 +162,8 @@ pub fn listed_parts<S: Alter>(
 
 // Hands out parts, for as long as the visitor answers true.
 fn hand_out<V: PartVisitor>(parts: &[Part], visitor: &mut V) -> bool
-    ensures { IsVisit V.looks {Fault = Fault} (λ what. what parts.now) visitor.old (Ok result) visitor.new }
+    ensures { IsVisit V.looks {Fault = Fault} (λ what. what parts.now) visitor.old
+        (Ok result) visitor.new }
 {
     for part in parts {
         if !visitor.part(part) {
@@ -173,7 +181,10 @@ pub fn visit_listed<S: Alter, V: PartVisitor>(
     names: Option<&[PartName]>,
     visitor: &mut V,
 ) -> Result<bool, TableFault>
-    ensures visit { IsVisit V.looks (λ what. OnBooks (state S.Store conn.old) (state S.Store conn.new) (λ books. HasSums books → what (parts_of books.content material))) visitor.old result visitor.new }
+    ensures visit { IsVisit V.looks
+        (λ what. OnBooks (state S.Store conn.old) (state S.Store conn.new)
+        (λ books. HasSums books → what (parts_of books.content material))) visitor.old result
+        visitor.new }
     ensures leaves { Leaves (state S.Store conn.old) (state S.Store conn.new) }
     ensures mode { conn.old.in_transaction ≡ false → conn.new.in_transaction ≡ false }
 {
@@ -190,7 +201,7 @@ struct IsBehind {
 }
 
 impl Test for IsBehind {
-    ghost use Rattle.shop_machine.specs.Listing.{is_behind};
+    ghost use Rattle.shop_records.specs.Lists.{is_behind};
 
     type Row = Part;
 
@@ -213,7 +224,9 @@ pub fn first_listed<S: Alter>(
     after: Option<PartName>,
     most: usize,
 ) -> Result<PartList, TableFault>
-    ensures rows { OnBooks (state S.Store conn.old) (state S.Store conn.new) (λ books. HasSums books → IfOk result (λ rows. rows ≡ take most (parts_behind books.content material after))) }
+    ensures rows { OnBooks (state S.Store conn.old) (state S.Store conn.new)
+        (λ books. HasSums books → IfOk result
+        (λ rows. rows ≡ take most (parts_behind books.content material after))) }
     ensures leaves { Leaves (state S.Store conn.old) (state S.Store conn.new) }
     ensures mode { conn.old.in_transaction ≡ false → conn.new.in_transaction ≡ false }
 {

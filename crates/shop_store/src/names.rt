@@ -5,15 +5,15 @@ ghost use Rattle.std.specs.Option.{option_to_list};
 ghost use Rattle.cut_measure.specs.Names.{Name, name_cmp};
 ghost use Rattle.sqlite.specs.State.{HasCleanDisk, Survives};
 ghost use Rattle.sqlite.specs.Held.{state};
-ghost use Rattle.shop_machine.specs.Content.{Content, changed, part_at};
-ghost use Rattle.shop_machine.specs.declared.records.Part.{Part as PartOf};
-ghost use Rattle.shop_machine.specs.Soundness.{Fits};
+ghost use Rattle.shop_records.specs.Content.{Content, changed, part_at};
+ghost use Rattle.shop_records.specs.declared.records.Part.{Part as PartOf};
+ghost use Rattle.shop_records.specs.Soundness.{Fits};
 ghost use Rattle.shop_rows.specs.Keys.{part_key};
 ghost use Rattle.shop_rows.specs.Open.{names_of, room_of, finds_with_all, AreInOrder, HaveRoom, KeepMaterials, ListsParts};
 ghost use Rattle.shop_tables.specs.Held.{HoldsContent, LeavesOnly, StandsFor};
 
 use cut_measure::{Code, PartName};
-use shop_machine::{Change, Part};
+use shop_records::{Change, Part};
 use shop_rows::{NameList, list_all, list_in_place, make_room, names_behind, reserve_names};
 use shop_tables::{TableFault, commit_change};
 use sqlite::{Alter, Connection};
@@ -84,9 +84,13 @@ pub fn note_part(names: &mut PartNames, part: &Part)
 fn list_some(lists: &mut Vec<NameList>, moved: &Option<Part>)
     requires order { AreInOrder lists.old.items }
     requires room { HaveRoom 1 (option_to_list moved.now) lists.old.items }
-    ensures lists { (find : Name → Option PartOf) → ListsParts find lists.old.items → KeepMaterials find (option_to_list moved.now) → ListsParts (finds_with_all part_key name_cmp (option_to_list moved.now) find) lists.new.items }
+    ensures lists { (find : Name → Option PartOf) → ListsParts find lists.old.items
+        → KeepMaterials find (option_to_list moved.now)
+        → ListsParts (finds_with_all part_key name_cmp (option_to_list moved.now) find)
+        lists.new.items }
     ensures order { AreInOrder lists.new.items }
-    ensures room { (code : List ℕ) → room_of code lists.old.items ≤ room_of code lists.new.items + 1 }
+    ensures room { (code : List ℕ)
+        → room_of code lists.old.items ≤ room_of code lists.new.items + 1 }
 {
     if let Some(part) = moved {
         let _ = list_in_place(lists, 0, part);
@@ -98,7 +102,10 @@ fn list_change(lists: &mut Vec<NameList>, moved: &Option<Part>, parts: &[Part])
     requires order { AreInOrder lists.old.items }
     requires moved { HaveRoom (length parts.now + 1) (option_to_list moved.now) lists.old.items }
     requires parts { HaveRoom (length parts.now + 1) parts.now lists.old.items }
-    ensures lists { (find : Name → Option PartOf) → ListsParts find lists.old.items → KeepMaterials find (option_to_list moved.now ++ parts.now) → ListsParts (finds_with_all part_key name_cmp (option_to_list moved.now ++ parts.now) find) lists.new.items }
+    ensures lists { (find : Name → Option PartOf) → ListsParts find lists.old.items
+        → KeepMaterials find (option_to_list moved.now ++ parts.now)
+        → ListsParts (finds_with_all part_key name_cmp (option_to_list moved.now ++ parts.now) find)
+        lists.new.items }
     ensures order { AreInOrder lists.new.items }
 {
     list_some(lists, moved);
@@ -117,13 +124,23 @@ pub fn commit_listed<S: Alter>(
     requires order { AreInOrder names.old.lists.items }
     ensures order { AreInOrder names.new.lists.items }
     ensures mode { conn.new.in_transaction ≡ false }
-    ensures ok { (m : Content) → HoldsContent (state S.Store conn.old) m → Fits m change.now → OnOk result (HoldsContent (state S.Store conn.new) (changed m change.now)) }
-    ensures err { (m : Content) → HoldsContent (state S.Store conn.old) m → OnErr result (HoldsContent (state S.Store conn.new) m) }
-    ensures crash { (m : Content) → HoldsContent (state S.Store conn.old) m → Fits m change.now → Survives (state S.Store conn.old) (state S.Store conn.new) (λ db. StandsFor db (changed m change.now)) }
-    ensures lasts { (m : Content) → HoldsContent (state S.Store conn.old) m → Fits m change.now → OnOk result (LeavesOnly (state S.Store conn.new) (changed m change.now)) }
-    ensures earlier { HasCleanDisk (state S.Store conn.new) → HasCleanDisk (state S.Store conn.old) }
-    ensures listed { (m : Content) → Fits m change.now → ListsParts (part_at m) names.old.lists.items → OnOk result (ListsParts (part_at (changed m change.now)) names.new.lists.items) }
-    ensures unlisted { OnErr result ((code : List ℕ) → names_of code names.new.lists.items ≡ names_of code names.old.lists.items) }
+    ensures ok { (m : Content) → HoldsContent (state S.Store conn.old) m → Fits m change.now
+        → OnOk result (HoldsContent (state S.Store conn.new) (changed m change.now)) }
+    ensures err { (m : Content) → HoldsContent (state S.Store conn.old) m
+        → OnErr result (HoldsContent (state S.Store conn.new) m) }
+    ensures crash { (m : Content) → HoldsContent (state S.Store conn.old) m → Fits m change.now
+        → Survives (state S.Store conn.old) (state S.Store conn.new)
+        (λ db. StandsFor db (changed m change.now)) }
+    ensures lasts { (m : Content) → HoldsContent (state S.Store conn.old) m → Fits m change.now
+        → OnOk result (LeavesOnly (state S.Store conn.new) (changed m change.now)) }
+    ensures earlier { HasCleanDisk (state S.Store conn.new)
+        → HasCleanDisk (state S.Store conn.old) }
+    ensures listed { (m : Content) → Fits m change.now
+        → ListsParts (part_at m) names.old.lists.items
+        → OnOk result (ListsParts (part_at (changed m change.now)) names.new.lists.items) }
+    ensures unlisted { OnErr result
+        ((code : List ℕ) → names_of code names.new.lists.items
+        ≡ names_of code names.old.lists.items) }
 {
     let parts = change.parts.as_slice();
     reserve_names(&mut names.lists, &change.moved, parts)?;

@@ -5,11 +5,11 @@ ghost use Rattle.std.specs.Option.{option_to_list};
 ghost use Rattle.std.specs.Ordering.{nat_cmp};
 ghost use Rattle.sqlite.specs.State.{HasCleanDisk, Survives};
 ghost use Rattle.sqlite.specs.Held.{state};
-ghost use Rattle.shop_machine.specs.Content.{Content, changed};
-ghost use Rattle.shop_machine.specs.Listing.{open_demands, waiting_jobs};
-ghost use Rattle.shop_machine.specs.Soundness.{Fits};
-ghost use Rattle.shop_machine.specs.declared.records.Demand.{Demand as DemandOf};
-ghost use Rattle.shop_machine.specs.declared.records.Job.{Job as JobOf};
+ghost use Rattle.shop_records.specs.Content.{Content, changed};
+ghost use Rattle.shop_records.specs.Lists.{open_demands, waiting_jobs};
+ghost use Rattle.shop_records.specs.Soundness.{Fits};
+ghost use Rattle.shop_records.specs.declared.records.Demand.{Demand as DemandOf};
+ghost use Rattle.shop_records.specs.declared.records.Job.{Job as JobOf};
 ghost use Rattle.shop_rows.specs.Keys.{demand_key, job_key};
 ghost use Rattle.shop_rows.specs.Open.{own_key, finds_with, finds_with_all, waits, AreInOrder, ListsNumbers};
 ghost use Rattle.shop_rows.specs.Rows.{rise};
@@ -21,7 +21,7 @@ ghost use Rattle.shop_store.specs.declared.open_work.TheConstants.{TOO_MANY};
 use crate::names::{PartNames, commit_listed};
 use crate::passing::{Test, first_passing};
 use cut_measure::Code;
-use shop_machine::{Change, Demand, DemandList, Job, NumberList};
+use shop_records::{Change, Demand, DemandList, Job, NumberList};
 use shop_rows::{copy_rows, first_rows, list_job, numbers_behind, put, rises, take_row};
 use shop_tables::{TableFault, find_demand, find_job, list_open_demands, list_waiting_jobs};
 use sqlite::{Alter, Connection};
@@ -60,8 +60,10 @@ impl OpenWork {
 
 // Whether a demand or a job stands under number 0, behind which every list begins. None does in a shop's books.
 fn has_number_0<S: Alter>(alloc: Global, conn: &mut Connection<S>) -> Result<bool, TableFault>
-    ensures none { OnBooks (state S.Store conn.old) (state S.Store conn.new) (λ books. IfOk result (λ there. there ≡ false → HasNoNumber0 books.content)) }
-    ensures open { HasCleanDisk (state S.Store conn.new) → IfOk result (λ _. IsTrue (state S.Store conn.old).is_open) }
+    ensures none { OnBooks (state S.Store conn.old) (state S.Store conn.new)
+        (λ books. IfOk result (λ there. there ≡ false → HasNoNumber0 books.content)) }
+    ensures open { HasCleanDisk (state S.Store conn.new)
+        → IfOk result (λ _. IsTrue (state S.Store conn.old).is_open) }
     ensures leaves { Leaves (state S.Store conn.old) (state S.Store conn.new) }
     ensures mode { conn.old.in_transaction ≡ false → conn.new.in_transaction ≡ false }
 {
@@ -77,8 +79,12 @@ fn copy_work(
     demands: &[Demand],
 ) -> Result<Option<OpenWork>, AllocError>
     ensures rising { IfOk result (λ found. IfSome found WorkRises) }
-    ensures same { IfOk result (λ found. IfSome found (λ work. (work.jobs.items ≡ jobs.now) × (work.demands.items ≡ demands.now))) }
-    ensures whole { IfOk result (λ found. IfSome found (λ _. (length jobs.now < TOO_MANY) × (length demands.now < TOO_MANY))) }
+    ensures same { IfOk result
+        (λ found. IfSome found (λ work. (work.jobs.items ≡ jobs.now)
+        × (work.demands.items ≡ demands.now))) }
+    ensures whole { IfOk result
+        (λ found. IfSome found (λ _. (length jobs.now < TOO_MANY)
+        × (length demands.now < TOO_MANY))) }
 {
     if jobs.len() >= TOO_MANY || demands.len() >= TOO_MANY {
         return Ok(None);
@@ -101,7 +107,10 @@ fn find_work<S: Alter>(
     conn: &mut Connection<S>,
 ) -> Result<Option<OpenWork>, TableFault>
     ensures rising { IfOk result (λ found. IfSome found WorkRises) }
-    ensures work { HasCleanDisk (state S.Store conn.new) → (m : Content) → HoldsContent (state S.Store conn.old) m → IfOk result (λ found. IfSome found (λ work. HasWork m work.jobs.items work.demands.items)) }
+    ensures work { HasCleanDisk (state S.Store conn.new) → (m : Content)
+        → HoldsContent (state S.Store conn.old) m
+        → IfOk result (λ found. IfSome found
+        (λ work. HasWork m work.jobs.items work.demands.items)) }
     ensures leaves { Leaves (state S.Store conn.old) (state S.Store conn.new) }
     ensures mode { conn.old.in_transaction ≡ false → conn.new.in_transaction ≡ false }
 {
@@ -119,7 +128,8 @@ fn find_work<S: Alter>(
 fn list_work<S: Alter>(alloc: Global, conn: &mut Connection<S>, work: &mut OpenWork)
     requires rising { WorkRises work.old }
     ensures rising { WorkRises work.new }
-    ensures work { HasCleanDisk (state S.Store conn.new) → (m : Content) → HoldsContent (state S.Store conn.old) m → KnowsWork work.old m → KnowsWork work.new m }
+    ensures work { HasCleanDisk (state S.Store conn.new) → (m : Content)
+        → HoldsContent (state S.Store conn.old) m → KnowsWork work.old m → KnowsWork work.new m }
     ensures leaves { Leaves (state S.Store conn.old) (state S.Store conn.new) }
     ensures mode { conn.old.in_transaction ≡ false → conn.new.in_transaction ≡ false }
 {
@@ -142,11 +152,12 @@ struct IsAsked {
 
 impl Test for IsAsked {
     ghost use Rattle.std.specs.Prelude.{nat_lt, ◌&&◌};
-    ghost use Rattle.shop_machine.specs.Listing.{is_asked_for};
+    ghost use Rattle.shop_records.specs.Lists.{is_asked_for};
 
     type Row = Demand;
 
-    ghost test = { λ asked demand. nat_lt asked.after demand.number && is_asked_for asked.material demand.material };
+    ghost test = { λ asked demand. nat_lt asked.after demand.number
+        && is_asked_for asked.material demand.material };
 
     fn passes(&self, demand: &Demand) -> bool {
         if demand.number <= self.after {
@@ -183,8 +194,12 @@ pub fn first_waiting<S: Alter>(
 ) -> Result<NumberList, TableFault>
     requires rising { WorkRises work.old }
     ensures rising { WorkRises work.new }
-    ensures numbers { HasCleanDisk (state S.Store conn.new) → (m : Content) → HoldsContent (state S.Store conn.old) m → KnowsWork work.old m → IfOk result (λ numbers. numbers ≡ take most (map (λ (job : JobOf). job.act) (waiting_jobs m after))) }
-    ensures work { HasCleanDisk (state S.Store conn.new) → (m : Content) → HoldsContent (state S.Store conn.old) m → KnowsWork work.old m → KnowsWork work.new m }
+    ensures numbers { HasCleanDisk (state S.Store conn.new) → (m : Content)
+        → HoldsContent (state S.Store conn.old) m → KnowsWork work.old m
+        → IfOk result (λ numbers. numbers
+        ≡ take most (map (λ (job : JobOf). job.act) (waiting_jobs m after))) }
+    ensures work { HasCleanDisk (state S.Store conn.new) → (m : Content)
+        → HoldsContent (state S.Store conn.old) m → KnowsWork work.old m → KnowsWork work.new m }
     ensures leaves { Leaves (state S.Store conn.old) (state S.Store conn.new) }
     ensures mode { conn.old.in_transaction ≡ false → conn.new.in_transaction ≡ false }
 {
@@ -207,8 +222,11 @@ pub fn first_open<S: Alter>(
 ) -> Result<DemandList, TableFault>
     requires rising { WorkRises work.old }
     ensures rising { WorkRises work.new }
-    ensures rows { HasCleanDisk (state S.Store conn.new) → (m : Content) → HoldsContent (state S.Store conn.old) m → KnowsWork work.old m → IfOk result (λ rows. rows ≡ take most (open_demands m after material)) }
-    ensures work { HasCleanDisk (state S.Store conn.new) → (m : Content) → HoldsContent (state S.Store conn.old) m → KnowsWork work.old m → KnowsWork work.new m }
+    ensures rows { HasCleanDisk (state S.Store conn.new) → (m : Content)
+        → HoldsContent (state S.Store conn.old) m → KnowsWork work.old m
+        → IfOk result (λ rows. rows ≡ take most (open_demands m after material)) }
+    ensures work { HasCleanDisk (state S.Store conn.new) → (m : Content)
+        → HoldsContent (state S.Store conn.old) m → KnowsWork work.old m → KnowsWork work.new m }
     ensures leaves { Leaves (state S.Store conn.old) (state S.Store conn.new) }
     ensures mode { conn.old.in_transaction ≡ false → conn.new.in_transaction ≡ false }
 {
@@ -226,7 +244,8 @@ pub fn first_open<S: Alter>(
 fn follow_demand(demands: &mut Vec<Demand>, demand: &Demand)
     requires rising { IsTrue (rise demand_key nat_cmp demands.old.items) }
     requires room { vec_len demands.old < vec_capacity demands.old }
-    ensures finds { (find : ℕ → Option DemandOf) → FindsOpen find demands.old.items → FindsOpen (finds_with nat_cmp demand.now.number demand.now find) demands.new.items }
+    ensures finds { (find : ℕ → Option DemandOf) → FindsOpen find demands.old.items
+        → FindsOpen (finds_with nat_cmp demand.now.number demand.now find) demands.new.items }
     ensures rising { IsTrue (rise demand_key nat_cmp demands.new.items) }
     ensures len { vec_len demands.new ≤ vec_len demands.old + 1 }
     ensures capacity { vec_capacity demands.old ≤ vec_capacity demands.new }
@@ -242,7 +261,8 @@ fn follow_demand(demands: &mut Vec<Demand>, demand: &Demand)
 fn follow_demands(demands: &mut Vec<Demand>, changed: &[Demand])
     requires rising { IsTrue (rise demand_key nat_cmp demands.old.items) }
     requires room { vec_len demands.old + length changed.now ≤ vec_capacity demands.old }
-    ensures finds { (find : ℕ → Option DemandOf) → FindsOpen find demands.old.items → FindsOpen (finds_with_all demand_key nat_cmp changed.now find) demands.new.items }
+    ensures finds { (find : ℕ → Option DemandOf) → FindsOpen find demands.old.items
+        → FindsOpen (finds_with_all demand_key nat_cmp changed.now find) demands.new.items }
     ensures rising { IsTrue (rise demand_key nat_cmp demands.new.items) }
 {
     for demand in changed {
@@ -254,7 +274,9 @@ fn follow_demands(demands: &mut Vec<Demand>, changed: &[Demand])
 fn follow_job(jobs: &mut Vec<u32>, job: &Option<Job>)
     requires rising { IsTrue (rise own_key nat_cmp jobs.old.items) }
     requires room { vec_len jobs.old < vec_capacity jobs.old }
-    ensures lists { (find : ℕ → Option JobOf) → ListsNumbers waits find jobs.old.items → ListsNumbers waits (finds_with_all job_key nat_cmp (option_to_list job.now) find) jobs.new.items }
+    ensures lists { (find : ℕ → Option JobOf) → ListsNumbers waits find jobs.old.items
+        → ListsNumbers waits (finds_with_all job_key nat_cmp (option_to_list job.now) find)
+        jobs.new.items }
     ensures rising { IsTrue (rise own_key nat_cmp jobs.new.items) }
 {
     if let Some(job) = job {
@@ -266,11 +288,15 @@ fn follow_job(jobs: &mut Vec<u32>, job: &Option<Job>)
 fn follow_change(work: &mut OpenWork, job: &Option<Job>, demands: &[Demand])
     requires rising { WorkRises work.old }
     requires jobs { vec_len work.old.jobs < vec_capacity work.old.jobs }
-    requires demands { vec_len work.old.demands + length demands.now ≤ vec_capacity work.old.demands }
+    requires demands { vec_len work.old.demands + length demands.now
+        ≤ vec_capacity work.old.demands }
     ensures rising { WorkRises work.new }
     ensures listed { work.new.is_listed ≡ work.old.is_listed }
-    ensures jobs { (find : ℕ → Option JobOf) → ListsNumbers waits find work.old.jobs.items → ListsNumbers waits (finds_with_all job_key nat_cmp (option_to_list job.now) find) work.new.jobs.items }
-    ensures demands { (find : ℕ → Option DemandOf) → FindsOpen find work.old.demands.items → FindsOpen (finds_with_all demand_key nat_cmp demands.now find) work.new.demands.items }
+    ensures jobs { (find : ℕ → Option JobOf) → ListsNumbers waits find work.old.jobs.items
+        → ListsNumbers waits (finds_with_all job_key nat_cmp (option_to_list job.now) find)
+        work.new.jobs.items }
+    ensures demands { (find : ℕ → Option DemandOf) → FindsOpen find work.old.demands.items
+        → FindsOpen (finds_with_all demand_key nat_cmp demands.now find) work.new.demands.items }
 {
     follow_job(&mut work.jobs, job);
     follow_demands(&mut work.demands, demands);
@@ -278,9 +304,12 @@ fn follow_change(work: &mut OpenWork, job: &Option<Job>, demands: &[Demand])
 
 // Makes room for what a change may bring.
 fn reserve_work(work: &mut OpenWork, demands: &[Demand]) -> Result<(), AllocError>
-    ensures same { (work.new.is_listed ≡ work.old.is_listed) × (work.new.jobs.items ≡ work.old.jobs.items) × (work.new.demands.items ≡ work.old.demands.items) }
+    ensures same { (work.new.is_listed ≡ work.old.is_listed)
+        × (work.new.jobs.items ≡ work.old.jobs.items)
+        × (work.new.demands.items ≡ work.old.demands.items) }
     ensures jobs { OnOk result (vec_len work.new.jobs < vec_capacity work.new.jobs) }
-    ensures demands { OnOk result (vec_len work.new.demands + length demands.now ≤ vec_capacity work.new.demands) }
+    ensures demands { OnOk result
+        (vec_len work.new.demands + length demands.now ≤ vec_capacity work.new.demands) }
 {
     work.jobs.reserve(1)?;
     work.demands.reserve(demands.len())
@@ -302,12 +331,19 @@ pub fn commit_open<S: Alter>(
     ensures order { AreInOrder names.new.lists.items }
     ensures work_rising { WorkRises work.new }
     ensures mode { conn.new.in_transaction ≡ false }
-    ensures ok { (m : Content) → HoldsContent (state S.Store conn.old) m → Fits m change.now → OnOk result (HoldsContent (state S.Store conn.new) (changed m change.now)) }
-    ensures err { (m : Content) → HoldsContent (state S.Store conn.old) m → OnErr result (HoldsContent (state S.Store conn.new) m) }
-    ensures crash { (m : Content) → HoldsContent (state S.Store conn.old) m → Fits m change.now → Survives (state S.Store conn.old) (state S.Store conn.new) (λ db. StandsFor db (changed m change.now)) }
-    ensures lasts { (m : Content) → HoldsContent (state S.Store conn.old) m → Fits m change.now → OnOk result (LeavesOnly (state S.Store conn.new) (changed m change.now)) }
-    ensures earlier { HasCleanDisk (state S.Store conn.new) → HasCleanDisk (state S.Store conn.old) }
-    ensures work { (m : Content) → KnowsWork work.old m → OnOk result (KnowsWork work.new (changed m change.now)) }
+    ensures ok { (m : Content) → HoldsContent (state S.Store conn.old) m → Fits m change.now
+        → OnOk result (HoldsContent (state S.Store conn.new) (changed m change.now)) }
+    ensures err { (m : Content) → HoldsContent (state S.Store conn.old) m
+        → OnErr result (HoldsContent (state S.Store conn.new) m) }
+    ensures crash { (m : Content) → HoldsContent (state S.Store conn.old) m → Fits m change.now
+        → Survives (state S.Store conn.old) (state S.Store conn.new)
+        (λ db. StandsFor db (changed m change.now)) }
+    ensures lasts { (m : Content) → HoldsContent (state S.Store conn.old) m → Fits m change.now
+        → OnOk result (LeavesOnly (state S.Store conn.new) (changed m change.now)) }
+    ensures earlier { HasCleanDisk (state S.Store conn.new)
+        → HasCleanDisk (state S.Store conn.old) }
+    ensures work { (m : Content) → KnowsWork work.old m
+        → OnOk result (KnowsWork work.new (changed m change.now)) }
     ensures still { (m : Content) → KnowsWork work.old m → OnErr result (KnowsWork work.new m) }
 {
     let demands = change.demands.as_slice();

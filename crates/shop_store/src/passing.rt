@@ -2,7 +2,7 @@
 
 ghost use Rattle.std.specs.Prelude.{◌≡◌, ◌++◌, [], ◌∷◌, filter, take, IfOk, OnOk};
 
-use shop_machine::RowList;
+use shop_records::RowList;
 use std::alloc::{AllocError, Global};
 
 /// A test of rows.

@@ -11,7 +11,7 @@ ghost use Rattle.sqlite_store.specs.declared.store.FileStore.{FileStore as Store
 ghost use Rattle.sqlite_trees.specs.Tree.{Trees};
 ghost use Rattle.sqlite_wal.specs.Reads.{AreClean};
 ghost use Rattle.sqlite_wal.specs.Recovery.{Image};
-ghost use Rattle.shop_machine.specs.Content.{Content};
+ghost use Rattle.shop_records.specs.Content.{Content};
 ghost use Rattle.shop_store.specs.Crashes.{IsFoundAfter};
 ghost use Rattle.shop_store.specs.EarlierBooks.{IsSettledEarlierAt, IsSettledEitherAt};
 ghost use Rattle.shop_tables.specs.Held.{HoldsContent, IsSettledAt, LeavesOnly, StandsFor};
@@ -22,8 +22,10 @@ use sqlite_disk::Disk;
 use std::alloc::Global;
 
 fn close<D: Disk + Drop>(conn: Connection<FileStore<D>>) -> Option<Files<D>>
-    ensures copied { IfSome result (λ files. AreClean D.Disk files.log files.db → IsCopied conn files) }
-    ensures usable { IfSome result (λ files. IsTrue (D.Disk.is_usable files.log) × IsTrue (D.Disk.is_usable files.db)) }
+    ensures copied { IfSome result
+        (λ files. AreClean D.Disk files.log files.db → IsCopied conn files) }
+    ensures usable { IfSome result
+        (λ files. IsTrue (D.Disk.is_usable files.log) × IsTrue (D.Disk.is_usable files.db)) }
 {
     match conn.close_files() {
         Ok(files) => Some(files),
@@ -41,7 +43,8 @@ pub fn reopen_book<D: Disk + Drop>(
     book: SqlBook<FileStore<D>>,
     options: Options,
 ) -> Option<SqlBook<FileStore<D>>>
-    ensures { IfSome result (λ again. (m : Content) → HoldsContent (file_state book.conn) m → HoldsContent (file_state again.conn) m) }
+    ensures { IfSome result (λ again. (m : Content) → HoldsContent (file_state book.conn) m
+        → HoldsContent (file_state again.conn) m) }
 {
     let files = close(book.into_connection())?;
     let Ok(conn) = Connection::open_files(alloc, files, options) else {
@@ -58,10 +61,15 @@ pub fn reopen_book<D: Disk + Drop>(
 /// back. A connection that opened on files with what a crash then leaves is settled at the same content, in version 2 or
 /// in version 1. So a book that is adopted from it holds that content.
 pub fn left_renewals_are_found<D: Disk>()
-    ensures { (old after : Held (StoreOf D D.Disk)) (m : Content) → IsTrue (file_state old).is_open → IsSettledEarlierAt (file_state old) m
-        → HasCleanDisk (file_state after) → Survives (file_state old) (file_state after) (λ db. StandsFor db m)
-        → (it : StoreOf D D.Disk) → ((db : Trees) → store.recovers it db → (file_state after).may_leave db) → IsTrue (store.view it).is_numbered → AreDatabases (store.recovers it)
-        → (left : Image) → (store.state it).may_leave left → (files : FilesOf D) → image_of D.Disk files ≡ left
+    ensures { (old after : Held (StoreOf D D.Disk)) (m : Content) → IsTrue (file_state old).is_open
+        → IsSettledEarlierAt (file_state old) m
+        → HasCleanDisk (file_state after)
+        → Survives (file_state old) (file_state after) (λ db. StandsFor db m)
+        → (it : StoreOf D D.Disk)
+        → ((db : Trees) → store.recovers it db → (file_state after).may_leave db)
+        → IsTrue (store.view it).is_numbered → AreDatabases (store.recovers it)
+        → (left : Image) → (store.state it).may_leave left → (files : FilesOf D)
+        → image_of D.Disk files ≡ left
         → (new : Held (StoreOf D D.Disk)) → IsOpened new → Finds files new
         → ∥ IsSettledEitherAt (file_state new) m ∥₁ }
 {}
@@ -72,10 +80,14 @@ pub fn left_renewals_are_found<D: Disk>()
 /// then leaves is settled at the content before or at the next, and after an `Ok` (its clause `lasts`) at the next. So a book
 /// that is adopted from it holds that content.
 pub fn left_commits_are_found<D: Disk>()
-    ensures settled { (at : Held (StoreOf D D.Disk)) (m : Content) → IsTrue (file_state at).is_open → IsSettledAt (file_state at) m → LeavesOnly (file_state at) m }
-    ensures either { (old last new : Held (StoreOf D D.Disk)) (m next : Content) → HasCleanDisk (file_state old) → LeavesOnly (file_state old) m
-        → ((db : Trees) → (file_state last).may_leave db → (file_state old).may_leave db ⊎ StandsFor db next) → IsFoundAfter last new
+    ensures settled { (at : Held (StoreOf D D.Disk)) (m : Content) → IsTrue (file_state at).is_open
+        → IsSettledAt (file_state at) m → LeavesOnly (file_state at) m }
+    ensures either { (old last new : Held (StoreOf D D.Disk)) (m next : Content)
+        → HasCleanDisk (file_state old) → LeavesOnly (file_state old) m
+        → ((db : Trees) → (file_state last).may_leave db → (file_state old).may_leave db
+        ⊎ StandsFor db next) → IsFoundAfter last new
         → ∥ (IsSettledAt (file_state new) m ⊎ IsSettledAt (file_state new) next) ∥₁ }
-    ensures only { (last new : Held (StoreOf D D.Disk)) (next : Content) → HasCleanDisk (file_state last) → LeavesOnly (file_state last) next → IsFoundAfter last new
+    ensures only { (last new : Held (StoreOf D D.Disk)) (next : Content)
+        → HasCleanDisk (file_state last) → LeavesOnly (file_state last) next → IsFoundAfter last new
         → ∥ IsSettledAt (file_state new) next ∥₁ }
 {}

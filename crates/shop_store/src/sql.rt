@@ -5,7 +5,7 @@ ghost use Rattle.std.specs.FinMap.{get};
 ghost use Rattle.sqlite.specs.Held.{state};
 ghost use Rattle.sqlite.specs.State.{HasCleanDisk, Survives};
 ghost use Rattle.sqlite.specs.Steps.{over_memory};
-ghost use Rattle.shop_machine.specs.Content.{Content, no_totals as nothing, parts_of, fresh};
+ghost use Rattle.shop_records.specs.Content.{Content, no_totals as nothing, parts_of, fresh};
 ghost use Rattle.shop_tables.specs.Adopting.{HasVersion, IsVacant, names_are_free};
 ghost use Rattle.shop_statements.specs.Earlier.{earlier_schema};
 ghost use Rattle.shop_tables.specs.Held.{HoldsContent, IsSettledAt, LeavesOnly, StandsFor};
@@ -25,7 +25,7 @@ use crate::names::PartNames;
 use crate::open_work::{OpenWork, commit_open, first_open, first_waiting};
 use cut_measure::{Code, PartName};
 use shop_book::{Book, BookFault};
-use shop_machine::{
+use shop_records::{
     Change, Demand, DemandList, ImportRow, Job, Kept, Material, MaterialList, NumberList, Pair,
     Part, PartList, PartVisitor, Totals, no_totals,
 };
@@ -52,7 +52,8 @@ pub struct SqlBook<S: Alter> {
 
 // The number behind the last act's.
 fn next_act<S: Alter>(conn: &mut Connection<S>) -> Result<u32, TableFault>
-    ensures number { OnBooks (state S.Store conn.old) (state S.Store conn.new) (λ books. IfOk result (λ number. number ≡ books.content.last_act + 1)) }
+    ensures number { OnBooks (state S.Store conn.old) (state S.Store conn.new)
+        (λ books. IfOk result (λ number. number ≡ books.content.last_act + 1)) }
     ensures least { IfOk result (λ number. 1 ≤ number) }
     ensures leaves { Leaves (state S.Store conn.old) (state S.Store conn.new) }
     ensures mode { conn.old.in_transaction ≡ false → conn.new.in_transaction ≡ false }
@@ -66,7 +67,8 @@ fn next_act<S: Alter>(conn: &mut Connection<S>) -> Result<u32, TableFault>
 
 // The number behind the last demand's.
 fn next_demand<S: Alter>(conn: &mut Connection<S>) -> Result<u32, TableFault>
-    ensures number { OnBooks (state S.Store conn.old) (state S.Store conn.new) (λ books. IfOk result (λ number. number ≡ books.content.last_demand + 1)) }
+    ensures number { OnBooks (state S.Store conn.old) (state S.Store conn.new)
+        (λ books. IfOk result (λ number. number ≡ books.content.last_demand + 1)) }
     ensures least { IfOk result (λ number. 1 ≤ number) }
     ensures leaves { Leaves (state S.Store conn.old) (state S.Store conn.new) }
     ensures mode { conn.old.in_transaction ≡ false → conn.new.in_transaction ≡ false }
@@ -80,7 +82,8 @@ fn next_demand<S: Alter>(conn: &mut Connection<S>) -> Result<u32, TableFault>
 
 /// A code's totals, which are zeros where it has no row.
 pub fn totals_of<S: Alter>(conn: &mut Connection<S>, code: Code) -> Result<Totals, TableFault>
-    ensures row { OnBooks (state S.Store conn.old) (state S.Store conn.new) (λ books. IfOk result (λ totals. totals ≡ unwrap_or (get books.totals code) nothing)) }
+    ensures row { OnBooks (state S.Store conn.old) (state S.Store conn.new)
+        (λ books. IfOk result (λ totals. totals ≡ unwrap_or (get books.totals code) nothing)) }
     ensures leaves { Leaves (state S.Store conn.old) (state S.Store conn.new) }
     ensures mode { conn.old.in_transaction ≡ false → conn.new.in_transaction ≡ false }
 {
@@ -136,14 +139,22 @@ fn renew<S: Alter>(
     requires order { AreInOrder names.old.lists.items }
     ensures order { AreInOrder names.new.lists.items }
     ensures mode { conn.new.in_transaction ≡ false }
-    ensures earlier { HasCleanDisk (state S.Store conn.new) → HasCleanDisk (state S.Store conn.old) }
-    ensures renewed { (m : Content) → HoldsEarlierContent (state S.Store conn.old) m → OnOk result (HoldsContent (state S.Store conn.new) m) }
-    ensures as_before { (m : Content) → HoldsEarlierContent (state S.Store conn.old) m → OnErr result (HoldsEarlierContent (state S.Store conn.new) m) }
-    ensures crash { (m : Content) → HoldsEarlierContent (state S.Store conn.old) m → Survives (state S.Store conn.old) (state S.Store conn.new) (λ db. StandsFor db m) }
-    ensures after { (m : Content) → HoldsEarlierContent (state S.Store conn.old) m → OnOk result (LeavesOnly (state S.Store conn.new) m) }
-    ensures schema { (m : Content) → HoldsEarlierContent (state S.Store conn.old) m → OnOk result (HasShopSchema (state S.Store conn.new)) }
-    ensures unwritten { result ≡ Err WrongVersion → Leaves (state S.Store conn.old) (state S.Store conn.new) }
-    ensures neither { result ≡ Err WrongVersion → HasCleanDisk (state S.Store conn.new) → (m : Content) → HoldsEarlierContent (state S.Store conn.old) m → ⊥ }
+    ensures earlier { HasCleanDisk (state S.Store conn.new)
+        → HasCleanDisk (state S.Store conn.old) }
+    ensures renewed { (m : Content) → HoldsEarlierContent (state S.Store conn.old) m
+        → OnOk result (HoldsContent (state S.Store conn.new) m) }
+    ensures as_before { (m : Content) → HoldsEarlierContent (state S.Store conn.old) m
+        → OnErr result (HoldsEarlierContent (state S.Store conn.new) m) }
+    ensures crash { (m : Content) → HoldsEarlierContent (state S.Store conn.old) m
+        → Survives (state S.Store conn.old) (state S.Store conn.new) (λ db. StandsFor db m) }
+    ensures after { (m : Content) → HoldsEarlierContent (state S.Store conn.old) m
+        → OnOk result (LeavesOnly (state S.Store conn.new) m) }
+    ensures schema { (m : Content) → HoldsEarlierContent (state S.Store conn.old) m
+        → OnOk result (HasShopSchema (state S.Store conn.new)) }
+    ensures unwritten { result ≡ Err WrongVersion
+        → Leaves (state S.Store conn.old) (state S.Store conn.new) }
+    ensures neither { result ≡ Err WrongVersion → HasCleanDisk (state S.Store conn.new)
+        → (m : Content) → HoldsEarlierContent (state S.Store conn.old) m → ⊥ }
 {
     match have_earlier_sums(alloc, conn, names) {
         Ok(true) => {}
@@ -184,30 +195,70 @@ impl<S: Alter> SqlBook<S> {
         ensures mode { IfErr result (λ back. back.1.in_transaction ≡ false) }
         ensures failures { IfOk result (λ book. book.failures ≡ 0) }
         ensures unlisted { IfOk result (λ book. book.work.is_listed ≡ false) }
-        ensures earlier { EitherWay (λ book. book.conn) (λ after. HasCleanDisk (state S.Store after) → HasCleanDisk (state S.Store conn)) result }
-        ensures fresh { conn.schema ≡ no_schema → IfOk result (λ book. HoldsContent (state S.Store book.conn) fresh) }
-        ensures vacant { conn.schema ≡ no_schema → IfErr result (λ back. IsVacant (state S.Store back.1)) }
-        ensures crash { conn.schema ≡ no_schema → EitherWay (λ book. book.conn) (λ after. Survives (state S.Store conn) (state S.Store after) (λ db. StandsFor db fresh)) result }
-        ensures after { conn.schema ≡ no_schema → IfOk result (λ book. LeavesOnly (state S.Store book.conn) fresh) }
-        ensures held { (m : Content) → IsSettledAt (state S.Store conn) m → EitherWay (λ book. book.conn) (λ after. HoldsContent (state S.Store after) m) result }
-        ensures sums { IfOk result (λ book. HasCleanDisk (state S.Store book.conn) → (b : Books) → IsSettled (state S.Store conn) b → HasSums b × Holds (state S.Store book.conn) b) }
-        ensures still { IsShop conn.schema → EitherWay (λ book. book.conn) (λ after. Survives (state S.Store conn) (state S.Store after) (λ _. ⊥)) result }
+        ensures earlier { EitherWay (λ book. book.conn)
+            (λ after. HasCleanDisk (state S.Store after)
+            → HasCleanDisk (state S.Store conn)) result }
+        ensures fresh { conn.schema ≡ no_schema
+            → IfOk result (λ book. HoldsContent (state S.Store book.conn) fresh) }
+        ensures vacant { conn.schema ≡ no_schema
+            → IfErr result (λ back. IsVacant (state S.Store back.1)) }
+        ensures crash { conn.schema ≡ no_schema
+            → EitherWay (λ book. book.conn)
+            (λ after. Survives (state S.Store conn) (state S.Store after)
+            (λ db. StandsFor db fresh)) result }
+        ensures after { conn.schema ≡ no_schema
+            → IfOk result (λ book. LeavesOnly (state S.Store book.conn) fresh) }
+        ensures held { (m : Content) → IsSettledAt (state S.Store conn) m
+            → EitherWay (λ book. book.conn) (λ after. HoldsContent (state S.Store after) m) result }
+        ensures sums { IfOk result
+            (λ book. HasCleanDisk (state S.Store book.conn) → (b : Books)
+            → IsSettled (state S.Store conn) b → HasSums b
+            × Holds (state S.Store book.conn) b) }
+        ensures still { IsShop conn.schema
+            → EitherWay (λ book. book.conn)
+            (λ after. Survives (state S.Store conn) (state S.Store after) (λ _. ⊥)) result }
         ensures strange { IfErr result (λ back. back.0 ≡ WrongVersion → conn.schema ≢ no_schema) }
-        ensures unwritten { IfErr result (λ back. back.0 ≡ WrongVersion → Leaves (state S.Store conn) (state S.Store back.1)) }
-        ensures neither { IfErr result (λ back. back.0 ≡ WrongVersion → HasCleanDisk (state S.Store back.1) → (m : Content) → IsSettledAt (state S.Store conn) m → ⊥) }
-        ensures renewed { (m : Content) → IsSettledEarlierAt (state S.Store conn) m → IfOk result (λ book. HoldsContent (state S.Store book.conn) m) }
-        ensures as_before { (m : Content) → IsSettledEarlierAt (state S.Store conn) m → IfErr result (λ back. HoldsEarlierContent (state S.Store back.1) m) }
-        ensures renewed_crash { (m : Content) → IsSettledEarlierAt (state S.Store conn) m → EitherWay (λ book. book.conn) (λ after. Survives (state S.Store conn) (state S.Store after) (λ db. StandsFor db m)) result }
-        ensures renewed_after { (m : Content) → IsSettledEarlierAt (state S.Store conn) m → IfOk result (λ book. LeavesOnly (state S.Store book.conn) m) }
-        ensures not_earlier { IfErr result (λ back. back.0 ≡ WrongVersion → HasCleanDisk (state S.Store back.1) → (m : Content) → IsSettledEarlierAt (state S.Store conn) m → ⊥) }
-        ensures schema { conn.schema ≡ no_schema → IfOk result (λ book. HasShopSchema (state S.Store book.conn)) }
-        ensures renewed_schema { (m : Content) → IsSettledEarlierAt (state S.Store conn) m → IfOk result (λ book. HasShopSchema (state S.Store book.conn)) }
-        ensures held_after { (m : Content) → IsSettledAt (state S.Store conn) m → IsTrue (state S.Store conn).is_open → EitherWay (λ book. book.conn) (λ after. LeavesOnly (state S.Store after) m) result }
-        ensures version { IsShop conn.schema → IfOk result (λ book. HasCleanDisk (state S.Store book.conn) → HasVersion (state S.Store conn) 2) }
-        ensures earlier_version { conn.schema ≡ earlier_schema → IfOk result (λ book. HasCleanDisk (state S.Store book.conn) → HasVersion (state S.Store conn) 1) }
-        ensures read_only { IsShop conn.schema → EitherWay (λ book. book.conn) (λ after. Leaves (state S.Store conn) (state S.Store after)) result }
-        ensures earlier_read_only { conn.schema ≡ earlier_schema → (¬ HasVersion (state S.Store conn) 1) → EitherWay (λ book. book.conn) (λ after. HasCleanDisk (state S.Store after) → Leaves (state S.Store conn) (state S.Store after)) result }
-        ensures free { names_are_free conn.schema ≡ true → IfErr result (λ back. back.0 ≢ WrongVersion) }
+        ensures unwritten { IfErr result
+            (λ back. back.0 ≡ WrongVersion → Leaves (state S.Store conn) (state S.Store back.1)) }
+        ensures neither { IfErr result
+            (λ back. back.0 ≡ WrongVersion → HasCleanDisk (state S.Store back.1) → (m : Content)
+            → IsSettledAt (state S.Store conn) m → ⊥) }
+        ensures renewed { (m : Content) → IsSettledEarlierAt (state S.Store conn) m
+            → IfOk result (λ book. HoldsContent (state S.Store book.conn) m) }
+        ensures as_before { (m : Content) → IsSettledEarlierAt (state S.Store conn) m
+            → IfErr result (λ back. HoldsEarlierContent (state S.Store back.1) m) }
+        ensures renewed_crash { (m : Content) → IsSettledEarlierAt (state S.Store conn) m
+            → EitherWay (λ book. book.conn)
+            (λ after. Survives (state S.Store conn) (state S.Store after)
+            (λ db. StandsFor db m)) result }
+        ensures renewed_after { (m : Content) → IsSettledEarlierAt (state S.Store conn) m
+            → IfOk result (λ book. LeavesOnly (state S.Store book.conn) m) }
+        ensures not_earlier { IfErr result
+            (λ back. back.0 ≡ WrongVersion → HasCleanDisk (state S.Store back.1) → (m : Content)
+            → IsSettledEarlierAt (state S.Store conn) m → ⊥) }
+        ensures schema { conn.schema ≡ no_schema
+            → IfOk result (λ book. HasShopSchema (state S.Store book.conn)) }
+        ensures renewed_schema { (m : Content) → IsSettledEarlierAt (state S.Store conn) m
+            → IfOk result (λ book. HasShopSchema (state S.Store book.conn)) }
+        ensures held_after { (m : Content) → IsSettledAt (state S.Store conn) m
+            → IsTrue (state S.Store conn).is_open
+            → EitherWay (λ book. book.conn) (λ after. LeavesOnly (state S.Store after) m) result }
+        ensures version { IsShop conn.schema
+            → IfOk result (λ book. HasCleanDisk (state S.Store book.conn)
+            → HasVersion (state S.Store conn) 2) }
+        ensures earlier_version { conn.schema ≡ earlier_schema
+            → IfOk result (λ book. HasCleanDisk (state S.Store book.conn)
+            → HasVersion (state S.Store conn) 1) }
+        ensures read_only { IsShop conn.schema
+            → EitherWay (λ book. book.conn)
+            (λ after. Leaves (state S.Store conn) (state S.Store after)) result }
+        ensures earlier_read_only { conn.schema ≡ earlier_schema
+            → (¬ HasVersion (state S.Store conn) 1)
+            → EitherWay (λ book. book.conn)
+            (λ after. HasCleanDisk (state S.Store after)
+            → Leaves (state S.Store conn) (state S.Store after)) result }
+        ensures free { names_are_free conn.schema ≡ true
+            → IfErr result (λ back. back.0 ≢ WrongVersion) }
     {
         match adopt_tables(&mut conn) {
             Ok(Adopted::Made) => Ok(SqlBook::over(alloc, conn, PartNames::new(alloc))),
@@ -226,9 +277,14 @@ impl<S: Alter> SqlBook<S> {
         ensures mode { IfErr result (λ back. back.1.in_transaction ≡ false) }
         ensures failures { IfOk result (λ book. book.failures ≡ 0) }
         ensures unlisted { IfOk result (λ book. book.work.is_listed ≡ false) }
-        ensures leaves { EitherWay (λ book. book.conn) (λ after. Leaves (state S.Store conn) (state S.Store after)) result }
-        ensures sums { IfOk result (λ book. HasCleanDisk (state S.Store book.conn) → (b : Books) → Holds (state S.Store conn) b → HasSums b) }
-        ensures neither { IfErr result (λ back. back.0 ≡ WrongVersion → HasCleanDisk (state S.Store back.1) → (b : Books) → Holds (state S.Store conn) b → ¬ HasSums b) }
+        ensures leaves { EitherWay (λ book. book.conn)
+            (λ after. Leaves (state S.Store conn) (state S.Store after)) result }
+        ensures sums { IfOk result
+            (λ book. HasCleanDisk (state S.Store book.conn) → (b : Books)
+            → Holds (state S.Store conn) b → HasSums b) }
+        ensures neither { IfErr result
+            (λ back. back.0 ≡ WrongVersion → HasCleanDisk (state S.Store back.1) → (b : Books)
+            → Holds (state S.Store conn) b → ¬ HasSums b) }
     {
         let mut names = PartNames::new(alloc);
         match have_sums(alloc, &mut conn, &mut names) {
@@ -247,14 +303,26 @@ impl<S: Alter> SqlBook<S> {
         ensures mode { IfErr result (λ back. back.1.in_transaction ≡ false) }
         ensures failures { IfOk result (λ book. book.failures ≡ 0) }
         ensures unlisted { IfOk result (λ book. book.work.is_listed ≡ false) }
-        ensures earlier { EitherWay (λ book. book.conn) (λ after. HasCleanDisk (state S.Store after) → HasCleanDisk (state S.Store conn)) result }
-        ensures renewed { (m : Content) → HoldsEarlierContent (state S.Store conn) m → IfOk result (λ book. HoldsContent (state S.Store book.conn) m) }
-        ensures as_before { (m : Content) → HoldsEarlierContent (state S.Store conn) m → IfErr result (λ back. HoldsEarlierContent (state S.Store back.1) m) }
-        ensures crash { (m : Content) → HoldsEarlierContent (state S.Store conn) m → EitherWay (λ book. book.conn) (λ after. Survives (state S.Store conn) (state S.Store after) (λ db. StandsFor db m)) result }
-        ensures after { (m : Content) → HoldsEarlierContent (state S.Store conn) m → IfOk result (λ book. LeavesOnly (state S.Store book.conn) m) }
-        ensures schema { (m : Content) → HoldsEarlierContent (state S.Store conn) m → IfOk result (λ book. HasShopSchema (state S.Store book.conn)) }
-        ensures unwritten { IfErr result (λ back. back.0 ≡ WrongVersion → Leaves (state S.Store conn) (state S.Store back.1)) }
-        ensures neither { IfErr result (λ back. back.0 ≡ WrongVersion → HasCleanDisk (state S.Store back.1) → (m : Content) → HoldsEarlierContent (state S.Store conn) m → ⊥) }
+        ensures earlier { EitherWay (λ book. book.conn)
+            (λ after. HasCleanDisk (state S.Store after)
+            → HasCleanDisk (state S.Store conn)) result }
+        ensures renewed { (m : Content) → HoldsEarlierContent (state S.Store conn) m
+            → IfOk result (λ book. HoldsContent (state S.Store book.conn) m) }
+        ensures as_before { (m : Content) → HoldsEarlierContent (state S.Store conn) m
+            → IfErr result (λ back. HoldsEarlierContent (state S.Store back.1) m) }
+        ensures crash { (m : Content) → HoldsEarlierContent (state S.Store conn) m
+            → EitherWay (λ book. book.conn)
+            (λ after. Survives (state S.Store conn) (state S.Store after)
+            (λ db. StandsFor db m)) result }
+        ensures after { (m : Content) → HoldsEarlierContent (state S.Store conn) m
+            → IfOk result (λ book. LeavesOnly (state S.Store book.conn) m) }
+        ensures schema { (m : Content) → HoldsEarlierContent (state S.Store conn) m
+            → IfOk result (λ book. HasShopSchema (state S.Store book.conn)) }
+        ensures unwritten { IfErr result
+            (λ back. back.0 ≡ WrongVersion → Leaves (state S.Store conn) (state S.Store back.1)) }
+        ensures neither { IfErr result
+            (λ back. back.0 ≡ WrongVersion → HasCleanDisk (state S.Store back.1) → (m : Content)
+            → HoldsEarlierContent (state S.Store conn) m → ⊥) }
     {
         let mut names = PartNames::new(alloc);
         match renew(alloc, &mut conn, &mut names) {

@@ -2,7 +2,7 @@
 
 ghost use Rattle.shop_store.specs.Takers.{TakesPart};
 
-use shop_machine::{Part, PartList, PartVisitor};
+use shop_records::{Part, PartList, PartVisitor};
 
 /// Takes the parts that are handed out. It stops where memory is wanting.
 #[derive(Drop)]

@@ -11,9 +11,9 @@ use Rattle.sqlite_value.specs.Order.{Row, column}
 use Rattle.sqlite_value.specs.declared.value.Value.TheVariants.{Text}
 use Rattle.sqlite_trees.proofs.ListLemmas.{all-get_or}
 use Rattle.cut_measure.specs.Codes.{code_cmp, is_code}
-use Rattle.shop_machine.specs.Content.{no_totals}
-use Rattle.shop_machine.specs.declared.changes.MaterialTotals.{MaterialTotals}
-use Rattle.shop_machine.specs.declared.records.Totals.{Totals}
+use Rattle.shop_records.specs.Content.{no_totals}
+use Rattle.shop_records.specs.declared.changes.MaterialTotals.{MaterialTotals}
+use Rattle.shop_records.specs.declared.records.Totals.{Totals}
 use Rattle.shop_tables.specs.Listing.{AreAllTotals, AreCodes, code_row, key_of, listed_row, named}
 use Rattle.shop_statements.specs.Shown.{Books}
 use Rattle.shop_tables.specs.Strange.{Shows}

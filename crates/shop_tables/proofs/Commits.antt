@@ -10,9 +10,9 @@ use Rattle.sqlite.specs.Steps.{FailsToCommit}
 use Rattle.sqlite.specs.declared.error.Error.{Error}
 use Rattle.sqlite.proofs.StateLemmas.{survives_then}
 use Rattle.sqlite.proofs.Callers.{survives_begin}
-use Rattle.shop_machine.specs.Content.{Content, changed}
-use Rattle.shop_machine.specs.Soundness.{Fits}
-use Rattle.shop_machine.specs.declared.changes.Change.{Change}
+use Rattle.shop_records.specs.Content.{Content, changed}
+use Rattle.shop_records.specs.Soundness.{Fits}
+use Rattle.shop_records.specs.declared.changes.Change.{Change}
 use Rattle.shop_statements.specs.Layout.{IsShop}
 use Rattle.shop_statements.specs.Rows.{Stands}
 use Rattle.shop_statements.specs.Shown.{Books, Shows, Holds, Ran, Makes, Within, StandsIn}

@@ -4,8 +4,8 @@ use Rattle.std.specs.FinMap.{values}
 use Rattle.sqlite_trees.specs.declared.store.Store.{Ghosts}
 use Rattle.sqlite.specs.Held.{Held, state}
 use Rattle.sqlite.specs.State.{HasCleanDisk}
-use Rattle.shop_machine.specs.Visits.{IsVisit}
-use Rattle.shop_machine.specs.declared.records.Part.{Part}
+use Rattle.shop_records.specs.Visits.{IsVisit}
+use Rattle.shop_records.specs.declared.records.Part.{Part}
 use Rattle.shop_statements.specs.Earlier.{HoldsEarlier, OnBooksEarlier, ShowsEarlier, earlier_schema}
 use Rattle.shop_tables.specs.Lending.{IsLent, gone_through}
 use Rattle.shop_statements.specs.Shown.{Books}

@@ -16,7 +16,7 @@ use Rattle.sqlite.specs.Term.{Term, lit, col}
 use Rattle.sqlite.specs.declared.error.Error.{Error}
 use Rattle.sqlite.specs.declared.rows.Row.{Row as Answered}
 use Rattle.sqlite.proofs.Callers.{reads_as}
-use Rattle.shop_machine.specs.declared.records.Totals.{Totals}
+use Rattle.shop_records.specs.declared.records.Totals.{Totals}
 use Rattle.shop_statements.specs.Earlier.{HasNoneReturned, HoldsEarlier, ShowsEarlier, StandsEarlier, earlier_row, earlier_schema}
 use Rattle.shop_tables.specs.Lending.{IsHeldAt}
 use Rattle.shop_tables.specs.Listing.{listed_row}

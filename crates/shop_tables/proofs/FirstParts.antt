@@ -17,9 +17,9 @@ use Rattle.sqlite.specs.State.{State, Shown}
 use Rattle.sqlite.specs.Term.{Term, eval, holds}
 use Rattle.sqlite.proofs.Callers.{reads_as}
 use Rattle.cut_measure.specs.Names.{Name}
-use Rattle.shop_machine.specs.Content.{is_listed, parts_of}
-use Rattle.shop_machine.specs.Listing.{is_behind, parts_behind}
-use Rattle.shop_machine.specs.declared.records.Part.{Part}
+use Rattle.shop_records.specs.Content.{is_listed, parts_of}
+use Rattle.shop_records.specs.Lists.{is_behind, parts_behind}
+use Rattle.shop_records.specs.declared.records.Part.{Part}
 use Rattle.shop_tables.specs.ListedRows.{listed_part}
 use Rattle.shop_statements.specs.Rows.{part_row}
 use Rattle.shop_statements.specs.Shown.{Books, Shows}

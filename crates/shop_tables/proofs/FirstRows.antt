@@ -25,13 +25,13 @@ use Rattle.sqlite.specs.Term.{Term, col, eval, holds}
 use Rattle.sqlite.specs.Schema.{Schema}
 use Rattle.sqlite.specs.State.{State, HasCleanDisk, Shown}
 use Rattle.sqlite.proofs.Callers.{reads_as}
-use Rattle.shop_machine.specs.Columns.{is_waiting}
-use Rattle.shop_machine.specs.Listing.{is_asked_for, is_open, materials_of, open_demands, waiting_jobs}
-use Rattle.shop_machine.specs.declared.records.Demand.{Demand}
-use Rattle.shop_machine.specs.declared.records.Job.{Job}
-use Rattle.shop_machine.specs.declared.records.JobState.{JobState}
-use Rattle.shop_machine.specs.declared.records.JobState.TheVariants as stands
-use Rattle.shop_machine.specs.declared.records.Material.{Material}
+use Rattle.shop_records.specs.Columns.{is_waiting}
+use Rattle.shop_records.specs.Lists.{is_asked_for, is_open, materials_of, open_demands, waiting_jobs}
+use Rattle.shop_records.specs.declared.records.Demand.{Demand}
+use Rattle.shop_records.specs.declared.records.Job.{Job}
+use Rattle.shop_records.specs.declared.records.JobState.{JobState}
+use Rattle.shop_records.specs.declared.records.JobState.TheVariants as stands
+use Rattle.shop_records.specs.declared.records.Material.{Material}
 use Rattle.shop_tables.specs.Listing.{code_row}
 use Rattle.shop_tables.specs.ListedRows.{listed_demand, listed_material, number_row}
 use Rattle.shop_statements.specs.Rows.{demand_columns, demand_row, job_row, job_state_number, material_columns, material_row}

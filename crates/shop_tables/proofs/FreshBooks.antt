@@ -3,8 +3,8 @@ use Rattle.std.proofs.Common.{is_some, unwrap_or, map, sym, ap, ◌∙◌}
 use Rattle.std.specs.FinMap.{get-empty}
 use Rattle.cut_measure.specs.Codes.{code_cmp}
 use Rattle.cut_measure.specs.Names.{Name, name_cmp}
-use Rattle.shop_machine.specs.Content.{totals_in, no_totals}
-use Rattle.shop_machine.specs.declared.records.Part.{Part}
+use Rattle.shop_records.specs.Content.{totals_in, no_totals}
+use Rattle.shop_records.specs.declared.records.Part.{Part}
 use Rattle.shop_tables.specs.Changing.{HasSums}
 use Rattle.shop_statements.specs.Shown.{fresh_books}
 use Rattle.shop_tables.proofs.Lays.{no_entries}

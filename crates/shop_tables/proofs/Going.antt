@@ -11,8 +11,8 @@ use Rattle.sqlite.specs.State.{State, HasCleanDisk, IsUnchanged, Survives, Commi
 use Rattle.sqlite.specs.Held.{Held, state}
 use Rattle.sqlite.specs.Given.{HasGiven, HasBegun, Returns, Advances}
 use Rattle.sqlite.proofs.Callers.{given_begin, unchanged_then}
-use Rattle.shop_machine.specs.declared.records.Part.{Part}
-use Rattle.shop_machine.specs.Visits.{GoesOn}
+use Rattle.shop_records.specs.declared.records.Part.{Part}
+use Rattle.shop_records.specs.Visits.{GoesOn}
 use Rattle.shop_tables.specs.Lending.{AreReadOf, IsReadOf, IsHeldAt, IsLent, Starts, Answers}
 use Rattle.shop_statements.specs.declared.faults.TableFault.{TableFault}
 use Rattle.shop_tables.specs.declared.lending.Lent.{Lent}

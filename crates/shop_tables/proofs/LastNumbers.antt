@@ -11,10 +11,10 @@ use Rattle.sqlite.specs.Query.{Output}
 use Rattle.sqlite.specs.State.{State, Shown}
 use Rattle.sqlite.specs.Term.{lit}
 use Rattle.sqlite.proofs.Callers.{reads_as}
-use Rattle.shop_machine.specs.Content.{Content, kept_at}
-use Rattle.shop_machine.specs.Listing.{IsLastNumber}
-use Rattle.shop_machine.specs.declared.texts.Kept.{Kept}
-use Rattle.shop_machine.specs.declared.texts.Pair.{Pair}
+use Rattle.shop_records.specs.Content.{Content, kept_at}
+use Rattle.shop_records.specs.Lists.{IsLastNumber}
+use Rattle.shop_records.specs.declared.texts.Kept.{Kept}
+use Rattle.shop_records.specs.declared.texts.Pair.{Pair}
 use Rattle.shop_tables.specs.ListedRows.{IsLastRow, number_row}
 use Rattle.shop_statements.specs.Rows.{kept_row}
 use Rattle.shop_statements.specs.Shown.{Books, Shows}
@@ -84,7 +84,7 @@ module _ (m : Content) (terminal : ℕ) where
   of_found : (P : Message → Type 0) → AllByRecursion P mine → (number : ℕ) (x : Kept) → kept_at m (record { terminal = terminal; number = number }) ≡ Some x → P (record { terminal = terminal; number = number }, x)
   of_found P all number x found =
       let k : Pair = record { terminal = terminal; number = number } in
-      let there = all-filter (λ e. is_of terminal e ≡ true → P e) (λ (e : Message). eq_by_cmp Rattle.shop_machine.specs.Content.pair_cmp e.0 k) (entries m.kept) (from_filter P (entries m.kept) all) in
+      let there = all-filter (λ e. is_of terminal e ≡ true → P e) (λ (e : Message). eq_by_cmp Rattle.shop_records.specs.Content.pair_cmp e.0 k) (entries m.kept) (from_filter P (entries m.kept) all) in
       (subst (AllByRecursion (λ e. is_of terminal e ≡ true → P e)) (entry_at_is Kept pair_total pair_same m.kept k ∙ ap (listed Kept pair_total pair_same k) found) there).0 (itself terminal)
     where
       itself : (n : ℕ) → (n == n) ≡ true

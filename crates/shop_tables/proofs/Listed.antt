@@ -24,14 +24,14 @@ use Rattle.sqlite.specs.State.{State, HasCleanDisk, Shown, Begins}
 use Rattle.sqlite.proofs.Callers.{reads_as, begins_as}
 use Rattle.cut_measure.specs.Codes.{code_cmp}
 use Rattle.cut_measure.specs.Names.{Name, name_cmp}
-use Rattle.shop_machine.specs.Columns.{is_there}
-use Rattle.shop_machine.specs.Content.{Content, is_listed, part_at, parts_of}
-use Rattle.shop_machine.specs.History.{IsIn}
-use Rattle.shop_machine.specs.Visits.{IsVisit}
-use Rattle.shop_machine.specs.declared.records.Part.{Part}
-use Rattle.shop_machine.specs.declared.records.State.{State as PartState}
-use Rattle.shop_machine.specs.declared.records.State.TheVariants as stands
-use Rattle.shop_machine.proofs.Marks.{found_in}
+use Rattle.shop_records.specs.Columns.{is_there}
+use Rattle.shop_records.specs.Content.{Content, is_listed, part_at, parts_of}
+use Rattle.shop_records.specs.Elements.{IsIn}
+use Rattle.shop_records.specs.Visits.{IsVisit}
+use Rattle.shop_records.specs.declared.records.Part.{Part}
+use Rattle.shop_records.specs.declared.records.State.{State as PartState}
+use Rattle.shop_records.specs.declared.records.State.TheVariants as stands
+use Rattle.shop_records.proofs.Entries.{found_in}
 use Rattle.shop_tables.specs.Lending.{AreReadOf, IsHeldAt, IsLent, gone_through}
 use Rattle.shop_statements.specs.declared.faults.TableFault.{TableFault}
 use Rattle.shop_tables.specs.declared.lending.Lent.{Lent}

@@ -27,7 +27,7 @@ use Rattle.sqlite.specs.Program.{overlay, IsProgramAnswer}
 use Rattle.sqlite.specs.State.{State, HasCleanDisk, Shown}
 use Rattle.sqlite.proofs.Callers.{reads_as}
 use Rattle.cut_measure.specs.Codes.{code_cmp}
-use Rattle.shop_machine.specs.declared.records.Material.{Material}
+use Rattle.shop_records.specs.declared.records.Material.{Material}
 use Rattle.shop_tables.specs.Listing.{code_row, key_of, listed_row}
 use Rattle.shop_statements.specs.Rows.{AreRows, material_row, totals_row}
 use Rattle.shop_statements.specs.Selecting.{is_select}

@@ -29,8 +29,8 @@ use Rattle.sqlite.specs.declared.error.Error.{Error}
 use Rattle.sqlite.proofs.Callers.{statement_of, one_permutation}
 use Rattle.sqlite_tied.specs.Compute.{everything}
 use Rattle.cut_measure.specs.Codes.{code_cmp}
-use Rattle.shop_machine.specs.Content.{Content}
-use Rattle.shop_machine.specs.declared.records.Totals.{Totals}
+use Rattle.shop_records.specs.Content.{Content}
+use Rattle.shop_records.specs.declared.records.Totals.{Totals}
 use Rattle.shop_statements.specs.Layout.{shop_schema, IsShop, meta_table, totals_table, totals2_table}
 use Rattle.shop_statements.specs.Rows.{AreOrders, AreRows, meta_row, meta_entries, totals_row}
 use Rattle.shop_statements.specs.Shown.{Books, Shows}

@@ -19,7 +19,7 @@ use Rattle.sqlite.proofs.Theorems.{opens_again}
 use Rattle.sqlite_store.specs.FileStore.{view, recovers}
 use Rattle.sqlite_store.specs.FileStore as store
 use Rattle.sqlite_wal.specs.Recovery.{Image}
-use Rattle.shop_machine.specs.Content.{Content}
+use Rattle.shop_records.specs.Content.{Content}
 use Rattle.shop_statements.specs.Earlier.{IsSettledEarlier, StandsEarlier, StandsInEarlier, earlier_schema}
 use Rattle.shop_statements.specs.Layout.{IsShop}
 use Rattle.shop_statements.specs.Rows.{Stands}

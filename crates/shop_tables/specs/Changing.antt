@@ -4,17 +4,17 @@ use Rattle.std.specs.declared.cmp.Ordering.{Ordering}
 use Rattle.std.specs.Ordering.{nat_cmp}
 use Rattle.std.specs.FinMap.{FinMap, get, insert}
 use Rattle.cut_measure.specs.Codes.{code_cmp}
-use Rattle.shop_machine.specs.Content as content
-use Rattle.shop_machine.specs.Content.{material_at, totals_of, no_totals, changed}
-use Rattle.shop_machine.specs.declared.changes.Change.{Change}
-use Rattle.shop_machine.specs.declared.changes.MaterialTotals.{MaterialTotals}
-use Rattle.shop_machine.specs.declared.imports.ImportRow.{ImportRow}
-use Rattle.shop_machine.specs.declared.texts.KeptMessage.{KeptMessage}
-use Rattle.shop_machine.specs.declared.records.Demand.{Demand}
-use Rattle.shop_machine.specs.declared.records.Job.{Job}
-use Rattle.shop_machine.specs.declared.records.Material.{Material}
-use Rattle.shop_machine.specs.declared.records.Part.{Part}
-use Rattle.shop_machine.specs.declared.records.Totals.{Totals}
+use Rattle.shop_records.specs.Content as content
+use Rattle.shop_records.specs.Content.{material_at, totals_of, no_totals, changed}
+use Rattle.shop_records.specs.declared.changes.Change.{Change}
+use Rattle.shop_records.specs.declared.changes.MaterialTotals.{MaterialTotals}
+use Rattle.shop_records.specs.declared.imports.ImportRow.{ImportRow}
+use Rattle.shop_records.specs.declared.texts.KeptMessage.{KeptMessage}
+use Rattle.shop_records.specs.declared.records.Demand.{Demand}
+use Rattle.shop_records.specs.declared.records.Job.{Job}
+use Rattle.shop_records.specs.declared.records.Material.{Material}
+use Rattle.shop_records.specs.declared.records.Part.{Part}
+use Rattle.shop_records.specs.declared.records.Totals.{Totals}
 use Rattle.shop_tables.specs.Listing.{HaveTotals}
 use Rattle.shop_statements.specs.Shown.{Books}
 

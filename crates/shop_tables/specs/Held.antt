@@ -3,8 +3,8 @@ use Rattle.std.specs.FinMap.{FinMap}
 use Rattle.sqlite_trees.specs.Tree.{Trees}
 use Rattle.sqlite.specs.State.{State, HasCleanDisk}
 use Rattle.cut_measure.specs.Codes.{code_cmp}
-use Rattle.shop_machine.specs.Content.{Content}
-use Rattle.shop_machine.specs.declared.records.Totals.{Totals}
+use Rattle.shop_records.specs.Content.{Content}
+use Rattle.shop_records.specs.declared.records.Totals.{Totals}
 use Rattle.shop_statements.specs.Shown.{Books, IsSettled, Holds, StandsIn}
 use Rattle.shop_tables.specs.Changing.{HasSums}
 

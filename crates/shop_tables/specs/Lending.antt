@@ -5,8 +5,8 @@ use Rattle.sqlite_trees.specs.declared.store.Store.{Ghosts}
 use Rattle.sqlite.specs.Held.{Held, state}
 use Rattle.sqlite.specs.State.{HasCleanDisk, Shown, Begins}
 use Rattle.cut_measure.specs.Names.{Name}
-use Rattle.shop_machine.specs.declared.records.Part.{Part}
-use Rattle.shop_machine.specs.Visits.{HasSeen}
+use Rattle.shop_records.specs.declared.records.Part.{Part}
+use Rattle.shop_records.specs.Visits.{HasSeen}
 use Rattle.shop_statements.specs.declared.faults.TableFault.{TableFault}
 use Rattle.shop_statements.specs.declared.faults.TableFault.TheVariants as fault
 use Rattle.shop_tables.specs.declared.lending.Lent.{Lent}

@@ -103,14 +103,22 @@ fn are_earlier(schema: &Schema) -> bool
 // Makes the tables, in one transaction.
 fn lay<S: Alter>(conn: &mut Connection<S>) -> Result<(), Error>
     requires outside { conn.old.in_transaction ≡ false }
-    requires settled { IsTrue (state S.Store conn.old).is_open → (state S.Store conn.old).now ≡ (state S.Store conn.old).committed }
+    requires settled { IsTrue (state S.Store conn.old).is_open
+        → (state S.Store conn.old).now ≡ (state S.Store conn.old).committed }
     ensures mode { conn.new.in_transaction ≡ false }
-    ensures earlier { HasCleanDisk (state S.Store conn.new) → HasCleanDisk (state S.Store conn.old) }
-    ensures fresh { conn.old.schema ≡ no_schema → OnOk result (Holds (state S.Store conn.new) fresh_books) }
-    ensures vacant { conn.old.schema ≡ no_schema → OnErr result (IsVacant (state S.Store conn.new)) }
-    ensures crash { conn.old.schema ≡ no_schema → Survives (state S.Store conn.old) (state S.Store conn.new) (λ db. StandsIn db fresh_books) }
-    ensures after { conn.old.schema ≡ no_schema → OnOk result (LeavesBooks (state S.Store conn.new) fresh_books) }
-    ensures schema { conn.old.schema ≡ no_schema → OnOk result (HasShopSchema (state S.Store conn.new)) }
+    ensures earlier { HasCleanDisk (state S.Store conn.new)
+        → HasCleanDisk (state S.Store conn.old) }
+    ensures fresh { conn.old.schema ≡ no_schema
+        → OnOk result (Holds (state S.Store conn.new) fresh_books) }
+    ensures vacant { conn.old.schema ≡ no_schema
+        → OnErr result (IsVacant (state S.Store conn.new)) }
+    ensures crash { conn.old.schema ≡ no_schema
+        → Survives (state S.Store conn.old) (state S.Store conn.new)
+        (λ db. StandsIn db fresh_books) }
+    ensures after { conn.old.schema ≡ no_schema
+        → OnOk result (LeavesBooks (state S.Store conn.new) fresh_books) }
+    ensures schema { conn.old.schema ≡ no_schema
+        → OnOk result (HasShopSchema (state S.Store conn.new)) }
 {
     let mut tx = conn.transaction();
     lay_tables(&mut tx)?;
@@ -119,9 +127,14 @@ fn lay<S: Alter>(conn: &mut Connection<S>) -> Result<(), Error>
 
 // Whether the tables say that they are of this version.
 fn has_version<S: Alter>(conn: &mut Connection<S>, wanted: u32) -> Result<bool, TableFault>
-    ensures ours { wanted ≡ 2 → OnBooks (state S.Store conn.old) (state S.Store conn.new) (λ books. IfOk result (λ is. is ≡ true)) }
-    ensures one { wanted ≡ 1 → OnBooksEarlier (state S.Store conn.old) (state S.Store conn.new) (λ books. IfOk result (λ is. is ≡ true)) }
-    ensures named { HasCleanDisk (state S.Store conn.new) → IsShop conn.old.schema ⊎ (conn.old.schema ≡ earlier_schema) → IfOk result (λ is. IsTrue is → HasVersion (state S.Store conn.old) wanted) }
+    ensures ours { wanted ≡ 2
+        → OnBooks (state S.Store conn.old) (state S.Store conn.new)
+        (λ books. IfOk result (λ is. is ≡ true)) }
+    ensures one { wanted ≡ 1 → OnBooksEarlier (state S.Store conn.old) (state S.Store conn.new)
+        (λ books. IfOk result (λ is. is ≡ true)) }
+    ensures named { HasCleanDisk (state S.Store conn.new) → IsShop conn.old.schema
+        ⊎ (conn.old.schema ≡ earlier_schema)
+        → IfOk result (λ is. IsTrue is → HasVersion (state S.Store conn.old) wanted) }
     ensures leaves { Leaves (state S.Store conn.old) (state S.Store conn.new) }
     ensures mode { conn.old.in_transaction ≡ false → conn.new.in_transaction ≡ false }
 {
@@ -153,8 +166,10 @@ fn adopt_earlier<S: Alter>(conn: &mut Connection<S>) -> Result<Adopted, AdoptFau
     ensures mode { conn.old.in_transaction ≡ false → conn.new.in_transaction ≡ false }
     ensures only { IfOk result (λ how. how ≡ Earlier) }
     ensures leaves { Leaves (state S.Store conn.old) (state S.Store conn.new) }
-    ensures neither { result ≡ Err WrongVersion → HasCleanDisk (state S.Store conn.new) → (b : Books) → HoldsEarlier (state S.Store conn.old) b → ⊥ }
-    ensures named { conn.old.schema ≡ earlier_schema → HasCleanDisk (state S.Store conn.new) → OnOk result (HasVersion (state S.Store conn.old) 1) }
+    ensures neither { result ≡ Err WrongVersion → HasCleanDisk (state S.Store conn.new)
+        → (b : Books) → HoldsEarlier (state S.Store conn.old) b → ⊥ }
+    ensures named { conn.old.schema ≡ earlier_schema → HasCleanDisk (state S.Store conn.new)
+        → OnOk result (HasVersion (state S.Store conn.old) 1) }
 {
     match has_version(conn, 1) {
         Ok(true) => Ok(Adopted::Earlier),
@@ -166,14 +181,22 @@ fn adopt_earlier<S: Alter>(conn: &mut Connection<S>) -> Result<Adopted, AdoptFau
 // Over a database in which no name of ours is taken.
 fn adopt_new<S: Alter>(conn: &mut Connection<S>) -> Result<Adopted, AdoptFault>
     requires outside { conn.old.in_transaction ≡ false }
-    requires settled { IsTrue (state S.Store conn.old).is_open → (state S.Store conn.old).now ≡ (state S.Store conn.old).committed }
+    requires settled { IsTrue (state S.Store conn.old).is_open
+        → (state S.Store conn.old).now ≡ (state S.Store conn.old).committed }
     ensures mode { conn.new.in_transaction ≡ false }
-    ensures earlier { HasCleanDisk (state S.Store conn.new) → HasCleanDisk (state S.Store conn.old) }
-    ensures fresh { conn.old.schema ≡ no_schema → OnOk result (Holds (state S.Store conn.new) fresh_books) }
-    ensures vacant { conn.old.schema ≡ no_schema → OnErr result (IsVacant (state S.Store conn.new)) }
-    ensures crash { conn.old.schema ≡ no_schema → Survives (state S.Store conn.old) (state S.Store conn.new) (λ db. StandsIn db fresh_books) }
-    ensures after { conn.old.schema ≡ no_schema → OnOk result (LeavesBooks (state S.Store conn.new) fresh_books) }
-    ensures schema { conn.old.schema ≡ no_schema → OnOk result (HasShopSchema (state S.Store conn.new)) }
+    ensures earlier { HasCleanDisk (state S.Store conn.new)
+        → HasCleanDisk (state S.Store conn.old) }
+    ensures fresh { conn.old.schema ≡ no_schema
+        → OnOk result (Holds (state S.Store conn.new) fresh_books) }
+    ensures vacant { conn.old.schema ≡ no_schema
+        → OnErr result (IsVacant (state S.Store conn.new)) }
+    ensures crash { conn.old.schema ≡ no_schema
+        → Survives (state S.Store conn.old) (state S.Store conn.new)
+        (λ db. StandsIn db fresh_books) }
+    ensures after { conn.old.schema ≡ no_schema
+        → OnOk result (LeavesBooks (state S.Store conn.new) fresh_books) }
+    ensures schema { conn.old.schema ≡ no_schema
+        → OnOk result (HasShopSchema (state S.Store conn.new)) }
     ensures only { IfOk result (λ how. how ≡ Made) }
     ensures never { result ≢ Err WrongVersion }
 {
@@ -188,8 +211,10 @@ fn adopt_found<S: Alter>(conn: &mut Connection<S>) -> Result<Adopted, AdoptFault
     ensures mode { conn.old.in_transaction ≡ false → conn.new.in_transaction ≡ false }
     ensures only { IfOk result (λ how. how ≡ Found) }
     ensures leaves { Leaves (state S.Store conn.old) (state S.Store conn.new) }
-    ensures neither { result ≡ Err WrongVersion → HasCleanDisk (state S.Store conn.new) → (b : Books) → Holds (state S.Store conn.old) b → ⊥ }
-    ensures named { IsShop conn.old.schema → HasCleanDisk (state S.Store conn.new) → OnOk result (HasVersion (state S.Store conn.old) 2) }
+    ensures neither { result ≡ Err WrongVersion → HasCleanDisk (state S.Store conn.new)
+        → (b : Books) → Holds (state S.Store conn.old) b → ⊥ }
+    ensures named { IsShop conn.old.schema → HasCleanDisk (state S.Store conn.new)
+        → OnOk result (HasVersion (state S.Store conn.old) 2) }
 {
     match has_version(conn, 2) {
         Ok(true) => Ok(Adopted::Found),
@@ -204,12 +229,16 @@ fn adopt_taken<S: Alter>(conn: &mut Connection<S>) -> Result<Adopted, AdoptFault
     ensures mode { conn.new.in_transaction ≡ false }
     ensures leaves { Leaves (state S.Store conn.old) (state S.Store conn.new) }
     ensures made { result ≢ Ok Made }
-    ensures neither { result ≡ Err WrongVersion → HasCleanDisk (state S.Store conn.new) → (b : Books) → IsSettled (state S.Store conn.old) b → ⊥ }
+    ensures neither { result ≡ Err WrongVersion → HasCleanDisk (state S.Store conn.new)
+        → (b : Books) → IsSettled (state S.Store conn.old) b → ⊥ }
     ensures one { result ≡ Ok Earlier → ¬ IsShop conn.old.schema }
     ensures one_only { conn.old.schema ≡ earlier_schema → IfOk result (λ how. how ≡ Earlier) }
-    ensures one_neither { result ≡ Err WrongVersion → HasCleanDisk (state S.Store conn.new) → (b : Books) → IsSettledEarlier (state S.Store conn.old) b → ⊥ }
-    ensures named { IsShop conn.old.schema → HasCleanDisk (state S.Store conn.new) → OnOk result (HasVersion (state S.Store conn.old) 2) }
-    ensures one_named { conn.old.schema ≡ earlier_schema → HasCleanDisk (state S.Store conn.new) → OnOk result (HasVersion (state S.Store conn.old) 1) }
+    ensures one_neither { result ≡ Err WrongVersion → HasCleanDisk (state S.Store conn.new)
+        → (b : Books) → IsSettledEarlier (state S.Store conn.old) b → ⊥ }
+    ensures named { IsShop conn.old.schema → HasCleanDisk (state S.Store conn.new)
+        → OnOk result (HasVersion (state S.Store conn.old) 2) }
+    ensures one_named { conn.old.schema ≡ earlier_schema → HasCleanDisk (state S.Store conn.new)
+        → OnOk result (HasVersion (state S.Store conn.old) 1) }
 {
     if are_earlier(conn.schema()) {
         return adopt_earlier(conn);
@@ -226,27 +255,46 @@ fn adopt_taken<S: Alter>(conn: &mut Connection<S>) -> Result<Adopted, AdoptFault
 pub fn adopt_tables<S: Alter>(conn: &mut Connection<S>) -> Result<Adopted, AdoptFault>
     requires outside { conn.old.in_transaction ≡ false }
     ensures mode { conn.new.in_transaction ≡ false }
-    ensures earlier { HasCleanDisk (state S.Store conn.new) → HasCleanDisk (state S.Store conn.old) }
-    ensures fresh { conn.old.schema ≡ no_schema → OnOk result (Holds (state S.Store conn.new) fresh_books) }
-    ensures vacant { conn.old.schema ≡ no_schema → OnErr result (IsVacant (state S.Store conn.new)) }
-    ensures crash { conn.old.schema ≡ no_schema → Survives (state S.Store conn.old) (state S.Store conn.new) (λ db. StandsIn db fresh_books) }
-    ensures after { conn.old.schema ≡ no_schema → OnOk result (LeavesBooks (state S.Store conn.new) fresh_books) }
-    ensures schema { conn.old.schema ≡ no_schema → OnOk result (HasShopSchema (state S.Store conn.new)) }
-    ensures held { (b : Books) → IsSettled (state S.Store conn.old) b → Holds (state S.Store conn.new) b }
+    ensures earlier { HasCleanDisk (state S.Store conn.new)
+        → HasCleanDisk (state S.Store conn.old) }
+    ensures fresh { conn.old.schema ≡ no_schema
+        → OnOk result (Holds (state S.Store conn.new) fresh_books) }
+    ensures vacant { conn.old.schema ≡ no_schema
+        → OnErr result (IsVacant (state S.Store conn.new)) }
+    ensures crash { conn.old.schema ≡ no_schema
+        → Survives (state S.Store conn.old) (state S.Store conn.new)
+        (λ db. StandsIn db fresh_books) }
+    ensures after { conn.old.schema ≡ no_schema
+        → OnOk result (LeavesBooks (state S.Store conn.new) fresh_books) }
+    ensures schema { conn.old.schema ≡ no_schema
+        → OnOk result (HasShopSchema (state S.Store conn.new)) }
+    ensures held { (b : Books) → IsSettled (state S.Store conn.old) b
+        → Holds (state S.Store conn.new) b }
     ensures made { result ≡ Ok Made → (b : Books) → IsSettled (state S.Store conn.old) b → ⊥ }
-    ensures found { result ≡ Ok Found → (conn.old.schema ≢ no_schema) × Leaves (state S.Store conn.old) (state S.Store conn.new) }
-    ensures still { IsShop conn.old.schema → Survives (state S.Store conn.old) (state S.Store conn.new) (λ _. ⊥) }
+    ensures found { result ≡ Ok Found → (conn.old.schema ≢ no_schema)
+        × Leaves (state S.Store conn.old) (state S.Store conn.new) }
+    ensures still { IsShop conn.old.schema
+        → Survives (state S.Store conn.old) (state S.Store conn.new) (λ _. ⊥) }
     ensures strange { result ≡ Err WrongVersion → conn.old.schema ≢ no_schema }
-    ensures unwritten { result ≡ Err WrongVersion → Leaves (state S.Store conn.old) (state S.Store conn.new) }
-    ensures neither { result ≡ Err WrongVersion → HasCleanDisk (state S.Store conn.new) → (b : Books) → IsSettled (state S.Store conn.old) b → ⊥ }
-    ensures one { result ≡ Ok Earlier → (conn.old.schema ≢ no_schema) × (¬ IsShop conn.old.schema) × Leaves (state S.Store conn.old) (state S.Store conn.new) }
+    ensures unwritten { result ≡ Err WrongVersion
+        → Leaves (state S.Store conn.old) (state S.Store conn.new) }
+    ensures neither { result ≡ Err WrongVersion → HasCleanDisk (state S.Store conn.new)
+        → (b : Books) → IsSettled (state S.Store conn.old) b → ⊥ }
+    ensures one { result ≡ Ok Earlier → (conn.old.schema ≢ no_schema) × (¬ IsShop conn.old.schema)
+        × Leaves (state S.Store conn.old) (state S.Store conn.new) }
     ensures one_only { conn.old.schema ≡ earlier_schema → IfOk result (λ how. how ≡ Earlier) }
-    ensures one_leaves { conn.old.schema ≡ earlier_schema → Leaves (state S.Store conn.old) (state S.Store conn.new) }
-    ensures one_neither { result ≡ Err WrongVersion → HasCleanDisk (state S.Store conn.new) → (b : Books) → IsSettledEarlier (state S.Store conn.old) b → ⊥ }
-    ensures named { IsShop conn.old.schema → HasCleanDisk (state S.Store conn.new) → OnOk result (HasVersion (state S.Store conn.old) 2) }
-    ensures one_named { conn.old.schema ≡ earlier_schema → HasCleanDisk (state S.Store conn.new) → OnOk result (HasVersion (state S.Store conn.old) 1) }
-    ensures free { names_are_free conn.old.schema ≡ true → IfOk result (λ how. how ≡ Made) × (result ≢ Err WrongVersion) }
-    ensures taken { names_are_free conn.old.schema ≡ false → Leaves (state S.Store conn.old) (state S.Store conn.new) }
+    ensures one_leaves { conn.old.schema ≡ earlier_schema
+        → Leaves (state S.Store conn.old) (state S.Store conn.new) }
+    ensures one_neither { result ≡ Err WrongVersion → HasCleanDisk (state S.Store conn.new)
+        → (b : Books) → IsSettledEarlier (state S.Store conn.old) b → ⊥ }
+    ensures named { IsShop conn.old.schema → HasCleanDisk (state S.Store conn.new)
+        → OnOk result (HasVersion (state S.Store conn.old) 2) }
+    ensures one_named { conn.old.schema ≡ earlier_schema → HasCleanDisk (state S.Store conn.new)
+        → OnOk result (HasVersion (state S.Store conn.old) 1) }
+    ensures free { names_are_free conn.old.schema ≡ true → IfOk result (λ how. how ≡ Made)
+        × (result ≢ Err WrongVersion) }
+    ensures taken { names_are_free conn.old.schema ≡ false
+        → Leaves (state S.Store conn.old) (state S.Store conn.new) }
 {
     let _outside = conn.is_autocommit();
     if are_free(conn.schema()) {

@@ -4,13 +4,13 @@
 ghost use Rattle.std.specs.Prelude.{◌≡◌, false, None, is_some, not, IfSome, MatchOption, OnOk};
 ghost use Rattle.std.specs.FinMap.{get};
 ghost use Rattle.sqlite.specs.Held.{state};
-ghost use Rattle.shop_machine.specs.Content.{Content, material_at, has_order, kept_at, import_at};
-ghost use Rattle.shop_machine.specs.Soundness.{Fits, IsMovedPart, IsMovedJob, IsNewJob};
+ghost use Rattle.shop_records.specs.Content.{Content, material_at, has_order, kept_at, import_at};
+ghost use Rattle.shop_records.specs.Soundness.{Fits, IsMovedPart, IsMovedJob, IsNewJob};
 ghost use Rattle.shop_statements.specs.Shown.{Books, Makes, Ran, Went, Within};
 ghost use Rattle.shop_tables.specs.Changing.{HasSums, AreNew, AreCounted, with_change, with_materials, with_moved, with_parts, with_jobs, with_orders, with_demands, with_messages, with_imports, with_sums, with_act, with_number, with_stock, with_work, with_numbers};
 
 use cut_measure::Code;
-use shop_machine::{Change, Demand, ImportRow, Job, KeptMessage, Material, MaterialTotals, Part};
+use shop_records::{Change, Demand, ImportRow, Job, KeptMessage, Material, MaterialTotals, Part};
 use shop_statements::{
     TableFault, count_demand, move_job, move_part, put_demand, put_import, put_job, put_kept,
     put_material, put_order, put_part, put_totals, set_last_act, set_last_demand, set_totals,
@@ -24,8 +24,11 @@ fn keep<S: Alter>(
     message: &Option<KeptMessage>,
 ) -> Result<(), TableFault>
     ensures same_reference { tx.new.conn.ghost_name ≡ tx.old.conn.ghost_name }
-    ensures ran { OnOk result (Ran (state S.Store tx.old.conn.now) (state S.Store tx.new.conn.now)) }
-    ensures put { (b : Books) → IfSome message.now (λ row. kept_at b.content row.pair ≡ None) → OnOk result (Makes (state S.Store tx.old.conn.now) (state S.Store tx.new.conn.now) b (with_messages message.now b)) }
+    ensures ran { OnOk result
+        (Ran (state S.Store tx.old.conn.now) (state S.Store tx.new.conn.now)) }
+    ensures put { (b : Books) → IfSome message.now (λ row. kept_at b.content row.pair ≡ None)
+        → OnOk result (Makes (state S.Store tx.old.conn.now) (state S.Store tx.new.conn.now) b
+        (with_messages message.now b)) }
     ensures within { Within (state S.Store tx.old.conn.now) (state S.Store tx.new.conn.now) }
 {
     match message {
@@ -45,8 +48,13 @@ fn write_job<S: Alter>(
     act: Option<u32>,
 ) -> Result<(), TableFault>
     ensures same_reference { tx.new.conn.ghost_name ≡ tx.old.conn.ghost_name }
-    ensures went { OnOk result (Went (state S.Store tx.old.conn.now) (state S.Store tx.new.conn.now)) }
-    ensures put { (b : Books) → IfSome job.now (λ row. MatchOption act (IsMovedJob b.content row) (λ number. IsNewJob b.content number row)) → OnOk result (Makes (state S.Store tx.old.conn.now) (state S.Store tx.new.conn.now) b (with_jobs job.now b)) }
+    ensures went { OnOk result
+        (Went (state S.Store tx.old.conn.now) (state S.Store tx.new.conn.now)) }
+    ensures put { (b : Books)
+        → IfSome job.now (λ row. MatchOption act (IsMovedJob b.content row)
+        (λ number. IsNewJob b.content number row))
+        → OnOk result (Makes (state S.Store tx.old.conn.now) (state S.Store tx.new.conn.now) b
+        (with_jobs job.now b)) }
     ensures within { Within (state S.Store tx.old.conn.now) (state S.Store tx.new.conn.now) }
 {
     let Some(job) = job else {
@@ -66,8 +74,11 @@ fn write_material<S: Alter>(
     material: &Option<Material>,
 ) -> Result<(), TableFault>
     ensures same_reference { tx.new.conn.ghost_name ≡ tx.old.conn.ghost_name }
-    ensures went { OnOk result (Went (state S.Store tx.old.conn.now) (state S.Store tx.new.conn.now)) }
-    ensures put { (b : Books) → IfSome material.now (λ row. material_at b.content row.code ≡ None) → OnOk result (Makes (state S.Store tx.old.conn.now) (state S.Store tx.new.conn.now) b (with_materials material.now b)) }
+    ensures went { OnOk result
+        (Went (state S.Store tx.old.conn.now) (state S.Store tx.new.conn.now)) }
+    ensures put { (b : Books) → IfSome material.now (λ row. material_at b.content row.code ≡ None)
+        → OnOk result (Makes (state S.Store tx.old.conn.now) (state S.Store tx.new.conn.now) b
+        (with_materials material.now b)) }
     ensures within { Within (state S.Store tx.old.conn.now) (state S.Store tx.new.conn.now) }
 {
     match material {
@@ -78,8 +89,12 @@ fn write_material<S: Alter>(
 
 fn write_moved<S: Alter>(tx: &mut Transaction<'_, S>, part: &Option<Part>) -> Result<(), TableFault>
     ensures same_reference { tx.new.conn.ghost_name ≡ tx.old.conn.ghost_name }
-    ensures went { OnOk result (Went (state S.Store tx.old.conn.now) (state S.Store tx.new.conn.now)) }
-    ensures put { (b : Books) → (m : Content) → b.content.parts ≡ m.parts → IfSome part.now (IsMovedPart m) → OnOk result (Makes (state S.Store tx.old.conn.now) (state S.Store tx.new.conn.now) b (with_moved part.now b)) }
+    ensures went { OnOk result
+        (Went (state S.Store tx.old.conn.now) (state S.Store tx.new.conn.now)) }
+    ensures put { (b : Books) → (m : Content) → b.content.parts ≡ m.parts
+        → IfSome part.now (IsMovedPart m)
+        → OnOk result (Makes (state S.Store tx.old.conn.now) (state S.Store tx.new.conn.now) b
+        (with_moved part.now b)) }
     ensures within { Within (state S.Store tx.old.conn.now) (state S.Store tx.new.conn.now) }
 {
     match part {
@@ -91,8 +106,11 @@ fn write_moved<S: Alter>(tx: &mut Transaction<'_, S>, part: &Option<Part>) -> Re
 // Puts parts one after another.
 fn put_parts<S: Alter>(tx: &mut Transaction<'_, S>, parts: &[Part]) -> Result<(), TableFault>
     ensures same_reference { tx.new.conn.ghost_name ≡ tx.old.conn.ghost_name }
-    ensures went { OnOk result (Went (state S.Store tx.old.conn.now) (state S.Store tx.new.conn.now)) }
-    ensures put { (b : Books) → AreNew (λ part. part.name) parts.now b.content.parts → OnOk result (Makes (state S.Store tx.old.conn.now) (state S.Store tx.new.conn.now) b (with_parts parts.now b)) }
+    ensures went { OnOk result
+        (Went (state S.Store tx.old.conn.now) (state S.Store tx.new.conn.now)) }
+    ensures put { (b : Books) → AreNew (λ part. part.name) parts.now b.content.parts
+        → OnOk result (Makes (state S.Store tx.old.conn.now) (state S.Store tx.new.conn.now) b
+        (with_parts parts.now b)) }
     ensures within { Within (state S.Store tx.old.conn.now) (state S.Store tx.new.conn.now) }
 {
     let [first, more @ ..] = parts else {
@@ -109,8 +127,12 @@ fn write_totals<S: Alter>(
     is_new: bool,
 ) -> Result<(), TableFault>
     ensures same_reference { tx.new.conn.ghost_name ≡ tx.old.conn.ghost_name }
-    ensures went { OnOk result (Went (state S.Store tx.old.conn.now) (state S.Store tx.new.conn.now)) }
-    ensures put { (b : Books) → IfSome row.now (λ row. is_some (get b.totals row.material) ≡ not is_new) → OnOk result (Makes (state S.Store tx.old.conn.now) (state S.Store tx.new.conn.now) b (with_sums row.now b)) }
+    ensures went { OnOk result
+        (Went (state S.Store tx.old.conn.now) (state S.Store tx.new.conn.now)) }
+    ensures put { (b : Books)
+        → IfSome row.now (λ row. is_some (get b.totals row.material) ≡ not is_new)
+        → OnOk result (Makes (state S.Store tx.old.conn.now) (state S.Store tx.new.conn.now) b
+        (with_sums row.now b)) }
     ensures within { Within (state S.Store tx.old.conn.now) (state S.Store tx.new.conn.now) }
 {
     let Some(row) = row else {
@@ -125,8 +147,11 @@ fn write_totals<S: Alter>(
 
 fn write_order<S: Alter>(tx: &mut Transaction<'_, S>, order: Option<Code>) -> Result<(), TableFault>
     ensures same_reference { tx.new.conn.ghost_name ≡ tx.old.conn.ghost_name }
-    ensures went { OnOk result (Went (state S.Store tx.old.conn.now) (state S.Store tx.new.conn.now)) }
-    ensures put { (b : Books) → IfSome order (λ code. has_order b.content code ≡ false) → OnOk result (Makes (state S.Store tx.old.conn.now) (state S.Store tx.new.conn.now) b (with_orders order b)) }
+    ensures went { OnOk result
+        (Went (state S.Store tx.old.conn.now) (state S.Store tx.new.conn.now)) }
+    ensures put { (b : Books) → IfSome order (λ code. has_order b.content code ≡ false)
+        → OnOk result (Makes (state S.Store tx.old.conn.now) (state S.Store tx.new.conn.now) b
+        (with_orders order b)) }
     ensures within { Within (state S.Store tx.old.conn.now) (state S.Store tx.new.conn.now) }
 {
     match order {
@@ -140,8 +165,11 @@ fn write_import<S: Alter>(
     import: &Option<ImportRow>,
 ) -> Result<(), TableFault>
     ensures same_reference { tx.new.conn.ghost_name ≡ tx.old.conn.ghost_name }
-    ensures went { OnOk result (Went (state S.Store tx.old.conn.now) (state S.Store tx.new.conn.now)) }
-    ensures put { (b : Books) → IfSome import.now (λ row. import_at b.content row.order ≡ None) → OnOk result (Makes (state S.Store tx.old.conn.now) (state S.Store tx.new.conn.now) b (with_imports import.now b)) }
+    ensures went { OnOk result
+        (Went (state S.Store tx.old.conn.now) (state S.Store tx.new.conn.now)) }
+    ensures put { (b : Books) → IfSome import.now (λ row. import_at b.content row.order ≡ None)
+        → OnOk result (Makes (state S.Store tx.old.conn.now) (state S.Store tx.new.conn.now) b
+        (with_imports import.now b)) }
     ensures within { Within (state S.Store tx.old.conn.now) (state S.Store tx.new.conn.now) }
 {
     match import {
@@ -153,8 +181,11 @@ fn write_import<S: Alter>(
 // Puts new demands one after another.
 fn put_demands<S: Alter>(tx: &mut Transaction<'_, S>, demands: &[Demand]) -> Result<(), TableFault>
     ensures same_reference { tx.new.conn.ghost_name ≡ tx.old.conn.ghost_name }
-    ensures went { OnOk result (Went (state S.Store tx.old.conn.now) (state S.Store tx.new.conn.now)) }
-    ensures put { (b : Books) → AreNew (λ demand. demand.number) demands.now b.content.demands → OnOk result (Makes (state S.Store tx.old.conn.now) (state S.Store tx.new.conn.now) b (with_demands demands.now b)) }
+    ensures went { OnOk result
+        (Went (state S.Store tx.old.conn.now) (state S.Store tx.new.conn.now)) }
+    ensures put { (b : Books) → AreNew (λ demand. demand.number) demands.now b.content.demands
+        → OnOk result (Makes (state S.Store tx.old.conn.now) (state S.Store tx.new.conn.now) b
+        (with_demands demands.now b)) }
     ensures within { Within (state S.Store tx.old.conn.now) (state S.Store tx.new.conn.now) }
 {
     let [first, more @ ..] = demands else {
@@ -170,8 +201,11 @@ fn count_demands<S: Alter>(
     demands: &[Demand],
 ) -> Result<(), TableFault>
     ensures same_reference { tx.new.conn.ghost_name ≡ tx.old.conn.ghost_name }
-    ensures went { OnOk result (Went (state S.Store tx.old.conn.now) (state S.Store tx.new.conn.now)) }
-    ensures put { (b : Books) → AreCounted demands.now b.content.demands → OnOk result (Makes (state S.Store tx.old.conn.now) (state S.Store tx.new.conn.now) b (with_demands demands.now b)) }
+    ensures went { OnOk result
+        (Went (state S.Store tx.old.conn.now) (state S.Store tx.new.conn.now)) }
+    ensures put { (b : Books) → AreCounted demands.now b.content.demands
+        → OnOk result (Makes (state S.Store tx.old.conn.now) (state S.Store tx.new.conn.now) b
+        (with_demands demands.now b)) }
     ensures within { Within (state S.Store tx.old.conn.now) (state S.Store tx.new.conn.now) }
 {
     let [first, more @ ..] = demands else {
@@ -188,8 +222,13 @@ fn write_demands<S: Alter>(
     demands: &[Demand],
 ) -> Result<(), TableFault>
     ensures same_reference { tx.new.conn.ghost_name ≡ tx.old.conn.ghost_name }
-    ensures went { OnOk result (Went (state S.Store tx.old.conn.now) (state S.Store tx.new.conn.now)) }
-    ensures put { (b : Books) → MatchOption order (AreCounted demands.now b.content.demands) (λ _. AreNew (λ demand. demand.number) demands.now b.content.demands) → OnOk result (Makes (state S.Store tx.old.conn.now) (state S.Store tx.new.conn.now) b (with_demands demands.now b)) }
+    ensures went { OnOk result
+        (Went (state S.Store tx.old.conn.now) (state S.Store tx.new.conn.now)) }
+    ensures put { (b : Books)
+        → MatchOption order (AreCounted demands.now b.content.demands)
+        (λ _. AreNew (λ demand. demand.number) demands.now b.content.demands)
+        → OnOk result (Makes (state S.Store tx.old.conn.now) (state S.Store tx.new.conn.now) b
+        (with_demands demands.now b)) }
     ensures within { Within (state S.Store tx.old.conn.now) (state S.Store tx.new.conn.now) }
 {
     match order {
@@ -200,8 +239,11 @@ fn write_demands<S: Alter>(
 
 fn write_last_act<S: Alter>(tx: &mut Transaction<'_, S>, act: Option<u32>) -> Result<(), TableFault>
     ensures same_reference { tx.new.conn.ghost_name ≡ tx.old.conn.ghost_name }
-    ensures went { OnOk result (Went (state S.Store tx.old.conn.now) (state S.Store tx.new.conn.now)) }
-    ensures put { (b : Books) → OnOk result (Makes (state S.Store tx.old.conn.now) (state S.Store tx.new.conn.now) b (with_act act b)) }
+    ensures went { OnOk result
+        (Went (state S.Store tx.old.conn.now) (state S.Store tx.new.conn.now)) }
+    ensures put { (b : Books)
+        → OnOk result (Makes (state S.Store tx.old.conn.now) (state S.Store tx.new.conn.now) b
+        (with_act act b)) }
     ensures within { Within (state S.Store tx.old.conn.now) (state S.Store tx.new.conn.now) }
 {
     match act {
@@ -215,8 +257,11 @@ fn write_last_demand<S: Alter>(
     demand: Option<u32>,
 ) -> Result<(), TableFault>
     ensures same_reference { tx.new.conn.ghost_name ≡ tx.old.conn.ghost_name }
-    ensures went { OnOk result (Went (state S.Store tx.old.conn.now) (state S.Store tx.new.conn.now)) }
-    ensures put { (b : Books) → OnOk result (Makes (state S.Store tx.old.conn.now) (state S.Store tx.new.conn.now) b (with_number demand b)) }
+    ensures went { OnOk result
+        (Went (state S.Store tx.old.conn.now) (state S.Store tx.new.conn.now)) }
+    ensures put { (b : Books)
+        → OnOk result (Makes (state S.Store tx.old.conn.now) (state S.Store tx.new.conn.now) b
+        (with_number demand b)) }
     ensures within { Within (state S.Store tx.old.conn.now) (state S.Store tx.new.conn.now) }
 {
     match demand {
@@ -228,8 +273,13 @@ fn write_last_demand<S: Alter>(
 // The material, the part that moves, the new parts and the totals.
 fn write_stock<S: Alter>(tx: &mut Transaction<'_, S>, change: &Change) -> Result<(), TableFault>
     ensures same_reference { tx.new.conn.ghost_name ≡ tx.old.conn.ghost_name }
-    ensures went { OnOk result (Went (state S.Store tx.old.conn.now) (state S.Store tx.new.conn.now)) }
-    ensures put { (b c : Books) → HasSums b → Fits b.content change.now → c.content.materials ≡ b.content.materials → c.content.parts ≡ b.content.parts → c.totals ≡ b.totals → OnOk result (Makes (state S.Store tx.old.conn.now) (state S.Store tx.new.conn.now) c (with_stock change.now c)) }
+    ensures went { OnOk result
+        (Went (state S.Store tx.old.conn.now) (state S.Store tx.new.conn.now)) }
+    ensures put { (b c : Books) → HasSums b → Fits b.content change.now
+        → c.content.materials ≡ b.content.materials → c.content.parts ≡ b.content.parts
+        → c.totals ≡ b.totals → OnOk result
+        (Makes (state S.Store tx.old.conn.now) (state S.Store tx.new.conn.now) c
+        (with_stock change.now c)) }
     ensures within { Within (state S.Store tx.old.conn.now) (state S.Store tx.new.conn.now) }
 {
     write_material(tx, &change.material)?;
@@ -241,8 +291,12 @@ fn write_stock<S: Alter>(tx: &mut Transaction<'_, S>, change: &Change) -> Result
 // The order, the import that it came by, and its demands or others.
 fn write_work<S: Alter>(tx: &mut Transaction<'_, S>, change: &Change) -> Result<(), TableFault>
     ensures same_reference { tx.new.conn.ghost_name ≡ tx.old.conn.ghost_name }
-    ensures went { OnOk result (Went (state S.Store tx.old.conn.now) (state S.Store tx.new.conn.now)) }
-    ensures put { (b c : Books) → Fits b.content change.now → c.content.orders ≡ b.content.orders → c.content.imports ≡ b.content.imports → c.content.demands ≡ b.content.demands → OnOk result (Makes (state S.Store tx.old.conn.now) (state S.Store tx.new.conn.now) c (with_work change.now c)) }
+    ensures went { OnOk result
+        (Went (state S.Store tx.old.conn.now) (state S.Store tx.new.conn.now)) }
+    ensures put { (b c : Books) → Fits b.content change.now → c.content.orders ≡ b.content.orders
+        → c.content.imports ≡ b.content.imports → c.content.demands ≡ b.content.demands
+        → OnOk result (Makes (state S.Store tx.old.conn.now) (state S.Store tx.new.conn.now) c
+        (with_work change.now c)) }
     ensures within { Within (state S.Store tx.old.conn.now) (state S.Store tx.new.conn.now) }
 {
     write_order(tx, change.order)?;
@@ -253,8 +307,11 @@ fn write_work<S: Alter>(tx: &mut Transaction<'_, S>, change: &Change) -> Result<
 // The numbers that were given.
 fn write_numbers<S: Alter>(tx: &mut Transaction<'_, S>, change: &Change) -> Result<(), TableFault>
     ensures same_reference { tx.new.conn.ghost_name ≡ tx.old.conn.ghost_name }
-    ensures went { OnOk result (Went (state S.Store tx.old.conn.now) (state S.Store tx.new.conn.now)) }
-    ensures put { (b : Books) → OnOk result (Makes (state S.Store tx.old.conn.now) (state S.Store tx.new.conn.now) b (with_numbers change.now b)) }
+    ensures went { OnOk result
+        (Went (state S.Store tx.old.conn.now) (state S.Store tx.new.conn.now)) }
+    ensures put { (b : Books)
+        → OnOk result (Makes (state S.Store tx.old.conn.now) (state S.Store tx.new.conn.now) b
+        (with_numbers change.now b)) }
     ensures within { Within (state S.Store tx.old.conn.now) (state S.Store tx.new.conn.now) }
 {
     write_last_act(tx, change.act)?;
@@ -269,8 +326,11 @@ pub(crate) fn write_change<S: Alter>(
     change: &Change,
 ) -> Result<(), TableFault>
     ensures same_reference { tx.new.conn.ghost_name ≡ tx.old.conn.ghost_name }
-    ensures ran { OnOk result (Ran (state S.Store tx.old.conn.now) (state S.Store tx.new.conn.now)) }
-    ensures put { (b : Books) → HasSums b → Fits b.content change.now → OnOk result (Makes (state S.Store tx.old.conn.now) (state S.Store tx.new.conn.now) b (with_change change.now b)) }
+    ensures ran { OnOk result
+        (Ran (state S.Store tx.old.conn.now) (state S.Store tx.new.conn.now)) }
+    ensures put { (b : Books) → HasSums b → Fits b.content change.now
+        → OnOk result (Makes (state S.Store tx.old.conn.now) (state S.Store tx.new.conn.now) b
+        (with_change change.now b)) }
     ensures within { Within (state S.Store tx.old.conn.now) (state S.Store tx.new.conn.now) }
 {
     keep(tx, &change.kept)?;

@@ -3,12 +3,12 @@
 ghost use Rattle.std.specs.Prelude.{◌≡◌, false, OnOk, OnErr};
 ghost use Rattle.sqlite.specs.State.{HasCleanDisk, Survives};
 ghost use Rattle.sqlite.specs.Held.{state};
-ghost use Rattle.shop_machine.specs.Content.{Content, changed};
-ghost use Rattle.shop_machine.specs.Soundness.{Fits};
+ghost use Rattle.shop_records.specs.Content.{Content, changed};
+ghost use Rattle.shop_records.specs.Soundness.{Fits};
 ghost use Rattle.shop_tables.specs.Held.{HoldsContent, StandsFor, LeavesOnly};
 
 use crate::changing::write_change;
-use shop_machine::Change;
+use shop_records::Change;
 use shop_statements::TableFault;
 use sqlite::{Alter, Connection};
 use std::alloc::Global;
@@ -22,11 +22,17 @@ pub fn commit_change<S: Alter>(
 ) -> Result<(), TableFault>
     requires { conn.old.in_transaction ≡ false }
     ensures mode { conn.new.in_transaction ≡ false }
-    ensures ok { (m : Content) → HoldsContent (state S.Store conn.old) m → Fits m change.now → OnOk result (HoldsContent (state S.Store conn.new) (changed m change.now)) }
-    ensures err { (m : Content) → HoldsContent (state S.Store conn.old) m → OnErr result (HoldsContent (state S.Store conn.new) m) }
-    ensures crash { (m : Content) → HoldsContent (state S.Store conn.old) m → Fits m change.now → Survives (state S.Store conn.old) (state S.Store conn.new) (λ db. StandsFor db (changed m change.now)) }
-    ensures lasts { (m : Content) → HoldsContent (state S.Store conn.old) m → Fits m change.now → OnOk result (LeavesOnly (state S.Store conn.new) (changed m change.now)) }
-    ensures earlier { HasCleanDisk (state S.Store conn.new) → HasCleanDisk (state S.Store conn.old) }
+    ensures ok { (m : Content) → HoldsContent (state S.Store conn.old) m → Fits m change.now
+        → OnOk result (HoldsContent (state S.Store conn.new) (changed m change.now)) }
+    ensures err { (m : Content) → HoldsContent (state S.Store conn.old) m
+        → OnErr result (HoldsContent (state S.Store conn.new) m) }
+    ensures crash { (m : Content) → HoldsContent (state S.Store conn.old) m → Fits m change.now
+        → Survives (state S.Store conn.old) (state S.Store conn.new)
+        (λ db. StandsFor db (changed m change.now)) }
+    ensures lasts { (m : Content) → HoldsContent (state S.Store conn.old) m → Fits m change.now
+        → OnOk result (LeavesOnly (state S.Store conn.new) (changed m change.now)) }
+    ensures earlier { HasCleanDisk (state S.Store conn.new)
+        → HasCleanDisk (state S.Store conn.old) }
 {
     let mut tx = conn.transaction();
     write_change(alloc, &mut tx, change)?;

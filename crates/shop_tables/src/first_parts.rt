@@ -2,13 +2,13 @@
 
 ghost use Rattle.std.specs.Prelude.{◌≡◌, false, map, take, Some, None, IfOk};
 ghost use Rattle.sqlite.specs.Held.{state};
-ghost use Rattle.shop_machine.specs.Listing.{parts_behind};
+ghost use Rattle.shop_records.specs.Lists.{parts_behind};
 ghost use Rattle.shop_tables.specs.ListedRows.{listed_part};
 ghost use Rattle.shop_statements.specs.Shown.{Leaves, OnBooks};
 
 use crate::listed_rows::{at_most, read_rows};
 use cut_measure::{Code, PartName};
-use shop_machine::PartList;
+use shop_records::PartList;
 use shop_statements::{TableFault, all_rows};
 use sqlite::{Alter, Connection, Row, params};
 use std::alloc::Global;
@@ -18,7 +18,9 @@ fn first_rows<S: Alter>(
     material: Code,
     most: usize,
 ) -> Result<Vec<Row>, TableFault>
-    ensures rows { OnBooks (state S.Store conn.old) (state S.Store conn.new) (λ books. IfOk result (λ rows. rows.items ≡ map listed_part (take most (parts_behind books.content material None)))) }
+    ensures rows { OnBooks (state S.Store conn.old) (state S.Store conn.new)
+        (λ books. IfOk result (λ rows. rows.items
+        ≡ map listed_part (take most (parts_behind books.content material None)))) }
     ensures leaves { Leaves (state S.Store conn.old) (state S.Store conn.new) }
     ensures mode { conn.old.in_transaction ≡ false → conn.new.in_transaction ≡ false }
 {
@@ -37,7 +39,9 @@ fn rows_behind<S: Alter>(
     after: PartName,
     most: usize,
 ) -> Result<Vec<Row>, TableFault>
-    ensures rows { OnBooks (state S.Store conn.old) (state S.Store conn.new) (λ books. IfOk result (λ rows. rows.items ≡ map listed_part (take most (parts_behind books.content material (Some after))))) }
+    ensures rows { OnBooks (state S.Store conn.old) (state S.Store conn.new)
+        (λ books. IfOk result (λ rows. rows.items
+        ≡ map listed_part (take most (parts_behind books.content material (Some after))))) }
     ensures leaves { Leaves (state S.Store conn.old) (state S.Store conn.new) }
     ensures mode { conn.old.in_transaction ≡ false → conn.new.in_transaction ≡ false }
 {
@@ -56,7 +60,9 @@ fn part_rows<S: Alter>(
     after: Option<PartName>,
     most: usize,
 ) -> Result<Vec<Row>, TableFault>
-    ensures rows { OnBooks (state S.Store conn.old) (state S.Store conn.new) (λ books. IfOk result (λ rows. rows.items ≡ map listed_part (take most (parts_behind books.content material after)))) }
+    ensures rows { OnBooks (state S.Store conn.old) (state S.Store conn.new)
+        (λ books. IfOk result (λ rows. rows.items
+        ≡ map listed_part (take most (parts_behind books.content material after)))) }
     ensures leaves { Leaves (state S.Store conn.old) (state S.Store conn.new) }
     ensures mode { conn.old.in_transaction ≡ false → conn.new.in_transaction ≡ false }
 {
@@ -75,7 +81,9 @@ pub fn list_first_parts<S: Alter>(
     after: Option<PartName>,
     most: usize,
 ) -> Result<PartList, TableFault>
-    ensures rows { OnBooks (state S.Store conn.old) (state S.Store conn.new) (λ books. IfOk result (λ rows. rows ≡ take most (parts_behind books.content material after))) }
+    ensures rows { OnBooks (state S.Store conn.old) (state S.Store conn.new)
+        (λ books. IfOk result (λ rows. rows
+        ≡ take most (parts_behind books.content material after))) }
     ensures leaves { Leaves (state S.Store conn.old) (state S.Store conn.new) }
     ensures mode { conn.old.in_transaction ≡ false → conn.new.in_transaction ≡ false }
 {

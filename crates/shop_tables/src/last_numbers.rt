@@ -2,7 +2,7 @@
 
 ghost use Rattle.std.specs.Prelude.{◌≡◌, false, Some, None, IfOk};
 ghost use Rattle.sqlite.specs.Held.{state};
-ghost use Rattle.shop_machine.specs.Listing.{IsLastNumber};
+ghost use Rattle.shop_records.specs.Lists.{IsLastNumber};
 ghost use Rattle.shop_statements.specs.Shown.{Leaves, OnBooks};
 ghost use Rattle.shop_tables.specs.ListedRows.{IsLastRow};
 
@@ -10,7 +10,8 @@ use shop_statements::{TableFault, number_in, row_by_number};
 use sqlite::{Alter, Connection, Error, Row};
 
 fn last_row<S: Alter>(conn: &mut Connection<S>, terminal: u32) -> Result<Option<Row>, Error>
-    ensures row { OnBooks (state S.Store conn.old) (state S.Store conn.new) (λ books. IfOk result (IsLastRow books.content terminal)) }
+    ensures row { OnBooks (state S.Store conn.old) (state S.Store conn.new)
+        (λ books. IfOk result (IsLastRow books.content terminal)) }
     ensures leaves { Leaves (state S.Store conn.old) (state S.Store conn.new) }
     ensures mode { conn.old.in_transaction ≡ false → conn.new.in_transaction ≡ false }
 {
@@ -26,7 +27,8 @@ pub fn find_last_number<S: Alter>(
     conn: &mut Connection<S>,
     terminal: u32,
 ) -> Result<u32, TableFault>
-    ensures number { OnBooks (state S.Store conn.old) (state S.Store conn.new) (λ books. IfOk result (λ last. IsLastNumber books.content terminal last)) }
+    ensures number { OnBooks (state S.Store conn.old) (state S.Store conn.new)
+        (λ books. IfOk result (λ last. IsLastNumber books.content terminal last)) }
     ensures leaves { Leaves (state S.Store conn.old) (state S.Store conn.new) }
     ensures mode { conn.old.in_transaction ≡ false → conn.new.in_transaction ≡ false }
 {

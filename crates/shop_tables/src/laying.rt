@@ -12,7 +12,8 @@ use sqlite::{Alter, Error, Transaction};
 /// Makes all tables in an empty database, with the rows of a shop in which nothing was done yet.
 pub(crate) fn lay_tables<S: Alter>(tx: &mut Transaction<'_, S>) -> Result<(), Error>
     ensures same_reference { tx.new.conn.ghost_name ≡ tx.old.conn.ghost_name }
-    ensures laid { tx.old.conn.now.schema ≡ no_schema → OnOk result (Lays (state S.Store tx.old.conn.now) (state S.Store tx.new.conn.now)) }
+    ensures laid { tx.old.conn.now.schema ≡ no_schema
+        → OnOk result (Lays (state S.Store tx.old.conn.now) (state S.Store tx.new.conn.now)) }
     ensures within { Within (state S.Store tx.old.conn.now) (state S.Store tx.new.conn.now) }
 {
     tx.execute_batch(

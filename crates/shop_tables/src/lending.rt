@@ -10,12 +10,12 @@ ghost use Rattle.shop_statements.specs.Selecting.{is_select};
 ghost use Rattle.shop_statements.specs.Shown.{Leaves, OnBooks};
 ghost use Rattle.shop_tables.specs.Strange.{IsNoPart};
 ghost use Rattle.shop_tables.specs.declared.lending.Lent.TheVariants.{Strange};
-ghost use Rattle.shop_machine.specs.Content.{parts_of};
-ghost use Rattle.shop_machine.specs.Visits.{IsVisit};
+ghost use Rattle.shop_records.specs.Content.{parts_of};
+ghost use Rattle.shop_records.specs.Visits.{IsVisit};
 
 use crate::strange::may_be_part;
 use cut_measure::Code;
-use shop_machine::{Part, PartVisitor};
+use shop_records::{Part, PartVisitor};
 use shop_statements::{TableFault, code_in, name_in, number_in, size_in, state_in};
 use sqlite::types::ValueRef;
 use sqlite::{Alter, Connection, Row, params};
@@ -70,7 +70,8 @@ pub(crate) fn lend<S: Alter, V: PartVisitor>(
     visitor: &mut V,
 ) -> Result<Lent, TableFault>
     requires { is_select sql.now ≡ true }
-    ensures lent { IsLent S.Store sql.now (bound params.now) conn.old V.looks conn.new visitor.old result visitor.new }
+    ensures lent { IsLent S.Store sql.now
+        (bound params.now) conn.old V.looks conn.new visitor.old result visitor.new }
     ensures leaves { Leaves (state S.Store conn.old) (state S.Store conn.new) }
     ensures mode { conn.old.in_transaction ≡ false → conn.new.in_transaction ≡ false }
 {
@@ -98,7 +99,9 @@ pub fn lend_parts<S: Alter, V: PartVisitor>(
     material: Code,
     visitor: &mut V,
 ) -> Result<bool, TableFault>
-    ensures visit { IsVisit V.looks (λ what. OnBooks (state S.Store conn.old) (state S.Store conn.new) (λ books. what (parts_of books.content material))) visitor.old result visitor.new }
+    ensures visit { IsVisit V.looks
+        (λ what. OnBooks (state S.Store conn.old) (state S.Store conn.new)
+        (λ books. what (parts_of books.content material))) visitor.old result visitor.new }
     ensures leaves { Leaves (state S.Store conn.old) (state S.Store conn.new) }
     ensures mode { conn.old.in_transaction ≡ false → conn.new.in_transaction ≡ false }
 {
@@ -122,10 +125,18 @@ pub fn lend_all_parts<S: Alter, V: PartVisitor>(
     conn: &mut Connection<S>,
     visitor: &mut V,
 ) -> Result<Lent, TableFault>
-    ensures visit { IsVisit V.looks (λ what. OnBooks (state S.Store conn.old) (state S.Store conn.new) (λ books. what (values books.content.parts))) visitor.old (gone_through result) visitor.new }
-    ensures strange { OnBooks (state S.Store conn.old) (state S.Store conn.new) (λ _. IfOk result (λ how. how ≢ Strange)) }
-    ensures earlier { IsVisit V.looks (λ what. OnBooksEarlier (state S.Store conn.old) (state S.Store conn.new) (λ books. what (values books.content.parts))) visitor.old (gone_through result) visitor.new }
-    ensures earlier_strange { OnBooksEarlier (state S.Store conn.old) (state S.Store conn.new) (λ _. IfOk result (λ how. how ≢ Strange)) }
+    ensures visit { IsVisit V.looks
+        (λ what. OnBooks (state S.Store conn.old) (state S.Store conn.new)
+        (λ books. what (values books.content.parts))) visitor.old
+        (gone_through result) visitor.new }
+    ensures strange { OnBooks (state S.Store conn.old) (state S.Store conn.new)
+        (λ _. IfOk result (λ how. how ≢ Strange)) }
+    ensures earlier { IsVisit V.looks
+        (λ what. OnBooksEarlier (state S.Store conn.old) (state S.Store conn.new)
+        (λ books. what (values books.content.parts))) visitor.old
+        (gone_through result) visitor.new }
+    ensures earlier_strange { OnBooksEarlier (state S.Store conn.old) (state S.Store conn.new)
+        (λ _. IfOk result (λ how. how ≢ Strange)) }
     ensures leaves { Leaves (state S.Store conn.old) (state S.Store conn.new) }
     ensures mode { conn.old.in_transaction ≡ false → conn.new.in_transaction ≡ false }
 {

@@ -4,7 +4,7 @@ ghost use Rattle.std.specs.Prelude.{◌≡◌, List, map, pos, IfOk};
 ghost use Rattle.sqlite_value.specs.Order.{Row as Values};
 
 use crate::lending::read_whole;
-use shop_machine::{Demand, Material, Part, RowList};
+use shop_records::{Demand, Material, Part, RowList};
 use shop_statements::{TableFault, code_in, number_in, read_demand, read_material};
 use sqlite::Row;
 use std::alloc::Global;
@@ -79,7 +79,8 @@ pub(crate) fn at_most(most: usize) -> Result<Limit, TableFault>
 
 /// The values of these rows, in order.
 pub(crate) fn read_rows<T: Listed>(alloc: Global, rows: &[Row]) -> Result<RowList<T>, TableFault>
-    ensures { (values : List T) → rows.now ≡ map T.Listed.row_of values → IfOk result (λ list. list ≡ values) }
+    ensures { (values : List T) → rows.now ≡ map T.Listed.row_of values
+        → IfOk result (λ list. list ≡ values) }
 {
     let mut list = RowList::new(alloc);
     for row in rows {

@@ -3,23 +3,29 @@
 ghost use Rattle.std.specs.Prelude.{◌≡◌, ◌≢◌, [], ◌∷◌, ℕ, List, map, false, true, IfOk, IfSome, IsNone};
 ghost use Rattle.std.specs.FinMap.{entries};
 ghost use Rattle.sqlite.specs.Held.{state};
-ghost use Rattle.shop_machine.specs.declared.records.Totals.{Totals as TotalsRecord};
+ghost use Rattle.shop_records.specs.declared.records.Totals.{Totals as TotalsRecord};
 ghost use Rattle.shop_statements.specs.Earlier.{OnBooksEarlier};
 ghost use Rattle.shop_tables.specs.Listing.{AreAllTotals, AreCodes, code_row, key_of, listed_row, named};
 ghost use Rattle.shop_statements.specs.Shown.{Leaves, OnBooks};
 
 use crate::strange::{has_word, may_be_totals};
-use shop_machine::MaterialTotals;
+use shop_records::MaterialTotals;
 use shop_statements::{TableFault, all_rows, code_in, read_totals};
 use sqlite::{Alter, Connection, Error, Row};
 use std::alloc::Global;
 
 /// The codes of all materials, in order.
 pub(crate) fn material_rows<S: Alter>(conn: &mut Connection<S>) -> Result<Vec<Row>, Error>
-    ensures rows { OnBooks (state S.Store conn.old) (state S.Store conn.new) (λ books. IfOk result (λ rows. rows.items ≡ map (λ e. code_row (key_of e)) (entries books.content.materials))) }
-    ensures earlier { OnBooksEarlier (state S.Store conn.old) (state S.Store conn.new) (λ books. IfOk result (λ rows. rows.items ≡ map (λ e. code_row (key_of e)) (entries books.content.materials))) }
-    ensures coded { OnBooks (state S.Store conn.old) (state S.Store conn.new) (λ books. IfOk result (λ _. AreCodes (map key_of (entries books.content.materials)))) }
-    ensures earlier_coded { OnBooksEarlier (state S.Store conn.old) (state S.Store conn.new) (λ books. IfOk result (λ _. AreCodes (map key_of (entries books.content.materials)))) }
+    ensures rows { OnBooks (state S.Store conn.old) (state S.Store conn.new)
+        (λ books. IfOk result (λ rows. rows.items
+        ≡ map (λ e. code_row (key_of e)) (entries books.content.materials))) }
+    ensures earlier { OnBooksEarlier (state S.Store conn.old) (state S.Store conn.new)
+        (λ books. IfOk result (λ rows. rows.items
+        ≡ map (λ e. code_row (key_of e)) (entries books.content.materials))) }
+    ensures coded { OnBooks (state S.Store conn.old) (state S.Store conn.new)
+        (λ books. IfOk result (λ _. AreCodes (map key_of (entries books.content.materials)))) }
+    ensures earlier_coded { OnBooksEarlier (state S.Store conn.old) (state S.Store conn.new)
+        (λ books. IfOk result (λ _. AreCodes (map key_of (entries books.content.materials)))) }
     ensures leaves { Leaves (state S.Store conn.old) (state S.Store conn.new) }
     ensures mode { conn.old.in_transaction ≡ false → conn.new.in_transaction ≡ false }
 {
@@ -27,7 +33,8 @@ pub(crate) fn material_rows<S: Alter>(conn: &mut Connection<S>) -> Result<Vec<Ro
 }
 
 fn totals_rows<S: Alter>(conn: &mut Connection<S>) -> Result<Vec<Row>, Error>
-    ensures rows { OnBooks (state S.Store conn.old) (state S.Store conn.new) (λ books. IfOk result (λ rows. rows.items ≡ map listed_row (entries books.totals))) }
+    ensures rows { OnBooks (state S.Store conn.old) (state S.Store conn.new)
+        (λ books. IfOk result (λ rows. rows.items ≡ map listed_row (entries books.totals))) }
     ensures leaves { Leaves (state S.Store conn.old) (state S.Store conn.new) }
     ensures mode { conn.old.in_transaction ≡ false → conn.new.in_transaction ≡ false }
 {
@@ -40,7 +47,8 @@ fn totals_rows<S: Alter>(conn: &mut Connection<S>) -> Result<Vec<Row>, Error>
 
 // The totals of a row, their material behind them.
 fn read_named(row: &Row) -> Result<MaterialTotals, TableFault>
-    ensures { (e : List ℕ × TotalsRecord) → row.now ≡ listed_row e → IfOk result (λ read. read ≡ named e) }
+    ensures { (e : List ℕ × TotalsRecord) → row.now ≡ listed_row e
+        → IfOk result (λ read. read ≡ named e) }
 {
     Ok(MaterialTotals {
         material: code_in(row, 7)?,
@@ -54,8 +62,11 @@ pub(crate) fn read_all(
     codes: &[Row],
     rows: &[Row],
 ) -> Result<Option<Vec<MaterialTotals>>, TableFault>
-    ensures { (cs : List (List ℕ)) (es : List (List ℕ × TotalsRecord)) → codes.now ≡ map code_row cs → rows.now ≡ map listed_row es
-        → IfOk result (λ read. IfSome read (λ list. (list.items ≡ map named es) × (cs ≡ map key_of es)) × (IsNone read → AreCodes cs → cs ≢ map key_of es)) }
+    ensures { (cs : List (List ℕ)) (es : List (List ℕ × TotalsRecord)) → codes.now ≡ map code_row cs
+        → rows.now ≡ map listed_row es
+        → IfOk result (λ read. IfSome read
+        (λ list. (list.items ≡ map named es) × (cs ≡ map key_of es))
+        × (IsNone read → AreCodes cs → cs ≢ map key_of es)) }
 {
     if codes.len() != rows.len() {
         return Ok(None);
@@ -83,7 +94,8 @@ pub fn list_totals<S: Alter>(
     alloc: Global,
     conn: &mut Connection<S>,
 ) -> Result<Option<Vec<MaterialTotals>>, TableFault>
-    ensures rows { OnBooks (state S.Store conn.old) (state S.Store conn.new) (λ books. IfOk result (AreAllTotals books)) }
+    ensures rows { OnBooks (state S.Store conn.old) (state S.Store conn.new)
+        (λ books. IfOk result (AreAllTotals books)) }
     ensures leaves { Leaves (state S.Store conn.old) (state S.Store conn.new) }
     ensures mode { conn.old.in_transaction ≡ false → conn.new.in_transaction ≡ false }
 {

@@ -2,18 +2,20 @@
 
 ghost use Rattle.std.specs.Prelude.{◌≡◌, false, map, IfOk};
 ghost use Rattle.sqlite.specs.Held.{state};
-ghost use Rattle.shop_machine.specs.Listing.{materials_of};
+ghost use Rattle.shop_records.specs.Lists.{materials_of};
 ghost use Rattle.shop_tables.specs.ListedRows.{listed_material};
 ghost use Rattle.shop_statements.specs.Shown.{Leaves, OnBooks};
 
 use crate::listed_rows::read_rows;
-use shop_machine::MaterialList;
+use shop_records::MaterialList;
 use shop_statements::{TableFault, all_rows};
 use sqlite::{Alter, Connection, Error, Row};
 use std::alloc::Global;
 
 fn material_rows<S: Alter>(conn: &mut Connection<S>) -> Result<Vec<Row>, Error>
-    ensures rows { OnBooks (state S.Store conn.old) (state S.Store conn.new) (λ books. IfOk result (λ rows. rows.items ≡ map listed_material (materials_of books.content))) }
+    ensures rows { OnBooks (state S.Store conn.old) (state S.Store conn.new)
+        (λ books. IfOk result (λ rows. rows.items
+        ≡ map listed_material (materials_of books.content))) }
     ensures leaves { Leaves (state S.Store conn.old) (state S.Store conn.new) }
     ensures mode { conn.old.in_transaction ≡ false → conn.new.in_transaction ≡ false }
 {
@@ -29,7 +31,8 @@ pub fn list_materials<S: Alter>(
     alloc: Global,
     conn: &mut Connection<S>,
 ) -> Result<MaterialList, TableFault>
-    ensures rows { OnBooks (state S.Store conn.old) (state S.Store conn.new) (λ books. IfOk result (λ rows. rows ≡ materials_of books.content)) }
+    ensures rows { OnBooks (state S.Store conn.old) (state S.Store conn.new)
+        (λ books. IfOk result (λ rows. rows ≡ materials_of books.content)) }
     ensures leaves { Leaves (state S.Store conn.old) (state S.Store conn.new) }
     ensures mode { conn.old.in_transaction ≡ false → conn.new.in_transaction ≡ false }
 {

@@ -2,13 +2,13 @@
 
 ghost use Rattle.std.specs.Prelude.{◌≡◌, false, map, take, Some, None, IfOk};
 ghost use Rattle.sqlite.specs.Held.{state};
-ghost use Rattle.shop_machine.specs.Listing.{open_demands};
+ghost use Rattle.shop_records.specs.Lists.{open_demands};
 ghost use Rattle.shop_tables.specs.ListedRows.{listed_demand};
 ghost use Rattle.shop_statements.specs.Shown.{Leaves, OnBooks};
 
 use crate::listed_rows::{at_most, read_rows};
 use cut_measure::Code;
-use shop_machine::DemandList;
+use shop_records::DemandList;
 use shop_statements::{TableFault, all_rows};
 use sqlite::{Alter, Connection, Row, params};
 use std::alloc::Global;
@@ -18,7 +18,9 @@ fn demand_rows_of_all<S: Alter>(
     after: u32,
     most: usize,
 ) -> Result<Vec<Row>, TableFault>
-    ensures rows { OnBooks (state S.Store conn.old) (state S.Store conn.new) (λ books. IfOk result (λ rows. rows.items ≡ map listed_demand (take most (open_demands books.content after None)))) }
+    ensures rows { OnBooks (state S.Store conn.old) (state S.Store conn.new)
+        (λ books. IfOk result (λ rows. rows.items
+        ≡ map listed_demand (take most (open_demands books.content after None)))) }
     ensures leaves { Leaves (state S.Store conn.old) (state S.Store conn.new) }
     ensures mode { conn.old.in_transaction ≡ false → conn.new.in_transaction ≡ false }
 {
@@ -37,7 +39,10 @@ fn demand_rows_of<S: Alter>(
     material: Code,
     most: usize,
 ) -> Result<Vec<Row>, TableFault>
-    ensures rows { OnBooks (state S.Store conn.old) (state S.Store conn.new) (λ books. IfOk result (λ rows. rows.items ≡ map listed_demand (take most (open_demands books.content after (Some material))))) }
+    ensures rows { OnBooks (state S.Store conn.old) (state S.Store conn.new)
+        (λ books. IfOk result (λ rows. rows.items
+        ≡ map listed_demand (take most
+        (open_demands books.content after (Some material))))) }
     ensures leaves { Leaves (state S.Store conn.old) (state S.Store conn.new) }
     ensures mode { conn.old.in_transaction ≡ false → conn.new.in_transaction ≡ false }
 {
@@ -56,7 +61,9 @@ fn demand_rows<S: Alter>(
     material: Option<Code>,
     most: usize,
 ) -> Result<Vec<Row>, TableFault>
-    ensures rows { OnBooks (state S.Store conn.old) (state S.Store conn.new) (λ books. IfOk result (λ rows. rows.items ≡ map listed_demand (take most (open_demands books.content after material)))) }
+    ensures rows { OnBooks (state S.Store conn.old) (state S.Store conn.new)
+        (λ books. IfOk result (λ rows. rows.items
+        ≡ map listed_demand (take most (open_demands books.content after material)))) }
     ensures leaves { Leaves (state S.Store conn.old) (state S.Store conn.new) }
     ensures mode { conn.old.in_transaction ≡ false → conn.new.in_transaction ≡ false }
 {
@@ -74,7 +81,9 @@ pub fn list_open_demands<S: Alter>(
     material: Option<Code>,
     most: usize,
 ) -> Result<DemandList, TableFault>
-    ensures rows { OnBooks (state S.Store conn.old) (state S.Store conn.new) (λ books. IfOk result (λ rows. rows ≡ take most (open_demands books.content after material))) }
+    ensures rows { OnBooks (state S.Store conn.old) (state S.Store conn.new)
+        (λ books. IfOk result (λ rows. rows
+        ≡ take most (open_demands books.content after material))) }
     ensures leaves { Leaves (state S.Store conn.old) (state S.Store conn.new) }
     ensures mode { conn.old.in_transaction ≡ false → conn.new.in_transaction ≡ false }
 {

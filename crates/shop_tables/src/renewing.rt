@@ -10,13 +10,14 @@ ghost use Rattle.shop_tables.specs.Listing.{AreAllTotals, listed_row};
 ghost use Rattle.shop_statements.specs.Shown.{Books, HasShopSchema, Holds, Leaves, StandsIn, Within};
 
 use crate::listing::{material_rows, read_all};
-use shop_machine::MaterialTotals;
+use shop_records::MaterialTotals;
 use shop_statements::{TableFault, all_rows};
 use sqlite::{Alter, Connection, Error, Row, Transaction};
 use std::alloc::Global;
 
 fn earlier_totals_rows<S: Alter>(conn: &mut Connection<S>) -> Result<Vec<Row>, Error>
-    ensures rows { OnBooksEarlier (state S.Store conn.old) (state S.Store conn.new) (λ books. IfOk result (λ rows. rows.items ≡ map listed_row (entries books.totals))) }
+    ensures rows { OnBooksEarlier (state S.Store conn.old) (state S.Store conn.new)
+        (λ books. IfOk result (λ rows. rows.items ≡ map listed_row (entries books.totals))) }
     ensures leaves { Leaves (state S.Store conn.old) (state S.Store conn.new) }
     ensures mode { conn.old.in_transaction ≡ false → conn.new.in_transaction ≡ false }
 {
@@ -33,7 +34,8 @@ pub fn list_earlier_totals<S: Alter>(
     alloc: Global,
     conn: &mut Connection<S>,
 ) -> Result<Option<Vec<MaterialTotals>>, TableFault>
-    ensures rows { OnBooksEarlier (state S.Store conn.old) (state S.Store conn.new) (λ books. IfOk result (AreAllTotals books)) }
+    ensures rows { OnBooksEarlier (state S.Store conn.old) (state S.Store conn.new)
+        (λ books. IfOk result (AreAllTotals books)) }
     ensures leaves { Leaves (state S.Store conn.old) (state S.Store conn.new) }
     ensures mode { conn.old.in_transaction ≡ false → conn.new.in_transaction ≡ false }
 {
@@ -45,7 +47,10 @@ pub fn list_earlier_totals<S: Alter>(
 /// Brings tables of version 1 to version 2: the totals move to a table of their own, where 0 of each material was returned.
 pub(crate) fn renew_tables<S: Alter>(tx: &mut Transaction<'_, S>) -> Result<(), Error>
     ensures same_reference { tx.new.conn.ghost_name ≡ tx.old.conn.ghost_name }
-    ensures renewed { (b : Books) → (HasCleanDisk (state S.Store tx.old.conn.now) → IsTrue (state S.Store tx.old.conn.now).is_open → ShowsEarlier (state S.Store tx.old.conn.now) b)
+    ensures renewed { (b : Books)
+        → (HasCleanDisk (state S.Store tx.old.conn.now)
+        → IsTrue (state S.Store tx.old.conn.now).is_open
+        → ShowsEarlier (state S.Store tx.old.conn.now) b)
         → OnOk result (Renews (state S.Store tx.old.conn.now) (state S.Store tx.new.conn.now) b) }
     ensures within { Within (state S.Store tx.old.conn.now) (state S.Store tx.new.conn.now) }
 {
@@ -58,12 +63,18 @@ pub(crate) fn renew_tables<S: Alter>(tx: &mut Transaction<'_, S>) -> Result<(), 
 pub fn renew_shop<S: Alter>(conn: &mut Connection<S>) -> Result<(), TableFault>
     requires outside { conn.old.in_transaction ≡ false }
     ensures mode { conn.new.in_transaction ≡ false }
-    ensures earlier { HasCleanDisk (state S.Store conn.new) → HasCleanDisk (state S.Store conn.old) }
-    ensures renewed { (b : Books) → HoldsEarlier (state S.Store conn.old) b → OnOk result (Holds (state S.Store conn.new) b) }
-    ensures as_before { (b : Books) → HoldsEarlier (state S.Store conn.old) b → OnErr result (HoldsEarlier (state S.Store conn.new) b) }
-    ensures crash { (b : Books) → HoldsEarlier (state S.Store conn.old) b → Survives (state S.Store conn.old) (state S.Store conn.new) (λ db. StandsIn db b) }
-    ensures after { (b : Books) → HoldsEarlier (state S.Store conn.old) b → OnOk result (LeavesBooks (state S.Store conn.new) b) }
-    ensures schema { (b : Books) → HoldsEarlier (state S.Store conn.old) b → OnOk result (HasShopSchema (state S.Store conn.new)) }
+    ensures earlier { HasCleanDisk (state S.Store conn.new)
+        → HasCleanDisk (state S.Store conn.old) }
+    ensures renewed { (b : Books) → HoldsEarlier (state S.Store conn.old) b
+        → OnOk result (Holds (state S.Store conn.new) b) }
+    ensures as_before { (b : Books) → HoldsEarlier (state S.Store conn.old) b
+        → OnErr result (HoldsEarlier (state S.Store conn.new) b) }
+    ensures crash { (b : Books) → HoldsEarlier (state S.Store conn.old) b
+        → Survives (state S.Store conn.old) (state S.Store conn.new) (λ db. StandsIn db b) }
+    ensures after { (b : Books) → HoldsEarlier (state S.Store conn.old) b
+        → OnOk result (LeavesBooks (state S.Store conn.new) b) }
+    ensures schema { (b : Books) → HoldsEarlier (state S.Store conn.old) b
+        → OnOk result (HasShopSchema (state S.Store conn.new)) }
 {
     let mut tx = conn.transaction();
     renew_tables(&mut tx)?;

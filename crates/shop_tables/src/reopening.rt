@@ -8,7 +8,7 @@ ghost use Rattle.sqlite_store.specs.FileStore as store;
 ghost use Rattle.sqlite_store.specs.declared.store.FileStore.{FileStore};
 ghost use Rattle.sqlite_trees.specs.Tree.{Trees};
 ghost use Rattle.sqlite_wal.specs.Recovery.{Image};
-ghost use Rattle.shop_machine.specs.Content.{Content};
+ghost use Rattle.shop_records.specs.Content.{Content};
 ghost use Rattle.shop_tables.specs.Held.{IsSettledAt, StandsFor};
 
 use sqlite_disk::Disk;
@@ -17,8 +17,11 @@ use sqlite_disk::Disk;
 /// leave sees one of the databases that the store allows, and is settled at the content for which that stands. So
 /// `adopt_tables` goes on with it.
 pub fn left_contents_are_found<D: Disk>()
-    ensures { (it : FileStore D D.Disk) → IsTrue (store.view it).is_numbered → AreDatabases (store.recovers it)
-        → (left : Image) → (store.state it).may_leave left → (files : Files D) → image_of D.Disk files ≡ left
+    ensures { (it : FileStore D D.Disk) → IsTrue (store.view it).is_numbered
+        → AreDatabases (store.recovers it)
+        → (left : Image) → (store.state it).may_leave left → (files : Files D)
+        → image_of D.Disk files ≡ left
         → (new : Held (FileStore D D.Disk)) → IsOpened new → Finds files new
-        → ∥ ((db : Trees) × store.recovers it db × ((m : Content) → StandsFor db m → IsSettledAt (file_state new) m)) ∥₁ }
+        → ∥ ((db : Trees) × store.recovers it db
+        × ((m : Content) → StandsFor db m → IsSettledAt (file_state new) m)) ∥₁ }
 {}

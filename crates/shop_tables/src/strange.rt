@@ -6,10 +6,10 @@ ghost use Rattle.cut_measure.specs.Codes.{is_code};
 ghost use Rattle.cut_measure.specs.Measures.{is_size};
 ghost use Rattle.cut_measure.specs.Names.{Name, IsName};
 ghost use Rattle.cut_measure.specs.declared.sizes.Kind.TheVariants.{Sheet};
-ghost use Rattle.shop_machine.specs.Columns.{state_of};
-ghost use Rattle.shop_machine.specs.declared.records.Part.{Part as PartRecord};
-ghost use Rattle.shop_machine.specs.declared.records.State.{State as PartState};
-ghost use Rattle.shop_machine.specs.declared.records.Totals.{Totals as TotalsRecord};
+ghost use Rattle.shop_records.specs.Columns.{state_of};
+ghost use Rattle.shop_records.specs.declared.records.Part.{Part as PartRecord};
+ghost use Rattle.shop_records.specs.declared.records.State.{State as PartState};
+ghost use Rattle.shop_records.specs.declared.records.Totals.{Totals as TotalsRecord};
 ghost use Rattle.shop_tables.specs.Listing.{listed_row};
 ghost use Rattle.shop_statements.specs.Rows.{part_row, state_number};
 ghost use Rattle.shop_tables.specs.Strange.{HasCounts, Shows};
@@ -35,8 +35,10 @@ fn int_in(row: &Row, at: usize) -> Option<i64>
 
 // A number from the least to the most.
 pub(crate) fn has_number(row: &Row, at: usize, least: u32, most: u32) -> bool
-    ensures known { (n : ℕ) → least ≤ n → n ≤ most → Shows row.now at (Int (pos n)) → IsTrue result }
-    ensures shown { IsTrue result → (n : ℕ) × (least ≤ n) × (n ≤ most) × Shows row.now at (Int (pos n)) }
+    ensures known { (n : ℕ) → least ≤ n → n ≤ most → Shows row.now at (Int (pos n))
+        → IsTrue result }
+    ensures shown { IsTrue result → (n : ℕ) × (least ≤ n) × (n ≤ most)
+        × Shows row.now at (Int (pos n)) }
 {
     match int_in(row, at) {
         Some(number) => i64::from(least) <= number && number <= i64::from(most),
@@ -68,7 +70,8 @@ pub(crate) fn has_word(row: &Row, at: usize, word: &str) -> bool
 }
 
 fn has_code(row: &Row, at: usize) -> bool
-    ensures { (code : List ℕ) → IsTrue (is_code code) → Shows row.now at (Word code) → IsTrue result }
+    ensures { (code : List ℕ) → IsTrue (is_code code) → Shows row.now at (Word code)
+        → IsTrue result }
 {
     match row.get_ref(at) {
         Ok(ValueRef::Text(bytes)) => is_code_text(bytes),
@@ -83,7 +86,8 @@ fn has_code(row: &Row, at: usize) -> bool
 // A name's act and its node, side by side.
 fn has_name(row: &Row, at: usize) -> bool
     requires { at < 100 }
-    ensures { (name : Name) → IsName name → Shows row.now at (Int (pos name.act)) → Shows row.now (at + 1) (Int (pos name.node)) → IsTrue result }
+    ensures { (name : Name) → IsName name → Shows row.now at (Int (pos name.act))
+        → Shows row.now (at + 1) (Int (pos name.node)) → IsTrue result }
 {
     has_number(row, at, 1, MOST_NUMBERS) && has_number(row, at + 1, 0, u32::MAX)
 }
@@ -91,7 +95,8 @@ fn has_name(row: &Row, at: usize) -> bool
 // A width and a height, side by side.
 fn has_size(row: &Row, at: usize) -> bool
     requires { at < 100 }
-    ensures { (w h : ℕ) → IsTrue (is_size Sheet w h) → Shows row.now at (Int (pos w)) → Shows row.now (at + 1) (Int (pos h)) → IsTrue result }
+    ensures { (w h : ℕ) → IsTrue (is_size Sheet w h) → Shows row.now at (Int (pos w))
+        → Shows row.now (at + 1) (Int (pos h)) → IsTrue result }
 {
     has_number(row, at, 1, MOST_WIDTH) && has_number(row, at + 1, 1, MOST_HEIGHT)
 }
@@ -118,7 +123,8 @@ fn has_counts(row: &Row, from: usize, to: usize) -> bool
 }
 
 fn are_of_state(word: i64, detail: i64) -> bool
-    ensures { (state : PartState) → state_of state < 2 ^ 32 → word ≡ pos (state_number state) → detail ≡ pos (state_of state) → IsTrue result }
+    ensures { (state : PartState) → state_of state < 2 ^ 32 → word ≡ pos (state_number state)
+        → detail ≡ pos (state_of state) → IsTrue result }
 {
     if 1 <= word && word <= 3 {
         0 <= detail && detail <= i64::from(u32::MAX)
@@ -130,7 +136,9 @@ fn are_of_state(word: i64, detail: i64) -> bool
 // A state and its job or demand, side by side.
 fn has_state(row: &Row, at: usize) -> bool
     requires { at < 100 }
-    ensures { (state : PartState) → state_of state < 2 ^ 32 → Shows row.now at (Int (pos (state_number state))) → Shows row.now (at + 1) (Int (pos (state_of state))) → IsTrue result }
+    ensures { (state : PartState) → state_of state < 2 ^ 32
+        → Shows row.now at (Int (pos (state_number state)))
+        → Shows row.now (at + 1) (Int (pos (state_of state))) → IsTrue result }
 {
     match (int_in(row, at), int_in(row, at + 1)) {
         (Some(word), Some(detail)) => are_of_state(word, detail),
@@ -141,7 +149,8 @@ fn has_state(row: &Row, at: usize) -> bool
 
 /// Whether a row may be a part's: each column has a value as parts have them, in its range.
 pub(crate) fn may_be_part(row: &Row) -> bool
-    ensures { (part : PartRecord) → IsPartValue part → row.now ≡ part_row (part.name, part) → IsTrue result }
+    ensures { (part : PartRecord) → IsPartValue part → row.now ≡ part_row (part.name, part)
+        → IsTrue result }
 {
     has_name(row, 0)
         && (has_code(row, 2)
@@ -154,7 +163,8 @@ pub(crate) fn may_be_part(row: &Row) -> bool
 
 /// Whether a row may be that of totals, their code behind them.
 pub(crate) fn may_be_totals(row: &Row) -> bool
-    ensures { (e : List ℕ × TotalsRecord) → IsTrue (is_code e.0) → row.now ≡ listed_row e → IsTrue result }
+    ensures { (e : List ℕ × TotalsRecord) → IsTrue (is_code e.0) → row.now ≡ listed_row e
+        → IsTrue result }
 {
     has_counts(row, 0, 7) && has_code(row, 7)
 }

@@ -2,13 +2,13 @@
 
 ghost use Rattle.std.specs.Prelude.{◌≡◌, false, map, take, IfOk};
 ghost use Rattle.sqlite.specs.Held.{state};
-ghost use Rattle.shop_machine.specs.Listing.{waiting_jobs};
-ghost use Rattle.shop_machine.specs.declared.records.Job.{Job};
+ghost use Rattle.shop_records.specs.Lists.{waiting_jobs};
+ghost use Rattle.shop_records.specs.declared.records.Job.{Job};
 ghost use Rattle.shop_tables.specs.ListedRows.{number_row};
 ghost use Rattle.shop_statements.specs.Shown.{Leaves, OnBooks};
 
 use crate::listed_rows::{at_most, read_rows};
-use shop_machine::NumberList;
+use shop_records::NumberList;
 use shop_statements::{TableFault, all_rows};
 use sqlite::{Alter, Connection, Row, params};
 use std::alloc::Global;
@@ -18,7 +18,10 @@ fn job_rows<S: Alter>(
     after: u32,
     most: usize,
 ) -> Result<Vec<Row>, TableFault>
-    ensures rows { OnBooks (state S.Store conn.old) (state S.Store conn.new) (λ books. IfOk result (λ rows. rows.items ≡ map number_row (take most (map (λ (job : Job). job.act) (waiting_jobs books.content after))))) }
+    ensures rows { OnBooks (state S.Store conn.old) (state S.Store conn.new)
+        (λ books. IfOk result (λ rows. rows.items
+        ≡ map number_row (take most
+        (map (λ (job : Job). job.act) (waiting_jobs books.content after))))) }
     ensures leaves { Leaves (state S.Store conn.old) (state S.Store conn.new) }
     ensures mode { conn.old.in_transaction ≡ false → conn.new.in_transaction ≡ false }
 {
@@ -38,7 +41,9 @@ pub fn list_waiting_jobs<S: Alter>(
     after: u32,
     most: usize,
 ) -> Result<NumberList, TableFault>
-    ensures numbers { OnBooks (state S.Store conn.old) (state S.Store conn.new) (λ books. IfOk result (λ numbers. numbers ≡ take most (map (λ (job : Job). job.act) (waiting_jobs books.content after)))) }
+    ensures numbers { OnBooks (state S.Store conn.old) (state S.Store conn.new)
+        (λ books. IfOk result (λ numbers. numbers
+        ≡ take most (map (λ (job : Job). job.act) (waiting_jobs books.content after)))) }
     ensures leaves { Leaves (state S.Store conn.old) (state S.Store conn.new) }
     ensures mode { conn.old.in_transaction ≡ false → conn.new.in_transaction ≡ false }
 {

@@ -12,8 +12,8 @@ use Rattle.cut_tree.specs.declared.steps.Step.{Step}
 use Rattle.cut_tree.specs.Tree.{Tree, node_count}
 use Rattle.cut_tree.specs.Stepping.{AreSteps, step_at}
 use Rattle.shop_text.specs.declared.tickets.FoundNode.{FoundNode}
-use Rattle.shop_machine.specs.declared.records.Demand.{Demand}
-use Rattle.shop_machine.specs.declared.refusals.Refusal.{Refusal}
+use Rattle.shop_records.specs.declared.records.Demand.{Demand}
+use Rattle.shop_records.specs.declared.refusals.Refusal.{Refusal}
 use Rattle.shop_text.specs.Tickets.{AreNodesFound, IsUntold, both, demand_for, line_of, lines_below, node_line, step_of, steps_in}
 
 both_none : (a : Option (List ℕ)) → both a None ≡ None

@@ -2,11 +2,11 @@
 use Rattle.std.proofs.Common.{◌≡◌, ℕ, List, [], ◌∷◌, ◌++◌, Bool, true, false, refl, sym, ap, subst, ◌∙◌, append-nil, append_assoc}
 use Rattle.std.specs.Prelude.{Option, Some, None, Result, Ok, Err, codes, string_bytes}
 use Rattle.std.specs.List.{flat_map}
-use Rattle.shop_machine.specs.declared.records.Part.{Part}
-use Rattle.shop_machine.specs.declared.records.Material.{Material}
-use Rattle.shop_machine.specs.declared.records.Totals.{Totals}
-use Rattle.shop_machine.specs.Content.{Content, material_at, totals_of, parts_of}
-use Rattle.shop_machine.specs.Visits.{GoesOn, HasSeen, IsVisit}
+use Rattle.shop_records.specs.declared.records.Part.{Part}
+use Rattle.shop_records.specs.declared.records.Material.{Material}
+use Rattle.shop_records.specs.declared.records.Totals.{Totals}
+use Rattle.shop_records.specs.Content.{Content, material_at, totals_of, parts_of}
+use Rattle.shop_records.specs.Visits.{GoesOn, HasSeen, IsVisit}
 use Rattle.shop_book.specs.declared.books.BookFault.{BookFault}
 use Rattle.shop_text.specs.declared.yields.PartLines.{PartLines}
 use Rattle.shop_text.specs.Yields.{TakesLine, part_line, yield_head, yield_found, yield_of}

@@ -10,13 +10,13 @@ use Rattle.cut_tree.specs.declared.steps.Step.{Step}
 use Rattle.cut_tree.specs.Tree.{Tree, Piece, Rest, Trim, Cut, node_count, count_of}
 use Rattle.cut_tree.specs.Patterns.{Pattern}
 use Rattle.cut_tree.specs.Stepping.{step_at}
-use Rattle.shop_machine.specs.declared.records.Material.{Material}
-use Rattle.shop_machine.specs.declared.records.Job.{Job}
-use Rattle.shop_machine.specs.declared.records.Demand.{Demand}
-use Rattle.shop_machine.specs.declared.refusals.Refusal.TheVariants.{StoreFault}
-use Rattle.shop_machine.specs.Messages.{Texts}
-use Rattle.shop_machine.specs.Content.{Content, job_at, part_at, material_at, material_of, demand_at}
-use Rattle.shop_machine.specs.Soundness.{IsOnPart, IsSound}
+use Rattle.shop_records.specs.declared.records.Material.{Material}
+use Rattle.shop_records.specs.declared.records.Job.{Job}
+use Rattle.shop_records.specs.declared.records.Demand.{Demand}
+use Rattle.shop_records.specs.declared.refusals.Refusal.TheVariants.{StoreFault}
+use Rattle.shop_records.specs.Messages.{Texts}
+use Rattle.shop_records.specs.Content.{Content, job_at, part_at, material_at, material_of, demand_at}
+use Rattle.shop_records.specs.Soundness.{IsOnPart, IsSound}
 use Rattle.shop_text.specs.Tickets.{both, demand_for, line_of, lines_below, node_lines, node_text, or_contradiction, step_of, ticket_found, ticket_of, ticket_on_part}
 use Rattle.shop_text.specs.Yields.{yield_found, yield_of}
 

@@ -7,9 +7,9 @@ use Rattle.cut_measure.specs.declared.sizes.Kind.{Kind}
 use Rattle.cut_measure.specs.declared.sizes.Kind.TheVariants.{Bar, Sheet}
 use Rattle.cut_measure.specs.Lengths.{mm_text}
 use Rattle.cut_measure.specs.Names.{Name, name_text}
-use Rattle.shop_machine.specs.declared.refusals.Refusal.{Refusal}
-use Rattle.shop_machine.specs.declared.refusals.Refusal.TheVariants.{NoMemory, StoreFault}
-use Rattle.shop_machine.specs.Refusals.{refusal_number, refusal_name}
+use Rattle.shop_records.specs.declared.refusals.Refusal.{Refusal}
+use Rattle.shop_records.specs.declared.refusals.Refusal.TheVariants.{NoMemory, StoreFault}
+use Rattle.shop_records.specs.Refusals.{refusal_number, refusal_name}
 use Rattle.shop_book.specs.Failures.{one_more_failure}
 use Rattle.shop_text.specs.declared.printing.PrintFault.{PrintFault}
 use Rattle.shop_text.specs.declared.printing.PrintFault.TheVariants.{Refused, Write}

@@ -12,16 +12,16 @@ use Rattle.cut_tree.specs.Tree.{node_count, cut_count}
 use Rattle.cut_tree.specs.Patterns.{Pattern}
 use Rattle.cut_tree.specs.Spelling.{axis_letter}
 use Rattle.cut_tree.specs.Stepping.{step_at}
-use Rattle.shop_machine.specs.declared.records.Material.{Material}
-use Rattle.shop_machine.specs.declared.records.Part.{Part}
-use Rattle.shop_machine.specs.declared.records.Job.{Job}
-use Rattle.shop_machine.specs.declared.records.JobState.{JobState}
-use Rattle.shop_machine.specs.declared.records.JobState.TheVariants.{Waiting, Done, Broken, Released}
-use Rattle.shop_machine.specs.declared.records.Demand.{Demand}
-use Rattle.shop_machine.specs.declared.refusals.Refusal.{Refusal}
-use Rattle.shop_machine.specs.declared.refusals.Refusal.TheVariants.{NoJob, NoMemory, StoreFault}
-use Rattle.shop_machine.specs.Recounts.{plan_leaves}
-use Rattle.shop_machine.specs.Content.{Content, job_at, part_at, material_of, demand_at}
+use Rattle.cut_tree.specs.Leaves.{leaves_of}
+use Rattle.shop_records.specs.declared.records.Material.{Material}
+use Rattle.shop_records.specs.declared.records.Part.{Part}
+use Rattle.shop_records.specs.declared.records.Job.{Job}
+use Rattle.shop_records.specs.declared.records.JobState.{JobState}
+use Rattle.shop_records.specs.declared.records.JobState.TheVariants.{Waiting, Done, Broken, Released}
+use Rattle.shop_records.specs.declared.records.Demand.{Demand}
+use Rattle.shop_records.specs.declared.refusals.Refusal.{Refusal}
+use Rattle.shop_records.specs.declared.refusals.Refusal.TheVariants.{NoJob, NoMemory, StoreFault}
+use Rattle.shop_records.specs.Content.{Content, job_at, part_at, material_of, demand_at}
 use Rattle.shop_text.specs.declared.tickets.FoundNode.{FoundNode}
 use Rattle.shop_text.specs.Printing.{to_the_right, size_text, place_text, part_start}
 
@@ -102,7 +102,7 @@ unit_line job part material =
 
 -- the last line
 abbrev pub ticket_end : Pattern → List ℕ
-ticket_end plan = codes "cuts " ++ decimal (cut_count plan.tree) ++ codes " pieces " ++ decimal (length (plan_leaves plan)) ++ codes "\n"
+ticket_end plan = codes "cuts " ++ decimal (cut_count plan.tree) ++ codes " pieces " ++ decimal (length (leaves_of plan.tree plan.w plan.h plan.kerf)) ++ codes "\n"
 
 -- the ticket of a job on a part of a material, where the rows of its pieces' demands are there
 abbrev pub ticket_with : Job → Part → Material → (ℕ → Option Demand) → Option (List ℕ)

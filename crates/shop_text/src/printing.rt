@@ -8,7 +8,7 @@ ghost use Rattle.shop_text.specs.declared.printing.PrintFault.TheVariants.{Write
 ghost use Rattle.shop_streams.specs.Streams.{HasFailed};
 
 use cut_measure::{Kind, PartName, write_mm};
-use shop_machine::Refusal;
+use shop_records::Refusal;
 use shop_streams::{Sink, write_all};
 use std::alloc::AllocError;
 use std::error::Error;
@@ -65,7 +65,8 @@ fn push_spaces(count: usize, text: &mut String) -> Result<(), AllocError>
 
 /// Appends a number at the right end of so many places.
 pub fn push_number(n: u64, places: usize, text: &mut String) -> Result<(), AllocError>
-    ensures { OnOk result (string_bytes text.new ≡ string_bytes text.old ++ to_the_right places (decimal n)) }
+    ensures { OnOk result (string_bytes text.new ≡ string_bytes text.old
+        ++ to_the_right places (decimal n)) }
 {
     let alloc = *text.allocator();
     let numeral = format!(in alloc; "{n}")?;
@@ -113,7 +114,9 @@ pub fn push_part_start(name: PartName, text: &mut String) -> Result<(), AllocErr
 /// Writes a text that is finished.
 pub fn print<W: Sink>(text: &str, sink: &mut W) -> Result<(), PrintFault>
     ensures ok { OnOk result (Appends (W.held sink.old) (W.held sink.new) text.now) }
-    ensures err { OnErr result ((done : List ℕ) × (rest : List ℕ) × (done ++ rest ≡ text.now) × Appends (W.held sink.old) (W.held sink.new) done) }
+    ensures err { OnErr result
+        ((done : List ℕ) × (rest : List ℕ) × (done ++ rest ≡ text.now)
+        × Appends (W.held sink.old) (W.held sink.new) done) }
     ensures write { OnErr result (result ≡ Err Write) }
     ensures failed { OnErr result (HasFailed (W.failed sink.old) (W.failed sink.new)) }
     ensures worked { OnOk result (W.failed sink.new ≡ W.failed sink.old) }

@@ -2,9 +2,9 @@
 
 ghost use Rattle.std.specs.Prelude.{◌≡◌, ◌++◌, ◌∷◌, [], ℕ, List, Option, OnOk, IfOk, IfErr, Ok, Err, All, MatchOption, string_bytes};
 ghost use Rattle.cut_tree.specs.Stepping.{AreSteps};
-ghost use Rattle.shop_machine.specs.declared.records.Demand.{Demand as DemandOf};
-ghost use Rattle.shop_machine.specs.declared.refusals.Refusal.{Refusal as RefusalOf};
-ghost use Rattle.shop_machine.specs.Content.{demand_at};
+ghost use Rattle.shop_records.specs.declared.records.Demand.{Demand as DemandOf};
+ghost use Rattle.shop_records.specs.declared.refusals.Refusal.{Refusal as RefusalOf};
+ghost use Rattle.shop_records.specs.Content.{demand_at};
 ghost use Rattle.shop_text.specs.declared.printing.PrintFault.TheVariants.{Refused, Write};
 ghost use Rattle.shop_book.specs.Kept.{Unchanged, OnContent};
 ghost use Rattle.shop_book.specs.Failures.{CountsFailure};
@@ -16,7 +16,7 @@ use crate::printing::{PrintFault, print, push_number, push_part_start, push_plac
 use cut_measure::{Axis, Kind, write_mm};
 use cut_tree::{Plan, Step, Token};
 use shop_book::{Book, BookFault};
-use shop_machine::{Demand, Job, JobState, Material, Part, Refusal};
+use shop_records::{Demand, Job, JobState, Material, Part, Refusal};
 use shop_streams::Sink;
 use std::alloc::{AllocError, Global};
 
@@ -32,7 +32,8 @@ fn push_node(
     step: Step,
     demand: Option<Demand>,
 ) -> Result<(), AllocError>
-    ensures { OnOk result (nodes.new.items ≡ nodes.old.items ++ record { step = step; demand = demand } ∷ []) }
+    ensures { OnOk result (nodes.new.items ≡ nodes.old.items
+        ++ record { step = step; demand = demand } ∷ []) }
 {
     nodes.push(FoundNode { step, demand })?;
     Ok(())
@@ -40,7 +41,8 @@ fn push_node(
 
 // The row of a piece's demand.
 fn demand_of<B: Book>(book: &mut B, what: Token) -> Result<Option<Demand>, BookFault>
-    ensures row { OnContent B.Book book.old book.new (λ m. IfOk result (λ row. row ≡ demand_for (demand_at m) what)) }
+    ensures row { OnContent B.Book book.old book.new
+        (λ m. IfOk result (λ row. row ≡ demand_for (demand_at m) what)) }
     ensures keeps { Unchanged B.Book (CountsFailure result) book.old book.new }
 {
     match what {
@@ -55,8 +57,11 @@ fn found_nodes<B: Book>(
     book: &mut B,
     plan: &Plan,
 ) -> Result<Vec<FoundNode>, BookFault>
-    ensures found { OnContent B.Book book.old book.new (λ m. IfOk result (λ nodes. AreNodesFound (demand_at m) nodes.items)) }
-    ensures steps { IfOk result (λ nodes. AreSteps plan.now.tree plan.now.w plan.now.h plan.now.kerf (steps_in nodes.items)) }
+    ensures found { OnContent B.Book book.old book.new
+        (λ m. IfOk result (λ nodes. AreNodesFound (demand_at m) nodes.items)) }
+    ensures steps { IfOk result
+        (λ nodes. AreSteps plan.now.tree plan.now.w plan.now.h plan.now.kerf
+        (steps_in nodes.items)) }
     ensures keeps { Unchanged B.Book (CountsFailure result) book.old book.new }
 {
     let steps = plan.steps(alloc)?;
@@ -84,7 +89,8 @@ fn push_cut(
     place: u32,
     text: &mut String,
 ) -> Result<(), AllocError>
-    ensures { OnOk result (string_bytes text.new ≡ string_bytes text.old ++ cut_text kind step axis place) }
+    ensures { OnOk result (string_bytes text.new ≡ string_bytes text.old
+        ++ cut_text kind step axis place) }
 {
     text.push_str(match axis {
         Axis::X => "cut x ",
@@ -109,7 +115,8 @@ fn push_piece(
     row: &Demand,
     text: &mut String,
 ) -> Result<(), AllocError>
-    ensures { OnOk result (string_bytes text.new ≡ string_bytes text.old ++ piece_text kind step turned row.now) }
+    ensures { OnOk result (string_bytes text.new ≡ string_bytes text.old
+        ++ piece_text kind step turned row.now) }
 {
     text.push_str("piece")?;
     push_spot(kind, step, text)?;
@@ -126,7 +133,8 @@ fn push_rest(kind: Kind, step: Step, text: &mut String) -> Result<(), AllocError
 
 // What is done at a node.
 fn push_what(kind: Kind, node: &FoundNode, text: &mut String) -> Result<(), Refusal>
-    ensures { AddsLine (string_bytes text.old) (string_bytes text.new) result (node_text kind node.now.step node.now.step.what node.now.demand) }
+    ensures { AddsLine (string_bytes text.old) (string_bytes text.new) result
+        (node_text kind node.now.step node.now.step.what node.now.demand) }
 {
     let step = node.step;
     match (step.what, node.demand) {
@@ -140,7 +148,8 @@ fn push_what(kind: Kind, node: &FoundNode, text: &mut String) -> Result<(), Refu
 
 // A node's line.
 fn push_line(kind: Kind, node: &FoundNode, text: &mut String) -> Result<(), Refusal>
-    ensures { AddsLine (string_bytes text.old) (string_bytes text.new) result (node_line kind node.now.step node.now.demand) }
+    ensures { AddsLine (string_bytes text.old) (string_bytes text.new) result
+        (node_line kind node.now.step node.now.demand) }
 {
     push_number(u64::from(node.step.node), 4, text)?;
     text.push_str(" ")?;
@@ -175,7 +184,8 @@ fn push_unit(
     material: &Material,
     text: &mut String,
 ) -> Result<(), AllocError>
-    ensures { OnOk result (string_bytes text.new ≡ string_bytes text.old ++ unit_line job.now part.now material.now) }
+    ensures { OnOk result (string_bytes text.new ≡ string_bytes text.old
+        ++ unit_line job.now part.now material.now) }
 {
     push_part_start(part.name, text)?;
     part.material.write(text)?;
@@ -202,7 +212,9 @@ fn push_lines(
     text: &mut String,
 ) -> Result<(), Refusal>
     requires { AreSteps plan.now.tree plan.now.w plan.now.h plan.now.kerf (steps_in nodes.now) }
-    ensures { (at : ℕ → Option DemandOf) → AreNodesFound at nodes.now → AddsLine (string_bytes text.old) (string_bytes text.new) result (node_lines kind at plan.now) }
+    ensures { (at : ℕ → Option DemandOf) → AreNodesFound at nodes.now
+        → AddsLine (string_bytes text.old) (string_bytes text.new) result
+        (node_lines kind at plan.now) }
 {
     for node in nodes {
         push_line(kind, node, text)?;
@@ -218,8 +230,10 @@ fn ticket_lines(
     material: &Material,
     nodes: &[FoundNode],
 ) -> Result<String, Refusal>
-    requires { AreSteps job.now.plan.tree job.now.plan.w job.now.plan.h job.now.plan.kerf (steps_in nodes.now) }
-    ensures { (at : ℕ → Option DemandOf) → AreNodesFound at nodes.now → IsMade result (ticket_with job.now part.now material.now at) }
+    requires { AreSteps job.now.plan.tree job.now.plan.w job.now.plan.h job.now.plan.kerf
+        (steps_in nodes.now) }
+    ensures { (at : ℕ → Option DemandOf) → AreNodesFound at nodes.now
+        → IsMade result (ticket_with job.now part.now material.now at) }
 {
     let mut text = String::new(alloc);
     push_job(job, &mut text)?;
@@ -232,7 +246,8 @@ fn ticket_lines(
 /// The ticket of a job as text. An unknown job is refused 70; 98 is want of memory, and 99 comes where the store failed, or
 /// where rows that no history gives contradict each other.
 pub fn ticket_text<B: Book>(alloc: Global, book: &mut B, number: u32) -> Result<String, Refusal>
-    ensures told { OnContent B.Book book.old book.new (λ m. IsTold (B.failed book.old) (B.failed book.new) result (ticket_of m number)) }
+    ensures told { OnContent B.Book book.old book.new
+        (λ m. IsTold (B.failed book.old) (B.failed book.new) result (ticket_of m number)) }
     ensures keeps { Unchanged B.Book (CountsRefusal result) book.old book.new }
 {
     let Some(job) = book.job(alloc, number)? else {
@@ -256,7 +271,9 @@ pub fn ticket<B: Book, W: Sink>(
     job: u32,
     sink: &mut W,
 ) -> Result<(), PrintFault>
-    ensures printed { OnContent B.Book book.old book.new (λ m. IsPrinted (B.failed book.old) (B.failed book.new) (W.held sink.old) (W.held sink.new) result (ticket_of m job)) }
+    ensures printed { OnContent B.Book book.old book.new
+        (λ m. IsPrinted (B.failed book.old) (B.failed book.new) (W.held sink.old)
+        (W.held sink.new) result (ticket_of m job)) }
     ensures refused { (refusal : RefusalOf) → result ≡ Err (Refused refusal) → sink.new ≡ sink.old }
     ensures write { result ≡ Err Write → HasFailed (W.failed sink.old) (W.failed sink.new) }
     ensures worked { OnOk result (W.failed sink.new ≡ W.failed sink.old) }

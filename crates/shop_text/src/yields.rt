@@ -2,8 +2,8 @@
 
 ghost use Rattle.std.specs.Prelude.{◌≡◌, ◌++◌, OnOk, Err, string_bytes};
 ghost use Rattle.cut_measure.specs.Lengths.{mm_text};
-ghost use Rattle.shop_machine.specs.declared.refusals.Refusal.{Refusal as RefusalOf};
-ghost use Rattle.shop_machine.specs.Content.{totals_of, parts_of};
+ghost use Rattle.shop_records.specs.declared.refusals.Refusal.{Refusal as RefusalOf};
+ghost use Rattle.shop_records.specs.Content.{totals_of, parts_of};
 ghost use Rattle.shop_book.specs.Kept.{Unchanged, OnContent};
 ghost use Rattle.shop_text.specs.declared.printing.PrintFault.TheVariants.{Refused, Write};
 ghost use Rattle.shop_text.specs.Printing.{IsTold, IsPrinted, CountsRefusal, CountsPrint};
@@ -13,7 +13,7 @@ ghost use Rattle.shop_text.specs.Yields.{TakesLine, kind_text, line_end, part_li
 use crate::printing::{PrintFault, print, push_number, push_part_start, push_size};
 use cut_measure::{Code, Kind};
 use shop_book::Book;
-use shop_machine::{Part, PartVisitor, Refusal, State, Totals};
+use shop_records::{Part, PartVisitor, Refusal, State, Totals};
 use shop_streams::Sink;
 use std::alloc::{AllocError, Global};
 
@@ -59,7 +59,8 @@ fn share(totals: Totals) -> u128
 }
 
 fn push_share(totals: Totals, text: &mut String) -> Result<(), AllocError>
-    ensures { OnOk result (string_bytes text.new ≡ string_bytes text.old ++ mm_text (per_mille totals)) }
+    ensures { OnOk result (string_bytes text.new ≡ string_bytes text.old
+        ++ mm_text (per_mille totals)) }
 {
     let share = share(totals);
     write!(text, "{}.{}", share / 10, share % 10)
@@ -67,7 +68,8 @@ fn push_share(totals: Totals, text: &mut String) -> Result<(), AllocError>
 
 // The lines in front of the parts.
 fn push_head(code: Code, kind: Kind, totals: Totals, text: &mut String) -> Result<(), AllocError>
-    ensures { OnOk result (string_bytes text.new ≡ string_bytes text.old ++ yield_head code kind totals) }
+    ensures { OnOk result (string_bytes text.new ≡ string_bytes text.old
+        ++ yield_head code kind totals) }
 {
     text.push_str("yield ")?;
     code.write(text)?;
@@ -100,7 +102,8 @@ fn push_line_end(state: State, text: &mut String) -> Result<(), AllocError>
 }
 
 fn push_part(kind: Kind, part: &Part, text: &mut String) -> Result<(), AllocError>
-    ensures { OnOk result (string_bytes text.new ≡ string_bytes text.old ++ part_line kind part.now) }
+    ensures { OnOk result (string_bytes text.new ≡ string_bytes text.old
+        ++ part_line kind part.now) }
 {
     push_part_start(part.name, text)?;
     push_size(kind, part.size.w(), part.size.h(), text)?;
@@ -125,7 +128,8 @@ impl PartVisitor for PartLines {
 /// The yield report of a material as text. An unknown material is refused 20; 98 is want of memory, and 99 comes where the
 /// store failed.
 pub fn report_text<B: Book>(alloc: Global, book: &mut B, code: Code) -> Result<String, Refusal>
-    ensures told { OnContent B.Book book.old book.new (λ m. IsTold (B.failed book.old) (B.failed book.new) result (yield_of m code)) }
+    ensures told { OnContent B.Book book.old book.new
+        (λ m. IsTold (B.failed book.old) (B.failed book.new) result (yield_of m code)) }
     ensures keeps { Unchanged B.Book (CountsRefusal result) book.old book.new }
 {
     let Some(material) = book.material(code)? else {
@@ -153,7 +157,9 @@ pub fn yield_report<B: Book, W: Sink>(
     material: Code,
     sink: &mut W,
 ) -> Result<(), PrintFault>
-    ensures printed { OnContent B.Book book.old book.new (λ m. IsPrinted (B.failed book.old) (B.failed book.new) (W.held sink.old) (W.held sink.new) result (yield_of m material)) }
+    ensures printed { OnContent B.Book book.old book.new
+        (λ m. IsPrinted (B.failed book.old) (B.failed book.new) (W.held sink.old)
+        (W.held sink.new) result (yield_of m material)) }
     ensures refused { (refusal : RefusalOf) → result ≡ Err (Refused refusal) → sink.new ≡ sink.old }
     ensures write { result ≡ Err Write → HasFailed (W.failed sink.old) (W.failed sink.new) }
     ensures worked { OnOk result (W.failed sink.new ≡ W.failed sink.old) }

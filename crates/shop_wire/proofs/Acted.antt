@@ -2,16 +2,16 @@
 use Rattle.std.proofs.Common.{◌≡◌, ◌≢◌, ℕ, ◌+◌, ◌⊎◌, arith, nat_lt, inl, inr, List, map, Bool, true, false, Option, Some, None, Result, Ok, Err, refl, sym, ap, subst, ◌∙◌}
 use Rattle.std.specs.Prelude.{MatchOption, option_map, ⊤, if◌then◌else◌}
 use Rattle.std.specs.declared.string.String.{String}
-use Rattle.shop_machine.specs.declared.messages.Message.{Message as MessageOf}
-use Rattle.shop_machine.specs.declared.messages.Query.{Query}
-use Rattle.shop_machine.specs.declared.messages.Reply.{Reply}
-use Rattle.shop_machine.specs.declared.messages.Reply.TheVariants.{Refused}
-use Rattle.shop_machine.specs.declared.refusals.Refusal.{Refusal}
-use Rattle.shop_machine.specs.declared.refusals.Refusal.TheVariants.{BadMessage, NoMemory, StoreFault}
-use Rattle.shop_machine.specs.Messages.{IsMessage, pair_of}
-use Rattle.shop_machine.specs.Content.{Content, kept_at}
+use Rattle.shop_records.specs.declared.messages.Message.{Message as MessageOf}
+use Rattle.shop_records.specs.declared.messages.Query.{Query}
+use Rattle.shop_records.specs.declared.messages.Reply.{Reply}
+use Rattle.shop_records.specs.declared.messages.Reply.TheVariants.{Refused}
+use Rattle.shop_records.specs.declared.refusals.Refusal.{Refusal}
+use Rattle.shop_records.specs.declared.refusals.Refusal.TheVariants.{BadMessage, NoMemory, StoreFault}
+use Rattle.shop_records.specs.Messages.{IsMessage, pair_of}
+use Rattle.shop_records.specs.Content.{Content, kept_at}
 use Rattle.shop_machine.specs.Machine.{Step, Answers}
-use Rattle.shop_machine.specs.Soundness.{IsSound}
+use Rattle.shop_records.specs.Soundness.{IsSound}
 use Rattle.shop_rules.specs.Forms.{json_texts}
 use Rattle.shop_book.specs.declared.books.Book.{Ghosts}
 use Rattle.shop_book.specs.declared.books.TheConstants.{MOST_FAILURES}

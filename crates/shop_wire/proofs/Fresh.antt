@@ -1,7 +1,7 @@
 -- A replay over a fresh book whose store can't fail.
 use Rattle.std.proofs.Common.{◌≡◌, List, [], ◌++◌, length, ℕ, Option, Result, Ok, Err, refl}
 use Rattle.std.specs.Prelude.{IfOk, IfErr}
-use Rattle.shop_machine.specs.Content.{fresh}
+use Rattle.shop_records.specs.Content.{fresh}
 use Rattle.shop_machine.proofs.Sound.{gives_sound}
 use Rattle.shop_rules.specs.Forms.{json_texts}
 use Rattle.shop_desk.specs.Faults.{StoreFailed}

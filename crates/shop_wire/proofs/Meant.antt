@@ -9,8 +9,8 @@ use Rattle.std.proofs.lemmas.Fmt.{decimal_injective, digits_value-decimal}
 use Rattle.std.proofs.lemmas.Slice.Eq.{bytes_eq-Decides}
 use Rattle.std.proofs.lemmas.Str.{IsUtf8-from_is_utf8, is_utf8-from_IsUtf8}
 use Rattle.cut_measure.proofs.Digits.{own}
-use Rattle.shop_machine.specs.declared.refusals.Refusal.{Refusal}
-use Rattle.shop_machine.specs.declared.refusals.Refusal.TheVariants.{NoMemory, StoreFault}
+use Rattle.shop_records.specs.declared.refusals.Refusal.{Refusal}
+use Rattle.shop_records.specs.declared.refusals.Refusal.TheVariants.{NoMemory, StoreFault}
 use Rattle.shop_wire.specs.Serves.{ranged}
 use Rattle.shop_wire.specs.Tellings.{IsUnread}
 use Rattle.shop_wire.proofs.Answered.{not_store}

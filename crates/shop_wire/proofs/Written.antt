@@ -3,10 +3,10 @@ use Rattle.std.proofs.Common.{◌≡◌, ℕ, List, [], ◌++◌, Option, Result
 use Rattle.std.specs.Prelude.{OnOk, OnErr}
 use Rattle.std.specs.Io.KnownBytes.{Appends}
 use Rattle.std.proofs.KnownBytes.{Appends-nil}
-use Rattle.shop_machine.specs.declared.messages.Reply.TheVariants.{Refused}
-use Rattle.shop_machine.specs.declared.refusals.Refusal.TheVariants.{BadMessage}
-use Rattle.shop_machine.specs.Content.{Content}
-use Rattle.shop_machine.specs.Soundness.{IsSound}
+use Rattle.shop_records.specs.declared.messages.Reply.TheVariants.{Refused}
+use Rattle.shop_records.specs.declared.refusals.Refusal.TheVariants.{BadMessage}
+use Rattle.shop_records.specs.Content.{Content}
+use Rattle.shop_records.specs.Soundness.{IsSound}
 use Rattle.shop_rules.specs.Forms.{json_texts}
 use Rattle.shop_book.specs.declared.books.Book.{Ghosts}
 use Rattle.shop_desk.proofs.Accounts.{account_same}

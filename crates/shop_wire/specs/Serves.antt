@@ -8,16 +8,16 @@ use Rattle.std.specs.Io.KnownBytes.{Appends}
 use Rattle.cut_measure.specs.declared.ranges.TheConstants.{MOST_NUMBERS}
 use Rattle.cut_measure.specs.Codes.{code_of}
 use Rattle.cut_measure.specs.Names.{Name, spelled_name}
-use Rattle.shop_machine.specs.declared.refusals.Refusal.{Refusal}
-use Rattle.shop_machine.specs.declared.refusals.Refusal.TheVariants.{NoMemory, StoreFault}
-use Rattle.shop_machine.specs.declared.messages.Message.{Message as MessageOf}
-use Rattle.shop_machine.specs.declared.messages.Query.{Query}
-use Rattle.shop_machine.specs.declared.messages.Query.TheVariants as query
-use Rattle.shop_machine.specs.declared.messages.Reply.{Reply}
-use Rattle.shop_machine.specs.declared.messages.Reply.TheVariants.{Refused}
-use Rattle.shop_machine.specs.Content.{Content}
+use Rattle.shop_records.specs.declared.refusals.Refusal.{Refusal}
+use Rattle.shop_records.specs.declared.refusals.Refusal.TheVariants.{NoMemory, StoreFault}
+use Rattle.shop_records.specs.declared.messages.Message.{Message as MessageOf}
+use Rattle.shop_records.specs.declared.messages.Query.{Query}
+use Rattle.shop_records.specs.declared.messages.Query.TheVariants as query
+use Rattle.shop_records.specs.declared.messages.Reply.{Reply}
+use Rattle.shop_records.specs.declared.messages.Reply.TheVariants.{Refused}
+use Rattle.shop_records.specs.Content.{Content}
 use Rattle.shop_machine.specs.Machine.{Step, Answers}
-use Rattle.shop_machine.specs.Soundness.{IsSound}
+use Rattle.shop_records.specs.Soundness.{IsSound}
 use Rattle.shop_rules.specs.Forms.{query_of, json_texts}
 use Rattle.shop_book.specs.declared.books.Book.{Ghosts}
 use Rattle.shop_book.specs.Kept.{OnContent}

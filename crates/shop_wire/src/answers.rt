@@ -2,7 +2,7 @@
 
 ghost use Rattle.std.specs.Prelude.{◌≡◌, ◌++◌, ◌∷◌, [], ℕ, List, IfOk, IfSome, OnOk, OnErr, None};
 ghost use Rattle.serde_json.specs.View.{view};
-ghost use Rattle.shop_machine.specs.Soundness.{IsSound};
+ghost use Rattle.shop_records.specs.Soundness.{IsSound};
 ghost use Rattle.shop_rules.specs.Forms.{message_of, json_texts};
 ghost use Rattle.shop_book.specs.Kept.{OnContent};
 ghost use Rattle.shop_desk.specs.Faults.{CountsUp};
@@ -18,7 +18,11 @@ use std::alloc::{AllocError, Global};
 
 // The reply to a value that is no message.
 fn query_reply<B: Book>(alloc: Global, book: &mut B, value: &Value) -> Reply
-    ensures step { message_of (view value.now) ≡ None → OnContent B.Book book.old book.new (λ m. IsSound json_texts m → HasAnswered ValueStep message_of B.Book book.old book.new m (view value.now ∷ []) (result ∷ [])) }
+    ensures step { message_of (view value.now) ≡ None
+        → OnContent B.Book book.old book.new
+        (λ m. IsSound json_texts m
+        → HasAnswered ValueStep message_of B.Book book.old book.new m (view value.now ∷ [])
+        (result ∷ [])) }
     ensures honest { B.is_honest book.new → B.is_honest book.old }
     ensures failures { CountsUp (B.failed book.old) (B.failed book.new) }
 {
@@ -30,7 +34,10 @@ fn query_reply<B: Book>(alloc: Global, book: &mut B, value: &Value) -> Reply
 
 // The reply to a value, and its text, where it was written to be kept.
 fn reply_to<B: Book>(alloc: Global, book: &mut B, value: &Value) -> (Reply, Option<Text>)
-    ensures step { OnContent B.Book book.old book.new (λ m. IsSound json_texts m → HasAnswered ValueStep message_of B.Book book.old book.new m (view value.now ∷ []) (result.0 ∷ [])) }
+    ensures step { OnContent B.Book book.old book.new
+        (λ m. IsSound json_texts m
+        → HasAnswered ValueStep message_of B.Book book.old book.new m (view value.now ∷ [])
+        (result.0 ∷ [])) }
     ensures told { IfSome result.1 (λ text. text ≡ json_texts.of_reply result.0) }
     ensures honest { B.is_honest book.new → B.is_honest book.old }
     ensures failures { CountsUp (B.failed book.old) (B.failed book.new) }
@@ -65,7 +72,10 @@ pub(crate) fn value_in(alloc: Global, line: &[u8]) -> Result<Value, Refusal>
 /// The reply to a line, and its text, where it was written to be kept. Refused `NoMemory` where memory runs out while the line is
 /// read.
 pub(crate) fn answer<B: Book>(alloc: Global, book: &mut B, line: &[u8]) -> (Reply, Option<Text>)
-    ensures step { OnContent B.Book book.old book.new (λ m. IsSound json_texts m → HasAnswered LineStep line_message B.Book book.old book.new m (line.now ∷ []) (result.0 ∷ [])) }
+    ensures step { OnContent B.Book book.old book.new
+        (λ m. IsSound json_texts m
+        → HasAnswered LineStep line_message B.Book book.old book.new m (line.now ∷ [])
+        (result.0 ∷ [])) }
     ensures told { IfSome result.1 (λ text. text ≡ json_texts.of_reply result.0) }
     ensures honest { B.is_honest book.new → B.is_honest book.old }
     ensures failures { CountsUp (B.failed book.old) (B.failed book.new) }
@@ -90,7 +100,9 @@ fn text_of(alloc: Global, reply: &Reply, told: Option<Text>) -> Result<Text, All
 // Puts a text behind what is held, and a line feed, as far as there is memory.
 fn hold_line(held: &mut Vec<u8>, text: &Text) -> Result<(), AllocError>
     ensures ok { OnOk result (held.new.items ≡ held.old.items ++ (text.now ++ 10 ∷ [])) }
-    ensures err { OnErr result ((bytes rest : List ℕ) × (bytes ++ rest ≡ text.now ++ 10 ∷ []) × (held.new.items ≡ held.old.items ++ bytes)) }
+    ensures err { OnErr result
+        ((bytes rest : List ℕ) × (bytes ++ rest ≡ text.now ++ 10 ∷ [])
+        × (held.new.items ≡ held.old.items ++ bytes)) }
 {
     match held.extend_from_slice(text.as_str().as_bytes()) {
         Ok(()) => held.extend_from_slice(b"\n"),
@@ -107,7 +119,9 @@ pub(crate) fn buffer_reply(
 ) -> Result<(), AllocError>
     requires { IfSome told (λ text. text ≡ json_texts.of_reply reply.now) }
     ensures ok { OnOk result (held.new.items ≡ held.old.items ++ reply_line reply.now) }
-    ensures err { OnErr result ((bytes rest : List ℕ) × (bytes ++ rest ≡ reply_line reply.now) × (held.new.items ≡ held.old.items ++ bytes)) }
+    ensures err { OnErr result
+        ((bytes rest : List ℕ) × (bytes ++ rest ≡ reply_line reply.now)
+        × (held.new.items ≡ held.old.items ++ bytes)) }
 {
     let Ok(text) = text_of(alloc, reply, told) else {
         return Err(AllocError);

@@ -1,9 +1,9 @@
 //! What a request is told: its route's message, query, ticket or report, done over a book.
 
 ghost use Rattle.std.specs.Prelude.{◌≡◌, ◌⊎◌, ◌∷◌, [], Some, None, IfErr, IfOk};
-ghost use Rattle.shop_machine.specs.declared.messages.Reply.TheVariants.{Refused};
-ghost use Rattle.shop_machine.specs.declared.refusals.Refusal.TheVariants.{StoreFault};
-ghost use Rattle.shop_machine.specs.Soundness.{IsSound};
+ghost use Rattle.shop_records.specs.declared.messages.Reply.TheVariants.{Refused};
+ghost use Rattle.shop_records.specs.declared.refusals.Refusal.TheVariants.{StoreFault};
+ghost use Rattle.shop_records.specs.Soundness.{IsSound};
 ghost use Rattle.shop_rules.specs.Forms.{json_texts};
 ghost use Rattle.shop_book.specs.Kept.{Unchanged, OnContent};
 ghost use Rattle.shop_desk.specs.Faults.{CountsReply, CountsUp, StoreFailed};
@@ -42,7 +42,9 @@ fn message_in(alloc: Global, body: &[u8]) -> Result<Message, Refusal>
 
 // The reply to a body as a message.
 fn message_reply<B: Book>(alloc: Global, book: &mut B, body: &[u8]) -> Reply
-    ensures served { OnContent B.Book book.old book.new (λ m. IsSound json_texts m → HasServed B.Book book.old book.new m (asking AtMessage body.now) (replied result)) }
+    ensures served { OnContent B.Book book.old book.new
+        (λ m. IsSound json_texts m
+        → HasServed B.Book book.old book.new m (asking AtMessage body.now) (replied result)) }
     ensures honest { B.is_honest book.new → B.is_honest book.old }
     ensures failures { CountsUp (B.failed book.old) (B.failed book.new) }
 {
@@ -144,9 +146,11 @@ fn asked(alloc: Global, route: Route, text: &[u8]) -> Result<Query, Refusal>
 
 // The reply to what a request asks for.
 fn ask_reply<B: Book>(alloc: Global, book: &mut B, route: Route, text: &[u8]) -> Reply
-    ensures answer { OnContent B.Book book.old book.new (λ m. AskStep m (asked_at route text.now) result m) }
+    ensures answer { OnContent B.Book book.old book.new
+        (λ m. AskStep m (asked_at route text.now) result m) }
     ensures keeps { Unchanged B.Book (CountsReply result) book.old book.new }
-    ensures store_fault { result ≡ Refused StoreFault → StoreFailed (B.failed book.old) (B.failed book.new) }
+    ensures store_fault { result ≡ Refused StoreFault
+        → StoreFailed (B.failed book.old) (B.failed book.new) }
 {
     match asked(alloc, route, text) {
         Ok(query) => ask(alloc, book, &query),
@@ -166,7 +170,9 @@ fn told_of(made: Result<String, Refusal>) -> Told
 
 // The ticket that a path asks for.
 fn ticket_told<B: Book>(alloc: Global, book: &mut B, part: &[u8]) -> Told
-    ensures answer { OnContent B.Book book.old book.new (λ m. PrintsCounted (text_at m AtTicket part.now) (telling_of result) (B.failed book.old) (B.failed book.new)) }
+    ensures answer { OnContent B.Book book.old book.new
+        (λ m. PrintsCounted (text_at m AtTicket part.now) (telling_of result) (B.failed book.old)
+        (B.failed book.new)) }
     ensures keeps { Unchanged B.Book CountsUp book.old book.new }
 {
     match number_in(part) {
@@ -177,7 +183,9 @@ fn ticket_told<B: Book>(alloc: Global, book: &mut B, part: &[u8]) -> Told
 
 // The yield report that a path asks for.
 fn yield_told<B: Book>(alloc: Global, book: &mut B, part: &[u8]) -> Told
-    ensures answer { OnContent B.Book book.old book.new (λ m. PrintsCounted (text_at m AtYield part.now) (telling_of result) (B.failed book.old) (B.failed book.new)) }
+    ensures answer { OnContent B.Book book.old book.new
+        (λ m. PrintsCounted (text_at m AtYield part.now) (telling_of result) (B.failed book.old)
+        (B.failed book.new)) }
     ensures keeps { Unchanged B.Book CountsUp book.old book.new }
 {
     match code_in(part) {
@@ -188,7 +196,9 @@ fn yield_told<B: Book>(alloc: Global, book: &mut B, part: &[u8]) -> Told
 
 /// What a request is told.
 pub(crate) fn respond<B: Book>(alloc: Global, book: &mut B, route: Route, text: &[u8]) -> Told
-    ensures served { OnContent B.Book book.old book.new (λ m. IsSound json_texts m → HasServed B.Book book.old book.new m (asking route text.now) (telling_of result)) }
+    ensures served { OnContent B.Book book.old book.new
+        (λ m. IsSound json_texts m
+        → HasServed B.Book book.old book.new m (asking route text.now) (telling_of result)) }
     ensures honest { B.is_honest book.new → B.is_honest book.old }
     ensures failures { CountsUp (B.failed book.old) (B.failed book.new) }
 {

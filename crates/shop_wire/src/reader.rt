@@ -29,7 +29,8 @@ pub(crate) struct LineReader {
 // Appends what belongs to a line, up to one byte over the longest.
 fn append_kept(line: &mut Vec<u8>, part: &[u8]) -> Result<(), AllocError>
     requires { length line.old.items ≤ longest_line + 1 }
-    ensures { OnOk result (line.new.items ≡ line.old.items ++ take (longest_line + 1 - length line.old.items) part.now) }
+    ensures { OnOk result (line.new.items ≡ line.old.items
+        ++ take (longest_line + 1 - length line.old.items) part.now) }
 {
     let room = LONGEST_LINE + 1 - line.len();
     if part.len() <= room {
@@ -56,8 +57,10 @@ impl LineReader {
 
     /// Whether the source isn't read for the next line.
     pub(crate) fn has_line(&self) -> bool
-        ensures whole { result ≡ true → HasNoFeed (pending self.now.buffer self.now.start self.now.end) → ⊥ }
-        ensures part { result ≡ false → HasNoFeed (pending self.now.buffer self.now.start self.now.end) }
+        ensures whole { result ≡ true
+            → HasNoFeed (pending self.now.buffer self.now.start self.now.end) → ⊥ }
+        ensures part { result ≡ false
+            → HasNoFeed (pending self.now.buffer self.now.start self.now.end) }
     {
         match memchr(b'\n', &self.buffer[self.start..self.end]) {
             Some(_) => true,
@@ -69,11 +72,15 @@ impl LineReader {
     fn take_part(&mut self, line: &mut Vec<u8>) -> Result<bool, AllocError>
         requires { length line.old.items ≤ longest_line + 1 }
         ensures fed { result ≡ Ok true → (part : List ℕ) × HasNoFeed part
-            × (pending self.old.buffer self.old.start self.old.end ≡ part ++ 10 ∷ pending self.new.buffer self.new.start self.new.end)
-            × (line.new.items ≡ line.old.items ++ take (longest_line + 1 - length line.old.items) part) }
-        ensures open { result ≡ Ok false → HasNoFeed (pending self.old.buffer self.old.start self.old.end)
+            × (pending self.old.buffer self.old.start self.old.end ≡ part
+            ++ 10 ∷ pending self.new.buffer self.new.start self.new.end)
+            × (line.new.items ≡ line.old.items
+            ++ take (longest_line + 1 - length line.old.items) part) }
+        ensures open { result ≡ Ok false
+            → HasNoFeed (pending self.old.buffer self.old.start self.old.end)
             × (pending self.new.buffer self.new.start self.new.end ≡ [])
-            × (line.new.items ≡ line.old.items ++ take (longest_line + 1 - length line.old.items) (pending self.old.buffer self.old.start self.old.end)) }
+            × (line.new.items ≡ line.old.items ++ take (longest_line + 1 - length line.old.items)
+            (pending self.old.buffer self.old.start self.old.end)) }
         ensures reads { self.new.reads ≡ self.old.reads }
         ensures ended { self.new.ended ≡ self.old.ended }
     {
@@ -96,15 +103,23 @@ impl LineReader {
     fn refill<S: Source>(&mut self, source: &mut S) -> Result<bool, ReplayFault>
         requires most { self.old.reads ≤ most_reads }
         requires ended { self.old.ended ≡ true → IsAtEnd (S.left source.old) }
-        ensures more { result ≡ Ok true → Consumes (S.left source.old) (S.left source.new) (pending self.new.buffer self.new.start self.new.end)
-            × (self.new.ended ≡ false) × (self.new.reads ≡ self.old.reads + 1) × (length (pending self.new.buffer self.new.start self.new.end) ≤ ROOM)
-            × (self.old.ended ≡ false) × TookBytes self.old.reads (S.left source.old) self.new.reads (S.left source.new) }
-        ensures none { result ≡ Ok false → IsAtEnd (S.left source.new) × Consumes (S.left source.old) (S.left source.new) []
+        ensures more { result ≡ Ok true
+            → Consumes (S.left source.old) (S.left source.new)
+            (pending self.new.buffer self.new.start self.new.end)
+            × (self.new.ended ≡ false) × (self.new.reads ≡ self.old.reads + 1)
+            × (length (pending self.new.buffer self.new.start self.new.end) ≤ ROOM)
+            × (self.old.ended ≡ false)
+            × TookBytes self.old.reads (S.left source.old) self.new.reads (S.left source.new) }
+        ensures none { result ≡ Ok false → IsAtEnd (S.left source.new)
+            × Consumes (S.left source.old) (S.left source.new) []
             × (self.new.ended ≡ true) × (pending self.new.buffer self.new.start self.new.end ≡ []) }
-        ensures together { CountTogether self.old.reads (S.reads source.old) self.new.reads (S.reads source.new) }
+        ensures together { CountTogether self.old.reads (S.reads source.old) self.new.reads
+            (S.reads source.new) }
         ensures failures { OnOk result (S.failed source.new ≡ S.failed source.old) }
-        ensures fault { IfErr result (λ fault. (fault ≡ Read) × (HasFailed (S.failed source.old) (S.failed source.new)
-            ⊎ ((self.new.reads ≡ most_reads) × (self.old.ended ≡ false) × IsLong self.old.reads (S.left source.old)))) }
+        ensures fault { IfErr result
+            (λ fault. (fault ≡ Read) × (HasFailed (S.failed source.old) (S.failed source.new)
+            ⊎ ((self.new.reads ≡ most_reads) × (self.old.ended ≡ false)
+            × IsLong self.old.reads (S.left source.old)))) }
         ensures most { self.new.reads ≤ most_reads }
     {
         self.start = self.end;
@@ -137,16 +152,28 @@ impl LineReader {
         requires most { self.old.reads ≤ most_reads }
         requires ended { self.old.ended ≡ true → IsAtEnd (S.left source.old) }
         ensures line { result ≡ Ok true → (whole : List ℕ) × (line.new.items ≡ kept_of whole)
-            × GivesLine (prepend_known (pending self.old.buffer self.old.start self.old.end) (S.left source.old)) (prepend_known (pending self.new.buffer self.new.start self.new.end) (S.left source.new)) whole }
-        ensures none { result ≡ Ok false → IsAtEnd (prepend_known (pending self.old.buffer self.old.start self.old.end) (S.left source.old)) }
-        ensures shorter { result ≡ Ok true → work self.new.reads (pending self.new.buffer self.new.start self.new.end) < work self.old.reads (pending self.old.buffer self.old.start self.old.end) }
+            × GivesLine (prepend_known (pending self.old.buffer self.old.start self.old.end)
+            (S.left source.old)) (prepend_known
+            (pending self.new.buffer self.new.start self.new.end) (S.left source.new)) whole }
+        ensures none { result ≡ Ok false
+            → IsAtEnd (prepend_known (pending self.old.buffer self.old.start self.old.end)
+            (S.left source.old)) }
+        ensures shorter { result ≡ Ok true
+            → work self.new.reads (pending self.new.buffer self.new.start self.new.end)
+            < work self.old.reads (pending self.old.buffer self.old.start self.old.end) }
         ensures most { self.new.reads ≤ most_reads }
         ensures ended { OnOk result (self.new.ended ≡ true → IsAtEnd (S.left source.new)) }
-        ensures took { OnOk result (self.new.ended ≡ false → (self.old.ended ≡ false) × TookBytes self.old.reads (S.left source.old) self.new.reads (S.left source.new)) }
-        ensures together { CountTogether self.old.reads (S.reads source.old) self.new.reads (S.reads source.new) }
+        ensures took { OnOk result
+            (self.new.ended ≡ false → (self.old.ended ≡ false)
+            × TookBytes self.old.reads (S.left source.old) self.new.reads (S.left source.new)) }
+        ensures together { CountTogether self.old.reads (S.reads source.old) self.new.reads
+            (S.reads source.new) }
         ensures failures { OnOk result (S.failed source.new ≡ S.failed source.old) }
-        ensures fault { IfErr result (λ fault. fault ≡ NoMemory ⊎ (fault ≡ Read) × (HasFailed (S.failed source.old) (S.failed source.new)
-            ⊎ ((self.new.reads ≡ most_reads) × (self.old.ended ≡ false) × IsLong self.old.reads (S.left source.old)))) }
+        ensures fault { IfErr result
+            (λ fault. fault ≡ NoMemory ⊎ (fault ≡ Read)
+            × (HasFailed (S.failed source.old) (S.failed source.new)
+            ⊎ ((self.new.reads ≡ most_reads) × (self.old.ended ≡ false)
+            × IsLong self.old.reads (S.left source.old)))) }
     {
         line.clear();
         loop {

@@ -25,9 +25,12 @@ fn hold_reply<B: Book>(
     book: &mut B,
     held: &mut Vec<u8>,
 ) -> Result<(), ReplayFault>
-    ensures ok { OnOk result (IsReplayed B.Book book.old book.new (Some held.old.items) (Some held.new.items) (line.now ∷ []) []) }
-    ensures err { OnErr result ((lines more : List (List ℕ)) × (lines ++ more ≡ line.now ∷ []) × (unwritten : List ℕ)
-        × IsReplayed B.Book book.old book.new (Some held.old.items) (Some held.new.items) lines unwritten) }
+    ensures ok { OnOk result (IsReplayed B.Book book.old book.new (Some held.old.items)
+        (Some held.new.items) (line.now ∷ []) []) }
+    ensures err { OnErr result
+        ((lines more : List (List ℕ)) × (lines ++ more ≡ line.now ∷ []) × (unwritten : List ℕ)
+        × IsReplayed B.Book book.old book.new (Some held.old.items)
+        (Some held.new.items) lines unwritten) }
     ensures honest { B.is_honest book.new → B.is_honest book.old }
     ensures failures { CountsUp (B.failed book.old) (B.failed book.new) }
     ensures fault { IfErr result (λ fault. fault ≡ NoMemory) }
@@ -43,8 +46,12 @@ fn hold_reply<B: Book>(
 fn pass_on<W: Sink>(sink: &mut W, held: &mut Vec<u8>) -> Result<(), ReplayFault>
     ensures none { held.new.items ≡ [] }
     ensures ok { OnOk result (Appends (W.held sink.old) (W.held sink.new) held.old.items) }
-    ensures err { OnErr result ((done : List ℕ) × (rest : List ℕ) × (done ++ rest ≡ held.old.items) × Appends (W.held sink.old) (W.held sink.new) done) }
-    ensures fault { IfErr result (λ fault. (fault ≡ Write) × (0 < length held.old.items) × HasFailed (W.failed sink.old) (W.failed sink.new)) }
+    ensures err { OnErr result
+        ((done : List ℕ) × (rest : List ℕ) × (done ++ rest ≡ held.old.items)
+        × Appends (W.held sink.old) (W.held sink.new) done) }
+    ensures fault { IfErr result
+        (λ fault. (fault ≡ Write) × (0 < length held.old.items)
+        × HasFailed (W.failed sink.old) (W.failed sink.new)) }
     ensures worked { OnOk result (W.failed sink.new ≡ W.failed sink.old) }
 {
     if held.is_empty() {
@@ -64,12 +71,18 @@ fn flush_if_due<W: Sink>(
     sink: &mut W,
     held: &mut Vec<u8>,
 ) -> Result<(), ReplayFault>
-    ensures ok { OnOk result ((done : List ℕ) × (done ++ held.new.items ≡ held.old.items) × Appends (W.held sink.old) (W.held sink.new) done) }
-    ensures waiting { OnOk result (HasNoFeed (pending reader.now.buffer reader.now.start reader.now.end) → held.new.items ≡ []) }
+    ensures ok { OnOk result ((done : List ℕ) × (done ++ held.new.items ≡ held.old.items)
+        × Appends (W.held sink.old) (W.held sink.new) done) }
+    ensures waiting { OnOk result
+        (HasNoFeed (pending reader.now.buffer reader.now.start reader.now.end)
+        → held.new.items ≡ []) }
     ensures few { OnOk result (length held.new.items < MOST_HELD) }
     ensures none { OnErr result (held.new.items ≡ []) }
-    ensures err { OnErr result ((done : List ℕ) × (rest : List ℕ) × (done ++ rest ≡ held.old.items) × Appends (W.held sink.old) (W.held sink.new) done) }
-    ensures fault { IfErr result (λ fault. (fault ≡ Write) × HasFailed (W.failed sink.old) (W.failed sink.new)) }
+    ensures err { OnErr result
+        ((done : List ℕ) × (rest : List ℕ) × (done ++ rest ≡ held.old.items)
+        × Appends (W.held sink.old) (W.held sink.new) done) }
+    ensures fault { IfErr result
+        (λ fault. (fault ≡ Write) × HasFailed (W.failed sink.old) (W.failed sink.new)) }
     ensures worked { OnOk result (W.failed sink.new ≡ W.failed sink.old) }
 {
     if held.len() < MOST_HELD && reader.has_line() {
@@ -89,16 +102,21 @@ fn answer_lines<S: Source, W: Sink, B: Book>(
     held: &mut Vec<u8>,
 ) -> Result<u64, ReplayFault>
     requires { held.old.items ≡ [] }
-    ensures ok { IfOk result (λ count. (lines : List (List ℕ)) × AreLines (S.left source.old) lines × (count ≡ length lines)
-        × IsReplayed B.Book book.old book.new (W.held sink.old) (W.held sink.new) lines held.new.items) }
-    ensures err { IfErr result (λ fault. (lines more : List (List ℕ)) × AreLines (S.left source.old) (lines ++ more)
+    ensures ok { IfOk result (λ count. (lines : List (List ℕ)) × AreLines (S.left source.old) lines
+        × (count ≡ length lines)
+        × IsReplayed B.Book book.old book.new (W.held sink.old)
+        (W.held sink.new) lines held.new.items) }
+    ensures err { IfErr result
+        (λ fault. (lines more : List (List ℕ)) × AreLines (S.left source.old) (lines ++ more)
         × (lost : List ℕ) × (fault ≡ Read → lost ≡ [])
-        × IsReplayed B.Book book.old book.new (W.held sink.old) (W.held sink.new) lines (held.new.items ++ lost)) }
+        × IsReplayed B.Book book.old book.new (W.held sink.old) (W.held sink.new) lines
+        (held.new.items ++ lost)) }
     ensures honest { B.is_honest book.new → B.is_honest book.old }
     ensures failures { CountsUp (B.failed book.old) (B.failed book.new) }
     ensures reads { S.reads source.new ≤ S.reads source.old + most_reads }
     ensures read { result ≡ Err Read → HasFailed (S.failed source.old) (S.failed source.new)
-        ⊎ (AreReads (S.reads source.old) most_reads (S.reads source.new) × IsLong 0 (S.left source.old)) }
+        ⊎ (AreReads (S.reads source.old) most_reads (S.reads source.new)
+        × IsLong 0 (S.left source.old)) }
     ensures write { result ≡ Err Write → HasFailed (W.failed sink.old) (W.failed sink.new) }
     ensures worked { (W.failed sink.new ≡ W.failed sink.old) ⊎ (held.new.items ≡ []) }
 {
@@ -129,16 +147,19 @@ pub fn replay<S: Source, W: Sink, B: Book>(
     sink: &mut W,
     book: &mut B,
 ) -> Result<u64, ReplayFault>
-    ensures ok { IfOk result (λ count. (lines : List (List ℕ)) × AreLines (S.left source.old) lines × (count ≡ length lines)
+    ensures ok { IfOk result (λ count. (lines : List (List ℕ)) × AreLines (S.left source.old) lines
+        × (count ≡ length lines)
         × IsReplayed B.Book book.old book.new (W.held sink.old) (W.held sink.new) lines []) }
-    ensures err { IfErr result (λ fault. (lines more : List (List ℕ)) × AreLines (S.left source.old) (lines ++ more)
+    ensures err { IfErr result
+        (λ fault. (lines more : List (List ℕ)) × AreLines (S.left source.old) (lines ++ more)
         × (unwritten : List ℕ) × (fault ≡ Read → unwritten ≡ [])
         × IsReplayed B.Book book.old book.new (W.held sink.old) (W.held sink.new) lines unwritten) }
     ensures honest { B.is_honest book.new → B.is_honest book.old }
     ensures failures { CountsUp (B.failed book.old) (B.failed book.new) }
     ensures reads { S.reads source.new ≤ S.reads source.old + most_reads }
     ensures read { result ≡ Err Read → HasFailed (S.failed source.old) (S.failed source.new)
-        ⊎ (AreReads (S.reads source.old) most_reads (S.reads source.new) × IsLong 0 (S.left source.old)) }
+        ⊎ (AreReads (S.reads source.old) most_reads (S.reads source.new)
+        × IsLong 0 (S.left source.old)) }
     ensures write { result ≡ Err Write → HasFailed (W.failed sink.old) (W.failed sink.new) }
 {
     let Ok(mut held) = Vec::with_capacity(alloc, MOST_HELD + LONGEST_LINE) else {

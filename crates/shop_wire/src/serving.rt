@@ -19,10 +19,14 @@ use std::alloc::{AllocError, Global};
 
 // Writes a text that was made. After an Err the first of its bytes were written.
 fn write_made<W: Sink>(sink: &mut W, text: Result<String, AllocError>) -> Result<(), WireFault>
-    ensures ok { OnOk result ((whole : List ℕ) → IfOk text (λ t. string_bytes t ≡ whole) → Appends (W.held sink.old) (W.held sink.new) whole) }
+    ensures ok { OnOk result ((whole : List ℕ) → IfOk text (λ t. string_bytes t ≡ whole)
+        → Appends (W.held sink.old) (W.held sink.new) whole) }
     ensures err { OnErr result ((whole : List ℕ) → IfOk text (λ t. string_bytes t ≡ whole)
-        → (done : List ℕ) × (rest : List ℕ) × (done ++ rest ≡ whole) × Appends (W.held sink.old) (W.held sink.new) done) }
-    ensures fault { IfErr result (λ fault. (fault ≡ NoMemory) ⊎ (fault ≡ Write) × HasFailed (W.failed sink.old) (W.failed sink.new)) }
+        → (done : List ℕ) × (rest : List ℕ) × (done ++ rest ≡ whole)
+        × Appends (W.held sink.old) (W.held sink.new) done) }
+    ensures fault { IfErr result
+        (λ fault. (fault ≡ NoMemory) ⊎ (fault ≡ Write)
+        × HasFailed (W.failed sink.old) (W.failed sink.new)) }
     ensures worked { OnOk result (W.failed sink.new ≡ W.failed sink.old) }
 {
     let Ok(text) = text else {
@@ -36,9 +40,14 @@ fn write_made<W: Sink>(sink: &mut W, text: Result<String, AllocError>) -> Result
 
 // Answers a fault.
 fn answer_fault<W: Sink>(alloc: Global, fault: Fault, sink: &mut W) -> Result<(), WireFault>
-    ensures ok { OnOk result (Appends (W.held sink.old) (W.held sink.new) (answer_bytes (fault_answer fault))) }
-    ensures err { OnErr result ((done : List ℕ) × (rest : List ℕ) × (done ++ rest ≡ answer_bytes (fault_answer fault)) × Appends (W.held sink.old) (W.held sink.new) done) }
-    ensures fault { IfErr result (λ fault. (fault ≡ NoMemory) ⊎ (fault ≡ Write) × HasFailed (W.failed sink.old) (W.failed sink.new)) }
+    ensures ok { OnOk result (Appends (W.held sink.old) (W.held sink.new)
+        (answer_bytes (fault_answer fault))) }
+    ensures err { OnErr result
+        ((done : List ℕ) × (rest : List ℕ) × (done ++ rest ≡ answer_bytes (fault_answer fault))
+        × Appends (W.held sink.old) (W.held sink.new) done) }
+    ensures fault { IfErr result
+        (λ fault. (fault ≡ NoMemory) ⊎ (fault ≡ Write)
+        × HasFailed (W.failed sink.old) (W.failed sink.new)) }
     ensures worked { OnOk result (W.failed sink.new ≡ W.failed sink.old) }
 {
     write_made(sink, fault_text(alloc, fault))
@@ -52,11 +61,16 @@ fn answer_request<W: Sink, B: Book>(
     sink: &mut W,
     book: &mut B,
 ) -> Result<(), WireFault>
-    ensures ok { OnOk result (IsServedAs B.Book book.old book.new (W.held sink.old) (W.held sink.new) (asking route text.now) []) }
-    ensures err { OnErr result ((unwritten : List ℕ) × IsServedAs B.Book book.old book.new (W.held sink.old) (W.held sink.new) (asking route text.now) unwritten) }
+    ensures ok { OnOk result (IsServedAs B.Book book.old book.new (W.held sink.old)
+        (W.held sink.new) (asking route text.now) []) }
+    ensures err { OnErr result
+        ((unwritten : List ℕ) × IsServedAs B.Book book.old book.new (W.held sink.old)
+        (W.held sink.new) (asking route text.now) unwritten) }
     ensures honest { B.is_honest book.new → B.is_honest book.old }
     ensures failures { CountsUp (B.failed book.old) (B.failed book.new) }
-    ensures fault { IfErr result (λ fault. (fault ≡ NoMemory) ⊎ (fault ≡ Write) × HasFailed (W.failed sink.old) (W.failed sink.new)) }
+    ensures fault { IfErr result
+        (λ fault. (fault ≡ NoMemory) ⊎ (fault ≡ Write)
+        × HasFailed (W.failed sink.old) (W.failed sink.new)) }
     ensures worked { OnOk result (W.failed sink.new ≡ W.failed sink.old) }
 {
     let told = respond(alloc, book, route, text);
@@ -73,11 +87,16 @@ fn answer_inbound<W: Sink, B: Book>(
     sink: &mut W,
     book: &mut B,
 ) -> Result<(), WireFault>
-    ensures ok { OnOk result (IsServedAs B.Book book.old book.new (W.held sink.old) (W.held sink.new) (sense_of inbound.now) []) }
-    ensures err { OnErr result ((unwritten : List ℕ) × IsServedAs B.Book book.old book.new (W.held sink.old) (W.held sink.new) (sense_of inbound.now) unwritten) }
+    ensures ok { OnOk result (IsServedAs B.Book book.old book.new (W.held sink.old)
+        (W.held sink.new) (sense_of inbound.now) []) }
+    ensures err { OnErr result
+        ((unwritten : List ℕ) × IsServedAs B.Book book.old book.new (W.held sink.old)
+        (W.held sink.new) (sense_of inbound.now) unwritten) }
     ensures honest { B.is_honest book.new → B.is_honest book.old }
     ensures failures { CountsUp (B.failed book.old) (B.failed book.new) }
-    ensures fault { IfErr result (λ fault. (fault ≡ NoMemory) ⊎ (fault ≡ Write) × HasFailed (W.failed sink.old) (W.failed sink.new)) }
+    ensures fault { IfErr result
+        (λ fault. (fault ≡ NoMemory) ⊎ (fault ≡ Write)
+        × HasFailed (W.failed sink.old) (W.failed sink.new)) }
     ensures worked { OnOk result (W.failed sink.new ≡ W.failed sink.old) }
 {
     match inbound {
@@ -89,8 +108,11 @@ fn answer_inbound<W: Sink, B: Book>(
 
 // Reads a request.
 fn read_one<S: Source>(alloc: Global, routes: &Routes, source: &mut S) -> Result<Inbound, WireFault>
-    ensures sense { IfOk result (λ inbound. IfSome (S.left source.old) (λ input. HasSense input (sense_of inbound))) }
-    ensures fault { IfErr result (λ fault. (fault ≡ NoMemory) ⊎ (fault ≡ Read) × HasFailed (S.failed source.old) (S.failed source.new)) }
+    ensures sense { IfOk result
+        (λ inbound. IfSome (S.left source.old) (λ input. HasSense input (sense_of inbound))) }
+    ensures fault { IfErr result
+        (λ fault. (fault ≡ NoMemory) ⊎ (fault ≡ Read)
+        × HasFailed (S.failed source.old) (S.failed source.new)) }
     ensures reads { S.reads source.new ≤ S.reads source.old + most_request_reads }
 {
     match read_request(alloc, routes, source) {
@@ -113,13 +135,16 @@ pub fn serve_request<S: Source, W: Sink, B: Book>(
     sink: &mut W,
     book: &mut B,
 ) -> Result<(), WireFault>
-    ensures ok { OnOk result (IsServed B.Book book.old book.new (S.left source.old) (W.held sink.old) (W.held sink.new) []) }
+    ensures ok { OnOk result (IsServed B.Book book.old book.new (S.left source.old)
+        (W.held sink.old) (W.held sink.new) []) }
     ensures err { OnErr result (((book.new ≡ book.old) × (sink.new ≡ sink.old))
-        ⊎ ((unwritten : List ℕ) × IsServed B.Book book.old book.new (S.left source.old) (W.held sink.old) (W.held sink.new) unwritten)) }
+        ⊎ ((unwritten : List ℕ) × IsServed B.Book book.old book.new (S.left source.old)
+        (W.held sink.old) (W.held sink.new) unwritten)) }
     ensures honest { B.is_honest book.new → B.is_honest book.old }
     ensures failures { CountsUp (B.failed book.old) (B.failed book.new) }
     ensures reads { S.reads source.new ≤ S.reads source.old + most_request_reads }
-    ensures read { result ≡ Err Read → HasFailed (S.failed source.old) (S.failed source.new) × (book.new ≡ book.old) × (sink.new ≡ sink.old) }
+    ensures read { result ≡ Err Read → HasFailed (S.failed source.old) (S.failed source.new)
+        × (book.new ≡ book.old) × (sink.new ≡ sink.old) }
     ensures write { result ≡ Err Write → HasFailed (W.failed sink.old) (W.failed sink.new) }
     ensures worked { OnOk result (W.failed sink.new ≡ W.failed sink.old) }
 {
@@ -140,13 +165,16 @@ pub fn serve_one<S: Source, W: Sink, B: Book>(
     sink: &mut W,
     book: &mut B,
 ) -> Result<(), WireFault>
-    ensures ok { OnOk result (IsServed B.Book book.old book.new (S.left source.old) (W.held sink.old) (W.held sink.new) []) }
+    ensures ok { OnOk result (IsServed B.Book book.old book.new (S.left source.old)
+        (W.held sink.old) (W.held sink.new) []) }
     ensures err { OnErr result (((book.new ≡ book.old) × (sink.new ≡ sink.old))
-        ⊎ ((unwritten : List ℕ) × IsServed B.Book book.old book.new (S.left source.old) (W.held sink.old) (W.held sink.new) unwritten)) }
+        ⊎ ((unwritten : List ℕ) × IsServed B.Book book.old book.new (S.left source.old)
+        (W.held sink.old) (W.held sink.new) unwritten)) }
     ensures honest { B.is_honest book.new → B.is_honest book.old }
     ensures failures { CountsUp (B.failed book.old) (B.failed book.new) }
     ensures reads { S.reads source.new ≤ S.reads source.old + most_request_reads }
-    ensures read { result ≡ Err Read → HasFailed (S.failed source.old) (S.failed source.new) × (book.new ≡ book.old) × (sink.new ≡ sink.old) }
+    ensures read { result ≡ Err Read → HasFailed (S.failed source.old) (S.failed source.new)
+        × (book.new ≡ book.old) × (sink.new ≡ sink.old) }
     ensures write { result ≡ Err Write → HasFailed (W.failed sink.old) (W.failed sink.new) }
     ensures worked { OnOk result (W.failed sink.new ≡ W.failed sink.old) }
 {

@@ -3,7 +3,7 @@
 ghost use Rattle.std.specs.Prelude.{◌≡◌, ◌≤◌, ◌<◌, IfOk, decimal, string_bytes};
 ghost use Rattle.shop_wire.specs.AnswerBytes.{answer_bytes, fault_answer, fault_fields, fault_status, phrase, refusal_status, reply_answer, status_in, telling_answer, text_answer, unfound};
 ghost use Rattle.shop_wire.specs.Tellings.{telling_of};
-ghost use Rattle.shop_machine.specs.Messages.{refusal_in};
+ghost use Rattle.shop_records.specs.Messages.{refusal_in};
 ghost use Rattle.shop_request.specs.Routes.{takes_body};
 
 use http::StatusCode;
@@ -58,7 +58,8 @@ fn length_text(alloc: Global, length: usize) -> Result<String, AllocError>
 fn answer_text(alloc: Global, number: u16, fields: &str, body: &str) -> Result<String, AllocError>
     requires least { 100 ≤ number }
     requires most { number < 1000 }
-    ensures { IfOk result (λ text. string_bytes text ≡ answer_bytes (record { status = number; fields = fields.now; body = body.now })) }
+    ensures { IfOk result (λ text. string_bytes text
+        ≡ answer_bytes (record { status = number; fields = fields.now; body = body.now })) }
 {
     let length = length_text(alloc, body.len())?;
     let mut text = String::with_capacity(alloc, 256)?;
@@ -145,7 +146,8 @@ pub(crate) fn fault_text(alloc: Global, fault: Fault) -> Result<String, AllocErr
 
 // The answer that tells a reply.
 fn reply_answer_text(alloc: Global, route: Route, reply: &Reply) -> Result<String, AllocError>
-    ensures { IfOk result (λ text. string_bytes text ≡ answer_bytes (reply_answer route reply.now)) }
+    ensures { IfOk result (λ text. string_bytes text
+        ≡ answer_bytes (reply_answer route reply.now)) }
 {
     let body = reply_text(alloc, reply)?;
     let text = answer_text(
@@ -167,7 +169,8 @@ fn text_answer_text(alloc: Global, text: &str) -> Result<String, AllocError>
 
 /// The answer that tells this.
 pub(crate) fn told_text(alloc: Global, route: Route, told: &Told) -> Result<String, AllocError>
-    ensures { IfOk result (λ text. string_bytes text ≡ answer_bytes (telling_answer route (telling_of told.now))) }
+    ensures { IfOk result (λ text. string_bytes text
+        ≡ answer_bytes (telling_answer route (telling_of told.now))) }
 {
     match told {
         Told::Reply(reply) => reply_answer_text(alloc, route, reply),

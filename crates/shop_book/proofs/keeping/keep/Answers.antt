@@ -1,5 +1,5 @@
 use Rattle.std.proofs.Common.{ap, sym, ◌∙◌}
-use Rattle.shop_machine.specs.Content.{pair_cmp}
+use Rattle.shop_records.specs.Content.{pair_cmp}
 use Rattle.shop_book.specs.Memory.{put_kept}
 use Rattle.shop_book.proofs.Held.{insert_is_put}
 use Rattle.std.specs.FinMap as map

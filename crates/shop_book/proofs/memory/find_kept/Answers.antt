@@ -1,6 +1,6 @@
 use Rattle.std.proofs.Common.{ap, ◌∙◌}
 use Rattle.std.specs.Prelude.{Some}
-use Rattle.shop_machine.specs.Content.{pair_cmp}
+use Rattle.shop_records.specs.Content.{pair_cmp}
 use Rattle.shop_book.proofs.Held.{lookup_is_find}
 use Rattle.shop_book.proofs.memory.find_kept.Goals as goal
 

@@ -3,8 +3,8 @@ use Rattle.std.specs.Option.{option_to_list}
 use Rattle.std.proofs.lemmas.List.{get_or_default, length-append}
 use Rattle.std.specs.Prelude.{filter, filter_map}
 use Rattle.std.specs.Ordering.{nat_cmp}
-use Rattle.shop_machine.specs.declared.records.Demand.{Demand}
-use Rattle.shop_machine.specs.Listing.{is_asked_for}
+use Rattle.shop_records.specs.declared.records.Demand.{Demand}
+use Rattle.shop_records.specs.Lists.{is_asked_for}
 use Rattle.shop_rows.specs.Keys.{demand_key}
 use Rattle.shop_rows.specs.Rows.{row_at}
 use Rattle.shop_book.proofs.Handed.{one_passes, passed_more, passed_rest, take_front}

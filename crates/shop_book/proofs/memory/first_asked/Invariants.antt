@@ -1,6 +1,6 @@
 use Rattle.std.proofs.Common.{◌≡◌, ◌≤◌, length, take}
 use Rattle.std.specs.Prelude.{filter}
-use Rattle.shop_machine.specs.Listing.{is_asked_for}
+use Rattle.shop_records.specs.Lists.{is_asked_for}
 use Rattle.shop_rows.specs.Open.{demands_named}
 use Rattle.shop_book.proofs.memory.first_asked.Given as goal
 

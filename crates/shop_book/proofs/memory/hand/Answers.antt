@@ -1,7 +1,7 @@
 use Rattle.std.proofs.Common.{sym, subst}
 use Rattle.std.specs.Prelude.{option_copied}
 use Rattle.std.specs.Option.{option_to_list}
-use Rattle.shop_machine.specs.Visits.{HasSeen}
+use Rattle.shop_records.specs.Visits.{HasSeen}
 use Rattle.shop_book.proofs.Handed.{one_seen}
 use Rattle.shop_book.proofs.memory.hand.Goals as goal
 

@@ -1,6 +1,6 @@
 use Rattle.std.proofs.Common.{◌≡◌, ℕ, ◌+◌, List, get_or, refl, sym, ap, ◌∙◌, arith}
 use Rattle.cut_measure.specs.Names.{name_cmp}
-use Rattle.shop_machine.specs.Content.{cells_in}
+use Rattle.shop_records.specs.Content.{cells_in}
 use Rattle.shop_rows.specs.declared.sums.Sums.{Sums}
 use Rattle.shop_rows.specs.Rows.{map_of}
 use Rattle.shop_rows.specs.Sums.{sum_in, sum_at, all_small}
@@ -10,7 +10,7 @@ use Rattle.shop_rows.proofs.Summed.{added_all, cells_bounded}
 use Rattle.shop_book.proofs.Replaced.{cells-inserted, small-inserted}
 use Rattle.std.specs.Prelude.{All, IfSome, Option, Some, None}
 use Rattle.cut_measure.specs.Names.{Name}
-use Rattle.shop_machine.specs.declared.records.Part.{Part}
+use Rattle.shop_records.specs.declared.records.Part.{Part}
 use Rattle.shop_rows.specs.Open.{finds_with_all}
 use Rattle.shop_rows.specs.Rows.{row_at}
 use Rattle.shop_rows.proofs.Listed.{found_put_each, keep_one, lists_same}

@@ -1,5 +1,5 @@
 use Rattle.std.proofs.Common.{sym, ◌∙◌}
-use Rattle.shop_machine.specs.Content.{pair_cmp}
+use Rattle.shop_records.specs.Content.{pair_cmp}
 use Rattle.shop_book.proofs.Held.{lookup_is_find}
 use Rattle.shop_book.proofs.Lasts.{lower}
 use Rattle.shop_book.proofs.memory.last_below.Goals as goal

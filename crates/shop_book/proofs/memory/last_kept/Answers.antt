@@ -1,7 +1,7 @@
 use Rattle.std.proofs.Common.{◌≡◌, ℕ, inr, subst}
 use Rattle.std.specs.Prelude.{IsSome}
 use Rattle.std.specs.FinMap.{find}
-use Rattle.shop_machine.specs.Content.{pair_cmp}
+use Rattle.shop_records.specs.Content.{pair_cmp}
 use Rattle.shop_book.proofs.memory.last_kept.Goals as goal
 
 pub returns-clause-kept : goal.returns-clause-kept

@@ -1,8 +1,8 @@
 use Rattle.std.proofs.Common.{is_some, sym, ap, ◌∙◌, subst}
 use Rattle.std.specs.Prelude.{IsSome}
 use Rattle.std.specs.FinMap.{find}
-use Rattle.shop_machine.specs.Content.{pair_cmp}
-use Rattle.shop_machine.specs.declared.texts.Pair.{Pair}
+use Rattle.shop_records.specs.Content.{pair_cmp}
+use Rattle.shop_records.specs.declared.texts.Pair.{Pair}
 use Rattle.shop_book.proofs.Held.{lookup_is_find}
 use Rattle.shop_book.proofs.memory.last_of_all.Goals as goal
 

@@ -1,7 +1,7 @@
 use Rattle.std.proofs.Common.{ℕ}
 use Rattle.std.specs.Cmp.{nat_cmp_total}
 use Rattle.std.specs.Ordering.{nat_cmp}
-use Rattle.shop_machine.specs.Listing.{is_open}
+use Rattle.shop_records.specs.Lists.{is_open}
 use Rattle.shop_rows.specs.Keys.{demand_key}
 use Rattle.shop_rows.specs.Open.{finds_with_all}
 use Rattle.shop_rows.specs.Rows.{row_at}

@@ -1,6 +1,6 @@
 use Rattle.std.proofs.Common.{ap, sym, ◌∙◌}
 use Rattle.cut_measure.specs.Names.{name_cmp}
-use Rattle.shop_machine.specs.Content.{with_moved}
+use Rattle.shop_records.specs.Content.{with_moved}
 use Rattle.shop_rows.specs.Rows.{entries_of, map_of}
 use Rattle.shop_rows.specs.Keys.{part_key, names_total}
 use Rattle.shop_book.proofs.Held.{put_is_insert}

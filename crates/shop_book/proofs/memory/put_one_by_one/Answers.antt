@@ -1,8 +1,8 @@
 use Rattle.std.proofs.Common.{◌≡◌, ◌+◌, ◌<◌, ◌≤◌, ◌∷◌, [], List, get_or, length, drop, subst, suc, ap, sym, ◌∙◌, arith, add-one}
 use Rattle.std.proofs.Math.Seq.{drop-cons, drop-length}
 use Rattle.cut_measure.specs.Names.{name_cmp}
-use Rattle.shop_machine.specs.declared.records.Part.{Part}
-use Rattle.shop_machine.specs.Content.{with_parts}
+use Rattle.shop_records.specs.declared.records.Part.{Part}
+use Rattle.shop_records.specs.Content.{with_parts}
 use Rattle.shop_rows.specs.Rows.{entries_of, map_of}
 use Rattle.shop_rows.specs.Keys.{part_key, names_total}
 use Rattle.shop_rows.specs.Open.{room_of}

@@ -2,7 +2,7 @@ use Rattle.std.proofs.Common.{◌≡◌, ◌+◌, ◌-◌, ◌≤◌, length, dr
 use Rattle.std.specs.Prelude.{IsTrue}
 use Rattle.cut_measure.specs.Codes.{code_cmp}
 use Rattle.cut_measure.specs.Names.{name_cmp}
-use Rattle.shop_machine.specs.Content.{with_parts}
+use Rattle.shop_records.specs.Content.{with_parts}
 use Rattle.shop_rows.specs.Rows.{rise, map_of}
 use Rattle.shop_rows.specs.Open.{AreInOrder, AreListed, HaveRoom}
 use Rattle.shop_rows.specs.Sums.{sums_key, AreSumsOf, all_small}

@@ -1,5 +1,5 @@
 use Rattle.std.proofs.Common.{ap, sym, ◌∙◌, arith}
-use Rattle.shop_machine.specs.Content.{of_found}
+use Rattle.shop_records.specs.Content.{of_found}
 use Rattle.shop_rows.specs.Sums.{cells_for}
 use Rattle.shop_rows.proofs.Summed.{cells_bounded}
 use Rattle.shop_book.proofs.Replaced.{replaced_counted, cells-put, small-put}

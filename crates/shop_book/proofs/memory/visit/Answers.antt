@@ -2,8 +2,8 @@ use Rattle.std.proofs.Common.{Bool, Option, false, true, subst}
 use Rattle.std.specs.Prelude.{option_copied}
 use Rattle.std.specs.Option.{option_to_list}
 use Rattle.cut_measure.specs.Names.{Name, name_cmp}
-use Rattle.shop_machine.specs.declared.records.Part.{Part}
-use Rattle.shop_machine.specs.Visits.{HasSeen}
+use Rattle.shop_records.specs.declared.records.Part.{Part}
+use Rattle.shop_records.specs.Visits.{HasSeen}
 use Rattle.shop_rows.specs.Keys.{part_key}
 use Rattle.shop_rows.specs.Rows.{row_at}
 use Rattle.shop_book.proofs.Handed.{handed, stopped, ended}

@@ -1,5 +1,5 @@
 use Rattle.std.proofs.Common.{take, true}
-use Rattle.shop_machine.specs.Visits.{HasSeen}
+use Rattle.shop_records.specs.Visits.{HasSeen}
 use Rattle.shop_rows.specs.Open.{parts_named}
 use Rattle.shop_book.proofs.memory.visit.Given as goal
 

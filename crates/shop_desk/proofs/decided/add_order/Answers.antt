@@ -1,8 +1,8 @@
 use Rattle.std.proofs.Common.{◌≡◌, refl, ◌∙◌}
-use Rattle.shop_machine.specs.declared.changes.Change.{Change}
-use Rattle.shop_machine.specs.declared.messages.Command.TheVariants.{AddOrder}
-use Rattle.shop_machine.specs.Readings.{unread}
-use Rattle.shop_machine.specs.Content.{material_at}
+use Rattle.shop_records.specs.declared.changes.Change.{Change}
+use Rattle.shop_records.specs.declared.messages.Command.TheVariants.{AddOrder}
+use Rattle.shop_records.specs.Readings.{unread}
+use Rattle.shop_records.specs.Content.{material_at}
 use Rattle.shop_machine.specs.Ordering.{AreMaterialsFound, lines_in, order_change}
 use Rattle.shop_rules.specs.Forms.{json_texts}
 use Rattle.shop_desk.proofs.Deciding.{decided_by, same_order, order_by}

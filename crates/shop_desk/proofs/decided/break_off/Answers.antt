@@ -1,7 +1,7 @@
 use Rattle.std.proofs.Common.{refl}
 use Rattle.cut_tree.specs.declared.halts.Stop.TheVariants.{After}
-use Rattle.shop_machine.specs.declared.messages.Command.TheVariants.{Break}
-use Rattle.shop_machine.specs.Content.{demand_at}
+use Rattle.shop_records.specs.declared.messages.Command.TheVariants.{Break}
+use Rattle.shop_records.specs.Content.{demand_at}
 use Rattle.shop_machine.specs.Recounts.{AreDemandsFound}
 use Rattle.shop_machine.specs.Ending.{IsBroken}
 use Rattle.shop_rules.specs.Forms.{json_texts}

@@ -1,9 +1,9 @@
 use Rattle.std.proofs.Common.{subst}
 use Rattle.std.specs.Prelude.{MatchOption}
-use Rattle.shop_machine.specs.declared.changes.Change.{Change}
-use Rattle.shop_machine.specs.declared.messages.Command.TheVariants.{Reserve}
-use Rattle.shop_machine.specs.Readings.{reading_of}
-use Rattle.shop_machine.specs.Content.{demand_at}
+use Rattle.shop_records.specs.declared.changes.Change.{Change}
+use Rattle.shop_records.specs.declared.messages.Command.TheVariants.{Reserve}
+use Rattle.shop_records.specs.Readings.{reading_of}
+use Rattle.shop_records.specs.Content.{demand_at}
 use Rattle.shop_machine.specs.Recounts.{AreDemandsFound}
 use Rattle.shop_machine.specs.Reserving.{IsReservation}
 use Rattle.shop_machine.specs.Machine.{Reads}

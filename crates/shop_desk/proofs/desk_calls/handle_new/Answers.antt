@@ -1,12 +1,12 @@
 use Rattle.std.specs.Prelude.{Some, IfSome}
 use Rattle.std.proofs.Common.{◌≡◌, refl, sym, ap, subst, inl, ◌∙◌}
-use Rattle.shop_machine.specs.Messages.{pair_of, refusal_in}
-use Rattle.shop_machine.specs.Content.{changed}
+use Rattle.shop_records.specs.Messages.{pair_of, refusal_in}
+use Rattle.shop_records.specs.Content.{changed}
 use Rattle.shop_machine.specs.Machine.{keeping}
-use Rattle.shop_machine.specs.Soundness.{Fits}
+use Rattle.shop_records.specs.Soundness.{Fits}
 use Rattle.shop_rules.specs.Forms.{json_texts}
-use Rattle.shop_machine.specs.declared.refusals.Refusal.TheVariants.{BadMessage}
-use Rattle.shop_machine.specs.declared.messages.Reply.TheVariants.{Refused}
+use Rattle.shop_records.specs.declared.refusals.Refusal.TheVariants.{BadMessage}
+use Rattle.shop_records.specs.declared.messages.Reply.TheVariants.{Refused}
 use Rattle.shop_desk.specs.Faults.{CountsReply}
 use Rattle.shop_desk.specs.Handled.{IsHandled}
 use Rattle.shop_desk.proofs.Steps.{decided, faulted, committed, failed, counts_made, counted_made, is_fault, fits_committed, row_committed, blamed, commit_blamed}

@@ -1,6 +1,6 @@
 use Rattle.std.proofs.Common.{ap}
-use Rattle.shop_machine.specs.declared.messages.Reply.TheVariants.{Rack}
-use Rattle.shop_machine.specs.Content.{parts_of}
+use Rattle.shop_records.specs.declared.messages.Reply.TheVariants.{Rack}
+use Rattle.shop_records.specs.Content.{parts_of}
 use Rattle.shop_desk.proofs.TakenParts.{rack_taken}
 use Rattle.shop_desk.proofs.desk_calls.known_rack.Goals as goal
 

@@ -1,8 +1,8 @@
 use Rattle.std.proofs.Common.{◌≡◌, ◌<◌, ◌+◌, ◌++◌, ◌∷◌, [], List, length, take, refl, sym, ap, subst, ◌∙◌, arith}
 use Rattle.std.proofs.lemmas.List.{take_more}
 use Rattle.std.proofs.Math.Seq.{take-length}
-use Rattle.shop_machine.specs.declared.messages.Message.{Message}
-use Rattle.shop_machine.specs.declared.messages.Reply.{Reply}
+use Rattle.shop_records.specs.declared.messages.Message.{Message}
+use Rattle.shop_records.specs.declared.messages.Reply.{Reply}
 use Rattle.shop_machine.proofs.Runs.{AreMessages, AreMessages-push, gives_after}
 use Rattle.shop_machine.proofs.Owners.{account_of}
 use Rattle.shop_rules.specs.Forms.{json_texts}

@@ -1,6 +1,6 @@
 use Rattle.std.proofs.Common.{◌≡◌, ◌≤◌, length, take, vec_len, vec_capacity}
-use Rattle.shop_machine.specs.Content.{Content}
-use Rattle.shop_machine.specs.Soundness.{IsSound}
+use Rattle.shop_records.specs.Content.{Content}
+use Rattle.shop_records.specs.Soundness.{IsSound}
 use Rattle.shop_machine.proofs.Runs.{AreMessages}
 use Rattle.shop_rules.specs.Forms.{json_texts}
 use Rattle.shop_desk.specs.Faults.{CountsUp, TellOfFailures}

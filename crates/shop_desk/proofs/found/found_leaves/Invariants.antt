@@ -1,6 +1,6 @@
 use Rattle.std.proofs.Common.{◌≡◌, take}
 use Rattle.std.specs.Prelude.{All}
-use Rattle.shop_machine.specs.Content.{Content, demand_at}
+use Rattle.shop_records.specs.Content.{Content, demand_at}
 use Rattle.shop_machine.specs.Recounts.{AreDemandsFound, IsNumbered, leaves_in}
 use Rattle.shop_book.specs.Kept.{Unchanged}
 use Rattle.shop_desk.proofs.found.found_leaves.Given as goal

@@ -1,5 +1,5 @@
 use Rattle.std.proofs.Common.{◌≡◌, take}
-use Rattle.shop_machine.specs.Content.{Content, material_at}
+use Rattle.shop_records.specs.Content.{Content, material_at}
 use Rattle.shop_machine.specs.Ordering.{AreMaterialsFound, lines_in}
 use Rattle.shop_book.specs.Kept.{Unchanged}
 use Rattle.shop_desk.proofs.found.found_lines.Given as goal

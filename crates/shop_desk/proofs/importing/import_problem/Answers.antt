@@ -3,7 +3,7 @@ use Rattle.std.specs.Prelude.{MatchOption}
 use Rattle.cut_measure.specs.Measures.{Extent}
 use Rattle.shop_files.specs.declared.problems.Piece.{Piece}
 use Rattle.shop_files.specs.Problems.{IsProblem}
-use Rattle.shop_machine.specs.Content.{material_at}
+use Rattle.shop_records.specs.Content.{material_at}
 use Rattle.shop_machine.specs.Ordering.{AreMaterialsFound, lines_in}
 use Rattle.shop_machine.specs.Importing.{problem_lines}
 use Rattle.shop_rules.specs.Forms.{json_texts}

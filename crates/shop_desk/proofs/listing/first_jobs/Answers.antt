@@ -1,7 +1,8 @@
 use Rattle.std.proofs.Common.{◌≡◌, take, ap, ◌+◌, ◌∙◌}
 use Rattle.std.specs.Prelude.{filter_map}
 use Rattle.shop_machine.specs.declared.listing.TheConstants.{MOST_TOLD}
-use Rattle.shop_machine.specs.Listing.{job_numbers, job_row_at, waiting_jobs}
+use Rattle.shop_records.specs.Lists.{job_numbers, waiting_jobs}
+use Rattle.shop_machine.specs.Listing.{job_row_at}
 use Rattle.shop_machine.proofs.ListingReply.{first_listed, more_listed}
 use Rattle.shop_desk.proofs.listing.first_jobs.Goals as goal
 

@@ -1,5 +1,5 @@
 use Rattle.std.proofs.Common.{◌∙◌}
-use Rattle.shop_machine.specs.Listing.{open_demands}
+use Rattle.shop_records.specs.Lists.{open_demands}
 use Rattle.shop_desk.proofs.listing.known_demands.Goals as goal
 
 pub returns-in-Ok-clause-answer : goal.returns-in-Ok-clause-answer

@@ -1,5 +1,5 @@
 use Rattle.std.proofs.Common.{◌∙◌}
-use Rattle.shop_machine.specs.Listing.{parts_behind}
+use Rattle.shop_records.specs.Lists.{parts_behind}
 use Rattle.shop_desk.proofs.listing.known_parts.Goals as goal
 
 pub returns-in-Ok-clause-answer : goal.returns-in-Ok-clause-answer

@@ -1,7 +1,7 @@
 use Rattle.std.proofs.Common.{◌≡◌, ◌*◌, map, sym, ap, subst, ◌∙◌, arith}
 use Rattle.cut_tree.specs.Stops.{outcome_of}
 use Rattle.std.specs.Prelude.{sum_by}
-use Rattle.shop_machine.specs.declared.records.Part.{Part}
+use Rattle.shop_records.specs.declared.records.Part.{Part}
 use Rattle.shop_machine.specs.Ending.{row_part}
 use Rattle.shop_machine.specs.Moving.{tally, AreFew}
 use Rattle.shop_machine.proofs.Inside.{all_inside, has_part, part_cells, few_cells}

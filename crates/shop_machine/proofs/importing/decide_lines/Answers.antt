@@ -1,6 +1,6 @@
 use Rattle.std.proofs.Common.{◌≡◌, sym, ◌∙◌}
 use Rattle.std.proofs.lemmas.List.{length-map}
-use Rattle.shop_machine.specs.declared.imports.Form.TheVariants.{Csv}
+use Rattle.shop_records.specs.declared.imports.Form.TheVariants.{Csv}
 use Rattle.shop_machine.specs.declared.ordering.FoundLine.{FoundLine}
 use Rattle.shop_machine.specs.Ordering.{order_change, lines_in}
 use Rattle.shop_machine.proofs.ImportingDecision.{imported_as}

@@ -1,5 +1,5 @@
 use Rattle.std.proofs.Common.{ap, ◌∙◌}
-use Rattle.shop_machine.specs.declared.messages.Reply.TheVariants.{Parts}
+use Rattle.shop_records.specs.declared.messages.Reply.TheVariants.{Parts}
 use Rattle.shop_machine.specs.Listing.{first_told}
 use Rattle.shop_machine.proofs.ListingReply.{first_listed, more_listed}
 use Rattle.shop_machine.proofs.listing.answer_parts.Goals as goal

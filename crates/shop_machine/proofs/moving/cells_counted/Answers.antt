@@ -1,8 +1,8 @@
 use Rattle.std.proofs.Common.{◌≡◌, ◌*◌, ◌≤◌, ◌+◌, ℕ, Bool, true, false, take, get_or, arith, ap}
 use Rattle.std.specs.Prelude.{if◌then◌else◌, sum_by}
 use Rattle.std.proofs.lemmas.List.Sums.{sum_by_more_le_part}
-use Rattle.shop_machine.specs.declared.records.Part.{Part}
-use Rattle.shop_machine.specs.Columns.{is_counted}
+use Rattle.shop_records.specs.declared.records.Part.{Part}
+use Rattle.shop_records.specs.Columns.{is_counted}
 use Rattle.shop_machine.proofs.moving.cells_counted.Goals as goal
 
 part_counts : (b : Bool) (n : ℕ) → (if b then n else 0) ≤ n

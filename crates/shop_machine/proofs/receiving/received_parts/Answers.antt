@@ -1,7 +1,7 @@
 use Rattle.std.proofs.Common.{◌≡◌, ◌++◌, ◌∷◌, [], sym, ap, ◌∙◌}
 use Rattle.cut_measure.specs.Names.{Name}
-use Rattle.shop_machine.specs.declared.records.Part.{Part}
-use Rattle.shop_machine.specs.declared.records.State.TheVariants.{Standing}
+use Rattle.shop_records.specs.declared.records.Part.{Part}
+use Rattle.shop_records.specs.declared.records.State.TheVariants.{Standing}
 use Rattle.shop_machine.specs.Receiving.{unit_parts}
 use Rattle.shop_machine.proofs.ReceivingDecision.{unit_parts_more}
 use Rattle.shop_machine.proofs.receiving.received_parts.Goals as goal

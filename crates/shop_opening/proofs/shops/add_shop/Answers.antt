@@ -1,8 +1,8 @@
 use Rattle.std.proofs.Common.{◌≡◌, ◌∙◌, List, subst}
 use Rattle.std.specs.Prelude.{All}
 use Rattle.shop_desk.specs.Handled.{HasRun}
-use Rattle.shop_machine.specs.declared.messages.Message.{Message}
-use Rattle.shop_machine.specs.declared.messages.Reply.{Reply}
+use Rattle.shop_records.specs.declared.messages.Message.{Message}
+use Rattle.shop_records.specs.declared.messages.Reply.{Reply}
 use Rattle.shop_rules.specs.Forms.{json_texts}
 use Rattle.shop_opening.specs.Shops.{IsAccepted, IsFirstRefused, shop_messages}
 use Rattle.shop_opening.proofs.shops.add_shop.Goals as goal

@@ -2,7 +2,7 @@ use Rattle.std.proofs.Common.{◌<◌, ap, sym, rules, length, ◌∙◌, subst}
 use Rattle.std.specs.Prelude.{All}
 use Rattle.std.proofs.lemmas.List.{get_or_default, take_all}
 use Rattle.std.proofs.lemmas.List.Elements.{All-more}
-use Rattle.shop_machine.specs.Messages.{refusal_in}
+use Rattle.shop_records.specs.Messages.{refusal_in}
 use Rattle.shop_opening.specs.Shops.{IsAccepted}
 use Rattle.shop_opening.proofs.shops.first_refused.Goals as goal
 

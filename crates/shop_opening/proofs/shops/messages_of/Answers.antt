@@ -2,7 +2,7 @@ use Rattle.std.proofs.Common.{◌≡◌, ◌<◌, ◌+◌, ◌++◌, ◌∙◌, 
 use Rattle.std.proofs.lemmas.List.{append_assoc}
 use Rattle.std.proofs.Math.Seq.{drop-cons}
 use Rattle.shop_files.specs.declared.shops.MaterialEntry.{MaterialEntry}
-use Rattle.shop_machine.specs.declared.messages.Message.{Message}
+use Rattle.shop_records.specs.declared.messages.Message.{Message}
 use Rattle.shop_opening.specs.Shops.{message_of, messages_from}
 use Rattle.shop_opening.proofs.shops.messages_of.Goals as goal
 

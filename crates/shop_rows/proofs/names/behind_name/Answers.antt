@@ -4,7 +4,7 @@ use Rattle.std.specs.Ordering.{is_lt}
 use Rattle.std.proofs.lemmas.List.{length-drop, take_all}
 use Rattle.std.proofs.lemmas.List.Sorted.{IsPartitionPoint-from_clause}
 use Rattle.cut_measure.specs.Names.{Name, name_cmp}
-use Rattle.shop_machine.specs.Listing.{is_behind}
+use Rattle.shop_records.specs.Lists.{is_behind}
 use Rattle.shop_rows.specs.Keys.{names_total, names_exact}
 use Rattle.shop_rows.proofs.Listed.{parted, point_back, all_behind, behind_names, upto_name}
 use Rattle.shop_rows.proofs.names.behind_name.Goals as goal

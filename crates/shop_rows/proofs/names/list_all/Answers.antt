@@ -2,7 +2,7 @@ use Rattle.std.proofs.Common.{◌≤◌, Option, get_or, take, sym, ap, subst, �
 use Rattle.std.proofs.lemmas.List.{take_all}
 use Rattle.cut_measure.specs.Names.{Name, name_cmp}
 use Rattle.shop_rows.specs.Keys.{part_key}
-use Rattle.shop_machine.specs.declared.records.Part.{Part}
+use Rattle.shop_records.specs.declared.records.Part.{Part}
 use Rattle.shop_rows.specs.Open.{finds_with_all, room_of, ListsParts}
 use Rattle.shop_rows.proofs.Listed.{finds_more, keep_at}
 use Rattle.shop_rows.proofs.names.list_all.Goals as goal

@@ -1,7 +1,7 @@
 use Rattle.std.proofs.Common.{◌-◌, Option, length, take}
 use Rattle.cut_measure.specs.Names.{Name, name_cmp}
 use Rattle.shop_rows.specs.Keys.{part_key}
-use Rattle.shop_machine.specs.declared.records.Part.{Part}
+use Rattle.shop_records.specs.declared.records.Part.{Part}
 use Rattle.shop_rows.specs.Open.{finds_with_all, AreInOrder, HaveRoom, ListsParts, KeepMaterials}
 use Rattle.shop_rows.proofs.names.list_all.Given as goal
 

@@ -1,6 +1,6 @@
 use Rattle.std.proofs.Common.{Bool, subst}
 use Rattle.cut_measure.specs.Names.{name_cmp}
-use Rattle.shop_machine.specs.Content.{is_listed}
+use Rattle.shop_records.specs.Content.{is_listed}
 use Rattle.shop_rows.specs.Open.{finds_with, IsKeySettled}
 use Rattle.shop_rows.specs.declared.names.OpenPart.{OpenPart}
 use Rattle.shop_rows.proofs.Listed.{listed, found_own}

@@ -2,7 +2,7 @@ use Rattle.std.proofs.Common.{◌≤◌, List, get_or, take, subst, ◌∙◌, a
 use Rattle.std.specs.Prelude.{All}
 use Rattle.std.proofs.lemmas.List.{take_all}
 use Rattle.std.proofs.lemmas.List.Elements.{All-more}
-use Rattle.shop_machine.specs.declared.records.Part.{Part}
+use Rattle.shop_records.specs.declared.records.Part.{Part}
 use Rattle.shop_rows.specs.Open.{room_of}
 use Rattle.shop_rows.proofs.names.reserve_each.Goals as goal
 

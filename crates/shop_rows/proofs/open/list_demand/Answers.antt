@@ -1,4 +1,4 @@
-use Rattle.shop_machine.specs.Listing.{is_open}
+use Rattle.shop_records.specs.Lists.{is_open}
 use Rattle.shop_rows.proofs.Listed.{numbers_settled}
 use Rattle.shop_rows.proofs.open.list_demand.Goals as goal
 

@@ -1,8 +1,8 @@
 use Rattle.std.proofs.Common.{ℕ, Option, take, sym, ap, subst, ◌∙◌, add-one, arith}
 use Rattle.std.proofs.lemmas.List.{take_all}
 use Rattle.std.specs.Ordering.{nat_cmp}
-use Rattle.shop_machine.specs.Listing.{is_open}
-use Rattle.shop_machine.specs.declared.records.Demand.{Demand}
+use Rattle.shop_records.specs.Lists.{is_open}
+use Rattle.shop_records.specs.declared.records.Demand.{Demand}
 use Rattle.shop_rows.specs.Keys.{demand_key}
 use Rattle.shop_rows.specs.Open.{finds_with_all, ListsNumbers}
 use Rattle.shop_rows.proofs.Listed.{finds_more}

@@ -1,8 +1,8 @@
 use Rattle.std.proofs.Common.{ℕ, ◌+◌, ◌-◌, ◌≤◌, Option, length, take, vec_len, vec_capacity}
 use Rattle.std.specs.Prelude.{IsTrue}
 use Rattle.std.specs.Ordering.{nat_cmp}
-use Rattle.shop_machine.specs.Listing.{is_open}
-use Rattle.shop_machine.specs.declared.records.Demand.{Demand}
+use Rattle.shop_records.specs.Lists.{is_open}
+use Rattle.shop_records.specs.declared.records.Demand.{Demand}
 use Rattle.shop_rows.specs.Keys.{demand_key}
 use Rattle.shop_rows.specs.Open.{own_key, finds_with_all, ListsNumbers}
 use Rattle.shop_rows.specs.Rows.{rise}

@@ -1,6 +1,6 @@
 use Rattle.std.proofs.Common.{◌≡◌, length, take, subst, ◌∙◌, arith}
 use Rattle.std.proofs.lemmas.List.Elements.{All-more}
-use Rattle.shop_machine.specs.declared.records.Part.{Part}
+use Rattle.shop_records.specs.declared.records.Part.{Part}
 use Rattle.std.proofs.lemmas.List.{length-take-le}
 use Rattle.shop_rows.proofs.Summed.{cells_bounded, cells-more, small-more, cells_own, cells_other}
 use Rattle.shop_rows.proofs.sums.with_all.Goals as goal

@@ -2,8 +2,8 @@ use Rattle.std.proofs.Common.{◌≡◌, ◌+◌, List, ℕ, false, take}
 use Rattle.std.specs.Prelude.{All, IsTrue}
 use Rattle.std.specs.Ordering.{is_eq}
 use Rattle.cut_measure.specs.Codes.{code_cmp}
-use Rattle.shop_machine.specs.declared.records.Column.{Column}
-use Rattle.shop_machine.specs.Content.{cells_in}
+use Rattle.shop_records.specs.declared.records.Column.{Column}
+use Rattle.shop_records.specs.Content.{cells_in}
 use Rattle.shop_rows.specs.Sums.{sum_in, all_small}
 use Rattle.shop_rows.proofs.sums.with_all.Given as goal
 

@@ -1,4 +1,4 @@
-use Rattle.shop_machine.specs.declared.records.Column.TheVariants.{Received, Stock, Rack, Pieces, Kerf, Scrap, Returned}
+use Rattle.shop_records.specs.declared.records.Column.TheVariants.{Received, Stock, Rack, Pieces, Kerf, Scrap, Returned}
 use Rattle.shop_rows.proofs.sums.with_part.Goals as goal
 
 pub raised-requires : goal.raised-requires

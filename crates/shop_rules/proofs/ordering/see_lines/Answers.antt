@@ -1,4 +1,4 @@
-use Rattle.shop_machine.specs.Messages.{IsLine}
+use Rattle.shop_records.specs.Messages.{IsLine}
 use Rattle.shop_rules.proofs.Lists.{seen_more, seen_all}
 use Rattle.shop_rules.proofs.ordering.see_lines.Goals as goal
 

@@ -1,6 +1,6 @@
 use Rattle.std.proofs.Common.{take}
 use Rattle.std.specs.Prelude.{All}
-use Rattle.shop_machine.specs.Messages.{IsLine}
+use Rattle.shop_records.specs.Messages.{IsLine}
 use Rattle.shop_rules.proofs.ordering.see_lines.Given as goal
 
 abbrev pub invariant-loop-line : goal.invariant-loop-line

@@ -1,8 +1,8 @@
 use Rattle.std.proofs.Common.{◌≡◌, pos, [], ◌∷◌, refl}
 use Rattle.sqlite.specs.Held.{state}
 use Rattle.sqlite_value.specs.declared.value.Value.TheVariants.{Int}
-use Rattle.shop_machine.specs.Content.{demand_at}
-use Rattle.shop_machine.specs.declared.records.Demand.{Demand}
+use Rattle.shop_records.specs.Content.{demand_at}
+use Rattle.shop_records.specs.declared.records.Demand.{Demand}
 use Rattle.shop_statements.specs.Rows.{demand_columns}
 use Rattle.shop_statements.proofs.Texts.{by_number, get_demand_text, get_demand_terms, get_demand_is, get_demand_selects}
 use Rattle.shop_statements.proofs.Reading.{asked, row_given}

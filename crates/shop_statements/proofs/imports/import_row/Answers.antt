@@ -1,8 +1,8 @@
 use Rattle.std.proofs.Common.{◌≡◌, [], ◌∷◌, refl}
 use Rattle.sqlite.specs.Held.{state}
 use Rattle.sqlite_value.specs.declared.value.Value.TheVariants.{Text}
-use Rattle.shop_machine.specs.Content.{import_at}
-use Rattle.shop_machine.specs.declared.imports.ImportRow.{ImportRow}
+use Rattle.shop_records.specs.Content.{import_at}
+use Rattle.shop_records.specs.declared.imports.ImportRow.{ImportRow}
 use Rattle.shop_statements.specs.Rows.{import_columns}
 use Rattle.shop_statements.proofs.Texts.{by_one, get_import_text, get_import_terms, get_import_is, get_import_selects}
 use Rattle.shop_statements.proofs.Reading.{asked, row_given}

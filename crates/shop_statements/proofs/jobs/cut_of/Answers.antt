@@ -1,7 +1,7 @@
 use Rattle.std.proofs.Common.{◌≡◌, Some, ap, ◌∙◌, arith}
 use Rattle.sqlite.specs.State.{HasCleanDisk}
 use Rattle.sqlite.specs.Held.{state}
-use Rattle.shop_machine.specs.Content.{material_at}
+use Rattle.shop_records.specs.Content.{material_at}
 use Rattle.shop_statements.proofs.Reading.{leaves_then}
 use Rattle.shop_statements.proofs.jobs.cut_of.Goals as goal
 

@@ -2,7 +2,7 @@ use Rattle.std.proofs.Common.{arith}
 use Rattle.shop_statements.proofs.UnderKeys.{job_under}
 use Rattle.sqlite.specs.State.{HasCleanDisk}
 use Rattle.sqlite.specs.Held.{state}
-use Rattle.shop_machine.specs.Content.{job_at}
+use Rattle.shop_records.specs.Content.{job_at}
 use Rattle.shop_statements.specs.Rows.{job_columns, IsOwnJob}
 use Rattle.shop_statements.proofs.Reading.{read_as, leaves_then}
 use Rattle.shop_statements.proofs.jobs.find_job.Goals as goal

@@ -1,5 +1,5 @@
 use Rattle.std.proofs.Common.{◌≡◌, pos, ap, sym, ◌∙◌}
-use Rattle.shop_machine.specs.Content.{part_at}
+use Rattle.shop_records.specs.Content.{part_at}
 use Rattle.std.proofs.lemmas.Result.{IfOk-weaker}
 use Rattle.sqlite_value.specs.declared.value.Value.TheVariants.{Int}
 use Rattle.sqlite_value.specs.Order.{column}

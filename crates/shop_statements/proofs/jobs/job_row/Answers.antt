@@ -1,7 +1,7 @@
 use Rattle.std.proofs.Common.{pos, [], ◌∷◌, refl}
 use Rattle.sqlite.specs.Held.{state}
 use Rattle.sqlite_value.specs.declared.value.Value.TheVariants.{Int}
-use Rattle.shop_machine.specs.Content.{job_at}
+use Rattle.shop_records.specs.Content.{job_at}
 use Rattle.shop_statements.specs.Rows.{job_columns, IsOwnJob}
 use Rattle.shop_statements.proofs.Texts.{by_number, get_job_text, get_job_terms, get_job_is, get_job_selects}
 use Rattle.shop_statements.proofs.Reading.{asked, row_given}

@@ -1,6 +1,6 @@
 use Rattle.std.proofs.Common.{refl, [], ◌∷◌, pos}
-use Rattle.shop_machine.specs.Content.{kept_at}
-use Rattle.shop_machine.specs.declared.texts.Kept.{Kept}
+use Rattle.shop_records.specs.Content.{kept_at}
+use Rattle.shop_records.specs.declared.texts.Kept.{Kept}
 use Rattle.shop_statements.specs.Rows.{kept_columns}
 use Rattle.shop_statements.proofs.Reading.{read_as, none_as}
 use Rattle.shop_statements.proofs.UnderKeys.{read_under}

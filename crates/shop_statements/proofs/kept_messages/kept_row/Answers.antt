@@ -1,8 +1,8 @@
 use Rattle.std.proofs.Common.{pos, [], ◌∷◌, refl}
 use Rattle.sqlite.specs.Held.{state}
 use Rattle.sqlite_value.specs.declared.value.Value.TheVariants.{Int}
-use Rattle.shop_machine.specs.Content.{kept_at}
-use Rattle.shop_machine.specs.declared.texts.Kept.{Kept}
+use Rattle.shop_records.specs.Content.{kept_at}
+use Rattle.shop_records.specs.declared.texts.Kept.{Kept}
 use Rattle.shop_statements.specs.Rows.{kept_columns}
 use Rattle.shop_statements.proofs.Texts.{by_two, get_kept_text, get_kept_terms, get_kept_is, get_kept_selects}
 use Rattle.shop_statements.proofs.Reading.{asked, row_given}

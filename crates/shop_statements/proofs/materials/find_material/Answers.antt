@@ -1,6 +1,6 @@
 use Rattle.std.proofs.Common.{◌≡◌, refl, [], ◌∷◌}
-use Rattle.shop_machine.specs.Content.{material_at}
-use Rattle.shop_machine.specs.declared.records.Material.{Material}
+use Rattle.shop_records.specs.Content.{material_at}
+use Rattle.shop_records.specs.declared.records.Material.{Material}
 use Rattle.shop_statements.specs.Rows.{material_columns}
 use Rattle.shop_statements.proofs.Reading.{read_as, none_as}
 use Rattle.shop_statements.proofs.UnderKeys.{read_under}

@@ -1,8 +1,8 @@
 use Rattle.std.proofs.Common.{◌≡◌, [], ◌∷◌, refl}
 use Rattle.sqlite.specs.Held.{state}
 use Rattle.sqlite_value.specs.declared.value.Value.TheVariants.{Text}
-use Rattle.shop_machine.specs.Content.{material_at}
-use Rattle.shop_machine.specs.declared.records.Material.{Material}
+use Rattle.shop_records.specs.Content.{material_at}
+use Rattle.shop_records.specs.declared.records.Material.{Material}
 use Rattle.shop_statements.specs.Rows.{material_columns}
 use Rattle.shop_statements.proofs.Texts.{by_one, get_material_text, get_material_terms, get_material_is, get_material_selects}
 use Rattle.shop_statements.proofs.Reading.{asked, row_given}

@@ -1,6 +1,6 @@
 use Rattle.std.proofs.Common.{◌≡◌, refl, [], ◌∷◌, pos}
-use Rattle.shop_machine.specs.Content.{part_at}
-use Rattle.shop_machine.specs.declared.records.Part.{Part}
+use Rattle.shop_records.specs.Content.{part_at}
+use Rattle.shop_records.specs.declared.records.Part.{Part}
 use Rattle.shop_statements.specs.Rows.{part_columns}
 use Rattle.shop_statements.proofs.Reading.{read_as, none_as}
 use Rattle.shop_statements.proofs.UnderKeys.{read_under}

@@ -2,7 +2,7 @@ use Rattle.std.proofs.Common.{pos, [], ◌∷◌, sym, subst}
 use Rattle.std.specs.FinMap.{insert}
 use Rattle.sqlite.specs.Held.{state}
 use Rattle.sqlite_value.specs.declared.value.Value.TheVariants.{Int}
-use Rattle.shop_machine.specs.Columns.{state_of}
+use Rattle.shop_records.specs.Columns.{state_of}
 use Rattle.shop_statements.specs.Rows.{state_number}
 use Rattle.shop_statements.specs.Shown.{Shows}
 use Rattle.shop_statements.specs.Changes.{with_part}

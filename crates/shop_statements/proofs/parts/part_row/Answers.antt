@@ -1,8 +1,8 @@
 use Rattle.std.proofs.Common.{◌≡◌, pos, [], ◌∷◌, refl}
 use Rattle.sqlite.specs.Held.{state}
 use Rattle.sqlite_value.specs.declared.value.Value.TheVariants.{Int}
-use Rattle.shop_machine.specs.Content.{part_at}
-use Rattle.shop_machine.specs.declared.records.Part.{Part}
+use Rattle.shop_records.specs.Content.{part_at}
+use Rattle.shop_records.specs.declared.records.Part.{Part}
 use Rattle.shop_statements.specs.Rows.{part_columns}
 use Rattle.shop_statements.proofs.Texts.{by_two, get_part_text, get_part_terms, get_part_is, get_part_selects}
 use Rattle.shop_statements.proofs.Reading.{asked, row_given}

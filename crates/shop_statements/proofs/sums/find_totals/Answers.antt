@@ -1,6 +1,6 @@
 use Rattle.std.proofs.Common.{[], refl, ◌∷◌}
 use Rattle.std.specs.FinMap.{get}
-use Rattle.shop_machine.specs.declared.records.Totals.{Totals}
+use Rattle.shop_records.specs.declared.records.Totals.{Totals}
 use Rattle.shop_statements.specs.Rows.{totals_columns}
 use Rattle.shop_statements.proofs.Reading.{read_as, none_as}
 use Rattle.shop_statements.proofs.UnderKeys.{read_under}

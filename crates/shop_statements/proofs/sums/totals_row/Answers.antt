@@ -2,7 +2,7 @@ use Rattle.std.proofs.Common.{[], ◌∷◌, refl}
 use Rattle.sqlite.specs.Held.{state}
 use Rattle.sqlite_value.specs.declared.value.Value.TheVariants.{Text}
 use Rattle.std.specs.FinMap.{get}
-use Rattle.shop_machine.specs.declared.records.Totals.{Totals}
+use Rattle.shop_records.specs.declared.records.Totals.{Totals}
 use Rattle.shop_statements.specs.Rows.{totals_columns}
 use Rattle.shop_statements.proofs.Texts.{by_one, get_totals_text, get_totals_terms, get_totals_is, get_totals_selects}
 use Rattle.shop_statements.proofs.Reading.{asked, row_given}

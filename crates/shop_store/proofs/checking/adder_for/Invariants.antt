@@ -1,7 +1,7 @@
 use Rattle.std.proofs.Common.{◌≡◌, ℕ, List, take}
 use Rattle.std.specs.Prelude.{IsTrue}
 use Rattle.cut_measure.specs.Codes.{code_cmp}
-use Rattle.shop_machine.specs.declared.records.Column.{Column}
+use Rattle.shop_records.specs.declared.records.Column.{Column}
 use Rattle.shop_rows.specs.Adding.{has_sums}
 use Rattle.shop_store.specs.Checking.{AreNarrow, are_totals_for}
 use Rattle.shop_rows.specs.Rows.{rise}

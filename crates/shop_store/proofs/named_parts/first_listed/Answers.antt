@@ -1,6 +1,6 @@
 use Rattle.std.proofs.Common.{Bool, List, filter, take, ap, ◌∙◌}
-use Rattle.shop_machine.specs.Listing.{is_behind}
-use Rattle.shop_machine.specs.declared.records.Part.{Part}
+use Rattle.shop_records.specs.Lists.{is_behind}
+use Rattle.shop_records.specs.declared.records.Part.{Part}
 use Rattle.shop_statements.proofs.Reading.{leaves_then}
 use Rattle.shop_store.proofs.named_parts.first_listed.Goals as goal
 

@@ -1,5 +1,5 @@
 use Rattle.std.proofs.Common.{take}
-use Rattle.shop_machine.specs.Visits.{GoesOn}
+use Rattle.shop_records.specs.Visits.{GoesOn}
 use Rattle.shop_store.proofs.named_parts.hand_out.Given as goal
 
 abbrev pub invariant-loop-part : goal.invariant-loop-part

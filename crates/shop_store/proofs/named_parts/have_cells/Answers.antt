@@ -1,6 +1,6 @@
 use Rattle.std.proofs.Common.{List, ℕ, ap, arith}
-use Rattle.shop_machine.specs.Content.{cells_in}
-use Rattle.shop_machine.specs.declared.records.Column.TheVariants.{Stock, Rack}
+use Rattle.shop_records.specs.Content.{cells_in}
+use Rattle.shop_records.specs.declared.records.Column.TheVariants.{Stock, Rack}
 use Rattle.shop_store.proofs.named_parts.have_cells.Goals as goal
 
 pub returns : goal.returns

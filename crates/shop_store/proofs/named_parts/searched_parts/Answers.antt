@@ -1,4 +1,4 @@
-use Rattle.shop_machine.specs.Content.{parts_of}
+use Rattle.shop_records.specs.Content.{parts_of}
 use Rattle.shop_store.proofs.Taking.{all_taken}
 use Rattle.shop_store.proofs.named_parts.searched_parts.Goals as goal
 

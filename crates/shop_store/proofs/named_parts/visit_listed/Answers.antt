@@ -1,7 +1,7 @@
 use Rattle.std.proofs.Common.{List, sym, subst, ◌∙◌}
-use Rattle.shop_machine.specs.declared.records.Part.{Part}
+use Rattle.shop_records.specs.declared.records.Part.{Part}
 use Rattle.shop_statements.proofs.Reading.{leaves_then}
-use Rattle.shop_machine.specs.Content.{parts_of}
+use Rattle.shop_records.specs.Content.{parts_of}
 use Rattle.shop_store.proofs.Taking.{no_visit, visit_of}
 use Rattle.shop_store.proofs.named_parts.visit_listed.Goals as goal
 

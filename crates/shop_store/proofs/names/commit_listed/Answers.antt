@@ -1,8 +1,8 @@
 use Rattle.std.proofs.Common.{◌++◌, ap, sym, subst, List}
 use Rattle.std.specs.Option.{option_to_list}
 use Rattle.cut_measure.specs.Names.{name_cmp}
-use Rattle.shop_machine.specs.Content.{changed, part_at}
-use Rattle.shop_machine.specs.declared.records.Part.{Part}
+use Rattle.shop_records.specs.Content.{changed, part_at}
+use Rattle.shop_records.specs.declared.records.Part.{Part}
 use Rattle.shop_rows.specs.Keys.{part_key}
 use Rattle.shop_rows.specs.Open.{finds_with_all, KeepMaterials, ListsParts}
 use Rattle.shop_rows.proofs.Listed.{lists_same, still_listed}

@@ -1,7 +1,7 @@
 use Rattle.std.proofs.Common.{Option, get_or, subst, arith}
 use Rattle.std.specs.Option.{option_to_list}
 use Rattle.cut_measure.specs.Names.{Name, name_cmp}
-use Rattle.shop_machine.specs.declared.records.Part.{Part}
+use Rattle.shop_records.specs.declared.records.Part.{Part}
 use Rattle.shop_rows.specs.Keys.{part_key}
 use Rattle.shop_rows.specs.Open.{finds_with_all, ListsParts}
 use Rattle.shop_store.proofs.Noted.{finds_append, kept_back, kept_front}

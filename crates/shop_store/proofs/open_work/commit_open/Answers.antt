@@ -1,6 +1,6 @@
 use Rattle.std.proofs.Common.{◌∙◌, ℕ, List, Option, subst, sym}
 use Rattle.std.specs.Ordering.{nat_cmp}
-use Rattle.shop_machine.specs.declared.records.Demand.{Demand}
+use Rattle.shop_records.specs.declared.records.Demand.{Demand}
 use Rattle.shop_rows.specs.Keys.{demand_key}
 use Rattle.shop_rows.specs.Open.{finds_with_all}
 use Rattle.shop_rows.proofs.Places.{tested}

@@ -1,7 +1,7 @@
 use Rattle.std.proofs.Common.{List, ap, filter, nat_lt, take, ◌∙◌}
 use Rattle.std.specs.Prelude.{◌&&◌}
-use Rattle.shop_machine.specs.Listing.{is_asked_for}
-use Rattle.shop_machine.specs.declared.records.Demand.{Demand}
+use Rattle.shop_records.specs.Lists.{is_asked_for}
+use Rattle.shop_records.specs.declared.records.Demand.{Demand}
 use Rattle.shop_tables.specs.Held.{books}
 use Rattle.shop_store.proofs.Work.{open_asked}
 use Rattle.shop_store.proofs.open_work.first_open.Goals as goal

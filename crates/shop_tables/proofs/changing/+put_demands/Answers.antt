@@ -1,6 +1,6 @@
 use Rattle.std.proofs.Common.{◌≡◌, None, refl, sym, subst}
-use Rattle.shop_machine.specs.Content.{demand_at}
-use Rattle.shop_machine.specs.declared.records.Demand.{Demand}
+use Rattle.shop_records.specs.Content.{demand_at}
+use Rattle.shop_records.specs.declared.records.Demand.{Demand}
 use Rattle.shop_statements.specs.Changes.{with_demand}
 use Rattle.shop_tables.specs.Changing.{AreNew, with_demands}
 use Rattle.sqlite.specs.Held.{state}

@@ -1,6 +1,6 @@
 use Rattle.std.proofs.Common.{◌≡◌, None, refl, sym, subst}
-use Rattle.shop_machine.specs.Content.{part_at}
-use Rattle.shop_machine.specs.declared.records.Part.{Part}
+use Rattle.shop_records.specs.Content.{part_at}
+use Rattle.shop_records.specs.declared.records.Part.{Part}
 use Rattle.shop_statements.specs.Changes.{with_part}
 use Rattle.shop_tables.specs.Changing.{AreNew, with_parts}
 use Rattle.sqlite.specs.Held.{state}

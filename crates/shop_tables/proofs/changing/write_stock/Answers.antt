@@ -1,7 +1,7 @@
 use Rattle.std.proofs.Common.{◌≡◌, None, sym, subst}
 use Rattle.std.specs.Prelude.{IfSome, is_some, not}
 use Rattle.std.specs.FinMap.{get}
-use Rattle.shop_machine.specs.Content as content
+use Rattle.shop_records.specs.Content as content
 use Rattle.shop_tables.specs.Changing.{AreNew, with_materials, with_moved, with_parts, with_sums}
 use Rattle.shop_statements.proofs.Steps.{went_then, makes_then, within_then, on_ok_then, on_ok_both}
 use Rattle.shop_tables.proofs.Fitting.{parts_new, totals_fit}

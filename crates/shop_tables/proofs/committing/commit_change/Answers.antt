@@ -2,8 +2,8 @@ use Rattle.std.proofs.Common.{◌≡◌, ◌∙◌, sym, subst, ap, arith}
 use Rattle.sqlite.specs.State.{State, HasCleanDisk, Survives}
 use Rattle.sqlite.specs.Held.{state}
 use Rattle.sqlite.specs.Effect.{Database}
-use Rattle.shop_machine.specs.Content.{Content, changed}
-use Rattle.shop_machine.specs.Soundness.{Fits}
+use Rattle.shop_records.specs.Content.{Content, changed}
+use Rattle.shop_records.specs.Soundness.{Fits}
 use Rattle.shop_statements.specs.Shown.{Ran, Makes, Within}
 use Rattle.shop_tables.specs.Changing.{with_change}
 use Rattle.shop_tables.specs.Held.{books, HoldsContent, StandsFor, LeavesOnly}

@@ -1,5 +1,5 @@
 use Rattle.std.proofs.Common.{◌∙◌, take}
-use Rattle.shop_machine.specs.Listing.{parts_behind}
+use Rattle.shop_records.specs.Lists.{parts_behind}
 use Rattle.shop_tables.proofs.first_parts.list_first_parts.Goals as goal
 
 pub returns-clause-rows : goal.returns-clause-rows

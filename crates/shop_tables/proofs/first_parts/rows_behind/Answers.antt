@@ -1,7 +1,7 @@
 use Rattle.std.proofs.Common.{◌≡◌, [], ◌∷◌, pos, map, take, Some, Ok}
 use Rattle.sqlite.specs.Held.{state}
 use Rattle.sqlite_value.specs.declared.value.Value.TheVariants.{Int, Text}
-use Rattle.shop_machine.specs.Listing.{parts_behind}
+use Rattle.shop_records.specs.Lists.{parts_behind}
 use Rattle.shop_tables.specs.ListedRows.{listed_part}
 use Rattle.shop_tables.proofs.FirstParts.{lists_parts_behind}
 use Rattle.shop_tables.proofs.FirstRows.{held_given}

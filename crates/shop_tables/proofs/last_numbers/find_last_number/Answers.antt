@@ -1,7 +1,7 @@
 use Rattle.std.proofs.Common.{sym, subst, ◌∙◌, ap}
 use Rattle.std.proofs.lemmas.Result.{IfOk-weaker}
 use Rattle.sqlite_value.specs.Order.{Row, column}
-use Rattle.shop_machine.specs.Listing.{IsLastNumber}
+use Rattle.shop_records.specs.Lists.{IsLastNumber}
 use Rattle.shop_statements.proofs.Reading.{one_number}
 use Rattle.shop_tables.proofs.last_numbers.find_last_number.Goals as goal
 

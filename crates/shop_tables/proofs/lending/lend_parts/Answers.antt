@@ -1,6 +1,6 @@
 use Rattle.std.proofs.Common.{Ok, [], ◌∷◌, ap, rules, ◌∙◌}
 use Rattle.sqlite_value.specs.declared.value.Value.TheVariants.{Text}
-use Rattle.shop_machine.specs.Content.{parts_of}
+use Rattle.shop_records.specs.Content.{parts_of}
 use Rattle.shop_tables.proofs.Listed.{all_listed, first_listed, visited_all, visited_some, visited_till}
 use Rattle.shop_tables.proofs.ListTexts.{parts_of_text, parts_of_selects}
 use Rattle.shop_tables.proofs.lending.lend_parts.Goals as goal

@@ -1,5 +1,5 @@
 use Rattle.std.proofs.Common.{◌≡◌, ℕ, List, map, take}
-use Rattle.shop_machine.specs.declared.records.Totals.{Totals}
+use Rattle.shop_records.specs.declared.records.Totals.{Totals}
 use Rattle.shop_tables.specs.Listing.{code_row, key_of, listed_row, named}
 use Rattle.shop_tables.proofs.listing.read_all.Given as goal
 

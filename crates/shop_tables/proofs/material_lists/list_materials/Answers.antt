@@ -1,5 +1,5 @@
 use Rattle.std.proofs.Common.{◌∙◌}
-use Rattle.shop_machine.specs.Listing.{materials_of}
+use Rattle.shop_records.specs.Lists.{materials_of}
 use Rattle.shop_tables.proofs.material_lists.list_materials.Goals as goal
 
 pub returns-clause-rows : goal.returns-clause-rows

@@ -1,6 +1,6 @@
 use Rattle.std.proofs.Common.{◌≡◌, [], map}
 use Rattle.sqlite.specs.Held.{state}
-use Rattle.shop_machine.specs.Listing.{materials_of}
+use Rattle.shop_records.specs.Lists.{materials_of}
 use Rattle.shop_tables.specs.ListedRows.{listed_material}
 use Rattle.shop_tables.proofs.FirstRows.{held_given, lists_materials}
 use Rattle.shop_tables.proofs.ListTexts.{all_materials_text, all_materials_selects}

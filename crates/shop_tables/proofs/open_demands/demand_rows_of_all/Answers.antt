@@ -1,7 +1,7 @@
 use Rattle.std.proofs.Common.{◌≡◌, [], ◌∷◌, pos, map, take, None, Ok}
 use Rattle.sqlite.specs.Held.{state}
 use Rattle.sqlite_value.specs.declared.value.Value.TheVariants.{Int}
-use Rattle.shop_machine.specs.Listing.{open_demands}
+use Rattle.shop_records.specs.Lists.{open_demands}
 use Rattle.shop_tables.specs.ListedRows.{listed_demand}
 use Rattle.shop_tables.proofs.FirstRows.{held_given, lists_open_demands}
 use Rattle.shop_tables.proofs.ListTexts.{open_demands_text, open_demands_selects}

@@ -1,5 +1,5 @@
 use Rattle.std.proofs.Common.{◌∙◌, take}
-use Rattle.shop_machine.specs.Listing.{open_demands}
+use Rattle.shop_records.specs.Lists.{open_demands}
 use Rattle.shop_tables.proofs.open_demands.list_open_demands.Goals as goal
 
 pub returns-clause-rows : goal.returns-clause-rows

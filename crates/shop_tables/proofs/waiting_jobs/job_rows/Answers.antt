@@ -1,8 +1,8 @@
 use Rattle.std.proofs.Common.{◌≡◌, [], ◌∷◌, pos, map, take, Ok}
 use Rattle.sqlite.specs.Held.{state}
 use Rattle.sqlite_value.specs.declared.value.Value.TheVariants.{Int}
-use Rattle.shop_machine.specs.Listing.{waiting_jobs}
-use Rattle.shop_machine.specs.declared.records.Job.{Job}
+use Rattle.shop_records.specs.Lists.{waiting_jobs}
+use Rattle.shop_records.specs.declared.records.Job.{Job}
 use Rattle.shop_tables.specs.ListedRows.{number_row}
 use Rattle.shop_tables.proofs.FirstRows.{held_given, lists_waiting_jobs}
 use Rattle.shop_tables.proofs.ListTexts.{waiting_jobs_text, waiting_jobs_selects}

@@ -1,6 +1,6 @@
 use Rattle.std.proofs.Common.{◌∙◌, map, take}
-use Rattle.shop_machine.specs.Listing.{waiting_jobs}
-use Rattle.shop_machine.specs.declared.records.Job.{Job}
+use Rattle.shop_records.specs.Lists.{waiting_jobs}
+use Rattle.shop_records.specs.declared.records.Job.{Job}
 use Rattle.shop_tables.proofs.waiting_jobs.list_waiting_jobs.Goals as goal
 
 pub returns-clause-numbers : goal.returns-clause-numbers

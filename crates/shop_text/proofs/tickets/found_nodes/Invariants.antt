@@ -1,5 +1,5 @@
 use Rattle.std.proofs.Common.{◌≡◌, take}
-use Rattle.shop_machine.specs.Content.{Content, demand_at}
+use Rattle.shop_records.specs.Content.{Content, demand_at}
 use Rattle.shop_book.specs.Kept.{Unchanged}
 use Rattle.shop_text.specs.Tickets.{AreNodesFound, steps_in}
 use Rattle.shop_text.proofs.tickets.found_nodes.Given as goal

@@ -1,6 +1,6 @@
 use Rattle.std.proofs.Common.{◌≡◌, ℕ, ◌++◌}
 use Rattle.std.specs.Prelude.{Option, MatchOption, string_bytes}
-use Rattle.shop_machine.specs.declared.records.Demand.{Demand}
+use Rattle.shop_records.specs.declared.records.Demand.{Demand}
 use Rattle.shop_text.specs.Tickets.{AreNodesFound, line_of, lines_below}
 use Rattle.shop_text.proofs.tickets.push_lines.Given as goal
 

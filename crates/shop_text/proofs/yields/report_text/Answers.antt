@@ -1,5 +1,5 @@
 use Rattle.std.proofs.Common.{sym, ◌∙◌}
-use Rattle.shop_machine.specs.Content.{parts_of}
+use Rattle.shop_records.specs.Content.{parts_of}
 use Rattle.shop_text.proofs.PartsTaken.{lines_taken, reported}
 use Rattle.shop_text.proofs.yields.report_text.Goals as goal
 

@@ -2,7 +2,7 @@ use Rattle.std.proofs.Common.{ap, sym, ◌∙◌}
 use Rattle.std.specs.FinMap.{from_sorted, entries, entries-from_sorted}
 use Rattle.std.proofs.lemmas.Bool.Decides.{Decides-like}
 use Rattle.std.proofs.lemmas.Map.Lookups.{btree_map_eq-Decides}
-use Rattle.shop_machine.specs.Content.{pair_cmp}
+use Rattle.shop_records.specs.Content.{pair_cmp}
 use Rattle.shop_book.specs.Equal.{pair_decides, kept_decides}
 use Rattle.shop_rows.proofs.Places.{tested}
 use Rattle.shop_book.proofs.memory.MemBook.has_kept_of.Goals as goal

@@ -6,9 +6,9 @@ use Rattle.std.specs.Cmp.Lexicographic.{nat_list_cmp_total}
 use Rattle.std.specs.FinMap.{from_sorted}
 use Rattle.cut_measure.specs.Codes.{code_cmp}
 use Rattle.cut_measure.specs.Names.{name_cmp}
-use Rattle.shop_machine.specs.declared.records.Part.{Part}
-use Rattle.shop_machine.specs.declared.records.Demand.{Demand}
-use Rattle.shop_machine.specs.Content.{pair_cmp, with_material, with_parts, with_moved, with_job, with_order, with_demands, with_kept, with_import, with_number, changed}
+use Rattle.shop_records.specs.declared.records.Part.{Part}
+use Rattle.shop_records.specs.declared.records.Demand.{Demand}
+use Rattle.shop_records.specs.Content.{pair_cmp, with_material, with_parts, with_moved, with_job, with_order, with_demands, with_kept, with_import, with_number, changed}
 use Rattle.shop_rows.specs.Rows.{entries_of, put_each, map_of}
 use Rattle.shop_book.specs.Memory.{orders_in}
 use Rattle.shop_rows.specs.Keys.{material_key, part_key, job_key, demand_key, import_key}

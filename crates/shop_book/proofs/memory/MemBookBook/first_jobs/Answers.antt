@@ -1,8 +1,8 @@
 use Rattle.std.proofs.Common.{List, map, take, sym, ap, ◌∙◌}
 use Rattle.std.specs.Prelude.{filter, nat_lt, ◌&&◌}
 use Rattle.std.specs.Ordering.{nat_cmp}
-use Rattle.shop_machine.specs.declared.records.Job.{Job}
-use Rattle.shop_machine.specs.Listing.{waiting_jobs}
+use Rattle.shop_records.specs.declared.records.Job.{Job}
+use Rattle.shop_records.specs.Lists.{waiting_jobs}
 use Rattle.shop_rows.specs.Keys.{job_key}
 use Rattle.shop_rows.specs.Open.{waits}
 use Rattle.shop_rows.proofs.Named.{numbers_are}

@@ -1,6 +1,6 @@
 use Rattle.std.proofs.Common.{◌≡◌, List, ap, take, ◌∙◌}
 use Rattle.std.specs.Prelude.{filter}
-use Rattle.shop_machine.specs.Listing.{is_behind, parts_behind}
+use Rattle.shop_records.specs.Lists.{is_behind, parts_behind}
 use Rattle.shop_rows.specs.Open.{names_of, parts_named}
 use Rattle.shop_rows.specs.declared.names.NameList.{NameList}
 use Rattle.shop_book.proofs.Handed.{first_named}

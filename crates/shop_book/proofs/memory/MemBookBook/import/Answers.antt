@@ -1,6 +1,6 @@
 use Rattle.std.proofs.Common.{ap, ◌∙◌}
 use Rattle.cut_measure.specs.Codes.{code_cmp}
-use Rattle.shop_machine.specs.Content.{import_at}
+use Rattle.shop_records.specs.Content.{import_at}
 use Rattle.shop_rows.specs.Rows.{row_at}
 use Rattle.shop_rows.specs.Keys.{import_key}
 use Rattle.shop_book.proofs.Held.{get-rows}

@@ -1,6 +1,6 @@
 use Rattle.std.proofs.Common.{ap, ◌∙◌}
 use Rattle.std.specs.Ordering.{nat_cmp}
-use Rattle.shop_machine.specs.Content.{job_at}
+use Rattle.shop_records.specs.Content.{job_at}
 use Rattle.shop_rows.specs.Rows.{row_at}
 use Rattle.shop_rows.specs.Keys.{job_key}
 use Rattle.shop_book.proofs.Held.{get-rows}

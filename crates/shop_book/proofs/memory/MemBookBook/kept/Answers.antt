@@ -1,6 +1,6 @@
 use Rattle.std.proofs.Common.{ap, sym, ◌∙◌}
 use Rattle.std.specs.FinMap.{get-from_sorted}
-use Rattle.shop_machine.specs.Content.{pair_cmp, kept_at}
+use Rattle.shop_records.specs.Content.{pair_cmp, kept_at}
 use Rattle.shop_rows.proofs.Places.{tested}
 use Rattle.shop_book.proofs.memory.MemBookBook.kept.Goals as goal
 

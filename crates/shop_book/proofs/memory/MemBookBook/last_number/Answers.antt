@@ -1,9 +1,9 @@
 use Rattle.std.proofs.Common.{inl, inr, Option, sym, subst}
 use Rattle.std.specs.Prelude.{IsSome}
 use Rattle.std.specs.FinMap.{get-from_sorted}
-use Rattle.shop_machine.specs.Content.{pair_cmp}
-use Rattle.shop_machine.specs.Listing.{IsLastNumber}
-use Rattle.shop_machine.specs.declared.texts.Kept.{Kept}
+use Rattle.shop_records.specs.Content.{pair_cmp}
+use Rattle.shop_records.specs.Lists.{IsLastNumber}
+use Rattle.shop_records.specs.declared.texts.Kept.{Kept}
 use Rattle.shop_rows.proofs.Places.{tested}
 use Rattle.shop_book.specs.Memory.{MemoryBook}
 use Rattle.shop_book.proofs.memory.MemBookBook.last_number.Goals as goal

@@ -1,7 +1,7 @@
 use Rattle.std.proofs.Common.{ap, ◌∙◌}
 use Rattle.std.specs.Prelude.{Ok}
 use Rattle.cut_measure.specs.Codes.{code_cmp}
-use Rattle.shop_machine.specs.Content.{material_at}
+use Rattle.shop_records.specs.Content.{material_at}
 use Rattle.shop_rows.specs.Rows.{row_at}
 use Rattle.shop_rows.specs.Keys.{material_key}
 use Rattle.shop_book.proofs.Held.{get-rows}

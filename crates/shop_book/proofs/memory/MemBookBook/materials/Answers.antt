@@ -1,6 +1,6 @@
 use Rattle.std.proofs.Common.{sym, ap, ◌∙◌}
 use Rattle.cut_measure.specs.Codes.{code_cmp}
-use Rattle.shop_machine.specs.Listing.{materials_of}
+use Rattle.shop_records.specs.Lists.{materials_of}
 use Rattle.shop_rows.specs.Keys.{material_key}
 use Rattle.shop_book.proofs.Held.{values-rows}
 use Rattle.shop_book.proofs.memory.MemBookBook.materials.Goals as goal

@@ -2,7 +2,7 @@ use Rattle.std.proofs.Common.{ap, ◌∙◌}
 use Rattle.std.specs.Prelude.{Ok}
 use Rattle.std.specs.BTreeSet.{contains_by}
 use Rattle.cut_measure.specs.Codes.{code_cmp}
-use Rattle.shop_machine.specs.Content.{has_order}
+use Rattle.shop_records.specs.Content.{has_order}
 use Rattle.shop_book.proofs.Orders.{key_found}
 use Rattle.shop_book.proofs.memory.MemBookBook.order.Goals as goal
 

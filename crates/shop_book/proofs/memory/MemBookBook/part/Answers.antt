@@ -1,7 +1,7 @@
 use Rattle.std.proofs.Common.{ap, ◌∙◌}
 use Rattle.std.specs.Prelude.{Ok}
 use Rattle.cut_measure.specs.Names.{name_cmp}
-use Rattle.shop_machine.specs.Content.{part_at}
+use Rattle.shop_records.specs.Content.{part_at}
 use Rattle.shop_rows.specs.Rows.{row_at}
 use Rattle.shop_rows.specs.Keys.{part_key}
 use Rattle.shop_book.proofs.Held.{get-rows}

@@ -1,7 +1,7 @@
 use Rattle.std.proofs.Common.{◌≡◌, List, None, ap, ◌∙◌}
 use Rattle.std.specs.Prelude.{filter}
-use Rattle.shop_machine.specs.Content.{parts_of}
-use Rattle.shop_machine.specs.Listing.{is_behind}
+use Rattle.shop_records.specs.Content.{parts_of}
+use Rattle.shop_records.specs.Lists.{is_behind}
 use Rattle.shop_rows.specs.Open.{names_of, parts_named}
 use Rattle.shop_rows.specs.declared.names.NameList.{NameList}
 use Rattle.shop_book.proofs.Handed.{all_named}

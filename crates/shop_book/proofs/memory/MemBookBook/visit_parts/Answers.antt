@@ -1,9 +1,9 @@
 use Rattle.std.proofs.Common.{◌≡◌, List, None, Ok, ap, subst, ◌∙◌}
 use Rattle.std.specs.Prelude.{filter}
-use Rattle.shop_machine.specs.declared.records.Part.{Part}
-use Rattle.shop_machine.specs.Content.{parts_of}
-use Rattle.shop_machine.specs.Visits.{IsVisit}
-use Rattle.shop_machine.specs.Listing.{is_behind}
+use Rattle.shop_records.specs.declared.records.Part.{Part}
+use Rattle.shop_records.specs.Content.{parts_of}
+use Rattle.shop_records.specs.Visits.{IsVisit}
+use Rattle.shop_records.specs.Lists.{is_behind}
 use Rattle.shop_rows.specs.Open.{names_of, parts_named}
 use Rattle.shop_rows.specs.declared.names.NameList.{NameList}
 use Rattle.shop_book.specs.declared.books.BookFault.{BookFault}

@@ -2,7 +2,7 @@ use Rattle.std.proofs.Common.{Err, Ok, ap, sym, subst, ◌∙◌, arith}
 use Rattle.sqlite.proofs.StateLemmas.{survives_then}
 use Rattle.sqlite.specs.State.{Survives}
 use Rattle.sqlite.specs.Held.{state}
-use Rattle.shop_machine.specs.Content.{fresh}
+use Rattle.shop_records.specs.Content.{fresh}
 use Rattle.shop_tables.specs.Held.{books, HoldsContent, LeavesOnly, StandsFor}
 use Rattle.shop_statements.specs.Shown.{HasShopSchema, Leaves}
 use Rattle.shop_tables.proofs.Taken.{earlier_taken, taken}

@@ -1,7 +1,7 @@
 use Rattle.std.proofs.Common.{sym, subst}
 use Rattle.sqlite.specs.State.{HasCleanDisk, Survives}
 use Rattle.sqlite.specs.Held.{state}
-use Rattle.shop_machine.specs.Content.{changed}
+use Rattle.shop_records.specs.Content.{changed}
 use Rattle.shop_tables.specs.Held.{HoldsContent, StandsFor, LeavesOnly}
 use Rattle.shop_store.specs.OpenWork.{HoldsListed, KnowsWork}
 use Rattle.shop_store.proofs.Telling.{both_err, both_ok, on_ok_told, on_err_told}

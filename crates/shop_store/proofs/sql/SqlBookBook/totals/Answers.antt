@@ -1,7 +1,7 @@
 use Rattle.std.proofs.Common.{◌≡◌, ◌∙◌, IfOk, unwrap_or}
 use Rattle.std.proofs.lemmas.Result.{IfOk-weaker}
 use Rattle.std.specs.FinMap.{get}
-use Rattle.shop_machine.specs.Content.{no_totals, totals_of}
+use Rattle.shop_records.specs.Content.{no_totals, totals_of}
 use Rattle.shop_store.proofs.Telling.{as_told, says_of, keeps_reading}
 use Rattle.shop_store.proofs.sql.SqlBookBook.totals.Goals as goal
 

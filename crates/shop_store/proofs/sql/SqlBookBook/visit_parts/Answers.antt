@@ -1,4 +1,4 @@
-use Rattle.shop_machine.specs.Content.{parts_of}
+use Rattle.shop_records.specs.Content.{parts_of}
 use Rattle.shop_tables.specs.Changing.{HasSums}
 use Rattle.shop_statements.specs.Shown.{Books}
 use Rattle.shop_store.proofs.Telling.{says_of, keeps_reading}

@@ -10,11 +10,11 @@ use Rattle.std.specs.FinMap.Entries.{below_all}
 use Rattle.std.proofs.lemmas.List.Elements.{All-cons, All-nil}
 use Rattle.std.proofs.lemmas.List.Sums.{sum_by-cons}
 use Rattle.cut_measure.specs.Names.{Name, name_cmp}
-use Rattle.shop_machine.specs.declared.records.Part.{Part}
-use Rattle.shop_machine.specs.Content.{of_found, pair_cmp, with_parts}
-use Rattle.shop_machine.specs.History.{IsIn}
-use Rattle.shop_machine.proofs.Basics.{all_in, in_map, then_equal, names_total, names_same, same_some, tied, get_other, with_rows, parts_as_rows, put_cases}
-use Rattle.shop_machine.proofs.Sums.{sum-insert, first, second, less}
+use Rattle.shop_records.specs.declared.records.Part.{Part}
+use Rattle.shop_records.specs.Content.{of_found, pair_cmp, with_parts}
+use Rattle.shop_records.specs.Elements.{IsIn}
+use Rattle.shop_records.proofs.Basics.{all_in, in_map, then_equal, names_total, names_same, same_some, tied, get_other, with_rows, parts_as_rows, put_cases}
+use Rattle.shop_records.proofs.Sums.{sum-insert, first, second, less}
 
 -- ---- elements of lists
 

@@ -8,26 +8,25 @@ use Rattle.cut_measure.specs.Names.{Name, name_cmp}
 use Rattle.cut_measure.specs.Measures.{is_rule}
 use Rattle.cut_tree.specs.Tree.{count_of}
 use Rattle.cut_tree.specs.Patterns.{IsPlan}
-use Rattle.shop_machine.specs.declared.receiving.TheConstants.{MOST_RECEIVED}
-use Rattle.shop_machine.specs.declared.records.Material.{Material}
-use Rattle.shop_machine.specs.declared.records.Part.{Part}
-use Rattle.shop_machine.specs.declared.records.State.TheVariants.{Reserved}
-use Rattle.shop_machine.specs.declared.records.Job.{Job}
-use Rattle.shop_machine.specs.declared.records.Demand.{Demand}
-use Rattle.shop_machine.specs.declared.texts.Pair.{Pair}
-use Rattle.shop_machine.specs.declared.texts.Kept.{Kept}
-use Rattle.shop_machine.specs.declared.imports.ImportRow.{ImportRow}
-use Rattle.shop_machine.specs.declared.messages.Message.{Message}
-use Rattle.shop_machine.specs.declared.messages.Reply.{Reply}
-use Rattle.shop_machine.specs.declared.changes.Change.{Change}
-use Rattle.shop_machine.specs.declared.changes.MaterialTotals.{MaterialTotals}
-use Rattle.shop_machine.specs.declared.records.Totals.{Totals}
-use Rattle.shop_machine.specs.Columns.{is_piece_for, is_waiting}
-use Rattle.shop_machine.specs.Messages.{Texts, IsMessage, pair_of}
-use Rattle.shop_machine.specs.Content.{Content, material_at, part_at, job_at, has_order, demand_at, kept_at, import_at, totals_of, AddsUp, in_state, changed}
-use Rattle.shop_machine.specs.Same.{same_code}
-use Rattle.shop_machine.specs.Importing.{Tells}
-use Rattle.shop_machine.specs.Machine.{KeepsReply}
+use Rattle.shop_records.specs.declared.records.TheConstants.{MOST_RECEIVED}
+use Rattle.shop_records.specs.declared.records.Material.{Material}
+use Rattle.shop_records.specs.declared.records.Part.{Part}
+use Rattle.shop_records.specs.declared.records.State.TheVariants.{Reserved}
+use Rattle.shop_records.specs.declared.records.Job.{Job}
+use Rattle.shop_records.specs.declared.records.Demand.{Demand}
+use Rattle.shop_records.specs.declared.texts.Pair.{Pair}
+use Rattle.shop_records.specs.declared.texts.Kept.{Kept}
+use Rattle.shop_records.specs.declared.imports.ImportRow.{ImportRow}
+use Rattle.shop_records.specs.declared.messages.Message.{Message}
+use Rattle.shop_records.specs.declared.messages.Reply.{Reply}
+use Rattle.shop_records.specs.declared.changes.Change.{Change}
+use Rattle.shop_records.specs.declared.changes.MaterialTotals.{MaterialTotals}
+use Rattle.shop_records.specs.declared.records.Totals.{Totals}
+use Rattle.shop_records.specs.Columns.{is_piece_for, is_waiting}
+use Rattle.shop_records.specs.Messages.{Texts, IsMessage, pair_of}
+use Rattle.shop_records.specs.Content.{Content, material_at, part_at, job_at, has_order, demand_at, kept_at, import_at, totals_of, AddsUp, in_state, changed}
+use Rattle.shop_records.specs.Same.{same_code}
+use Rattle.shop_records.specs.Keeping.{Tells, KeepsReply}
 
 -- Each part is named after an act so far, the numbers aren't spent, and of each material no more was received than may be,
 -- all of which is accounted for.

@@ -10,11 +10,11 @@ use Rattle.std.specs.Cmp.Lexicographic.{nat_list_cmp_total}
 use Rattle.std.proofs.lemmas.Bool.{cases_eq, eq-eqb, ne_eqb}
 use Rattle.cut_measure.specs.Names.{Name, name_cmp}
 use Rattle.cut_measure.specs.Codes.{code_cmp}
-use Rattle.shop_machine.specs.declared.records.Part.{Part}
-use Rattle.shop_machine.specs.declared.records.Demand.{Demand}
-use Rattle.shop_machine.specs.Same.{same_name}
-use Rattle.shop_machine.specs.Content.{with_parts, with_demands}
-use Rattle.shop_machine.specs.History.{IsIn}
+use Rattle.shop_records.specs.declared.records.Part.{Part}
+use Rattle.shop_records.specs.declared.records.Demand.{Demand}
+use Rattle.shop_records.specs.Same.{same_name}
+use Rattle.shop_records.specs.Content.{with_parts, with_demands}
+use Rattle.shop_records.specs.Elements.{IsIn}
 
 -- ---- keys and their orders
 

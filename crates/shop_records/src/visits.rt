@@ -1,7 +1,7 @@
 //! What looks at parts that are handed out one at a time.
 
 ghost use Rattle.std.specs.Prelude.{Bool};
-ghost use Rattle.shop_machine.specs.declared.records.Part.{Part as PartRow};
+ghost use Rattle.shop_records.specs.declared.records.Part.{Part as PartRow};
 
 use crate::records::Part;
 

@@ -1,9 +1,15 @@
 //! The rows of which the shop's content consists: materials, parts, jobs, demands and totals.
 
+ghost use Rattle.std.specs.Prelude.{◌≡◌};
+ghost use Rattle.shop_records.specs.Content.{no_totals};
+
 use cut_measure::{Code, Kind, Limits, PartName, Size};
 use cut_tree::Plan;
 use std::alloc::{AllocError, Global};
 use std::cmp::Ordering;
+
+/// The most cells of a material that may be received in all.
+pub const MOST_RECEIVED: u64 = 1_000_000_000_000_000;
 
 /// A material that was added.
 #[derive(Clone, Copy, Debug, PartialEq)]
@@ -39,7 +45,7 @@ pub enum StateWord {
 
 impl State {
     ghost use Rattle.std.specs.Prelude.{◌≡◌};
-    ghost use Rattle.shop_machine.specs.Columns.{is_free, is_reserved_for, state_word, state_of};
+    ghost use Rattle.shop_records.specs.Columns.{is_free, is_reserved_for, state_word, state_of};
 
     /// Standing and not reserved.
     pub fn is_free(self) -> bool
@@ -109,7 +115,7 @@ pub enum JobState {
 
 impl JobState {
     ghost use Rattle.std.specs.Prelude.{◌≡◌};
-    ghost use Rattle.shop_machine.specs.Columns.{is_waiting};
+    ghost use Rattle.shop_records.specs.Columns.{is_waiting};
 
     /// Reserved, and neither finished nor released.
     pub fn is_waiting(self) -> bool
@@ -213,6 +219,21 @@ pub struct Totals {
     pub returned: u64,
 }
 
+/// The totals of a material of which nothing was received yet.
+pub fn no_totals() -> Totals
+    ensures { result ≡ no_totals }
+{
+    Totals {
+        received: 0,
+        stock: 0,
+        rack: 0,
+        pieces: 0,
+        kerf: 0,
+        scrap: 0,
+        returned: 0,
+    }
+}
+
 /// One of the totals.
 #[derive(Clone, Copy, Debug, PartialEq, Eq)]
 pub enum Column {
@@ -227,8 +248,8 @@ pub enum Column {
 
 impl Part {
     ghost use Rattle.std.specs.Prelude.{◌≡◌};
-    ghost use Rattle.shop_machine.specs.Columns.{is_whole, is_counted, rack_row};
-    ghost use Rattle.shop_machine.specs.Content.{is_listed};
+    ghost use Rattle.shop_records.specs.Columns.{is_whole, is_counted, rack_row};
+    ghost use Rattle.shop_records.specs.Content.{is_listed};
 
     /// Whether it is a part of the material that stands, reserved or not.
     pub fn is_listed(&self, material: &Code) -> bool

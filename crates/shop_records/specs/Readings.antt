@@ -4,7 +4,7 @@ use Rattle.cut_measure.specs.Measures.{Extent}
 use Rattle.cut_tree.specs.Patterns.{Pattern}
 use Rattle.shop_files.specs.declared.orders.OrderLine.{OrderLine}
 use Rattle.shop_files.specs.declared.problems.Piece.{Piece}
-use Rattle.shop_machine.specs.declared.messages.Reply.{Reply}
+use Rattle.shop_records.specs.declared.messages.Reply.{Reply}
 
 pub data Reading : Type 0 where
   -- the command has no text, or its text stands for nothing

@@ -1,7 +1,7 @@
 -- Numbers and names of refusals.
 use Rattle.std.specs.Prelude.{ℕ, List, codes}
-use Rattle.shop_machine.specs.declared.refusals.Refusal.{Refusal}
-use Rattle.shop_machine.specs.declared.refusals.Refusal.TheVariants.{BadMessage, NumberReused, NoMaterial, MaterialExists, BadMaterial, BadSize, BadCount, TooMuch, NumbersSpent, OrderExists, BadLine, NoDemand, NoPart, NotStanding, NotWhole, BadTree, WrongMaterial, WrongSize, TooMany, NoJob, JobOver, BadCut, BadText, NothingFits, TableTooLarge, BadStep, BadWant, NoMemory, StoreFault}
+use Rattle.shop_records.specs.declared.refusals.Refusal.{Refusal}
+use Rattle.shop_records.specs.declared.refusals.Refusal.TheVariants.{BadMessage, NumberReused, NoMaterial, MaterialExists, BadMaterial, BadSize, BadCount, TooMuch, NumbersSpent, OrderExists, BadLine, NoDemand, NoPart, NotStanding, NotWhole, BadTree, WrongMaterial, WrongSize, TooMany, NoJob, JobOver, BadCut, BadText, NothingFits, TableTooLarge, BadStep, BadWant, NoMemory, StoreFault}
 
 abbrev pub refusal_number : Refusal → ℕ
 refusal_number BadMessage = 10

@@ -8,7 +8,7 @@ use Rattle.std.specs.Cmp.{IsTotalOrder}
 use Rattle.std.specs.FinMap.{FinMap, entries, entries_sorted, entries-insert, get, get-entries, insert, values, find, put, is_sorted}
 use Rattle.std.specs.FinMap.Entries.{below_all, by_order}
 use Rattle.std.proofs.lemmas.List.Sums.{sum_by-cons}
-use Rattle.shop_machine.specs.Content.{of_found}
+use Rattle.shop_records.specs.Content.{of_found}
 
 pub first : (a b : Bool) → T (a && b) → T a
 first true b p = tt

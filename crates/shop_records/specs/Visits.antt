@@ -1,7 +1,7 @@
 -- Parts that are handed out one at a time, and what they make of a visitor.
 use Rattle.std.specs.Prelude.{◌≡◌, Bool, true, false, List, [], ◌∷◌, ◌++◌, IsTrue, IfOk, Result}
 use Rattle.std.specs.List.{FoldsTo}
-use Rattle.shop_machine.specs.declared.records.Part.{Part}
+use Rattle.shop_records.specs.declared.records.Part.{Part}
 
 module _ {V : Type 0} (looks : V → Part → Bool → V → Type 0) where
   -- these parts in turn led the visitor from old to new, each answered true

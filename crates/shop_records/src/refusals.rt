@@ -1,9 +1,8 @@
 //! Why a message or a query is refused, with the numbers and the names that replies print.
 
 ghost use Rattle.std.specs.Prelude.{◌≡◌};
-ghost use Rattle.shop_machine.specs.Refusals.{refusal_number, refusal_name};
+ghost use Rattle.shop_records.specs.Refusals.{refusal_number, refusal_name};
 
-use cut_plan::PlanFault;
 use std::alloc::AllocError;
 
 /// Why a message or a query is refused. Each has a number and a name, which never change.
@@ -71,29 +70,12 @@ pub enum Refusal {
 
 impl From<AllocError> for Refusal {
     ghost use Rattle.std.specs.Prelude.{◌≡◌};
-    ghost use Rattle.shop_machine.specs.declared.refusals.Refusal.TheVariants.{NoMemory};
+    ghost use Rattle.shop_records.specs.declared.refusals.Refusal.TheVariants.{NoMemory};
 
     ghost from_gives = { λ _ refusal. refusal ≡ NoMemory };
 
     fn from(_error: AllocError) -> Refusal {
         Refusal::NoMemory
-    }
-}
-
-impl From<PlanFault> for Refusal {
-    ghost use Rattle.std.specs.Prelude.{◌≡◌};
-    ghost use Rattle.shop_machine.specs.Planning.{planner_refusal};
-
-    ghost from_gives = { λ fault refusal. refusal ≡ planner_refusal fault };
-
-    fn from(fault: PlanFault) -> Refusal {
-        match fault {
-            PlanFault::BadWant => Refusal::BadWant,
-            PlanFault::BadStep => Refusal::BadStep,
-            PlanFault::TableTooLarge => Refusal::TableTooLarge,
-            PlanFault::NothingFits => Refusal::NothingFits,
-            PlanFault::NoMemory => Refusal::NoMemory,
-        }
     }
 }
 

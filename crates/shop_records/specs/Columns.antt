@@ -1,16 +1,16 @@
 -- Which parts a total counts.
 use Rattle.std.specs.Prelude.{ℕ, ◌&&◌, ◌==◌, Bool, true, false, not}
-use Rattle.shop_machine.specs.declared.records.Part.{Part}
-use Rattle.shop_machine.specs.declared.records.Column.{Column}
-use Rattle.shop_machine.specs.declared.records.Column.TheVariants.{Received, Stock, Rack, Pieces, Kerf, Scrap, Returned}
-use Rattle.shop_machine.specs.declared.records.State.{State}
-use Rattle.shop_machine.specs.declared.records.State.TheVariants as state
-use Rattle.shop_machine.specs.declared.records.RackRow.{RackRow}
-use Rattle.shop_machine.specs.declared.records.StateWord.{StateWord}
-use Rattle.shop_machine.specs.declared.records.StateWord.TheVariants as word
-use Rattle.shop_machine.specs.declared.records.JobState.{JobState}
-use Rattle.shop_machine.specs.declared.records.JobState.TheVariants as job
-use Rattle.shop_machine.specs.Same.{same_name}
+use Rattle.shop_records.specs.declared.records.Part.{Part}
+use Rattle.shop_records.specs.declared.records.Column.{Column}
+use Rattle.shop_records.specs.declared.records.Column.TheVariants.{Received, Stock, Rack, Pieces, Kerf, Scrap, Returned}
+use Rattle.shop_records.specs.declared.records.State.{State}
+use Rattle.shop_records.specs.declared.records.State.TheVariants as state
+use Rattle.shop_records.specs.declared.records.RackRow.{RackRow}
+use Rattle.shop_records.specs.declared.records.StateWord.{StateWord}
+use Rattle.shop_records.specs.declared.records.StateWord.TheVariants as word
+use Rattle.shop_records.specs.declared.records.JobState.{JobState}
+use Rattle.shop_records.specs.declared.records.JobState.TheVariants as job
+use Rattle.shop_records.specs.Same.{same_name}
 
 -- a part that was received whole
 abbrev pub is_whole : Part → Bool

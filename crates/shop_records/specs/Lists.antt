@@ -1,0 +1,52 @@
+-- What lists there are of a content: its materials, and what stands, is open or waits behind a name or a number; and the
+-- last number of a terminal.
+use Rattle.std.specs.Prelude.{◌≡◌, ◌⊎◌, ◌≤◌, ℕ, ◌&&◌, List, filter, map as map_list, Bool, true, nat_lt, Option, Some, None, IsSome}
+use Rattle.std.specs.Ordering.{is_lt}
+use Rattle.std.specs.FinMap as map
+use Rattle.cut_measure.specs.Names.{Name, name_cmp}
+use Rattle.shop_records.specs.declared.records.Material.{Material}
+use Rattle.shop_records.specs.declared.records.Part.{Part}
+use Rattle.shop_records.specs.declared.records.Job.{Job}
+use Rattle.shop_records.specs.declared.records.Demand.{Demand}
+use Rattle.shop_records.specs.Columns.{is_waiting}
+use Rattle.shop_records.specs.Same.{same_code}
+use Rattle.shop_records.specs.Content.{Content, kept_at, parts_of}
+
+-- all materials, by rising code
+abbrev pub materials_of : Content → List Material
+materials_of content = map.values content.materials
+
+-- whether a name comes behind another one, or there is no other
+abbrev pub is_behind : Option Name → Name → Bool
+is_behind None name = true
+is_behind (Some after) name = is_lt (name_cmp after name)
+
+-- the parts of a material that stand and come behind a name, by rising act and then node
+abbrev pub parts_behind : Content → List ℕ → Option Name → List Part
+parts_behind content code after = filter (λ part. is_behind after part.name) (parts_of content code)
+
+-- whether a row is of the material that is asked for, or of any
+abbrev pub is_asked_for : Option (List ℕ) → List ℕ → Bool
+is_asked_for None code = true
+is_asked_for (Some asked) code = same_code code asked
+
+-- not all pieces of a demand are made
+abbrev pub is_open : Demand → Bool
+is_open demand = nat_lt demand.made demand.wanted
+
+-- the open demands with greater numbers, of one material or of all, rising
+abbrev pub open_demands : Content → (after : ℕ) → Option (List ℕ) → List Demand
+open_demands content after material =
+    filter (λ demand. nat_lt after demand.number && is_asked_for material demand.material && is_open demand) (map.values content.demands)
+
+-- the waiting jobs with greater numbers, rising
+abbrev pub waiting_jobs : Content → (after : ℕ) → List Job
+waiting_jobs content after = filter (λ job. nat_lt after job.act && is_waiting job.state) (map.values content.jobs)
+
+abbrev pub job_numbers : List Job → List ℕ
+job_numbers jobs = map_list (λ (job : Job). job.act) jobs
+
+-- the greatest number under which a message of a terminal is kept, 0 where none is
+pub record IsLastNumber (content : Content) (terminal last : ℕ) : Type 0 where
+  pub greatest : (number : ℕ) → IsSome (kept_at content (record { terminal = terminal; number = number })) → number ≤ last
+  pub kept : last ≡ 0 ⊎ IsSome (kept_at content (record { terminal = terminal; number = last }))

@@ -1,0 +1,23 @@
+//! The records of a shop, what terminals say to it and are answered, and what is said of its content.
+#![tactic(auto)]
+
+mod changes;
+mod imports;
+mod messages;
+mod records;
+mod refusals;
+mod texts;
+mod visits;
+
+pub use changes::{Change, DemandList, MaterialList, MaterialTotals, PartList};
+pub use cut_measure::RowList;
+pub use imports::{Form, ImportRow};
+pub use messages::{Command, JobList, LineList, Message, NumberList, Query, RackList, Reply};
+pub use records::{
+    Column, Demand, Job, JobRow, JobState, MOST_RECEIVED, Material, Part, RackRow, State,
+    StateWord, Totals, no_totals,
+};
+pub use refusals::Refusal;
+pub use shop_files::OrderLine;
+pub use texts::{Kept, KeptMessage, Pair, Text};
+pub use visits::PartVisitor;
