@@ -48,7 +48,7 @@ def main():
     parser.add_argument("--root", default=os.path.join(HERE, ".."))
     arguments = parser.parse_args()
     with tempfile.TemporaryDirectory() as folder:
-        program = build(folder, arguments.root, "planners", "planner_bench", ["cut_measure", "cut_table", "cut_plan", "anyhow"])
+        program = build(folder, arguments.root, "planners", "planner_bench", ["cut_measure", "cut_plan", "anyhow"])
         times = {}
         for name, *numbers in CASES:
             words = [program] + [str(number) for number in numbers]

@@ -2,7 +2,7 @@
 
 ghost use Rattle.std.specs.Prelude.{◌≡◌, ◌≤◌, IfOk};
 ghost use Rattle.cut_tree.specs.Tree.{Tree};
-ghost use Rattle.cut_table.specs.Legal.{Legal, IsWithinCounts, worth_of};
+ghost use Rattle.cut_wants.specs.Legal.{Legal, IsWithinCounts, worth_of};
 ghost use Rattle.cut_plan.specs.Proposals.{AreDemands};
 
 use anyhow::{Context, Result};

@@ -10,11 +10,11 @@ use Rattle.cut_tree.specs.Tree.{leaf_sum, cut_count}
 use Rattle.cut_tree.specs.Patterns.{Pattern}
 use Rattle.cut_tree.specs.Bars.{IsBarPiece, bar_tree, bar_length}
 use Rattle.cut_tree.proofs.BarTrees.{spent, spent-cons, fits_bar, leaf_sum-bar_tree, cut_count-bar_tree, CutsInto-bar_tree}
-use Rattle.cut_table.specs.declared.wants.Want.{Want}
-use Rattle.cut_table.specs.Legal.{Legal, IsWantedPiece, HaveOwnDemands, worth_of, leaf_count}
-use Rattle.cut_table.specs.Counts.{total_of, worth_of_counts, AreBestCounts, AreUprightOfHeightOne, HaveLength}
-use Rattle.cut_table.proofs.LeafSums.{Contains-head, Contains-tail}
-use Rattle.cut_table.proofs.BarCounts.{bar_wants, counts_best, counted_within, counted_value}
+use Rattle.cut_wants.specs.declared.wants.Want.{Want}
+use Rattle.cut_wants.specs.Legal.{Legal, IsWantedPiece, HaveOwnDemands, worth_of, leaf_count}
+use Rattle.cut_bars.specs.Counts.{total_of, worth_of_counts, AreBestCounts, AreUprightOfHeightOne, HaveLength}
+use Rattle.cut_wants.proofs.LeafSums.{Contains-head, Contains-tail}
+use Rattle.cut_bars.proofs.BarCounts.{bar_wants, counts_best, counted_within, counted_value}
 use Rattle.cut_plan.specs.declared.bars.Pieces.{Pieces}
 use Rattle.cut_plan.specs.Proposals.{pieces_of, AreDemands, HasDemandNumber, AreBestPieces, IsBarPlan, IsBarProposal, HasManyPieces}
 

@@ -4,11 +4,11 @@ use Rattle.std.specs.Prelude.{Contains, IsSome, ◌↔◌}
 use Rattle.std.specs.Ordering.{nat_cmp, is_eq}
 use Rattle.std.proofs.lemmas.Bool.Decides.{nat_tests, eqb_tells}
 use Rattle.std.proofs.lemmas.Grind.{common_steps}
-use Rattle.cut_table.specs.declared.wants.Want.{Want}
-use Rattle.cut_table.specs.declared.reach.Entry.{Entry}
-use Rattle.cut_table.specs.Counts.{room_taken}
-use Rattle.cut_table.specs.Reached.{AreRising, AreReached, IsGreatestAt, IsReached}
-use Rattle.cut_table.proofs.JoinedEntries.{same_entry, taken_in}
+use Rattle.cut_wants.specs.declared.wants.Want.{Want}
+use Rattle.cut_bars.specs.declared.reach.Entry.{Entry}
+use Rattle.cut_bars.specs.Counts.{room_taken}
+use Rattle.cut_bars.specs.Reached.{AreRising, AreReached, IsGreatestAt, IsReached}
+use Rattle.cut_bars.proofs.JoinedEntries.{same_entry, taken_in}
 use Rattle.cut_plan.specs.Lengths.{IsMapOf}
 
 pub equal_keys : (k n : ℕ) → is_eq (nat_cmp k n) ≡ eqb k n

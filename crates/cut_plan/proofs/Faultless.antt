@@ -8,22 +8,22 @@ use Rattle.std.proofs.lemmas.Nat.{mul-le}
 use Rattle.std.proofs.lemmas.List.Sums.{sum_by-cons}
 use Rattle.cut_measure.specs.declared.ranges.TheConstants.{MOST_COUNT, MOST_WORTH}
 use Rattle.cut_plan.specs.declared.faults.TheConstants.{MOST_WANTS}
-use Rattle.cut_table.specs.declared.bar.TheConstants.{LONGEST_BAR}
-use Rattle.cut_table.specs.declared.sheet.TheConstants.{MOST_STEPS}
+use Rattle.cut_bars.specs.declared.bar.TheConstants.{LONGEST_BAR}
+use Rattle.cut_sheets.specs.declared.sheet.TheConstants.{MOST_STEPS}
 use Rattle.cut_measure.specs.declared.sizes.Kind.{Kind}
 use Rattle.cut_measure.specs.declared.sizes.Kind.TheVariants.{Bar, Sheet}
 use Rattle.cut_measure.specs.Measures.{Extent}
-use Rattle.cut_table.specs.declared.wants.Want.{Want}
+use Rattle.cut_wants.specs.declared.wants.Want.{Want}
 use Rattle.std.proofs.lemmas.Bool.Decides.{eqb_tells}
 use Rattle.cut_tree.specs.Tree.{Tree}
-use Rattle.cut_table.specs.Legal.{HaveOwnDemands, Legal, IsWithinCounts, worth_of, of_demand}
-use Rattle.cut_table.specs.Counts.{AreUprightOfHeightOne, HaveBoundedWorthsAndLefts, AreCounts, worth_of_counts}
-use Rattle.cut_table.specs.Bound.{worth_left}
-use Rattle.cut_table.specs.Table.{HaveBoundedWorths}
-use Rattle.cut_table.specs.Rounded.{IsStep, steps_down}
-use Rattle.cut_table.proofs.LeafSums.{Contains-cases, Contains-head, Contains-tail, of_demand_found}
-use Rattle.cut_table.proofs.RoundedUp.{fitted}
-use Rattle.cut_table.proofs.SheetSteps.{ceiling_holds}
+use Rattle.cut_wants.specs.Legal.{HaveOwnDemands, Legal, IsWithinCounts, worth_of, of_demand}
+use Rattle.cut_bars.specs.Counts.{AreUprightOfHeightOne, HaveBoundedWorthsAndLefts, AreCounts, worth_of_counts}
+use Rattle.cut_sheets.specs.Bound.{worth_left}
+use Rattle.cut_sheets.specs.Table.{HaveBoundedWorths}
+use Rattle.cut_sheets.specs.Rounded.{IsStep, steps_down}
+use Rattle.cut_wants.proofs.LeafSums.{Contains-cases, Contains-head, Contains-tail, of_demand_found}
+use Rattle.cut_sheets.proofs.RoundedUp.{fitted}
+use Rattle.cut_sheets.proofs.SheetSteps.{ceiling_holds}
 use Rattle.cut_plan.specs.Bounds.{IsUnitBest}
 use Rattle.cut_plan.specs.declared.faults.PlanFault.{PlanFault}
 use Rattle.cut_plan.specs.Faults.{is_bad_number, is_bad_want, has_twice, are_bad_wants, is_short, is_bad_step, is_large, fault_of, SomeFits}

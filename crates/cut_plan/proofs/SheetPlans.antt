@@ -8,21 +8,21 @@ use Rattle.std.proofs.lemmas.Bool.{ne_eqb}
 use Rattle.std.proofs.lemmas.Bool.Decides.{eqb_tells}
 use Rattle.std.proofs.lemmas.List.Elements.{All-contains}
 use Rattle.std.proofs.lemmas.List.Sums.{sum_by-cons}
-use Rattle.cut_table.specs.declared.sheet.TheConstants.{MOST_STEPS}
+use Rattle.cut_sheets.specs.declared.sheet.TheConstants.{MOST_STEPS}
 use Rattle.cut_measure.specs.declared.sizes.Axis.TheVariants.{X, Y}
 use Rattle.cut_measure.specs.Measures.{Extent}
 use Rattle.cut_tree.specs.Tree.{Tree, Rest, Piece, Trim, Cut, IsShaped, leaf_sum, count_of, cut_count}
 use Rattle.cut_tree.specs.Patterns.{HasDemands}
-use Rattle.cut_table.specs.declared.wants.Want.{Want}
-use Rattle.cut_table.specs.Legal.{Legal, of_demand, worth_of, IsWithinCounts, HaveOwnDemands, leaf_count}
-use Rattle.cut_table.specs.Rounded.{steps_down, want_up, wants_up, wants_down, is_exact}
-use Rattle.cut_table.specs.Best.{IsBestOf}
-use Rattle.cut_table.specs.Counts.{AreCounts, worth_of_counts}
-use Rattle.cut_table.specs.Kept.{KeepsLeaves, Places}
-use Rattle.cut_table.proofs.LeafSums.{Contains-cases, Contains-head, Contains-tail, of_demand_found, weigh, weigh-count}
-use Rattle.cut_table.proofs.BarCounts.{tree_counts, tree_total}
-use Rattle.cut_table.proofs.BestWorths.{in_get}
-use Rattle.cut_table.proofs.SheetSteps.{down_worth, leaf_sum-same, exact_wants}
+use Rattle.cut_wants.specs.declared.wants.Want.{Want}
+use Rattle.cut_wants.specs.Legal.{Legal, of_demand, worth_of, IsWithinCounts, HaveOwnDemands, leaf_count}
+use Rattle.cut_sheets.specs.Rounded.{steps_down, want_up, wants_up, wants_down, is_exact}
+use Rattle.cut_wants.specs.Best.{IsBestOf}
+use Rattle.cut_bars.specs.Counts.{AreCounts, worth_of_counts}
+use Rattle.cut_sheets.specs.Kept.{KeepsLeaves, Places}
+use Rattle.cut_wants.proofs.LeafSums.{Contains-cases, Contains-head, Contains-tail, of_demand_found, weigh, weigh-count}
+use Rattle.cut_bars.proofs.BarCounts.{tree_counts, tree_total}
+use Rattle.cut_sheets.proofs.BestWorths.{in_get}
+use Rattle.cut_sheets.proofs.SheetSteps.{down_worth, leaf_sum-same, exact_wants}
 use Rattle.cut_plan.specs.Proposals.{AreDemands, HasDemandNumber}
 use Rattle.cut_plan.specs.Sheets.{IsCutting, kept_counts, dropped_of, IsSheetPlan, IsCeiling}
 

@@ -4,10 +4,10 @@ use Rattle.cut_measure.specs.declared.sizes.Kind.{Kind}
 use Rattle.cut_measure.specs.declared.sizes.Kind.TheVariants.{Bar, Sheet}
 use Rattle.cut_measure.specs.Measures.{Extent}
 use Rattle.cut_tree.specs.Tree.{Tree}
-use Rattle.cut_table.specs.declared.wants.Want.{Want}
-use Rattle.cut_table.specs.Best.{IsBestOf, IsBestWithin}
-use Rattle.cut_table.specs.Rounded.{steps_down, wants_down}
-use Rattle.cut_table.specs.Bound.{Meets, worth_left, div_up}
+use Rattle.cut_wants.specs.declared.wants.Want.{Want}
+use Rattle.cut_wants.specs.Best.{IsBestOf, IsBestWithin}
+use Rattle.cut_sheets.specs.Rounded.{steps_down, wants_down}
+use Rattle.cut_sheets.specs.Bound.{Meets, worth_left, div_up}
 use Rattle.cut_plan.specs.declared.bounds.Bound.{Bound}
 
 -- a bar's best worth within the counts, or the best worth of a sheet whose sides are rounded down to steps

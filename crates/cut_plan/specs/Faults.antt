@@ -3,13 +3,13 @@ use Rattle.std.specs.Prelude.{ℕ, ◌+◌, ◌&&◌, ◌||◌, ◌==◌, not, B
 use Rattle.std.specs.List.{list_any}
 use Rattle.cut_measure.specs.declared.ranges.TheConstants.{MOST_COUNT, MOST_WORTH}
 use Rattle.cut_plan.specs.declared.faults.TheConstants.{MOST_WANTS}
-use Rattle.cut_table.specs.declared.bar.TheConstants.{LONGEST_BAR}
-use Rattle.cut_table.specs.declared.sheet.TheConstants.{MOST_STEPS}
+use Rattle.cut_bars.specs.declared.bar.TheConstants.{LONGEST_BAR}
+use Rattle.cut_sheets.specs.declared.sheet.TheConstants.{MOST_STEPS}
 use Rattle.cut_measure.specs.declared.sizes.Kind.{Kind}
 use Rattle.cut_measure.specs.declared.sizes.Kind.TheVariants.{Bar, Sheet}
 use Rattle.cut_measure.specs.Measures.{Extent}
-use Rattle.cut_table.specs.declared.wants.Want.{Want}
-use Rattle.cut_table.specs.Rounded.{steps_down}
+use Rattle.cut_wants.specs.declared.wants.Want.{Want}
+use Rattle.cut_sheets.specs.Rounded.{steps_down}
 use Rattle.cut_plan.specs.declared.faults.PlanFault.{PlanFault}
 use Rattle.cut_plan.specs.declared.faults.PlanFault.TheVariants.{BadWant, BadStep, TableTooLarge, NothingFits}
 

@@ -1,6 +1,6 @@
 -- Entries as a map.
 use Rattle.std.specs.Prelude.{◌≡◌, ◌↔◌, ℕ, List, Option, Some, Contains}
-use Rattle.cut_table.specs.declared.reach.Entry.{Entry}
+use Rattle.cut_bars.specs.declared.reach.Entry.{Entry}
 
 -- the map finds at each room the worth of its entry, and nothing else
 abbrev pub IsMapOf : List Entry → (ℕ → Option ℕ) → Type 0

@@ -5,9 +5,9 @@ use Rattle.cut_tree.specs.declared.token.TheConstants.{MOST_CUTS}
 use Rattle.cut_measure.specs.Measures.{Extent}
 use Rattle.cut_tree.specs.Tree.{Tree, cut_count}
 use Rattle.cut_tree.specs.Bars.{bar_tree}
-use Rattle.cut_table.specs.declared.wants.Want.{Want}
-use Rattle.cut_table.specs.Legal.{Legal, IsWithinCounts, worth_of, leaf_count}
-use Rattle.cut_table.specs.Counts.{AreCounts, AreBestCounts, HaveLength, worth_of_counts}
+use Rattle.cut_wants.specs.declared.wants.Want.{Want}
+use Rattle.cut_wants.specs.Legal.{Legal, IsWithinCounts, worth_of, leaf_count}
+use Rattle.cut_bars.specs.Counts.{AreCounts, AreBestCounts, HaveLength, worth_of_counts}
 use Rattle.cut_plan.specs.declared.bars.Proposal.{Proposal}
 use Rattle.cut_plan.specs.declared.bars.Pieces.{Pieces}
 

@@ -3,11 +3,11 @@ use Rattle.std.specs.Prelude.{◌≡◌, ℕ, ◌+◌, ◌-◌, ◌*◌, ◌≤�
 use Rattle.cut_tree.specs.declared.token.TheConstants.{MOST_CUTS}
 use Rattle.cut_measure.specs.Measures.{Extent}
 use Rattle.cut_tree.specs.Tree.{Tree, CutsInto, count_of, cut_count}
-use Rattle.cut_table.specs.declared.wants.Want.{Want}
-use Rattle.cut_table.specs.Legal.{Legal, IsWithinCounts, worth_of}
-use Rattle.cut_table.specs.Best.{IsBestOf}
-use Rattle.cut_table.specs.Rounded.{steps_down, wants_down, wants_up}
-use Rattle.cut_table.specs.Kept.{IsInside, IsPruned}
+use Rattle.cut_wants.specs.declared.wants.Want.{Want}
+use Rattle.cut_wants.specs.Legal.{Legal, IsWithinCounts, worth_of}
+use Rattle.cut_wants.specs.Best.{IsBestOf}
+use Rattle.cut_sheets.specs.Rounded.{steps_down, wants_down, wants_up}
+use Rattle.cut_sheets.specs.Kept.{IsInside, IsPruned}
 use Rattle.cut_plan.specs.declared.sheets.SheetProposal.{SheetProposal}
 
 -- a tree that is best for the sheet in steps, with sides rounded up

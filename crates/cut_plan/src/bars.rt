@@ -7,10 +7,10 @@ ghost use Rattle.cut_plan.specs.Faults.{fault_of};
 ghost use Rattle.cut_plan.specs.Proposals as proposals;
 
 use crate::faults::{PlanFault, first_fault};
+use cut_bars::bar::{best_counts, counted_worth};
 use cut_measure::{Kind, MOST_KERF, MOST_NUMBERS, Size};
-use cut_table::bar::{best_counts, counted_worth};
-use cut_table::wants::Want;
 use cut_tree::{BarFault, Plan, bar_plan};
+use cut_wants::wants::Want;
 use std::alloc::{AllocError, Global};
 
 /// A plan, and what its pieces are worth.

@@ -2,17 +2,17 @@
 
 ghost use Rattle.std.specs.Prelude.{◌≡◌, ◌+◌, ◌≤◌, ◌<◌, ◌^◌, ◌⊎◌, IfOk, IfErr, IfSome, Some, None};
 ghost use Rattle.cut_measure.specs.declared.sizes.Kind.TheVariants.{Bar, Sheet};
-ghost use Rattle.cut_table.specs.Counts.{AreCounts, worth_of_counts};
-ghost use Rattle.cut_table.specs.Bound.{worth_left};
+ghost use Rattle.cut_bars.specs.Counts.{AreCounts, worth_of_counts};
+ghost use Rattle.cut_sheets.specs.Bound.{worth_left};
 ghost use Rattle.cut_plan.specs.Faults.{fault_of, SomeFits};
 ghost use Rattle.cut_plan.specs.Bounds.{IsUnitBest, IsBound};
 ghost use Rattle.cut_plan.specs.declared.faults.PlanFault.TheVariants.{NoMemory};
 
 use crate::faults::{PlanFault, first_fault};
+use cut_bars::bar::{best_counts, counted_worth};
 use cut_measure::{Kind, MOST_KERF, Size};
-use cut_table::bar::{best_counts, counted_worth};
-use cut_table::bound::{ceiling, units};
-use cut_table::wants::Want;
+use cut_sheets::bound::{ceiling, units};
+use cut_wants::wants::Want;
 use std::alloc::{AllocError, Global};
 
 /// What no unit is worth more than, and how many units of a size it takes at least to make all that is left.

@@ -5,10 +5,10 @@ ghost use Rattle.std.specs.List.{list_any};
 ghost use Rattle.cut_measure.specs.declared.sizes.Kind.TheVariants.{Sheet};
 ghost use Rattle.cut_plan.specs.Faults as faults;
 
+use cut_bars::bar::LONGEST_BAR;
 use cut_measure::{Kind, MOST_COUNT, MOST_KERF, MOST_WORTH, Size};
-use cut_table::bar::LONGEST_BAR;
-use cut_table::sheet::MOST_STEPS;
-use cut_table::wants::Want;
+use cut_sheets::sheet::MOST_STEPS;
+use cut_wants::wants::Want;
 use std::error::Error;
 use std::fmt;
 

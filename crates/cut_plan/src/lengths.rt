@@ -4,16 +4,16 @@ ghost use Rattle.std.specs.Prelude.{◌≡◌, ◌+◌, ◌≤◌, ◌⊎◌, If
 ghost use Rattle.std.specs.BTreeMap.{get};
 ghost use Rattle.std.specs.Ordering.{nat_cmp};
 ghost use Rattle.cut_measure.specs.declared.sizes.Kind.TheVariants.{Bar};
-ghost use Rattle.cut_table.specs.Reached.{AreRising, IsReached};
+ghost use Rattle.cut_bars.specs.Reached.{AreRising, IsReached};
 ghost use Rattle.cut_plan.specs.declared.faults.PlanFault.TheVariants.{NoMemory};
 ghost use Rattle.cut_plan.specs.Faults.{fault_of};
 ghost use Rattle.cut_plan.specs.Lengths.{IsMapOf};
 ghost use Rattle.cut_plan.specs.Proposals.{AreDemands};
 
 use crate::faults::{PlanFault, first_fault};
+use cut_bars::bar::{Entry, reach};
 use cut_measure::{Kind, MOST_KERF, Size};
-use cut_table::bar::{Entry, reach};
-use cut_table::wants::Want;
+use cut_wants::wants::Want;
 use std::alloc::{AllocError, Global};
 use std::collections::BTreeMap;
 

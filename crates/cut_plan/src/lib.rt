@@ -10,9 +10,9 @@ mod sheets;
 
 pub use bars::{Proposal, have_demands, plan_bar};
 pub use bounds::{Bound, least_units};
-pub use cut_table::bar::LONGEST_BAR;
-pub use cut_table::sheet::MOST_STEPS;
-pub use cut_table::wants::Want;
+pub use cut_bars::bar::LONGEST_BAR;
+pub use cut_sheets::sheet::MOST_STEPS;
+pub use cut_wants::wants::Want;
 pub use faults::{MOST_WANTS, PlanFault};
 pub use laws::{legal_pieces_are_listed, whole_plans_are_best};
 pub use lengths::reached;

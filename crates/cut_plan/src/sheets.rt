@@ -4,24 +4,24 @@ ghost use Rattle.std.specs.Prelude.{◌≡◌, ◌+◌, ◌*◌, ◌≤◌, ◌<
 ghost use Rattle.cut_measure.specs.declared.sizes.Kind.TheVariants.{Sheet};
 ghost use Rattle.cut_tree.specs.Tree.{cut_count};
 ghost use Rattle.cut_tree.specs.Nodes.{tree_of};
-ghost use Rattle.cut_table.specs.Legal.{HaveOwnDemands};
-ghost use Rattle.cut_table.specs.Table.{HaveSidesAndBoundedWorths};
-ghost use Rattle.cut_table.specs.Best.{IsBestOf};
+ghost use Rattle.cut_wants.specs.Legal.{HaveOwnDemands};
+ghost use Rattle.cut_sheets.specs.Table.{HaveSidesAndBoundedWorths};
+ghost use Rattle.cut_wants.specs.Best.{IsBestOf};
 ghost use Rattle.cut_plan.specs.declared.faults.PlanFault.TheVariants.{NoMemory, TableTooLarge};
 ghost use Rattle.cut_plan.specs.Faults.{fault_of};
 ghost use Rattle.cut_plan.specs.Proposals.{AreDemands};
 ghost use Rattle.cut_plan.specs.Sheets as spec;
 
 use crate::faults::{PlanFault, first_fault};
+use cut_bars::bar::counted_worth;
 use cut_measure::{Kind, MOST_KERF, Size};
-use cut_table::bar::counted_worth;
-use cut_table::bound::{all_up, ceiling_beside};
-use cut_table::keep::keep;
-use cut_table::place::place;
-use cut_table::read::worth_at;
-use cut_table::sheet::{MOST_STEPS, best_table};
-use cut_table::wants::{Scaled, Want};
+use cut_sheets::bound::{all_up, ceiling_beside};
+use cut_sheets::keep::keep;
+use cut_sheets::place::place;
+use cut_sheets::read::worth_at;
+use cut_sheets::sheet::{MOST_STEPS, best_table};
 use cut_tree::{MOST_CUTS, Node, Plan, count_cuts};
+use cut_wants::wants::{Scaled, Want};
 use std::alloc::{AllocError, Global};
 
 /// A plan, what its pieces are worth, how many pieces of a best tree became rests, and a worth that no plan exceeds.

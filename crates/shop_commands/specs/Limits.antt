@@ -2,8 +2,8 @@
 use Rattle.std.specs.Prelude.{◌≡◌}
 use Rattle.cut_measure.specs.declared.ranges.TheConstants.{MOST_WIDTH, MOST_HEIGHT, MOST_KERF, MOST_NUMBERS, MOST_COUNT, MOST_WORTH, LONGEST_CODE}
 use Rattle.cut_tree.specs.declared.token.TheConstants.{MOST_CUTS}
-use Rattle.cut_table.specs.declared.bar.TheConstants.{LONGEST_BAR}
-use Rattle.cut_table.specs.declared.sheet.TheConstants.{MOST_STEPS}
+use Rattle.cut_bars.specs.declared.bar.TheConstants.{LONGEST_BAR}
+use Rattle.cut_sheets.specs.declared.sheet.TheConstants.{MOST_STEPS}
 use Rattle.cut_plan.specs.declared.faults.TheConstants.{MOST_WANTS}
 use Rattle.shop_files.specs.declared.limits.TheConstants.{LONGEST_TEXT, MOST_PIECES, MOST_LINES, MOST_ENTRIES}
 use Rattle.shop_machine.specs.declared.listing.TheConstants.{MOST_TOLD}

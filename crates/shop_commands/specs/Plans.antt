@@ -4,7 +4,7 @@ use Rattle.std.specs.Fmt.{decimal}
 use Rattle.cut_measure.specs.Measures.{Extent}
 use Rattle.cut_measure.specs.declared.sizes.Kind.TheVariants.{Sheet}
 use Rattle.cut_tree.specs.Spelling.{text_of}
-use Rattle.cut_table.specs.declared.wants.Want.{Want}
+use Rattle.cut_wants.specs.declared.wants.Want.{Want}
 use Rattle.cut_plan.specs.declared.faults.PlanFault.{PlanFault}
 use Rattle.cut_plan.specs.declared.faults.PlanFault.TheVariants.{TableTooLarge}
 use Rattle.cut_plan.specs.declared.sheets.SheetProposal.{SheetProposal}

@@ -6,7 +6,7 @@ use Rattle.std.specs.Option.{option_or}
 use Rattle.std.proofs.lemmas.List.Elements.{recursion_from_All}
 use Rattle.cut_measure.specs.declared.sizes.Kind.{Kind}
 use Rattle.cut_measure.specs.Measures.{Extent, is_size, size_of}
-use Rattle.cut_table.specs.declared.wants.Want.{Want}
+use Rattle.cut_wants.specs.declared.wants.Want.{Want}
 use Rattle.shop_records.specs.declared.records.Material.{Material}
 use Rattle.shop_records.specs.declared.records.Part.{Part}
 use Rattle.shop_records.specs.declared.records.Demand.{Demand}

@@ -19,8 +19,8 @@ use Rattle.cut_tree.specs.Spelling.{IsSpelling, text_of}
 use Rattle.cut_tree.proofs.ListedLeaves.{all_listed}
 use Rattle.cut_tree.proofs.ReadBack.{spells_itself}
 use Rattle.cut_tree.proofs.SpelledTexts.{one_spelled}
-use Rattle.cut_table.specs.declared.wants.Want.{Want}
-use Rattle.cut_table.specs.Legal.{Legal, IsWantedPiece, IsWithinCounts, HasSides, of_demand}
+use Rattle.cut_wants.specs.declared.wants.Want.{Want}
+use Rattle.cut_wants.specs.Legal.{Legal, IsWantedPiece, IsWithinCounts, HasSides, of_demand}
 use Rattle.cut_plan.specs.declared.faults.PlanFault.{PlanFault}
 use Rattle.cut_plan.specs.declared.faults.PlanFault.TheVariants as fault
 use Rattle.cut_plan.specs.Faults.{fault_of}

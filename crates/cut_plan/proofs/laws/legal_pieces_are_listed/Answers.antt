@@ -1,4 +1,4 @@
-use Rattle.cut_table.specs.Legal.{IsWantedPiece}
+use Rattle.cut_wants.specs.Legal.{IsWantedPiece}
 use Rattle.cut_tree.proofs.ListedLeaves.{all_listed}
 use Rattle.cut_plan.proofs.laws.legal_pieces_are_listed.Goals as goal
 

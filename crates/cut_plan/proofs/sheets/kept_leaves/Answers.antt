@@ -1,7 +1,7 @@
 use Rattle.std.proofs.Common.{◌≡◌, ℕ, length, arith}
 use Rattle.std.specs.Prelude.{All}
 use Rattle.std.proofs.lemmas.Grind.{common_steps}
-use Rattle.cut_table.proofs.SheetTables.{whole_write}
+use Rattle.cut_sheets.proofs.SheetTables.{whole_write}
 use Rattle.cut_plan.proofs.SheetPlans.{cutting, zero_at}
 use Rattle.cut_plan.proofs.sheets.kept_leaves.Goals as goal
 

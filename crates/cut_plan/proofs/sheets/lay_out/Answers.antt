@@ -1,10 +1,10 @@
 use Rattle.std.proofs.Common.{◌≡◌, length, arith, ◌∙◌}
 use Rattle.cut_measure.specs.declared.sizes.Kind.TheVariants.{Sheet}
-use Rattle.cut_table.proofs.SheetSteps.{up_own, up_small, steps_inside}
-use Rattle.cut_table.proofs.PlacedLeaves.{kept_places}
+use Rattle.cut_sheets.proofs.SheetSteps.{up_own, up_small, steps_inside}
+use Rattle.cut_sheets.proofs.PlacedLeaves.{kept_places}
 use Rattle.cut_plan.proofs.Faultless as sound
 use Rattle.std.proofs.lemmas.List.{length-map}
-use Rattle.cut_table.specs.Rounded.{want_up}
+use Rattle.cut_sheets.specs.Rounded.{want_up}
 use Rattle.cut_plan.specs.Sheets.{kept_counts}
 use Rattle.cut_plan.proofs.SheetPlans.{laid, few_laid, kept_left, dropped_small}
 use Rattle.cut_plan.proofs.sheets.lay_out.Goals as goal

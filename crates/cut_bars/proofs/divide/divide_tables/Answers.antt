@@ -1,0 +1,61 @@
+use Rattle.std.proofs.Common.{◌≡◌, ◌-◌, ◌^◌, max, get_or, map, ◌∙◌, arith}
+use Rattle.cut_wants.proofs.NumberRows.{same_length, value_at}
+use Rattle.cut_bars.proofs.RaisedCells.{cell_low}
+use Rattle.cut_bars.proofs.DividedRooms.{greater, greatest_more, tables_start, tables_more, tables_skip, tables_done}
+use Rattle.cut_bars.proofs.divide.divide_tables.Goals.{then-cell-ne0, else-cell-ne0}
+use Rattle.cut_bars.proofs.divide.divide_tables.Goals as goal
+
+pub loop-room-init : goal.loop-room-init
+loop-room-init g c =
+    let f = g.T.Number.value in
+    let front = value_at f c.args.front.now 0 c.index-front-0.result (omega (arith, c.requires.front)) c.index-front-0.is in
+    let back = value_at f c.args.back.now 0 c.index-back-0.result (omega (arith, c.requires.back)) c.index-back-0.is in
+    tables_start c.args.whole g.T.Number.limit (map f c.args.front.now) (map f c.args.back.now) (same_length f c.args.front.now ∙ c.requires.front) (same_length f c.args.back.now ∙ c.requires.back) c.requires.small_front
+    c.requires.small_back c.worth-behind.result _ (omega (arith, back, c.worth-behind.ensures)) (omega (arith, front, c.worth.ensures))
+
+pub overflow_add-both : goal.overflow_add-both
+overflow_add-both g c =
+    let f = g.T.Number.value in
+    let at = c.args.whole - c.loop-room.room in
+    let front = value_at f c.args.front.now at c.index-front-at.result (omega (arith, c.requires.front)) c.index-front-at.is in
+    let back = value_at f c.args.back.now c.loop-room.room c.index-back-room.result (omega arith) c.index-back-room.is in
+    let n = greater c.args.whole g.T.Number.limit (map f c.args.front.now) (map f c.args.back.now) (same_length f c.args.front.now ∙ c.requires.front) (same_length f c.args.back.now ∙ c.requires.back) c.requires.small_front
+    c.requires.small_back c.loop-room.room c.loop-room.behind c.max-behind.result c.loop-room.invariant.0 (omega (arith, back, c.worth-in-loop-room.ensures)) in
+    omega (
+      arith,
+      front,
+      c.worth-cell.ensures,
+      cell_low (2 ^ 30) (map f c.args.front.now) c.args.whole at c.requires.small_front.low,
+      cell_low (2 ^ 30) (map f c.args.back.now) c.args.whole n.0 c.requires.small_back.low,
+      n.1,
+      n.2,
+      c.requires.back,
+    )
+
+pub loop-room-preserved : goal.loop-room-preserved
+loop-room-preserved g c =
+    let f = g.T.Number.value in
+    let at = c.args.whole - c.loop-room.room in
+    let xs = map f c.args.front.now in
+    let ys = map f c.args.back.now in
+    let front_len = same_length f c.args.front.now ∙ c.requires.front in
+    let back_len = same_length f c.args.back.now ∙ c.requires.back in
+    let front = value_at f c.args.front.now at c.index-front-at.result (omega (arith, c.requires.front)) c.index-front-at.is in
+    let back = value_at f c.args.back.now c.loop-room.room c.index-back-room.result (omega arith) c.index-back-room.is in
+    let most : c.max-behind.result ≡ max (get_or (map f c.args.back.now) c.loop-room.room 0) c.loop-room.behind = omega (arith, back, c.worth-in-loop-room.ensures) in (
+      greatest_more c.args.whole g.T.Number.limit xs ys front_len back_len c.requires.small_front c.requires.small_back c.loop-room.room c.loop-room.behind c.max-behind.result c.loop-room.invariant.0 most,
+      elim c.if-cell-ne0.branch [
+        | then-cell-ne0 w ↦ rw w.found-is
+            (tables_more c.args.whole g.T.Number.limit xs ys front_len back_len c.requires.small_front c.requires.small_back c.loop-room.room c.loop-room.behind c.max-behind.result c.loop-room.found _ w.worthier-found.result
+            c.loop-room.invariant.0 most c.loop-room.invariant.1 (omega (arith, c.requires.back)) (omega (arith, front, c.worth-cell.ensures)) w.worthier-found.ensures (omega arith) (omega (arith, front, c.worth-cell.ensures)))
+        | else-cell-ne0 w ↦ rw w.found-is
+            (tables_skip c.args.whole g.T.Number.limit xs ys front_len back_len c.requires.small_front c.requires.small_back c.loop-room.room c.loop-room.found c.loop-room.invariant.1 (omega (arith, c.requires.back))
+            (omega (arith, front, c.worth-cell.ensures)))
+      ],
+    )
+
+pub returns : goal.returns
+returns g c =
+    let f = g.T.Number.value in
+    tables_done c.args.whole g.T.Number.limit (map f c.args.front.now) (map f c.args.back.now) (same_length f c.args.front.now ∙ c.requires.front) (same_length f c.args.back.now ∙ c.requires.back) c.requires.small_front
+    c.requires.small_back c.loop-room.room c.loop-room.found (omega (arith, c.requires.back)) c.loop-room.invariant.1

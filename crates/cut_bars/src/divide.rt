@@ -1,0 +1,101 @@
+//! How the room of a bar is divided between the pieces of two parts of the wants.
+
+ghost use Rattle.std.specs.Prelude.{◌≡◌, ℕ, ◌+◌, ◌-◌, ◌^◌, ◌≤◌, ◌⊎◌, IfOk, Contains, length, map};
+ghost use Rattle.cut_bars.specs.declared.reach.Entry.{Entry};
+ghost use Rattle.cut_bars.specs.Reached.{AreRising, HaveSmallWorths};
+ghost use Rattle.cut_bars.specs.Levels.{Has, HasCell, IsLevel, IsBestDivision, IsWorthierOf};
+
+use crate::level::Level;
+use crate::reach::Entry;
+use cut_wants::number::Number;
+use std::alloc::{AllocError, Global};
+
+/// The entry of two that is worth more.
+fn worthier(a: Entry, b: Entry) -> Entry
+    ensures { IsWorthierOf a b result }
+{
+    if a.worth < b.worth { b } else { a }
+}
+
+/// The room for the first of two lists: the first from its end and the second from its start, so that all of the second
+/// that has room beside an entry lies before.
+fn divide_lists(front: &[Entry], back: &[Entry], whole: u32) -> u32
+    requires rising_front { AreRising front.now }
+    requires rising_back { AreRising back.now }
+    requires small_front { (limit : ℕ) × HaveSmallWorths limit whole (Contains front.now) }
+    requires small_back { (limit : ℕ) × HaveSmallWorths limit whole (Contains back.now) }
+    requires whole { whole ≤ 2 ^ 20 }
+    ensures { IsBestDivision whole result (Contains front.now) (Contains back.now) }
+{
+    let mut left = front.len();
+    let mut next = 0;
+    let mut behind = 0;
+    let mut found = Entry { room: 0, worth: 0 };
+    while left > 0 {
+        let entry = front[left - 1];
+        if next < back.len() && back[next].room + entry.room <= whole {
+            behind = back[next].worth.max(behind);
+            next += 1;
+        } else {
+            let both = Entry {
+                room: entry.room,
+                worth: entry.worth + behind,
+            };
+            found = worthier(found, both);
+            left -= 1;
+        }
+    }
+    found.room
+}
+
+/// The room for the first of two tables of one length: the first from its end and the second from its start.
+fn divide_tables<T: Number>(front: &[T], back: &[T], whole: u32) -> u32
+    requires front { length front.now ≡ whole + 1 }
+    requires back { length back.now ≡ whole + 1 }
+    requires small_front { HaveSmallWorths T.limit whole (HasCell (map T.value front.now)) }
+    requires small_back { HaveSmallWorths T.limit whole (HasCell (map T.value back.now)) }
+    requires whole { whole ≤ 2 ^ 20 }
+    ensures { IsBestDivision whole result (HasCell (map T.value front.now))
+        (HasCell (map T.value back.now)) }
+{
+    let mut behind = back[0].worth();
+    let mut found = Entry {
+        room: 0,
+        worth: front[0].worth() + behind,
+    };
+    for room in 0..back.len() {
+        let at = whole as usize - room;
+        let cell = front[at].worth();
+        behind = back[room].worth().max(behind);
+        if cell != 0 {
+            let both = Entry {
+                room: at as u32,
+                worth: cell + behind,
+            };
+            found = worthier(found, both);
+        }
+    }
+    found.room
+}
+
+/// The room within the whole for the first of two levels, so that both together are worth most; the other has the rest.
+pub fn divide<T: Number>(
+    alloc: Global,
+    front: Level<T>,
+    back: Level<T>,
+    whole: u32,
+) -> Result<u32, AllocError>
+    requires front { IsLevel whole front }
+    requires back { IsLevel whole back }
+    requires small_front { HaveSmallWorths T.limit whole (Has T.value front) }
+    requires small_back { HaveSmallWorths T.limit whole (Has T.value back) }
+    requires whole { whole ≤ 2 ^ 20 }
+    ensures { IfOk result (λ at. IsBestDivision whole at (Has T.value front) (Has T.value back)) }
+{
+    if let (Level::Listed(front), Level::Listed(back)) = (&front, &back) {
+        return Ok(divide_lists(front, back, whole));
+    }
+    let front = front.into_cells(alloc, whole)?;
+    let back = back.into_cells(alloc, whole)?;
+    Ok(divide_tables(&front, &back, whole))
+}

@@ -1,0 +1,84 @@
+//! Lists of the rooms of a bar that counts of pieces take, each with the greatest worth of such counts.
+
+ghost use Rattle.std.specs.Prelude.{◌≡◌, ℕ, ◌+◌, ◌*◌, ◌^◌, ◌≤◌, ◌↔◌, IfOk, IsTrue, Contains, length};
+ghost use Rattle.cut_bars.specs.Reached.{AreRising, AreOffered, HaveWorthsBoundedByRoom};
+ghost use Rattle.cut_bars.specs.Levels.{AreJoined, AreUpTo, IsFirstOf};
+
+use std::alloc::{AllocError, Global};
+
+/// A room that counts of pieces take, and the greatest worth of such counts.
+#[derive(Clone, Copy, Debug, PartialEq, Eq)]
+pub struct Entry {
+    pub room: u32,
+    pub worth: u64,
+}
+
+/// The entry that comes first, or at the same room the one worth more.
+fn first_of(a: Entry, b: Entry) -> Entry
+    ensures { IsFirstOf a b result }
+{
+    if a.room < b.room || a.room == b.room && b.worth <= a.worth {
+        a
+    } else {
+        b
+    }
+}
+
+/// The entries, joined with those that a batch of pieces leads to from the first of them; how many these are.
+fn join(alloc: Global, entries: &[Entry], batch: Entry) -> Result<(Vec<Entry>, usize), AllocError>
+    requires rising { AreRising entries.now }
+    requires low { HaveWorthsBoundedByRoom (2 ^ 30) (2 ^ 20) (Contains entries.now) }
+    requires some { 1 ≤ batch.room }
+    requires short { batch.room ≤ 2 ^ 20 }
+    requires gain { batch.worth ≤ batch.room * 2 ^ 30 }
+    ensures joined { IfOk result
+        (λ r. AreJoined batch.room batch.worth entries.now (length entries.now) r.1 r.0.items) }
+    ensures inside { IfOk result (λ r. r.1 ≤ length entries.now) }
+    ensures up_to { IfOk result (λ r. AreUpTo entries.now r.0.items) }
+{
+    let mut joined = Vec::with_capacity(alloc, entries.len().saturating_add(entries.len()))?;
+    let (mut kept, mut moved) = (0, 0);
+    while kept < entries.len() {
+        let old = entries[kept];
+        let from = entries[moved];
+        let new = Entry {
+            room: from.room + batch.room,
+            worth: from.worth + batch.worth,
+        };
+        let first = first_of(old, new);
+        joined.push(first)?;
+        kept += (old.room <= new.room) as usize;
+        moved += (new.room <= old.room) as usize;
+    }
+    Ok((joined, moved))
+}
+
+/// The entries, joined with all that a batch of pieces leads to within the whole.
+pub fn offer_entries(
+    alloc: Global,
+    entries: &[Entry],
+    batch: Entry,
+    whole: u32,
+) -> Result<Vec<Entry>, AllocError>
+    requires rising { AreRising entries.now }
+    requires low { HaveWorthsBoundedByRoom (2 ^ 30) whole (Contains entries.now) }
+    requires whole { whole ≤ 2 ^ 20 }
+    requires some { 1 ≤ batch.room }
+    requires short { batch.room ≤ 2 ^ 20 }
+    requires gain { batch.worth ≤ batch.room * 2 ^ 30 }
+    ensures rising { IfOk result (λ offered. AreRising offered.items) }
+    ensures offered { IfOk result
+        (λ offered. AreOffered batch.room batch.worth 1 whole (Contains entries.now)
+        (Contains offered.items)) }
+{
+    let (mut offered, mut moved) = join(alloc, entries, batch)?;
+    while moved < entries.len() && entries[moved].room + batch.room <= whole {
+        let from = entries[moved];
+        offered.push(Entry {
+            room: from.room + batch.room,
+            worth: from.worth + batch.worth,
+        })?;
+        moved += 1;
+    }
+    Ok(offered)
+}

@@ -1,0 +1,4 @@
+pub mod Rounded
+pub mod Bound
+pub mod Table
+pub mod Kept

@@ -1,7 +1,0 @@
-use Rattle.std.proofs.Common.{◌+◌, ◌*◌, ◌≤◌, ◌^◌, take}
-use Rattle.std.specs.Prelude.{Contains}
-use Rattle.cut_table.specs.declared.wants.Want.{Want}
-use Rattle.cut_table.proofs.bar.highest_price.Given as goal
-
-abbrev pub invariant-loop-want : goal.invariant-loop-want
-invariant-loop-want l = ((x : Want) → Contains (take l.want-index l.wants) x → x.worth ≤ (x.size.w + l.kerf) * l.highest) × (l.highest ≤ 2 ^ 30)

@@ -1,7 +1,0 @@
-use Rattle.std.proofs.Common.{◌≡◌, take}
-use Rattle.std.specs.Prelude.{Contains}
-use Rattle.cut_table.specs.declared.wants.Want.{Want}
-use Rattle.cut_table.proofs.place.size_of.Given as goal
-
-abbrev pub invariant-loop-want : goal.invariant-loop-want
-invariant-loop-want l = (x : Want) → Contains (take l.want-index l.wants) x → x.demand ≡ l.demand → ⊥

@@ -1,6 +1,0 @@
-use Rattle.std.proofs.Common.{take, ◌≤◌, ◌^◌}
-use Rattle.cut_table.specs.Table.{ArePriced}
-use Rattle.cut_table.proofs.sheet.highest_price.Given as goal
-
-abbrev pub invariant-loop-want : goal.invariant-loop-want
-invariant-loop-want l = ArePriced l.highest (take l.want-index l.wants) × (l.highest ≤ 2 ^ 30)

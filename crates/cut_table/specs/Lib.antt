@@ -1,9 +1,0 @@
-pub mod Legal
-pub mod Best
-pub mod Rounded
-pub mod Bound
-pub mod Table
-pub mod Counts
-pub mod Reached
-pub mod Levels
-pub mod Kept

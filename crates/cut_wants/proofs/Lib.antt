@@ -1,0 +1,2 @@
+pub mod LeafSums
+pub mod NumberRows
