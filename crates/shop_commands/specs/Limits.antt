@@ -6,7 +6,7 @@ use Rattle.cut_bars.specs.declared.bar.TheConstants.{LONGEST_BAR}
 use Rattle.cut_sheets.specs.declared.sheet.TheConstants.{MOST_STEPS}
 use Rattle.cut_plan.specs.declared.faults.TheConstants.{MOST_WANTS}
 use Rattle.shop_files.specs.declared.limits.TheConstants.{LONGEST_TEXT, MOST_PIECES, MOST_LINES, MOST_ENTRIES}
-use Rattle.shop_machine.specs.declared.listing.TheConstants.{MOST_TOLD}
+use Rattle.shop_answers.specs.declared.listing.TheConstants.{MOST_TOLD}
 use Rattle.shop_records.specs.declared.records.TheConstants.{MOST_RECEIVED}
 use Rattle.shop_machine.specs.declared.receiving.TheConstants.{MOST_UNITS}
 use Rattle.shop_book.specs.declared.books.TheConstants.{MOST_FAILURES}

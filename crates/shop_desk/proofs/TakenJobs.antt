@@ -7,7 +7,7 @@ use Rattle.shop_records.specs.declared.records.Job.{Job}
 use Rattle.shop_records.specs.declared.records.JobRow.{JobRow}
 use Rattle.shop_records.specs.declared.records.Part.{Part}
 use Rattle.shop_records.specs.Content.{Content}
-use Rattle.shop_machine.specs.Listing.{job_row_at, job_with_part}
+use Rattle.shop_answers.specs.Listing.{job_row_at, job_with_part}
 use Rattle.shop_desk.specs.ListedJobs.{told_row}
 
 -- one more is listed, where it is there with its part

@@ -3,7 +3,7 @@ use Rattle.std.specs.Prelude.{Option, option_map}
 use Rattle.shop_records.specs.declared.records.Job.{Job}
 use Rattle.shop_records.specs.declared.records.JobRow.{JobRow}
 use Rattle.shop_records.specs.declared.records.Part.{Part}
-use Rattle.shop_machine.specs.Listing.{job_row}
+use Rattle.shop_answers.specs.Listing.{job_row}
 
 -- the row of a job that was found with its part
 abbrev pub told_row : Option (Job × Part) → Option JobRow

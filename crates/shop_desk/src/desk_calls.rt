@@ -2,9 +2,10 @@
 
 ghost use Rattle.std.specs.Prelude.{◌≡◌, ◌≢◌, IfOk, IfSome, OnErr, None, true, false};
 ghost use Rattle.shop_records.specs.Content.{Content, demand_at, kept_at, material_at, material_of, part_at, parts_of, rack_rows};
-ghost use Rattle.shop_machine.specs.Planning.{AreAsked};
+ghost use Rattle.shop_answers.specs.Planning.{AreAsked};
 ghost use Rattle.shop_records.specs.Messages.{IsMessage, pair_of};
-ghost use Rattle.shop_machine.specs.Machine.{Answers, StepAgain};
+ghost use Rattle.shop_machine.specs.Machine.{StepAgain};
+ghost use Rattle.shop_answers.specs.Queries.{Answers};
 ghost use Rattle.shop_records.specs.Soundness.{IsSound, IsKept};
 ghost use Rattle.shop_records.specs.declared.texts.Pair.{Pair as PairOf};
 ghost use Rattle.shop_records.specs.declared.messages.Message.{Message as MessageOf};

@@ -1,11 +1,11 @@
 //! Answers to the queries for lists, for a job and for a terminal, from a book's rows.
 
 ghost use Rattle.std.specs.Prelude.{◌≡◌, ◌≢◌, ◌∷◌, ◌++◌, [], IfOk, OnOk, Some, filter_map};
-ghost use Rattle.shop_machine.specs.Machine.{Answers};
+ghost use Rattle.shop_answers.specs.Queries.{Answers};
 ghost use Rattle.shop_records.specs.declared.messages.Query.TheVariants as query;
 ghost use Rattle.shop_records.specs.declared.messages.Reply.TheVariants.{Refused, Parts, Demands};
 ghost use Rattle.shop_records.specs.declared.refusals.Refusal.TheVariants.{NoMemory, StoreFault};
-ghost use Rattle.shop_machine.specs.Listing.{are_more, first_told, job_row_at, job_with_part};
+ghost use Rattle.shop_answers.specs.Listing.{are_more, first_told, job_row_at, job_with_part};
 ghost use Rattle.shop_records.specs.Lists.{job_numbers, open_demands, parts_behind, waiting_jobs};
 ghost use Rattle.shop_book.specs.Failures.{CountsFailure};
 ghost use Rattle.shop_book.specs.Kept.{Unchanged, OnContent};

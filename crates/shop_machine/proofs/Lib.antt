@@ -44,11 +44,6 @@ pub mod EndingDeed
 -- a standing part as a whole gets another state
 pub mod RetiringStep
 pub mod RetiringDeed
--- asking for a plan, or for a bound
-pub mod PlanningDecision
-pub mod PlanningReply
--- asking for lists, for a job and for a terminal
-pub mod ListingReply
 -- every command, every history and every run
 pub mod Sound
 pub mod Given

@@ -8,8 +8,6 @@ pub mod Reserving
 pub mod Moving
 pub mod Ending
 pub mod Retiring
-pub mod Planning
 pub mod Machine
 pub mod History
 pub mod Sharing
-pub mod Listing

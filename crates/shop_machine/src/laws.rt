@@ -1,23 +1,17 @@
 //! What holds of every history of the shop: its content is sound, and each cell has exactly one owner.
 
-ghost use Rattle.std.specs.Prelude.{◌≡◌, ◌≢◌, ◌≤◌, ◌⊎◌, ◌↔◌, ℕ, List, Some, None};
-ghost use Rattle.cut_measure.specs.Names.{Name};
+ghost use Rattle.std.specs.Prelude.{◌≡◌, ◌≢◌, ◌≤◌, ◌↔◌, ℕ, List, Some, None};
 ghost use Rattle.cut_tree.specs.declared.lay.Row.{Row};
 ghost use Rattle.cut_tree.specs.Tree.{Tree, IsShaped};
 ghost use Rattle.cut_tree.specs.Cells.{Outcome};
 ghost use Rattle.cut_tree.specs.Laying.{IsLaid};
 ghost use Rattle.shop_records.specs.declared.changes.Change.{Change};
 ghost use Rattle.shop_records.specs.declared.messages.Message.{Message};
-ghost use Rattle.shop_records.specs.declared.messages.Command.TheVariants.{Reserve};
-ghost use Rattle.shop_records.specs.declared.messages.Query.TheVariants.{Plan};
-ghost use Rattle.shop_records.specs.declared.messages.Reply.TheVariants as told;
-ghost use Rattle.shop_records.specs.declared.refusals.Refusal.{Refusal};
-ghost use Rattle.shop_records.specs.declared.refusals.Refusal.TheVariants.{BadTree, NumbersSpent, NoMemory, StoreFault};
+ghost use Rattle.shop_records.specs.declared.refusals.Refusal.TheVariants.{StoreFault};
 ghost use Rattle.shop_records.specs.Messages.{Texts, IsMessage, IsMade, pair_of};
 ghost use Rattle.shop_records.specs.Readings.{Reading};
 ghost use Rattle.shop_records.specs.Content.{Content, kept_at, changed};
-ghost use Rattle.shop_machine.specs.Reserving.{HasNoPiece};
-ghost use Rattle.shop_machine.specs.Machine.{Reads, refusal_of, Makes, keeping, Step, Answers};
+ghost use Rattle.shop_machine.specs.Machine.{Reads, refusal_of, Makes, keeping};
 ghost use Rattle.shop_machine.specs.History.{Entry, Gives, IsAccountOf};
 ghost use Rattle.shop_records.specs.Soundness.{IsSound, Fits};
 ghost use Rattle.shop_machine.specs.Sharing.{SharesCells};
@@ -55,20 +49,6 @@ pub fn accepted_changes_fit()
     ensures agrees { (texts : Texts) (m : Content) (message : Message) (read : Reading)
         → IsSound texts m → Reads texts m message.command read
         → refusal_of m message.command read ≢ Some StoreFault }
-{}
-
-/// The tree of a plan that is told for a part can be reserved on it, as long as nothing else happens: sent under a new pair
-/// it is refused only `BadTree` for a tree without a piece, `NumbersSpent`, and for want of memory or a failed store.
-pub fn told_plans_can_be_reserved()
-    ensures { (texts : Texts) (m : Content) (part : Name) (demands : List ℕ)
-        (step ceiling dropped worth : ℕ) (tree : List ℕ) (message : Message) (refusal : Refusal)
-        (next : Content)
-        → IsSound texts m → Answers m (Plan part demands step)
-        (told.Plan ceiling dropped tree worth)
-        → message.command ≡ Reserve part tree → kept_at m (pair_of message) ≡ None
-        → Step texts m message (told.Refused refusal) next
-        → refusal ≢ NoMemory → refusal ≢ StoreFault → (refusal ≡ NumbersSpent)
-        ⊎ ((refusal ≡ BadTree) × HasNoPiece m part tree) }
 {}
 
 /// Rows are laid for a shaped tree exactly where they share the unit's cells out among its nodes: each row with its node's

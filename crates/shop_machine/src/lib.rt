@@ -1,5 +1,5 @@
-//! The shop as a machine: what it decides on each command, what it answers to a plan, a bound and a list, and what holds of
-//! each of its histories. It hands on the records and messages that it decides on.
+//! The shop as a machine: what it decides on each command, and what holds of each of its histories. It hands on the records
+//! and messages that it decides on.
 #![tactic(auto)]
 
 mod adding;
@@ -7,10 +7,8 @@ mod decisions;
 mod ending;
 mod importing;
 mod laws;
-mod listing;
 mod moving;
 mod ordering;
-mod planning;
 mod receiving;
 mod recounts;
 mod reserving;
@@ -21,15 +19,8 @@ pub use ending::{decide_break, decide_done, decide_release};
 pub use importing::{
     decide_again, decide_lines, decide_problem, problem_lines, repeats, unread_refusal,
 };
-pub use laws::{
-    accepted_changes_fit, histories_have_accounts, shared_cells_are_laid,
-    told_plans_can_be_reserved,
-};
-pub use listing::{
-    MOST_TOLD, answer_demands, answer_job, answer_parts, are_more, first_told, job_row,
-};
+pub use laws::{accepted_changes_fit, histories_have_accounts, shared_cells_are_laid};
 pub use ordering::{FoundLine, decide_order};
-pub use planning::{FoundDemand, FoundList, answer_bound, answer_plan, can_be_planned};
 pub use receiving::decide_receive;
 pub use recounts::FoundLeaf;
 pub use reserving::decide_reserve;

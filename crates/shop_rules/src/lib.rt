@@ -24,12 +24,15 @@ pub use cut_tree::{CutList, Halt};
 pub use laws::{one_kind_of_value, one_text, read_back};
 pub use messages::{message_text, message_value, read_message, read_query};
 pub use replies::{kept_reply, read_reply, reply_text, reply_value};
+pub use shop_answers::{
+    FoundDemand, FoundList, MOST_TOLD, answer_bound, answer_demands, answer_job, answer_parts,
+    answer_plan, are_more, can_be_planned, first_told, job_row,
+};
 pub use shop_machine::{
-    FoundDemand, FoundLeaf, FoundLine, FoundList, MOST_TOLD, accepted_changes_fit, answer_bound,
-    answer_demands, answer_job, answer_parts, answer_plan, are_more, can_be_planned, decide_again,
-    decide_break, decide_done, decide_give_back, decide_lines, decide_material, decide_order,
-    decide_problem, decide_receive, decide_release, decide_reserve, decide_scrap, first_told,
-    histories_have_accounts, job_row, problem_lines, repeats, unread_refusal,
+    FoundLeaf, FoundLine, accepted_changes_fit, decide_again, decide_break, decide_done,
+    decide_give_back, decide_lines, decide_material, decide_order, decide_problem, decide_receive,
+    decide_release, decide_reserve, decide_scrap, histories_have_accounts, problem_lines, repeats,
+    unread_refusal,
 };
 pub use shop_records::{
     Change, Column, Command, Demand, DemandList, Form, ImportRow, Job, JobList, JobRow, JobState,

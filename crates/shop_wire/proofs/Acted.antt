@@ -10,7 +10,8 @@ use Rattle.shop_records.specs.declared.refusals.Refusal.{Refusal}
 use Rattle.shop_records.specs.declared.refusals.Refusal.TheVariants.{BadMessage, NoMemory, StoreFault}
 use Rattle.shop_records.specs.Messages.{IsMessage, pair_of}
 use Rattle.shop_records.specs.Content.{Content, kept_at}
-use Rattle.shop_machine.specs.Machine.{Step, Answers}
+use Rattle.shop_machine.specs.Machine.{Step}
+use Rattle.shop_answers.specs.Queries.{Answers}
 use Rattle.shop_records.specs.Soundness.{IsSound}
 use Rattle.shop_rules.specs.Forms.{json_texts}
 use Rattle.shop_book.specs.declared.books.Book.{Ghosts}

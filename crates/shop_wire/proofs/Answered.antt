@@ -14,7 +14,8 @@ use Rattle.shop_records.specs.declared.messages.Reply.{Reply}
 use Rattle.shop_records.specs.declared.messages.Reply.TheVariants.{Refused}
 use Rattle.shop_records.specs.Messages.{IsMessage, pair_of}
 use Rattle.shop_records.specs.Content.{Content, kept_at}
-use Rattle.shop_machine.specs.Machine.{Step, Answers}
+use Rattle.shop_machine.specs.Machine.{Step}
+use Rattle.shop_answers.specs.Queries.{Answers}
 use Rattle.shop_records.specs.Soundness.{IsSound}
 use Rattle.shop_book.specs.declared.books.Book.{Ghosts}
 use Rattle.serde_json.specs.Data.{Data}

@@ -10,7 +10,8 @@ use Rattle.shop_records.specs.declared.messages.Reply.TheVariants.{Refused}
 use Rattle.shop_records.specs.Content.{Content, fresh}
 use Rattle.shop_machine.specs.History.{Entry, messages_of, history_after, IsAccountOf}
 use Rattle.shop_records.specs.Elements.{IsIn}
-use Rattle.shop_machine.specs.Machine.{Step, Answers}
+use Rattle.shop_machine.specs.Machine.{Step}
+use Rattle.shop_answers.specs.Queries.{Answers}
 use Rattle.shop_records.specs.Soundness.{IsSound}
 use Rattle.serde_json.specs.Data.{Data}
 use Rattle.serde_json.specs.Read.{read}

@@ -16,7 +16,8 @@ use Rattle.shop_records.specs.declared.messages.Query.TheVariants as query
 use Rattle.shop_records.specs.declared.messages.Reply.{Reply}
 use Rattle.shop_records.specs.declared.messages.Reply.TheVariants.{Refused}
 use Rattle.shop_records.specs.Content.{Content}
-use Rattle.shop_machine.specs.Machine.{Step, Answers}
+use Rattle.shop_machine.specs.Machine.{Step}
+use Rattle.shop_answers.specs.Queries.{Answers}
 use Rattle.shop_records.specs.Soundness.{IsSound}
 use Rattle.shop_rules.specs.Forms.{query_of, json_texts}
 use Rattle.shop_book.specs.declared.books.Book.{Ghosts}

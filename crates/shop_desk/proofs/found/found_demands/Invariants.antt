@@ -1,6 +1,6 @@
 use Rattle.std.proofs.Common.{◌≡◌, take}
 use Rattle.shop_records.specs.Content.{Content, demand_at}
-use Rattle.shop_machine.specs.Planning.{AreFound, numbers_in}
+use Rattle.shop_answers.specs.Planning.{AreFound, numbers_in}
 use Rattle.shop_book.specs.Kept.{Unchanged}
 use Rattle.shop_desk.proofs.found.found_demands.Given as goal
 

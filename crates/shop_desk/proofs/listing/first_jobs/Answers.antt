@@ -1,9 +1,9 @@
 use Rattle.std.proofs.Common.{◌≡◌, take, ap, ◌+◌, ◌∙◌}
 use Rattle.std.specs.Prelude.{filter_map}
-use Rattle.shop_machine.specs.declared.listing.TheConstants.{MOST_TOLD}
+use Rattle.shop_answers.specs.declared.listing.TheConstants.{MOST_TOLD}
 use Rattle.shop_records.specs.Lists.{job_numbers, waiting_jobs}
-use Rattle.shop_machine.specs.Listing.{job_row_at}
-use Rattle.shop_machine.proofs.ListingReply.{first_listed, more_listed}
+use Rattle.shop_answers.specs.Listing.{job_row_at}
+use Rattle.shop_answers.proofs.ListingReply.{first_listed, more_listed}
 use Rattle.shop_desk.proofs.listing.first_jobs.Goals as goal
 
 pub returns-clause-jobs : goal.returns-clause-jobs

@@ -1,7 +1,7 @@
 use Rattle.std.proofs.Common.{◌≡◌, take}
 use Rattle.std.specs.Prelude.{filter_map}
 use Rattle.shop_records.specs.Content.{Content}
-use Rattle.shop_machine.specs.Listing.{job_row_at}
+use Rattle.shop_answers.specs.Listing.{job_row_at}
 use Rattle.shop_book.specs.Kept.{Unchanged}
 use Rattle.shop_desk.proofs.listing.job_rows.Given as goal
 

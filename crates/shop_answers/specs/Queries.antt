@@ -1,0 +1,55 @@
+-- What the machine answers to a query.
+use Rattle.std.specs.Prelude.{◌≡◌, ◌≢◌, ℕ, List, Option, Some, None}
+use Rattle.shop_records.specs.declared.records.Material.{Material}
+use Rattle.shop_records.specs.declared.records.Part.{Part}
+use Rattle.shop_records.specs.declared.records.Job.{Job}
+use Rattle.shop_records.specs.declared.records.Demand.{Demand}
+use Rattle.shop_records.specs.declared.records.Totals.{Totals}
+use Rattle.shop_records.specs.declared.messages.Query.{Query}
+use Rattle.shop_records.specs.declared.messages.Query.TheVariants as query
+use Rattle.shop_records.specs.declared.refusals.Refusal.TheVariants.{NoMaterial, NoDemand, NoPart, NoMemory, StoreFault}
+use Rattle.shop_records.specs.declared.messages.Reply.{Reply}
+use Rattle.shop_records.specs.declared.messages.Reply.TheVariants as reply
+use Rattle.shop_records.specs.Columns.{state_word, state_of}
+use Rattle.shop_records.specs.Content.{Content, material_at, part_at, demand_at, totals_of, parts_of, rack_rows, material_of}
+use Rattle.shop_answers.specs.Planning.{IsPlanAnswer, IsBoundAnswer}
+use Rattle.shop_records.specs.Lists.{materials_of, parts_behind, open_demands, waiting_jobs, job_numbers}
+use Rattle.shop_answers.specs.Listing.{is_known, job_with_part, told_parts, told_demands, told_jobs, told_job, IsTerminalAnswer}
+
+abbrev pub told_totals : Option Material → List ℕ → Totals → Reply
+told_totals None material t = reply.Refused NoMaterial
+told_totals (Some m) material t = reply.Totals material t.received t.stock t.rack t.pieces t.kerf t.scrap t.returned
+
+abbrev pub told_rack : Option Material → List ℕ → List Part → Reply
+told_rack None material parts = reply.Refused NoMaterial
+told_rack (Some m) material parts = reply.Rack material (rack_rows parts)
+
+abbrev pub told_part : Option Part → Reply
+told_part None = reply.Refused NoPart
+told_part (Some part) =
+    reply.Trace part.batch part.size.h (state_of part.state) part.name part.root (state_word part.state) part.size.w part.x part.y
+
+abbrev pub told_demand : Option Demand → Reply
+told_demand None = reply.Refused NoDemand
+told_demand (Some d) = reply.Demand d.number d.line d.made d.material d.order d.reserved d.wanted
+
+-- what may be answered to a query: to a plan and a bound any that the planners may give
+abbrev pub IsAnswer : Content → Query → Reply → Type 0
+IsAnswer content (query.Totals material) answer = answer ≡ told_totals (material_at content material) material (totals_of content material)
+IsAnswer content (query.Rack material) answer = answer ≡ told_rack (material_at content material) material (parts_of content material)
+IsAnswer content (query.Trace part) answer = answer ≡ told_part (part_at content part)
+IsAnswer content (query.Demand demand) answer = answer ≡ told_demand (demand_at content demand)
+IsAnswer content (query.Plan part demands step) answer =
+    IsPlanAnswer (part_at content part) (material_of content (part_at content part)) (demand_at content) demands step answer
+IsAnswer content (query.Bound material w h demands step) answer =
+    IsBoundAnswer (material_at content material) material (record { w = w; h = h }) (demand_at content) demands step answer
+IsAnswer content query.Materials answer = answer ≡ reply.Materials (materials_of content)
+IsAnswer content (query.Parts material after) answer = answer ≡ told_parts (material_at content material) material (parts_behind content material after)
+IsAnswer content (query.Demands after material) answer = answer ≡ told_demands (is_known content material) (open_demands content after material)
+IsAnswer content (query.Jobs after) answer = answer ≡ told_jobs content (job_numbers (waiting_jobs content after))
+IsAnswer content (query.Job job) answer = answer ≡ told_job (job_with_part content job)
+IsAnswer content (query.Terminal terminal) answer = IsTerminalAnswer content terminal answer
+
+-- the same, memory and the store aside; a query changes nothing
+abbrev pub Answers : Content → Query → Reply → Type 0
+Answers content asked answer = answer ≢ reply.Refused NoMemory → answer ≢ reply.Refused StoreFault → IsAnswer content asked answer

@@ -1,0 +1,30 @@
+//! What holds of every plan that is told for a part.
+
+ghost use Rattle.std.specs.Prelude.{◌≡◌, ◌≢◌, ◌⊎◌, ℕ, List, None};
+ghost use Rattle.cut_measure.specs.Names.{Name};
+ghost use Rattle.shop_records.specs.declared.messages.Message.{Message};
+ghost use Rattle.shop_records.specs.declared.messages.Command.TheVariants.{Reserve};
+ghost use Rattle.shop_records.specs.declared.messages.Query.TheVariants.{Plan};
+ghost use Rattle.shop_records.specs.declared.messages.Reply.TheVariants as told;
+ghost use Rattle.shop_records.specs.declared.refusals.Refusal.{Refusal};
+ghost use Rattle.shop_records.specs.declared.refusals.Refusal.TheVariants.{BadTree, NumbersSpent, NoMemory, StoreFault};
+ghost use Rattle.shop_records.specs.Messages.{Texts, pair_of};
+ghost use Rattle.shop_records.specs.Content.{Content, kept_at};
+ghost use Rattle.shop_machine.specs.Reserving.{HasNoPiece};
+ghost use Rattle.shop_machine.specs.Machine.{Step};
+ghost use Rattle.shop_answers.specs.Queries.{Answers};
+ghost use Rattle.shop_records.specs.Soundness.{IsSound};
+
+/// The tree of a plan that is told for a part can be reserved on it, as long as nothing else happens: sent under a new pair
+/// it is refused only `BadTree` for a tree without a piece, `NumbersSpent`, and for want of memory or a failed store.
+pub fn told_plans_can_be_reserved()
+    ensures { (texts : Texts) (m : Content) (part : Name) (demands : List ℕ)
+        (step ceiling dropped worth : ℕ) (tree : List ℕ) (message : Message) (refusal : Refusal)
+        (next : Content)
+        → IsSound texts m → Answers m (Plan part demands step)
+        (told.Plan ceiling dropped tree worth)
+        → message.command ≡ Reserve part tree → kept_at m (pair_of message) ≡ None
+        → Step texts m message (told.Refused refusal) next
+        → refusal ≢ NoMemory → refusal ≢ StoreFault → (refusal ≡ NumbersSpent)
+        ⊎ ((refusal ≡ BadTree) × HasNoPiece m part tree) }
+{}

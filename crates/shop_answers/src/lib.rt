@@ -1,0 +1,12 @@
+//! What the machine answers to queries: a plan of a part, a bound, the rows of a list and a job.
+#![tactic(auto)]
+
+mod laws;
+mod listing;
+mod planning;
+
+pub use laws::told_plans_can_be_reserved;
+pub use listing::{
+    MOST_TOLD, answer_demands, answer_job, answer_parts, are_more, first_told, job_row,
+};
+pub use planning::{FoundDemand, FoundList, answer_bound, answer_plan, can_be_planned};

@@ -1,0 +1,113 @@
+//! Lists of what stands, is open or waits: the first rows, and whether others follow; and the answer on a job.
+
+ghost use Rattle.std.specs.Prelude.{◌≡◌, ◌≢◌, ◌+◌, List, Some, IfOk, take};
+ghost use Rattle.shop_answers.specs.declared.listing.TheConstants.{MOST_TOLD};
+ghost use Rattle.shop_records.specs.declared.records.Demand.{Demand as DemandOf};
+ghost use Rattle.shop_records.specs.declared.records.Part.{Part as PartOf};
+ghost use Rattle.shop_records.specs.declared.refusals.Refusal.TheVariants.{NoMemory, StoreFault};
+ghost use Rattle.shop_records.specs.declared.messages.Reply.TheVariants.{Refused, Parts, Demands};
+ghost use Rattle.shop_answers.specs.Listing as listing;
+
+use crate::planning::tree_text;
+use cut_measure::{Code, RowList};
+use shop_records::{Demand, Job, JobRow, Part, Refusal, Reply};
+use std::alloc::{AllocError, Global};
+
+/// The most rows that a list tells of parts, demands or jobs.
+pub const MOST_TOLD: usize = 100;
+
+/// Whether others follow the last row of a list that is told.
+pub fn are_more<T>(rows: &[T]) -> bool
+    ensures { result ≡ listing.are_more rows.now }
+{
+    rows.len() > MOST_TOLD
+}
+
+/// The first rows of a list, as many as are told.
+pub fn first_told<T>(rows: &[T]) -> &[T]
+    ensures { result.now ≡ listing.first_told rows.now }
+{
+    rows.get(..MOST_TOLD).unwrap_or(rows)
+}
+
+// The same in a list of its own.
+fn told_rows<T: Copy + Drop>(alloc: Global, rows: &[T]) -> Result<RowList<T>, AllocError>
+    ensures { IfOk result (λ told. told ≡ listing.first_told rows.now) }
+{
+    let mut told = RowList::new(alloc);
+    for row in first_told(rows) {
+        told.push(*row)?;
+    }
+    Ok(told)
+}
+
+/// The answer to a query for the parts of a material that is there, from the first that are listed: all, or one more than
+/// are told. Refused `NoMemory` alone.
+pub fn answer_parts(alloc: Global, material: Code, rows: &[Part]) -> Reply
+    ensures answer { (parts : List PartOf) → rows.now ≡ take (MOST_TOLD + 1) parts
+        → result ≢ Refused NoMemory
+        → result ≡ Parts material (listing.are_more parts) (listing.first_told parts) }
+    ensures store { result ≢ Refused StoreFault }
+{
+    match told_rows(alloc, rows) {
+        Ok(parts) => Reply::Parts {
+            material,
+            more: are_more(rows),
+            parts,
+        },
+        Err(_) => Reply::Refused(Refusal::NoMemory),
+    }
+}
+
+/// The answer to a query for open demands, from the first that are listed: all, or one more than are told. Refused
+/// `NoMemory` alone.
+pub fn answer_demands(alloc: Global, rows: &[Demand]) -> Reply
+    ensures answer { (demands : List DemandOf) → rows.now ≡ take (MOST_TOLD + 1) demands
+        → result ≢ Refused NoMemory
+        → result ≡ Demands (listing.first_told demands) (listing.are_more demands) }
+    ensures store { result ≢ Refused StoreFault }
+{
+    match told_rows(alloc, rows) {
+        Ok(demands) => Reply::Demands {
+            demands,
+            more: are_more(rows),
+        },
+        Err(_) => Reply::Refused(Refusal::NoMemory),
+    }
+}
+
+/// How a waiting job is told in a list, from its row and its part's.
+pub fn job_row(job: &Job, part: &Part) -> JobRow
+    ensures { result ≡ listing.job_row job.now part.now }
+{
+    JobRow {
+        cuts: job.plan.cuts(),
+        h: part.size.h(),
+        job: job.act,
+        material: part.material,
+        part: job.part,
+        w: part.size.w(),
+    }
+}
+
+/// The answer to a query for a job, from its row and its part's. Refused `NoMemory` alone.
+pub fn answer_job(alloc: Global, job: &Job, part: &Part) -> Reply
+    ensures answer { result ≢ Refused NoMemory
+        → result ≡ listing.told_job (Some (job.now, part.now)) }
+    ensures store { result ≢ Refused StoreFault }
+{
+    match tree_text(alloc, &job.plan) {
+        Ok(tree) => Reply::Job {
+            cuts: job.plan.cuts(),
+            h: part.size.h(),
+            job: job.act,
+            kerf: job.kerf,
+            material: part.material,
+            part: job.part,
+            state: job.state,
+            tree,
+            w: part.size.w(),
+        },
+        Err(_) => Reply::Refused(Refusal::NoMemory),
+    }
+}

@@ -1,5 +1,0 @@
-use Rattle.std.proofs.Common.{length}
-use Rattle.shop_machine.proofs.planning.+stands_twice.Given as goal
-
-abbrev pub decreases-stands_twice : goal.decreases-stands_twice
-decreases-stands_twice l = length l.numbers.now
