@@ -1,13 +1,13 @@
 -- A connection that tells all, and brings a whole request, is answered.
-use Rattle.std.proofs.Common.{◌≡◌, ◌≢◌, ◌∙◌, ℕ, ◌+◌, ◌<◌, ◌≤◌, List, [], ◌++◌, length, take, inl, inr, refl, sym, ap, subst, arith}
+use Rattle.std.proofs.Common.{◌≡◌, ◌≢◌, ◌∙◌, ℕ, ◌<◌, List, [], ◌++◌, length, take, inl, inr, refl, sym, ap, subst, arith}
 use Rattle.std.proofs.lemmas.List.{append-nil, length-append}
-use Rattle.std.specs.Io.KnownBytes.{Appends, Consumes, IsAtEnd}
-use Rattle.std.specs.Prelude.{◌⊎◌, Option, Some, None, IfSome, IsSomeAnd}
+use Rattle.std.specs.Io.KnownBytes.{Appends, IsAtEnd}
+use Rattle.std.specs.Prelude.{Option, Some, None, IfSome, IsSomeAnd}
 use Rattle.slab.specs.Slab.{Slab, get}
 use Rattle.std.specs.declared.time.Instant.{Instant}
 use Rattle.shop_book.specs.declared.books.Book.{Ghosts}
 use Rattle.shop_request.specs.Reading.{IsReadOn}
-use Rattle.shop_request.specs.Senses.{IsSettled, IsUnfinished}
+use Rattle.shop_request.specs.Senses.{IsUnfinished}
 use Rattle.shop_serve.specs.declared.connections.Connection.{Ghosts as ConnectionGhosts}
 use Rattle.shop_serve.specs.declared.lines.Fate.{Fate}
 use Rattle.shop_serve.specs.declared.lines.Fate.TheVariants.{NoMemory}
@@ -15,7 +15,6 @@ use Rattle.shop_serve.specs.declared.lines.Line.{Line}
 use Rattle.shop_serve.specs.declared.sites.Site.{Site}
 use Rattle.shop_serve.specs.Known.{TellsAll, BringsRequest, HasOwnAnswer}
 use Rattle.shop_serve.specs.Lines.{AwaitsMore, IsAnsweredWhole, IsAttended, IsAttendedAt, IsClosedBy, IsFresh, IsHeard, IsSpoiled}
-use Rattle.shop_serve.specs.Serving.{IsAnswered}
 
 module _ {C : Type 0} (connection : ConnectionGhosts C) (site : Site) {B : Type 0} (book : Ghosts B)
     (now : Instant) (stream : C) (input : List ℕ) (line : Line C) (before after : B)

@@ -98,10 +98,10 @@ module _ {C : Type 0} (connection : ConnectionGhosts C) (site : Site) {B : Type 
 
   -- it took its whole answer
   pub spent : (mid new : Line C) → (new.came ≡ mid.came) × (new.answer ≡ mid.answer) × (new.sent ≡ mid.sent)
-      → IsSomeAnd mid.answer (λ answer. mid.sent ≡ length answer.items) → IsSpent connection site book new
+      → IsSomeAnd mid.answer (λ answer. mid.sent ≡ length answer.items) → IsSpent new
   spent mid new kept whole = by_answer mid.answer kept.1 whole
     where
-      by_answer : (o : Option _) → new.answer ≡ o → IsSomeAnd o (λ answer. mid.sent ≡ length answer.items) → IsSpent connection site book new
+      by_answer : (o : Option _) → new.answer ≡ o → IsSomeAnd o (λ answer. mid.sent ≡ length answer.items) → IsSpent new
       by_answer None e whole = absurd whole
       by_answer (Some answer) e whole =
           subst (λ o. IsSomeAnd o (λ answer. length answer.items ≤ new.sent)) (sym e) (omega (arith, whole, kept.2))

@@ -1,5 +1,5 @@
 -- Bytes that wait for more, as more come.
-use Rattle.std.proofs.Common.{◌≡◌, ℕ, ◌<◌, List, ◌++◌, length, sym, ap, subst, arith}
+use Rattle.std.proofs.Common.{ℕ, ◌<◌, List, ◌++◌, length, sym, ap, subst, arith}
 use Rattle.std.proofs.lemmas.List.{append_assoc}
 use Rattle.shop_request.specs.Senses.{IsUnfinished}
 use Rattle.shop_serve.specs.Lines.{AwaitsMore}

@@ -1,6 +1,9 @@
 pub mod Turns
+pub mod Counts
 pub mod Slots
+pub mod Oldest
 pub mod Attending
 pub mod Gathered
 pub mod Awaiting
 pub mod Answered
+pub mod Few

@@ -1,83 +1,24 @@
 -- How many open connections have no answer, as one of them changes.
-use Rattle.std.proofs.Common.{◌≡◌, ◌≢◌, ◌∙◌, ℕ, zero, suc, ◌+◌, ◌≤◌, Bool, true, false, not, is_some, cond, MutBor, List, [], ◌∷◌, get_or, count_by, inl, inr, refl, sym, ap, subst, arith}
+use Rattle.std.proofs.Common.{◌≡◌, ◌∙◌, ℕ, zero, suc, ◌+◌, ◌≤◌, Bool, true, false, not, is_some, cond, MutBor, List, [], ◌∷◌, get_or, count_by, inr, refl, sym, ap, subst, arith}
 use Rattle.std.proofs.lemmas.List.Sums.{sum_by-cons}
 use Rattle.std.specs.Prelude.{Option, Some, None, Result, Ok, Err, IfOk, IfSome, IsOk, OnErr, if◌then◌else◌}
 use Rattle.std.specs.Result.{result_ok}
 use Rattle.slab.specs.Slab.{Slab, get, Updates, HasRoomFor, CalledAt, RetainsFrom}
 use Rattle.shop_serve.specs.declared.lines.Line.{Line}
 use Rattle.std.specs.declared.time.Instant.{Instant}
+use Rattle.shop_serve.proofs.Counts.{count-but, count-fewer, one, one-most, one-none}
 use Rattle.shop_serve.specs.Lines.{ClosesLate, IsFresh, IsOpened, IsTurnedAway, MakesRoom, in_time, is_late, is_unanswered, unanswered}
-
-suc-differs : (a b : ℕ) → a ≢ b → suc a ≢ suc b
-suc-differs a b differs same = differs (omega (arith, same))
-
-suc-zero : (a : ℕ) → suc a ≢ 0
-suc-zero a same = omega (arith, same)
 
 module _ {C : Type 0} where
   -- one for a connection without an answer
   abbrev pub one_of : Option (Line C) → ℕ
   one_of slot = cond (is_unanswered slot) 1 0
 
-  count : List (Option (Line C)) → ℕ
-  count slots = count_by is_unanswered slots
-
-  count-cons : (slot : Option (Line C)) (rest : List (Option (Line C))) → count (slot ∷ rest) ≡ one_of slot + count rest
-  unfolding count
-  count-cons slot rest = sum_by-cons one_of slot rest
-
-  -- the same connections at every key
-  abbrev Same : List (Option (Line C)) → List (Option (Line C)) → Type 0
-  Same old new = (key : ℕ) → get_or new key None ≡ get_or old key None
-
-  count-same : (old new : List (Option (Line C))) → Same old new → count new ≡ count old
-  count-same [] [] same = refl
-  count-same [] (n ∷ new) same =
-      omega (arith, count-cons n new, count-same [] new (λ key. same (suc key)), ap one_of (same 0))
-  count-same (o ∷ old) [] same =
-      omega (arith, count-cons o old, count-same old [] (λ key. same (suc key)), ap one_of (same 0))
-  count-same (o ∷ old) (n ∷ new) same =
-      omega (arith, count-cons o old, count-cons n new, count-same old new (λ key. same (suc key)), ap one_of (same 0))
-
-  -- the same connections but at one key
-  abbrev SameBut : ℕ → List (Option (Line C)) → List (Option (Line C)) → Type 0
-  SameBut key old new = (other : ℕ) → other ≢ key → get_or new other None ≡ get_or old other None
-
-  count-but : (key : ℕ) (old new : List (Option (Line C))) → SameBut key old new
-      → count new + one_of (get_or old key None) ≡ count old + one_of (get_or new key None)
-  count-but zero [] [] same = refl
-  count-but zero [] (n ∷ new) same = omega (arith, count-cons n new, count-same [] new (λ key. same (suc key) (suc-zero key)))
-  count-but zero (o ∷ old) [] same = omega (arith, count-cons o old, count-same old [] (λ key. same (suc key) (suc-zero key)))
-  count-but zero (o ∷ old) (n ∷ new) same =
-      omega (arith, count-cons o old, count-cons n new, count-same old new (λ key. same (suc key) (suc-zero key)))
-  count-but (suc key) [] [] same = refl
-  count-but (suc key) [] (n ∷ new) same =
-      omega (arith, count-cons n new, count-but key [] new (λ other differs. same (suc other) (suc-differs other key differs)), ap one_of (same 0 (λ e. suc-zero key (sym e))))
-  count-but (suc key) (o ∷ old) [] same =
-      omega (arith, count-cons o old, count-but key old [] (λ other differs. same (suc other) (suc-differs other key differs)), ap one_of (same 0 (λ e. suc-zero key (sym e))))
-  count-but (suc key) (o ∷ old) (n ∷ new) same =
-      omega (
-        arith,
-        count-cons o old,
-        count-cons n new,
-        count-but key old new (λ other differs. same (suc other) (suc-differs other key differs)),
-        ap one_of (same 0 (λ e. suc-zero key (sym e))),
-      )
-
   -- one of them changes
   pub unanswered-updates : (old new : Slab (Line C)) (key : ℕ) (slot : Option (Line C)) → Updates old new key slot
       → unanswered new + one_of (get old key) ≡ unanswered old + one_of slot
-  unfolding count
   unanswered-updates old new key slot updates =
-      omega (arith, count-but key old.slots new.slots updates.others, ap one_of updates.changed)
-
-  pub one-most : (slot : Option (Line C)) → one_of slot ≤ 1
-  one-most None = omega arith
-  one-most (Some line) = by_test (is_unanswered (Some line))
-    where
-      by_test : (b : Bool) → cond b 1 0 ≤ 1
-      by_test true = omega arith
-      by_test false = omega arith
+      omega (arith, count-but is_unanswered refl key old.slots new.slots updates.others, ap one_of updates.changed)
 
   pub unanswered-empty : (lines : Slab (Line C)) → lines.slots ≡ [] → unanswered lines ≡ 0
   unanswered-empty lines e = rw e refl
@@ -100,7 +41,7 @@ module _ {C : Type 0} where
   pub unanswered-inserted : {E : Type 0} (old new : Slab (Line C)) (line : Line C) (key : Result ℕ E) → IfOk key (λ k. Updates old new k (Some line))
       → OnErr key (new ≡ record old { capacity = new.capacity }) → unanswered new ≤ unanswered old + 1
   unanswered-inserted old new line (Ok key) updates err =
-      omega (arith, unanswered-updates old new key (Some line) updates, one-most (Some line))
+      omega (arith, unanswered-updates old new key (Some line) updates, one-most is_unanswered refl (Some line))
   unanswered-inserted old new line (Err e) updates err = omega (arith, ap unanswered err)
 
   module _ {F : Type 0} (step : F → ℕ → MutBor (Line C) → Bool → MutBor (Line C) → F → Type 0) (now : Instant) (At : F → Type 0)
@@ -111,29 +52,6 @@ module _ {C : Type 0} where
 
     later : (f : F) (key : ℕ) (line : Line C) (keep : Bool) (new : Line C) (next : F) → At f → CalledAt step f key line keep new next → At next
     later f key line keep new next at called = (keeps f key called.shown keep called.left next at called.called).2
-
-    one-kept : (keep : Bool) (old new : Line C) → new ≡ old → one_of (if keep then Some new else None) ≤ one_of (Some old)
-    one-kept true old new same = omega (arith, ap (λ l. one_of (Some l)) same)
-    one-kept false old new same = omega arith
-
-    count-retained : (f : F) (key : ℕ) (old new : List (Option (Line C))) → At f → RetainsFrom step f key old new → count new ≤ count old
-    count-retained f key [] new at run = omega (arith, ap count run)
-    count-retained f key (None ∷ old) new at run =
-        omega (arith, count-cons None old, count-cons None run.0, ap count run.1, count-retained f (key + 1) old run.0 at run.2)
-    count-retained f key (Some line ∷ old) new at run =
-        omega (
-          arith,
-          count-cons (Some line) old,
-          count-cons (if run.0 then Some run.1 else None) run.4,
-          ap count run.5,
-          one-kept run.0 line run.1 (unchanged f key line run.0 run.1 run.2 at run.3),
-          count-retained run.2 (key + 1) old run.4 (later f key line run.0 run.1 run.2 at run.3) run.6,
-        )
-
-    -- some are closed
-    pub unanswered-retained : (f : F) (old new : Slab (Line C)) → At f → RetainsFrom step f 0 old.slots new.slots → unanswered new ≤ unanswered old
-    unfolding count
-    unanswered-retained f old new at run = count-retained f 0 old.slots new.slots at run
 
     kept-slot : (late keep : Bool) (line new : Line C) → keep ≡ not late → new ≡ line
         → (if keep then Some new else None) ≡ (if late then None else Some line)
@@ -155,6 +73,20 @@ module _ {C : Type 0} where
     -- those that had their time
     pub closes-late : (f : F) (old new : Slab (Line C)) → At f → RetainsFrom step f 0 old.slots new.slots → ClosesLate now old new
     closes-late f old new at run = late-slots f 0 old.slots new.slots at run
+
+  -- no more pass a test where some had their time
+  module _ (passes : Option (Line C) → Bool) (none : passes None ≡ false) (now : Instant) where
+    in-time-fewer : (slot : Option (Line C)) → one passes none (in_time now slot) ≤ one passes none slot
+    in-time-fewer None = omega arith
+    in-time-fewer (Some line) = by_test (is_late now line)
+      where
+        by_test : (late : Bool) → one passes none (if late then None else Some line) ≤ one passes none (Some line)
+        by_test true = omega (arith, one-none passes none)
+        by_test false = omega arith
+
+    pub late-fewer : (old new : Slab (Line C)) → ClosesLate now old new → count_by passes new.slots ≤ count_by passes old.slots
+    late-fewer old new late =
+        count-fewer passes none old.slots new.slots (λ key. omega (arith, ap (one passes none) (late key), in-time-fewer (get old key)))
 
 -- none is open
 pub none-open : {C : Type 0} (slots : List (Option (Line C))) → count_by is_some slots ≡ 0 → (key : ℕ) → get_or slots key None ≡ None

@@ -44,9 +44,33 @@ module _ {C : Type 0} where
   abbrev pub ClosesLate : Instant → Slab (Line C) → Slab (Line C) → Type 0
   ClosesLate now old new = (key : ℕ) → get new key ≡ in_time now (get old key)
 
-  -- one is closed at most, and none but where as many as may be are open
+  -- it took its whole answer
+  abbrev pub IsSpent : Line C → Type 0
+  IsSpent line = IsSomeAnd line.answer (λ answer. length answer.items ≤ line.sent)
+
+  -- no answer of it is on its way: it has none yet, or took all of it
+  abbrev pub MayGo : Line C → Type 0
+  MayGo line = (line.answer ≡ None) ⊎ IsSpent line
+
+  -- each that is open has an answer on its way
+  abbrev pub NoneMayGo : Slab (Line C) → Type 0
+  NoneMayGo lines = (key : ℕ) (line : Line C) → get lines key ≡ Some line → MayGo line → ⊥
+
+  -- The connection of this key may go, and is the oldest that may: no other that may was accepted, or got its answer, before it.
+  pub record IsOldest (lines : Slab (Line C)) (key : ℕ) : Type 0 where
+    pub line : Line C
+    pub there : get lines key ≡ Some line
+    pub goes : MayGo line
+    pub first : (other : ℕ) (another : Line C) → get lines other ≡ Some another → MayGo another → instant_nanos line.since ≤ instant_nanos another.since
+
+  -- one connection more may be open, be it in another's place
+  abbrev pub HasRoom : Slab (Line C) → Type 0
+  HasRoom lines = (slab_len lines < MOST_LINES) ⊎ ((key : ℕ) × IsOldest lines key)
+
+  -- none is closed while fewer than may be are open; else the oldest that may go is, and no other
   abbrev pub MakesRoom : Slab (Line C) → Slab (Line C) → Type 0
-  MakesRoom old new = (new.slots ≡ old.slots) ⊎ ((MOST_LINES ≤ slab_len old) × (key : ℕ) × Updates old new key None)
+  MakesRoom old new =
+      ((slab_len old < MOST_LINES) × (new.slots ≡ old.slots)) ⊎ ((MOST_LINES ≤ slab_len old) × (key : ℕ) × IsOldest old key × Updates old new key None)
 
   -- It isn't opened, though room was made: it can't be watched, or memory for one more is wanting.
   pub record IsTurnedAway (deaf : Type 0) (old new : Slab (Line C)) : Type 0 where
@@ -63,7 +87,7 @@ module _ {C : Type 0} where
     pub needed : line.needed ≡ 0
     pub waits : line.answer ≡ None
 
-  -- it is open under a key that was free, and another was closed for it at most
+  -- it is open under a key that was free, once room was made for it
   pub record IsOpened (now : Instant) (stream : C) (key : ℕ) (old new : Slab (Line C)) : Type 0 where
     pub room : Slab (Line C)
     pub made : MakesRoom old room
@@ -121,10 +145,6 @@ module _ {C : Type 0} (connection : ConnectionGhosts C) (site : Site) {B : Type 
   abbrev pub IsAttended : Line C → Line C → B → B → Type 0
   IsAttended old new before after =
       IfSome old.answer (λ answer. IsHandedOn old new before after answer.items) × (old.answer ≡ None → IsHeard old new before after)
-
-  -- it took its whole answer
-  abbrev pub IsSpent : Line C → Type 0
-  IsSpent line = IsSomeAnd line.answer (λ answer. length answer.items ≤ line.sent)
 
   -- no request can come of it, or it can't take its answer: it is lost, or told to have taken more than that
   abbrev pub IsSpoiled : Line C → Line C → Type 0

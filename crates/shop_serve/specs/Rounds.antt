@@ -1,14 +1,15 @@
 -- The turns of a server: which connections a port reports and gives, and what is done with them.
-use Rattle.std.specs.Prelude.{◌≡◌, ◌⊎◌, ℕ, List, [], ◌∷◌, ◌++◌, length, Option, Some, None, Result, Ok, ⊤}
+use Rattle.std.specs.Prelude.{◌≡◌, ◌≤◌, ◌⊎◌, ℕ, List, [], ◌∷◌, ◌++◌, length, Option, Some, None, Result, Ok, ⊤}
 use Rattle.std.specs.List.{flat_map}
 use Rattle.mio.specs.Event.{event_token}
 use Rattle.mio.specs.declared.event.event.Event.{Event}
-use Rattle.slab.specs.Slab.{Slab, get}
+use Rattle.slab.specs.Slab.{Slab, get, slab_len}
 use Rattle.std.specs.declared.time.Instant.{Instant}
 use Rattle.shop_book.specs.declared.books.Book.{Ghosts}
 use Rattle.shop_serve.specs.declared.connections.Connection.{Ghosts as ConnectionGhosts}
 use Rattle.shop_serve.specs.declared.lines.Fate.{Fate}
 use Rattle.shop_serve.specs.declared.lines.Line.{Line}
+use Rattle.shop_serve.specs.declared.lines.TheConstants.{MOST_LINES}
 use Rattle.shop_serve.specs.declared.sites.Site.{Site}
 use Rattle.shop_serve.specs.Lines.{AreAttended, ClosesLate, IsAttendedAt, IsOpened, IsTurnedAway}
 
@@ -74,6 +75,12 @@ module _ {C : Type 0} (connection : ConnectionGhosts C) (site : Site) {B : Type 
   AreRounds [] old new before after = (new ≡ old) × (after ≡ before)
   AreRounds (round ∷ rounds) old new before after =
       (lines : Slab (Line C)) × (mid : B) × IsRound round old lines before mid × AreRounds rounds lines new mid after
+
+  -- where none is open at first, no more are behind the turns than may be
+  abbrev pub FewAreOpen : Type 0
+  FewAreOpen =
+      (rounds : List (Round C)) (first last : Slab (Line C)) (before after : B) → AreRounds rounds first last before after → ((key : ℕ) → get first key ≡ None)
+      → slab_len last ≤ MOST_LINES
 
   -- As many connections came as the limit says, and each is closed: each key that was reported was attended to, turn after turn,
   -- and each connection that was given was received.

@@ -1,13 +1,20 @@
-//! What holds of connections that tell all.
+//! What holds of connections that tell all, and of all that are open.
 
 ghost use Rattle.shop_serve.specs.Known.{WholeIsAnswered};
+ghost use Rattle.shop_serve.specs.Rounds.{FewAreOpen};
 ghost use Rattle.shop_serve.specs.declared.sites.Site.{Site as SiteGhost};
 
 use crate::connections::Connection;
+use crate::ports::Port;
 use shop_book::Book;
 
 /// A connection that brings a whole request, and is attended to when it comes, has its answer: it took first bytes of the
 /// answer to its own bytes.
 pub(crate) fn whole_is_answered<C: Connection, B: Book>()
     ensures { (site : SiteGhost) → WholeIsAnswered C.Connection site B.Book }
+{}
+
+/// Turn after turn, from none open on, at most 256 connections are open.
+pub(crate) fn few_are_open<C: Connection, P: Port<C>, B: Book>()
+    ensures { (site : SiteGhost) → FewAreOpen C.Connection site B.Book ((p : P) × P.is_deaf p) }
 {}

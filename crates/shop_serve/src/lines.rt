@@ -1,10 +1,11 @@
 //! The open connections: how long each has, what came of it, and how much of its answer was handed over.
 
-ghost use Rattle.std.specs.Prelude.{◌≡◌, ◌≢◌, ◌⊎◌, ◌<◌, ◌≤◌, ◌+◌, length, None, IfSome, IsSome, IsSomeAnd};
+ghost use Rattle.std.specs.Prelude.{◌≡◌, ◌≢◌, ◌⊎◌, ◌<◌, ◌≤◌, ◌+◌, ◌↔◌, length, None, true, false, IfSome, IsSome, IsSomeAnd};
+ghost use Rattle.std.specs.Time.{instant_nanos};
 ghost use Rattle.std.specs.Io.KnownBytes.{IsAtEnd};
 ghost use Rattle.shop_request.specs.Reading.{IsReadOn};
 ghost use Rattle.shop_request.specs.Senses.{IsSettled};
-ghost use Rattle.shop_serve.specs.Lines.{AwaitsMore, ClosesLate, IsAttended, IsAttendedAt, IsClosedBy, IsMute, IsOpened, IsSpoiled, IsTurnedAway, MakesRoom, TakesAnswer, is_late, unanswered};
+ghost use Rattle.shop_serve.specs.Lines.{AwaitsMore, ClosesLate, IsAttended, IsAttendedAt, HasRoom, IsClosedBy, IsMute, IsOldest, IsOpened, IsSpoiled, IsTurnedAway, MakesRoom, MayGo, NoneMayGo, TakesAnswer, is_late, unanswered};
 ghost use Rattle.shop_serve.specs.declared.lines.Fate.TheVariants as fate;
 ghost use Rattle.shop_serve.specs.Serving.{Advances, HasServed, IsAnswered};
 ghost use Rattle.shop_serve.specs.declared.transfers.Given.TheVariants as given;
@@ -222,25 +223,32 @@ pub(crate) fn attend_at<C: Connection + Drop, B: Book>(
 }
 
 // Whether a connection may be closed for another: its answer isn't on its way.
-fn may_go<C>(line: &Line<C>) -> bool {
+fn may_go<C>(line: &Line<C>) -> bool
+    ensures { result ≡ true ↔ MayGo line.now }
+{
     match &line.answer {
         None => true,
         Some(answer) => line.sent >= answer.len(),
     }
 }
 
+// Whether a moment is before that of what was found so far.
+fn is_older(found: Option<(usize, Instant)>, since: Instant) -> bool
+    ensures older { result ≡ true → IfSome found (λ f. instant_nanos since ≤ instant_nanos f.1) }
+    ensures younger { result ≡ false
+        → IsSomeAnd found (λ f. instant_nanos f.1 ≤ instant_nanos since) }
+{
+    found.is_none_or(|(_, first)| since < first)
+}
+
 // The key of the oldest connection whose answer isn't on its way.
-fn oldest<C>(lines: &Slab<Line<C>>) -> Option<usize> {
+fn oldest<C>(lines: &Slab<Line<C>>) -> Option<usize>
+    ensures found { IfSome result (IsOldest lines.now) }
+    ensures none { result ≡ None → NoneMayGo lines.now }
+{
     let mut found: Option<(usize, Instant)> = None;
     for (key, line) in lines.iter() {
-        if !may_go(line) {
-            continue;
-        }
-        let is_older = match found {
-            Some((_, since)) => line.since < since,
-            None => true,
-        };
-        if is_older {
+        if may_go(line) && is_older(found, line.since) {
             found = Some((key, line.since));
         }
     }
@@ -251,12 +259,15 @@ fn oldest<C>(lines: &Slab<Line<C>>) -> Option<usize> {
 }
 
 /// Whether one connection more may be open, be it in another's place.
-pub(crate) fn has_room<C>(lines: &Slab<Line<C>>) -> bool {
+pub(crate) fn has_room<C>(lines: &Slab<Line<C>>) -> bool
+    ensures { result ≡ true ↔ HasRoom lines.now }
+{
     lines.len() < MOST_LINES || oldest(lines).is_some()
 }
 
 /// Closes the oldest connection whose answer isn't on its way, where there are as many as may be.
 fn make_room<C: Drop>(lines: &mut Slab<Line<C>>)
+    requires room { HasRoom lines.old }
     ensures room { MakesRoom lines.old lines.new }
     ensures fewer { unanswered lines.new ≤ unanswered lines.old }
 {
@@ -276,6 +287,7 @@ pub(crate) fn open_line<C: Drop, P: Port<C>>(
     now: Instant,
     lines: &mut Slab<Line<C>>,
 ) -> Option<usize>
+    requires room { HasRoom lines.old }
     ensures opened { IfSome result (λ key. IsOpened now stream key lines.old lines.new) }
     ensures closed { result ≡ None → IsTurnedAway ((p : P) × P.is_deaf p) lines.old lines.new }
     ensures fewer { unanswered lines.new ≤ unanswered lines.old + 1 }

@@ -1,7 +1,7 @@
 //! The turns of a server: it waits, attends to connections, closes late ones and accepts those that wait.
 
 ghost use Rattle.std.specs.Prelude.{◌≡◌, ◌≤◌, ◌+◌, List, length, IfErr, OnOk};
-ghost use Rattle.shop_serve.specs.Lines.{AreAttended, unanswered};
+ghost use Rattle.shop_serve.specs.Lines.{AreAttended, HasRoom, unanswered};
 ghost use Rattle.shop_serve.specs.Rounds.{Adds, AreReceived, HasServedAll, IsReceived, IsRound};
 ghost use Rattle.shop_serve.specs.Serving.{Advances, HasServed, IsUnserved};
 ghost use Rattle.shop_serve.specs.declared.faults.ServeFault.TheVariants.{Port as Fault};
@@ -33,6 +33,7 @@ fn receive<C: Connection + Drop, P: Port<C>, B: Book>(
     lines: &mut Slab<Line<C>>,
     book: &mut B,
 )
+    requires room { HasRoom lines.old }
     ensures received { IsReceived C.Connection site.now B.Book
         ((p : P) × P.is_deaf p) now stream lines.old lines.new book.old book.new }
     ensures told { P.told port.new ≡ P.told port.old }

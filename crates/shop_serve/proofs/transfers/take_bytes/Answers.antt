@@ -1,4 +1,4 @@
-use Rattle.std.proofs.Common.{◌≡◌, ◌∙◌, ◌<◌, ◌++◌, inl, subst, sym, ap, length, arith}
+use Rattle.std.proofs.Common.{◌∙◌, ◌<◌, ◌++◌, inl, subst, sym, ap, length, arith}
 use Rattle.shop_request.proofs.Behind.{read_more}
 use Rattle.shop_request.specs.Senses.{IsSettled, IsUnfinished}
 use Rattle.shop_serve.specs.Lines.{AwaitsMore}

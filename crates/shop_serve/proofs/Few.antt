@@ -1,0 +1,72 @@
+-- How many connections are open, turn after turn.
+use Rattle.std.proofs.Common.{◌≡◌, ℕ, ◌≤◌, ◌<◌, is_some, List, [], ◌∷◌, count_by, inl, inr, refl, ap, arith}
+use Rattle.std.specs.Prelude.{Option, Some, None}
+use Rattle.std.specs.declared.time.Instant.{Instant}
+use Rattle.slab.specs.Slab.{Slab, get, slab_len}
+use Rattle.shop_book.specs.declared.books.Book.{Ghosts}
+use Rattle.shop_serve.specs.declared.connections.Connection.{Ghosts as ConnectionGhosts}
+use Rattle.shop_serve.specs.declared.lines.Fate.{Fate}
+use Rattle.shop_serve.specs.declared.lines.Line.{Line}
+use Rattle.shop_serve.specs.declared.lines.TheConstants.{MOST_LINES}
+use Rattle.shop_serve.specs.declared.sites.Site.{Site}
+use Rattle.shop_serve.specs.Lines.{AreAttended, IsAttendedAt, IsOpened, IsTurnedAway, MakesRoom}
+use Rattle.shop_serve.specs.Rounds.{AreReceived, AreRounds, FewAreOpen, IsReceived, IsRound, Round}
+use Rattle.shop_serve.proofs.Counts.{one, one-most, count-but, count-fewer}
+use Rattle.shop_serve.proofs.Slots.{late-fewer}
+
+module _ {C : Type 0} where
+  abbrev counted : Option (Line C) → ℕ
+  counted slot = one is_some refl slot
+
+  none-few : (lines : Slab (Line C)) → ((key : ℕ) → get lines key ≡ None) → slab_len lines ≤ MOST_LINES
+  none-few lines none = omega (arith, count-fewer is_some refl [] lines.slots (λ key. omega (arith, ap counted (none key))))
+
+  room-made : (old room : Slab (Line C)) → slab_len old ≤ MOST_LINES → MakesRoom old room → slab_len room < MOST_LINES
+  room-made old room few (inl (less, same)) = omega (arith, less, ap (count_by is_some) same)
+  room-made old room few (inr (full, key, oldest, gone)) =
+      omega (arith, few, count-but is_some refl key old.slots room.slots gone.others, ap counted gone.changed, ap counted oldest.there)
+
+  opened-few : (now : Instant) (stream : C) (key : ℕ) (old new : Slab (Line C)) → slab_len old ≤ MOST_LINES → IsOpened now stream key old new → slab_len new ≤ MOST_LINES
+  opened-few now stream key old new few o =
+      omega (arith, room-made old o.room few o.made, count-but is_some refl key o.room.slots new.slots o.there.others, ap counted o.there.changed, ap counted o.free)
+
+  turned-few : (deaf : Type 0) (old new : Slab (Line C)) → slab_len old ≤ MOST_LINES → IsTurnedAway deaf old new → slab_len new ≤ MOST_LINES
+  turned-few deaf old new few t = omega (arith, room-made old t.room few t.made, ap (count_by is_some) t.same)
+
+module _ {C : Type 0} (connection : ConnectionGhosts C) (site : Site) {B : Type 0} (book : Ghosts B) (deaf : Type 0) where
+  attended-fewer : (fate : Fate) (key : ℕ) (old new : Slab (Line C)) (before after : B) → IsAttendedAt connection site book fate key old new before after → slab_len new ≤ slab_len old
+  attended-fewer fate key old new before after attended = by_slot (get old key) refl
+    where
+      by_slot : (slot : Option (Line C)) → get old key ≡ slot → slab_len new ≤ slab_len old
+      by_slot None is = omega (arith, count-but is_some refl key old.slots new.slots attended.others, ap counted is, ap counted (attended.absent is).0)
+      by_slot (Some line) is = omega (arith, count-but is_some refl key old.slots new.slots attended.others, ap counted is, one-most is_some refl (get new key))
+
+  each-fewer : (keys : List ℕ) (old new : Slab (Line C)) (before after : B) → AreAttended connection site book keys old new before after → slab_len new ≤ slab_len old
+  each-fewer [] old new before after run = omega (arith, ap (λ (s : Slab (Line C)). slab_len s) run.0)
+  each-fewer (key ∷ keys) old new before after run =
+      omega (arith, attended-fewer run.0 key old run.1 before run.2 run.3, each-fewer keys run.1 new run.2 after run.4)
+
+  received-few : (now : Instant) (stream : C) (old new : Slab (Line C)) (before after : B) → slab_len old ≤ MOST_LINES → IsReceived connection site book deaf now stream old new before after
+      → slab_len new ≤ MOST_LINES
+  received-few now stream old new before after few (inl away) = turned-few deaf old new few away.0
+  received-few now stream old new before after few (inr here) =
+      omega (arith, opened-few now stream here.key old here.lines few here.opened, attended-fewer here.fate here.key here.lines new before after here.attended)
+
+  came-few : (now : Instant) (came : List C) (old new : Slab (Line C)) (before after : B) → slab_len old ≤ MOST_LINES → AreReceived connection site book deaf now came old new before after
+      → slab_len new ≤ MOST_LINES
+  came-few now [] old new before after few run = omega (arith, few, ap (λ (s : Slab (Line C)). slab_len s) run.0)
+  came-few now (stream ∷ came) old new before after few run =
+      came-few now came run.0 new run.1 after (received-few now stream old run.0 before run.1 few run.2) run.3
+
+  round-few : (round : Round C) (old new : Slab (Line C)) (before after : B) → slab_len old ≤ MOST_LINES → IsRound connection site book deaf round old new before after → slab_len new ≤ MOST_LINES
+  round-few round old new before after few r =
+      came-few round.now round.came r.kept new r.mid after
+      (omega (arith, few, each-fewer round.keys old r.attended before r.mid r.each, late-fewer is_some refl round.now r.attended r.kept r.late)) r.received
+
+  rounds-few : (rounds : List (Round C)) (old new : Slab (Line C)) (before after : B) → slab_len old ≤ MOST_LINES → AreRounds connection site book deaf rounds old new before after → slab_len new ≤ MOST_LINES
+  rounds-few [] old new before after few run = omega (arith, few, ap (λ (s : Slab (Line C)). slab_len s) run.0)
+  rounds-few (round ∷ rounds) old new before after few run =
+      rounds-few rounds run.0 new run.1 after (round-few round old run.0 before run.1 few run.2) run.3
+
+  pub few_are_open : FewAreOpen connection site book deaf
+  few_are_open rounds first last before after run none = rounds-few rounds first last before after (none-few first none) run
