@@ -1,6 +1,6 @@
 -- The rows of a content's jobs and demands that wait or are open, as they are listed beside the tables.
 use Rattle.std.proofs.Common.{◌≡◌, ℕ, zero, suc, Bool, true, false, true≢false, cond, ◌&&◌, List, [], ◌∷◌, map, filter, take, Option, Some, None, is_some, not, refl, sym, ap, subst, ◌∙◌, arith}
-use Rattle.std.specs.Prelude.{T, IfSome, IsTrue, nat_lt, length, ◌<◌}
+use Rattle.std.specs.Prelude.{Result, Ok, Err, IfOk, T, IfSome, IsTrue, nat_lt, length, ◌<◌}
 use Rattle.std.specs.Option.{option_to_list}
 use Rattle.std.proofs.lemmas.Map.Entries.{option_filter}
 use Rattle.std.proofs.lemmas.Bool.{lt-ltb}
@@ -8,9 +8,12 @@ use Rattle.std.proofs.lemmas.List.Elements.{filter_agree}
 use Rattle.std.specs.Ordering.{eq_by_cmp, is_eq, nat_cmp}
 use Rattle.std.specs.Cmp.{alike_right, eq_by_cmp_equiv, nat_cmp_total, tied_itself}
 use Rattle.std.specs.FinMap.{FinMap, empty, entries_sorted, find, get, get-empty, get-entries, get-insert, insert, is_sorted, nat_cmp-IsAntisymmetric, values}
-use Rattle.sqlite.specs.State.{State}
+use Rattle.sqlite.specs.State.{State, HasCleanDisk}
+use Rattle.sqlite.specs.Effect.{Database}
+use Rattle.sqlite_trees.specs.Tree.{Trees}
+use Rattle.shop_statements.specs.Layout.{IsShop}
 use Rattle.shop_tables.specs.Held.{books}
-use Rattle.shop_statements.specs.Shown.{Books, Holds}
+use Rattle.shop_statements.specs.Shown.{Books, Holds, Leaves}
 use Rattle.sqlite_trees.proofs.ListLemmas.{filter-map}
 use Rattle.cut_tree.proofs.FirstWords.{all_taken}
 use Rattle.shop_records.specs.Columns.{is_waiting}
@@ -26,7 +29,9 @@ use Rattle.shop_rows.specs.Rows.{entries_of, rise, row_at, IsPut, IsTaken}
 use Rattle.shop_rows.proofs.Listed.{filter_filter, tie}
 use Rattle.shop_rows.proofs.Named.{same_keys}
 use Rattle.shop_tables.proofs.Firsts.{rekeyed}
-use Rattle.shop_store.specs.OpenWork.{FindsOpen, HasNoNumber0, HasWork}
+use Rattle.shop_store.specs.OpenWork.{FindsOpen, HasNoNumber0, HasWork, ListsRows}
+use Rattle.shop_tables.specs.RowsShown.{SeesCommit}
+use Rattle.shop_store.specs.declared.open_work.OpenWork.{OpenWork}
 use Rattle.shop_store.proofs.Whole.{open_by}
 use Rattle.shop_store.proofs.PassingRows.{has_keys, is_found_filter, passing_at, passing_rise, same_rows}
 
@@ -202,3 +207,18 @@ open_by_demand s row told =
 pub if_both : {X : Type 0} (P Q R : X → Type 0) (found : Option X) → ((x : X) → P x → Q x → R x) → IfSome found P → IfSome found Q → IfSome found R
 if_both P Q R None f p q = tt
 if_both P Q R (Some x) f p q = f x p q
+
+-- ---- what a reading saw before the next
+
+-- an answer of the rows that a connection saw after a reading is one of those that it saw before
+pub stands_still : {X E : Type 0} (r : Result X E) (old mid : State) → Leaves old mid → HasCleanDisk mid → SeesCommit old → IfOk r (λ _. IsTrue mid.is_open) → (What : Trees → X → Type 0) → IsShop old.now.schema
+    → (IsShop mid.now.schema → IfOk r (What mid.now.trees)) → IfOk r (What old.now.trees)
+stands_still (Err e) old mid left clean sees up What h stands = tt
+stands_still (Ok x) old mid left clean sees up What h stands =
+    let was = left.as_was clean up in
+    let same : mid.now ≡ old.now = was.now (sees was.was_open) in
+    subst (λ (d : Database). What d.trees x) same (stands (subst (λ (d : Database). IsShop d.schema) (sym same) h))
+
+-- what was listed before another reading
+pub lists_on : (old mid new : State) (before after : OpenWork) → (HasCleanDisk new → HasCleanDisk mid) → ListsRows old mid before after → ListsRows old new before after
+lists_on old mid new before after clean lists = record { kept = lists.kept; read = λ still. lists.read (clean still) }

@@ -1,5 +1,5 @@
 -- The waiting jobs and the open demands of a content, as they are listed beside the tables.
-use Rattle.std.specs.Prelude.{◌≡◌, ℕ, List, map as map_list, filter, Option, Some, None, true, IsTrue}
+use Rattle.std.specs.Prelude.{◌≡◌, ℕ, List, map as map_list, filter, Option, Some, None, true, false, IsTrue}
 use Rattle.std.proofs.lemmas.Map.Entries.{option_filter}
 use Rattle.std.specs.FinMap as map
 use Rattle.std.specs.Ordering.{nat_cmp}
@@ -11,7 +11,12 @@ use Rattle.shop_records.specs.Lists.{is_open, job_numbers}
 use Rattle.shop_rows.specs.Keys.{demand_key}
 use Rattle.shop_rows.specs.Open.{own_key, waits}
 use Rattle.shop_rows.specs.Rows.{rise, row_at}
+use Rattle.sqlite_trees.specs.Tree.{Trees}
+use Rattle.shop_statements.specs.Layout.{IsShop}
 use Rattle.shop_tables.specs.Held.{HoldsContent}
+use Rattle.shop_tables.specs.ListedRows.{listed_demand, number_row}
+use Rattle.shop_tables.specs.RowsShown.{AreDemandRows, AreJobRows, SeesCommit}
+use Rattle.shop_store.specs.declared.open_work.TheConstants.{TOO_MANY}
 use Rattle.shop_store.specs.declared.open_work.OpenWork.{OpenWork}
 
 -- The numbers are those of all jobs that wait, the rows are all open demands, and each job and demand stands under its own
@@ -33,6 +38,16 @@ FindsOpen find rows = (number : ℕ) → row_at demand_key nat_cmp number rows �
 -- if anything is listed, it is the content's
 abbrev pub KnowsWork : OpenWork → Content → Type 0
 KnowsWork work m = work.is_listed ≡ true → HasWork m work.jobs.items work.demands.items
+
+-- both lists are of the rows of their tables, each of which is a value, whether these stand for books or not
+abbrev pub IsReadFrom : Trees → OpenWork → Type 0
+IsReadFrom db work =
+    AreJobRows 0 TOO_MANY (db 6) (map_list number_row work.jobs.items) × AreDemandRows 0 None TOO_MANY (db 9) (map_list listed_demand work.demands.items)
+
+-- What was listed stays, and what is listed now is of the rows that the connection saw.
+pub record ListsRows (old new : State) (before after : OpenWork) : Type 0 where
+  pub kept : before.is_listed ≡ true → after ≡ before
+  pub read : HasCleanDisk new → IsShop old.now.schema → SeesCommit old → before.is_listed ≡ false → after.is_listed ≡ true → IsReadFrom old.now.trees after
 
 -- both lists rise by their numbers
 abbrev pub WorkRises : OpenWork → Type 0

@@ -1,12 +1,12 @@
 //! The waiting jobs and the open demands, listed beside the tables from the first time that they are asked for.
 
-ghost use Rattle.std.specs.Prelude.{◌≡◌, ◌+◌, ◌<◌, ◌≤◌, ℕ, Option, false, true, filter, length, map, nat_lt, take, Some, None, vec_len, vec_capacity, IfOk, IfSome, IsTrue, OnOk, OnErr};
+ghost use Rattle.std.specs.Prelude.{◌≡◌, ◌&&◌, ◌+◌, ◌<◌, ◌≤◌, ℕ, Option, false, true, filter, length, map, nat_lt, take, Some, None, vec_len, vec_capacity, IfOk, IfSome, IsTrue, OnOk, OnErr};
 ghost use Rattle.std.specs.Option.{option_to_list};
 ghost use Rattle.std.specs.Ordering.{nat_cmp};
 ghost use Rattle.sqlite.specs.State.{HasCleanDisk, Survives};
 ghost use Rattle.sqlite.specs.Held.{state};
 ghost use Rattle.shop_records.specs.Content.{Content, changed};
-ghost use Rattle.shop_records.specs.Lists.{open_demands, waiting_jobs};
+ghost use Rattle.shop_records.specs.Lists.{is_asked_for, open_demands, waiting_jobs};
 ghost use Rattle.shop_records.specs.Soundness.{Fits};
 ghost use Rattle.shop_records.specs.declared.records.Demand.{Demand as DemandOf};
 ghost use Rattle.shop_records.specs.declared.records.Job.{Job as JobOf};
@@ -14,8 +14,11 @@ ghost use Rattle.shop_rows.specs.Keys.{demand_key, job_key};
 ghost use Rattle.shop_rows.specs.Open.{own_key, finds_with, finds_with_all, waits, AreInOrder, ListsNumbers};
 ghost use Rattle.shop_rows.specs.Rows.{rise};
 ghost use Rattle.shop_tables.specs.Held.{HoldsContent, LeavesOnly, StandsFor};
+ghost use Rattle.shop_statements.specs.Layout.{IsShop};
 ghost use Rattle.shop_statements.specs.Shown.{Leaves, OnBooks};
-ghost use Rattle.shop_store.specs.OpenWork.{FindsOpen, HasNoNumber0, HasWork, KnowsWork, WorkRises};
+ghost use Rattle.shop_tables.specs.ListedRows.{listed_demand, number_row};
+ghost use Rattle.shop_tables.specs.RowsShown.{AreDemandRows, AreJobRows, SeesCommit};
+ghost use Rattle.shop_store.specs.OpenWork.{FindsOpen, HasNoNumber0, HasWork, IsReadFrom, KnowsWork, ListsRows, WorkRises};
 ghost use Rattle.shop_store.specs.declared.open_work.TheConstants.{TOO_MANY};
 
 use crate::names::{PartNames, commit_listed};
@@ -111,6 +114,9 @@ fn find_work<S: Alter>(
         → HoldsContent (state S.Store conn.old) m
         → IfOk result (λ found. IfSome found
         (λ work. HasWork m work.jobs.items work.demands.items)) }
+    ensures stands { HasCleanDisk (state S.Store conn.new) → IsShop conn.old.schema
+        → SeesCommit (state S.Store conn.old) → IfOk result
+        (λ found. IfSome found (IsReadFrom (state S.Store conn.old).now.trees)) }
     ensures leaves { Leaves (state S.Store conn.old) (state S.Store conn.new) }
     ensures mode { conn.old.in_transaction ≡ false → conn.new.in_transaction ≡ false }
 {
@@ -130,6 +136,7 @@ fn list_work<S: Alter>(alloc: Global, conn: &mut Connection<S>, work: &mut OpenW
     ensures rising { WorkRises work.new }
     ensures work { HasCleanDisk (state S.Store conn.new) → (m : Content)
         → HoldsContent (state S.Store conn.old) m → KnowsWork work.old m → KnowsWork work.new m }
+    ensures lists { ListsRows (state S.Store conn.old) (state S.Store conn.new) work.old work.new }
     ensures leaves { Leaves (state S.Store conn.old) (state S.Store conn.new) }
     ensures mode { conn.old.in_transaction ≡ false → conn.new.in_transaction ≡ false }
 {
@@ -200,6 +207,13 @@ pub fn first_waiting<S: Alter>(
         ≡ take most (map (λ (job : JobOf). job.act) (waiting_jobs m after))) }
     ensures work { HasCleanDisk (state S.Store conn.new) → (m : Content)
         → HoldsContent (state S.Store conn.old) m → KnowsWork work.old m → KnowsWork work.new m }
+    ensures lists { ListsRows (state S.Store conn.old) (state S.Store conn.new) work.old work.new }
+    ensures stands { HasCleanDisk (state S.Store conn.new) → IsShop conn.old.schema
+        → SeesCommit (state S.Store conn.old) → work.new.is_listed ≡ false
+        → IfOk result (λ numbers. AreJobRows after most ((state S.Store conn.old).now.trees 6)
+        (map number_row numbers)) }
+    ensures listed { work.new.is_listed ≡ true → IfOk result (λ numbers. numbers
+        ≡ take most (filter (nat_lt after) work.new.jobs.items)) }
     ensures leaves { Leaves (state S.Store conn.old) (state S.Store conn.new) }
     ensures mode { conn.old.in_transaction ≡ false → conn.new.in_transaction ≡ false }
 {
@@ -227,6 +241,14 @@ pub fn first_open<S: Alter>(
         → IfOk result (λ rows. rows ≡ take most (open_demands m after material)) }
     ensures work { HasCleanDisk (state S.Store conn.new) → (m : Content)
         → HoldsContent (state S.Store conn.old) m → KnowsWork work.old m → KnowsWork work.new m }
+    ensures lists { ListsRows (state S.Store conn.old) (state S.Store conn.new) work.old work.new }
+    ensures stands { HasCleanDisk (state S.Store conn.new) → IsShop conn.old.schema
+        → SeesCommit (state S.Store conn.old) → work.new.is_listed ≡ false
+        → IfOk result (λ demands. AreDemandRows after material most
+        ((state S.Store conn.old).now.trees 9) (map listed_demand demands)) }
+    ensures listed { work.new.is_listed ≡ true → IfOk result (λ demands. demands
+        ≡ take most (filter (λ (demand : DemandOf). nat_lt after demand.number
+        && is_asked_for material demand.material) work.new.demands.items)) }
     ensures leaves { Leaves (state S.Store conn.old) (state S.Store conn.new) }
     ensures mode { conn.old.in_transaction ≡ false → conn.new.in_transaction ≡ false }
 {

@@ -17,7 +17,6 @@ use Rattle.sqlite_value.proofs.OrderLemmas.{then-Equal}
 use Rattle.sqlite_sql.specs.declared.ops.BinaryOp.TheVariants.{Compare}
 use Rattle.sqlite_sql.specs.declared.ops.CompareOp.TheVariants.{Gt, Lt}
 use Rattle.sqlite_sql.specs.Ops.{binary, is_true}
-use Rattle.sqlite.specs.declared.error.Error.{Error}
 use Rattle.sqlite.specs.declared.rows.Row.{Row as Answered}
 use Rattle.sqlite.specs.Query.{Output, as_count, limited}
 use Rattle.sqlite.specs.Program.{IsProgramAnswer}
@@ -49,7 +48,7 @@ use Rattle.shop_statements.proofs.Terms.{from_table}
 use Rattle.shop_statements.proofs.Texts.{shop, shop_is}
 
 -- what a query's rows are on held books
-pub held_given : (sql : List ℕ) (params : Row) (old new : State) (is : is_select sql ≡ true) (left : is_select sql ≡ true → Leaves old new) (b : Books) (P : List Row → Type 0) (r : Result (Vec Answered Global) Error) → HasCleanDisk new → Holds old b
+pub held_given : {E : Type 0} (sql : List ℕ) (params : Row) (old new : State) (is : is_select sql ≡ true) (left : is_select sql ≡ true → Leaves old new) (b : Books) (P : List Row → Type 0) (r : Result (Vec Answered Global) E) → HasCleanDisk new → Holds old b
     → ((rows : List Row) → Shows old b → Shown sql params old new rows → P rows) → IfOk r (λ rows. Shown sql params old new rows.items) → IfOk r (λ rows. P rows.items)
 held_given sql params old new is left b P r clean was finds given =
     let before : HasCleanDisk old = let l = (left is).survives.clean in omega (arith, l) in
@@ -80,7 +79,7 @@ less-Int m n = told _ ∙ ap is_lt (ranked m n) ∙ is_less m n
 by_number : (a b : ℕ) → ordering_then (value_cmp (Int (pos a)) (Int (pos b))) Equal ≡ nat_cmp a b
 by_number a b = then-Equal (value_cmp (Int (pos a)) (Int (pos b))) ∙ ranked a b
 
-and_and : (a b c : Bool) → (a && (b && c)) ≡ ((a && b) && c)
+pub and_and : (a b c : Bool) → (a && (b && c)) ≡ ((a && b) && c)
 and_and true b c = refl
 and_and false b c = refl
 

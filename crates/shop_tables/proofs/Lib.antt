@@ -24,3 +24,5 @@ pub mod Falling
 pub mod FirstRows
 pub mod LastNumbers
 pub mod FirstParts
+pub mod RowsAsShown
+pub mod HandedOut

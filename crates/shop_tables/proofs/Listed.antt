@@ -85,7 +85,7 @@ first_parts [] named (r ∷ given) tail (p ∷ parts) is read = absurd (cc)
 first_parts (e ∷ es) named (r ∷ given) tail (p ∷ parts) is read =
     let head : r ≡ part_row e = cc in
     let more : given ++ tail ≡ map part_row es = cc in
-    let own : p ≡ e.1 = read.0 e head ∙ (λ i. record e.1 { name = sym named.0 i }) in
+    let own : p ≡ e.1 = read.0.0 e head ∙ (λ i. record e.1 { name = sym named.0 i }) in
     let next = first_parts es named.1 given tail parts more read.1 in
     (next.0, (λ i. sym own i ∷ next.1 i), next.2)
 

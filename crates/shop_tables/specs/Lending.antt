@@ -1,5 +1,5 @@
 -- Parts that are lent one row at a time.
-use Rattle.std.specs.Prelude.{◌≡◌, ◌⊎◌, ℕ, Bool, true, false, List, [], ◌∷◌, ◌++◌, ⊤, IsTrue, IfOk, Result, Ok, Err}
+use Rattle.std.specs.Prelude.{◌≡◌, ◌⊎◌, ℕ, Bool, true, false, List, [], ◌∷◌, ◌++◌, map, ⊤, IsTrue, IfOk, Result, Ok, Err}
 use Rattle.sqlite_value.specs.Order.{Row}
 use Rattle.sqlite_trees.specs.declared.store.Store.{Ghosts}
 use Rattle.sqlite.specs.Held.{Held, state}
@@ -11,13 +11,15 @@ use Rattle.shop_statements.specs.declared.faults.TableFault.{TableFault}
 use Rattle.shop_statements.specs.declared.faults.TableFault.TheVariants as fault
 use Rattle.shop_tables.specs.declared.lending.Lent.{Lent}
 use Rattle.shop_tables.specs.declared.lending.Lent.TheVariants as lent
+use Rattle.shop_statements.specs.Found.{columns_of}
 use Rattle.shop_statements.specs.Rows.{part_row}
+use Rattle.shop_tables.specs.ListedRows.{listed_part}
 use Rattle.shop_statements.specs.Shown.{Books, Holds, IsAsWas}
 use Rattle.shop_tables.specs.Strange.{IsNoPart}
 
--- the part is the one that the row is of
+-- the part is the one that the row is of, which has its columns
 abbrev pub IsReadOf : Row → Part → Type 0
-IsReadOf row part = (e : Name × Part) → row ≡ part_row e → part ≡ record e.1 { name = e.0 }
+IsReadOf row part = ((e : Name × Part) → row ≡ part_row e → part ≡ record e.1 { name = e.0 }) × (columns_of 12 0 row ≡ listed_part part)
 
 -- each part is of its row
 abbrev pub AreReadOf : List Row → List Part → Type 0
@@ -25,6 +27,14 @@ AreReadOf [] [] = ⊤
 AreReadOf [] (p ∷ parts) = ⊥
 AreReadOf (r ∷ rows) [] = ⊥
 AreReadOf (r ∷ rows) (p ∷ parts) = IsReadOf r p × AreReadOf rows parts
+
+-- The parts were handed out in turn, and what is shown begins with their rows; it ends with them where the visitor went on.
+pub record HandsOut {V : Type 0} (looks : V → Part → Bool → V → Type 0) (shows : List Row → Type 0) (before after : V) (on : Bool) : Type 0 where
+  pub parts : List Part
+  pub rest : List Row
+  pub shown : shows (map listed_part parts ++ rest)
+  pub seen : HasSeen looks parts on before after
+  pub whole : IsTrue on → rest ≡ []
 
 -- whether each part was answered true
 abbrev pub went_on : Lent → Bool

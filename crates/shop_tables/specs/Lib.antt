@@ -6,3 +6,4 @@ pub mod Lending
 pub mod Listing
 pub mod Adopting
 pub mod ListedRows
+pub mod RowsShown

@@ -1,7 +1,10 @@
 //! The first listed parts of a material, from its first on or behind a name.
 
-ghost use Rattle.std.specs.Prelude.{◌≡◌, false, map, take, Some, None, IfOk};
+ghost use Rattle.std.specs.Prelude.{◌≡◌, false, map, take, Some, None, IfOk, IsTrue};
 ghost use Rattle.sqlite.specs.Held.{state};
+ghost use Rattle.sqlite.specs.State.{HasCleanDisk};
+ghost use Rattle.shop_statements.specs.Layout.{IsShop};
+ghost use Rattle.shop_tables.specs.RowsShown.{ArePartRows, GivesRows};
 ghost use Rattle.shop_records.specs.Lists.{parts_behind};
 ghost use Rattle.shop_tables.specs.ListedRows.{listed_part};
 ghost use Rattle.shop_statements.specs.Shown.{Leaves, OnBooks};
@@ -18,10 +21,10 @@ fn first_rows<S: Alter>(
     material: Code,
     most: usize,
 ) -> Result<Vec<Row>, TableFault>
-    ensures rows { OnBooks (state S.Store conn.old) (state S.Store conn.new)
-        (λ books. IfOk result (λ rows. rows.items
-        ≡ map listed_part (take most (parts_behind books.content material None)))) }
-    ensures leaves { Leaves (state S.Store conn.old) (state S.Store conn.new) }
+    ensures gives { GivesRows (state S.Store conn.old) (state S.Store conn.new) result
+        (λ books rows. rows ≡ map listed_part
+        (take most (parts_behind books.content material None)))
+        (λ db. ArePartRows material None (Some most) (db 4)) }
     ensures mode { conn.old.in_transaction ≡ false → conn.new.in_transaction ≡ false }
 {
     let limit = at_most(most)?;
@@ -39,10 +42,10 @@ fn rows_behind<S: Alter>(
     after: PartName,
     most: usize,
 ) -> Result<Vec<Row>, TableFault>
-    ensures rows { OnBooks (state S.Store conn.old) (state S.Store conn.new)
-        (λ books. IfOk result (λ rows. rows.items
-        ≡ map listed_part (take most (parts_behind books.content material (Some after))))) }
-    ensures leaves { Leaves (state S.Store conn.old) (state S.Store conn.new) }
+    ensures gives { GivesRows (state S.Store conn.old) (state S.Store conn.new) result
+        (λ books rows. rows ≡ map listed_part
+        (take most (parts_behind books.content material (Some after))))
+        (λ db. ArePartRows material (Some after) (Some most) (db 4)) }
     ensures mode { conn.old.in_transaction ≡ false → conn.new.in_transaction ≡ false }
 {
     let limit = at_most(most)?;
@@ -60,10 +63,10 @@ fn part_rows<S: Alter>(
     after: Option<PartName>,
     most: usize,
 ) -> Result<Vec<Row>, TableFault>
-    ensures rows { OnBooks (state S.Store conn.old) (state S.Store conn.new)
-        (λ books. IfOk result (λ rows. rows.items
-        ≡ map listed_part (take most (parts_behind books.content material after)))) }
-    ensures leaves { Leaves (state S.Store conn.old) (state S.Store conn.new) }
+    ensures gives { GivesRows (state S.Store conn.old) (state S.Store conn.new) result
+        (λ books rows. rows ≡ map listed_part
+        (take most (parts_behind books.content material after)))
+        (λ db. ArePartRows material after (Some most) (db 4)) }
     ensures mode { conn.old.in_transaction ≡ false → conn.new.in_transaction ≡ false }
 {
     match after {
@@ -84,6 +87,11 @@ pub fn list_first_parts<S: Alter>(
     ensures rows { OnBooks (state S.Store conn.old) (state S.Store conn.new)
         (λ books. IfOk result (λ rows. rows
         ≡ take most (parts_behind books.content material after))) }
+    ensures stands { HasCleanDisk (state S.Store conn.new) → IsShop conn.old.schema
+        → IfOk result (λ parts. ArePartRows material after (Some most)
+        ((state S.Store conn.old).now.trees 4) (map listed_part parts)) }
+    ensures was_open { HasCleanDisk (state S.Store conn.new)
+        → IfOk result (λ _. IsTrue (state S.Store conn.old).is_open) }
     ensures leaves { Leaves (state S.Store conn.old) (state S.Store conn.new) }
     ensures mode { conn.old.in_transaction ≡ false → conn.new.in_transaction ≡ false }
 {

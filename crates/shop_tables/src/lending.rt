@@ -1,11 +1,14 @@
 //! Parts that a query lends one row at a time.
 
-ghost use Rattle.std.specs.Prelude.{◌≡◌, ◌≢◌, true, false, IfOk, IfSome, IfNone};
+ghost use Rattle.std.specs.Prelude.{◌≡◌, ◌≢◌, true, false, None, IfOk, IfSome, IfNone};
 ghost use Rattle.sqlite.specs.Held.{state};
 ghost use Rattle.sqlite.specs.Values.{bound};
 ghost use Rattle.std.specs.FinMap.{values};
 ghost use Rattle.shop_statements.specs.Earlier.{OnBooksEarlier};
-ghost use Rattle.shop_tables.specs.Lending.{IsLent, IsReadOf, gone_through};
+ghost use Rattle.sqlite.specs.State.{HasCleanDisk};
+ghost use Rattle.shop_statements.specs.Layout.{IsShop};
+ghost use Rattle.shop_tables.specs.Lending.{HandsOut, IsLent, IsReadOf, gone_through};
+ghost use Rattle.shop_tables.specs.RowsShown.{ArePartRows, SeesCommit};
 ghost use Rattle.shop_statements.specs.Selecting.{is_select};
 ghost use Rattle.shop_statements.specs.Shown.{Leaves, OnBooks};
 ghost use Rattle.shop_tables.specs.Strange.{IsNoPart};
@@ -102,6 +105,10 @@ pub fn lend_parts<S: Alter, V: PartVisitor>(
     ensures visit { IsVisit V.looks
         (λ what. OnBooks (state S.Store conn.old) (state S.Store conn.new)
         (λ books. what (parts_of books.content material))) visitor.old result visitor.new }
+    ensures stands { HasCleanDisk (state S.Store conn.new) → IsShop conn.old.schema
+        → SeesCommit (state S.Store conn.old)
+        → IfOk result (HandsOut V.looks (ArePartRows material None None
+        ((state S.Store conn.old).now.trees 4)) visitor.old visitor.new) }
     ensures leaves { Leaves (state S.Store conn.old) (state S.Store conn.new) }
     ensures mode { conn.old.in_transaction ≡ false → conn.new.in_transaction ≡ false }
 {

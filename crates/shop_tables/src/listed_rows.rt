@@ -2,6 +2,7 @@
 
 ghost use Rattle.std.specs.Prelude.{◌≡◌, List, map, pos, IfOk};
 ghost use Rattle.sqlite_value.specs.Order.{Row as Values};
+ghost use Rattle.shop_statements.specs.Found.{columns_of};
 
 use crate::lending::read_whole;
 use shop_records::{Demand, Material, Part, RowList};
@@ -11,18 +12,27 @@ use std::alloc::Global;
 
 /// What a row shows whole.
 pub(crate) trait Listed: Copy + Drop {
+    ghost use Rattle.std.specs.Prelude.{ℕ};
+
     /// The row of a value.
     ghost row_of: { Self → Values };
 
+    /// How many columns it has.
+    ghost width: { ℕ };
+
     /// The value of a row.
     fn read(row: &Row) -> Result<Self, TableFault>
-        ensures { (value : Self) → row.now ≡ row_of value → IfOk result (λ read. read ≡ value) };
+        ensures value { (value : Self) → row.now ≡ row_of value
+            → IfOk result (λ read. read ≡ value) }
+        ensures exact { IfOk result (λ read. columns_of width 0 row.now ≡ row_of read) };
 }
 
 impl Listed for Material {
     ghost use Rattle.shop_tables.specs.ListedRows.{listed_material};
 
     ghost row_of = { listed_material };
+
+    ghost width = { 5 };
 
     fn read(row: &Row) -> Result<Material, TableFault> {
         let code = code_in(row, 4)?;
@@ -35,6 +45,8 @@ impl Listed for Part {
 
     ghost row_of = { listed_part };
 
+    ghost width = { 12 };
+
     fn read(row: &Row) -> Result<Part, TableFault> {
         read_whole(row)
     }
@@ -44,6 +56,8 @@ impl Listed for Demand {
     ghost use Rattle.shop_tables.specs.ListedRows.{listed_demand};
 
     ghost row_of = { listed_demand };
+
+    ghost width = { 11 };
 
     fn read(row: &Row) -> Result<Demand, TableFault> {
         let number = number_in(row, 10)?;
@@ -55,6 +69,8 @@ impl Listed for u32 {
     ghost use Rattle.shop_tables.specs.ListedRows.{number_row};
 
     ghost row_of = { number_row };
+
+    ghost width = { 1 };
 
     fn read(row: &Row) -> Result<u32, TableFault> {
         number_in(row, 0)
@@ -79,8 +95,10 @@ pub(crate) fn at_most(most: usize) -> Result<Limit, TableFault>
 
 /// The values of these rows, in order.
 pub(crate) fn read_rows<T: Listed>(alloc: Global, rows: &[Row]) -> Result<RowList<T>, TableFault>
-    ensures { (values : List T) → rows.now ≡ map T.Listed.row_of values
+    ensures values { (values : List T) → rows.now ≡ map T.Listed.row_of values
         → IfOk result (λ list. list ≡ values) }
+    ensures exact { IfOk result
+        (λ list. map (columns_of T.Listed.width 0) rows.now ≡ map T.Listed.row_of list) }
 {
     let mut list = RowList::new(alloc);
     for row in rows {

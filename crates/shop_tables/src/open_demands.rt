@@ -1,7 +1,10 @@
 //! The demands of which not all pieces are made.
 
-ghost use Rattle.std.specs.Prelude.{◌≡◌, false, map, take, Some, None, IfOk};
+ghost use Rattle.std.specs.Prelude.{◌≡◌, false, map, take, Some, None, IfOk, IsTrue};
 ghost use Rattle.sqlite.specs.Held.{state};
+ghost use Rattle.sqlite.specs.State.{HasCleanDisk};
+ghost use Rattle.shop_statements.specs.Layout.{IsShop};
+ghost use Rattle.shop_tables.specs.RowsShown.{AreDemandRows, GivesRows};
 ghost use Rattle.shop_records.specs.Lists.{open_demands};
 ghost use Rattle.shop_tables.specs.ListedRows.{listed_demand};
 ghost use Rattle.shop_statements.specs.Shown.{Leaves, OnBooks};
@@ -18,10 +21,10 @@ fn demand_rows_of_all<S: Alter>(
     after: u32,
     most: usize,
 ) -> Result<Vec<Row>, TableFault>
-    ensures rows { OnBooks (state S.Store conn.old) (state S.Store conn.new)
-        (λ books. IfOk result (λ rows. rows.items
-        ≡ map listed_demand (take most (open_demands books.content after None)))) }
-    ensures leaves { Leaves (state S.Store conn.old) (state S.Store conn.new) }
+    ensures gives { GivesRows (state S.Store conn.old) (state S.Store conn.new) result
+        (λ books rows. rows ≡ map listed_demand
+        (take most (open_demands books.content after None)))
+        (λ db. AreDemandRows after None most (db 9)) }
     ensures mode { conn.old.in_transaction ≡ false → conn.new.in_transaction ≡ false }
 {
     let limit = at_most(most)?;
@@ -39,11 +42,10 @@ fn demand_rows_of<S: Alter>(
     material: Code,
     most: usize,
 ) -> Result<Vec<Row>, TableFault>
-    ensures rows { OnBooks (state S.Store conn.old) (state S.Store conn.new)
-        (λ books. IfOk result (λ rows. rows.items
-        ≡ map listed_demand (take most
-        (open_demands books.content after (Some material))))) }
-    ensures leaves { Leaves (state S.Store conn.old) (state S.Store conn.new) }
+    ensures gives { GivesRows (state S.Store conn.old) (state S.Store conn.new) result
+        (λ books rows. rows ≡ map listed_demand
+        (take most (open_demands books.content after (Some material))))
+        (λ db. AreDemandRows after (Some material) most (db 9)) }
     ensures mode { conn.old.in_transaction ≡ false → conn.new.in_transaction ≡ false }
 {
     let limit = at_most(most)?;
@@ -61,10 +63,10 @@ fn demand_rows<S: Alter>(
     material: Option<Code>,
     most: usize,
 ) -> Result<Vec<Row>, TableFault>
-    ensures rows { OnBooks (state S.Store conn.old) (state S.Store conn.new)
-        (λ books. IfOk result (λ rows. rows.items
-        ≡ map listed_demand (take most (open_demands books.content after material)))) }
-    ensures leaves { Leaves (state S.Store conn.old) (state S.Store conn.new) }
+    ensures gives { GivesRows (state S.Store conn.old) (state S.Store conn.new) result
+        (λ books rows. rows ≡ map listed_demand
+        (take most (open_demands books.content after material)))
+        (λ db. AreDemandRows after material most (db 9)) }
     ensures mode { conn.old.in_transaction ≡ false → conn.new.in_transaction ≡ false }
 {
     match material {
@@ -84,6 +86,11 @@ pub fn list_open_demands<S: Alter>(
     ensures rows { OnBooks (state S.Store conn.old) (state S.Store conn.new)
         (λ books. IfOk result (λ rows. rows
         ≡ take most (open_demands books.content after material))) }
+    ensures stands { HasCleanDisk (state S.Store conn.new) → IsShop conn.old.schema
+        → IfOk result (λ demands. AreDemandRows after material most
+        ((state S.Store conn.old).now.trees 9) (map listed_demand demands)) }
+    ensures was_open { HasCleanDisk (state S.Store conn.new)
+        → IfOk result (λ _. IsTrue (state S.Store conn.old).is_open) }
     ensures leaves { Leaves (state S.Store conn.old) (state S.Store conn.new) }
     ensures mode { conn.old.in_transaction ≡ false → conn.new.in_transaction ≡ false }
 {

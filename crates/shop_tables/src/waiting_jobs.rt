@@ -1,7 +1,10 @@
 //! The jobs that wait.
 
-ghost use Rattle.std.specs.Prelude.{◌≡◌, false, map, take, IfOk};
+ghost use Rattle.std.specs.Prelude.{◌≡◌, false, map, take, IfOk, IsTrue};
 ghost use Rattle.sqlite.specs.Held.{state};
+ghost use Rattle.sqlite.specs.State.{HasCleanDisk};
+ghost use Rattle.shop_statements.specs.Layout.{IsShop};
+ghost use Rattle.shop_tables.specs.RowsShown.{AreJobRows, GivesRows};
 ghost use Rattle.shop_records.specs.Lists.{waiting_jobs};
 ghost use Rattle.shop_records.specs.declared.records.Job.{Job};
 ghost use Rattle.shop_tables.specs.ListedRows.{number_row};
@@ -18,11 +21,10 @@ fn job_rows<S: Alter>(
     after: u32,
     most: usize,
 ) -> Result<Vec<Row>, TableFault>
-    ensures rows { OnBooks (state S.Store conn.old) (state S.Store conn.new)
-        (λ books. IfOk result (λ rows. rows.items
-        ≡ map number_row (take most
-        (map (λ (job : Job). job.act) (waiting_jobs books.content after))))) }
-    ensures leaves { Leaves (state S.Store conn.old) (state S.Store conn.new) }
+    ensures gives { GivesRows (state S.Store conn.old) (state S.Store conn.new) result
+        (λ books rows. rows ≡ map number_row
+        (take most (map (λ (job : Job). job.act) (waiting_jobs books.content after))))
+        (λ db. AreJobRows after most (db 6)) }
     ensures mode { conn.old.in_transaction ≡ false → conn.new.in_transaction ≡ false }
 {
     let limit = at_most(most)?;
@@ -44,6 +46,11 @@ pub fn list_waiting_jobs<S: Alter>(
     ensures numbers { OnBooks (state S.Store conn.old) (state S.Store conn.new)
         (λ books. IfOk result (λ numbers. numbers
         ≡ take most (map (λ (job : Job). job.act) (waiting_jobs books.content after)))) }
+    ensures stands { HasCleanDisk (state S.Store conn.new) → IsShop conn.old.schema
+        → IfOk result (λ numbers. AreJobRows after most ((state S.Store conn.old).now.trees 6)
+        (map number_row numbers)) }
+    ensures was_open { HasCleanDisk (state S.Store conn.new)
+        → IfOk result (λ _. IsTrue (state S.Store conn.old).is_open) }
     ensures leaves { Leaves (state S.Store conn.old) (state S.Store conn.new) }
     ensures mode { conn.old.in_transaction ≡ false → conn.new.in_transaction ≡ false }
 {

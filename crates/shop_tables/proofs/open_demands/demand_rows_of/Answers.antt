@@ -1,25 +1,21 @@
-use Rattle.std.proofs.Common.{◌≡◌, [], ◌∷◌, pos, map, take, Some, Ok}
+use Rattle.std.proofs.Common.{[], ◌∷◌, pos, Ok}
 use Rattle.sqlite.specs.Held.{state}
 use Rattle.sqlite_value.specs.declared.value.Value.TheVariants.{Int, Text}
-use Rattle.shop_records.specs.Lists.{open_demands}
-use Rattle.shop_tables.specs.ListedRows.{listed_demand}
-use Rattle.shop_tables.proofs.FirstRows.{held_given, lists_open_demands_of}
+use Rattle.shop_tables.proofs.FirstRows.{lists_open_demands_of}
 use Rattle.shop_tables.proofs.ListTexts.{open_demands_of_text, open_demands_of_selects}
+use Rattle.shop_tables.proofs.RowsAsShown.{gives, gives_none, open_demands_of_shown}
 use Rattle.shop_statements.proofs.Reading.{leaves_itself}
 use Rattle.shop_tables.proofs.open_demands.demand_rows_of.Goals as goal
 
-pub returns-in_err-limit-clause-leaves : goal.returns-in_err-limit-clause-leaves
-returns-in_err-limit-clause-leaves g c = leaves_itself _
+pub returns-in_err-limit-clause-gives : goal.returns-in_err-limit-clause-gives
+returns-in_err-limit-clause-gives g c = gives_none c.from_residual.result _ _ _ _ c.from_residual.ensures.0 (leaves_itself _)
 
-pub returns-in_err-rows-clause-leaves : goal.returns-in_err-rows-clause-leaves
-returns-in_err-rows-clause-leaves g c = c.all_rows.ensures.leaves open_demands_of_selects
+pub returns-in_err-rows-clause-gives : goal.returns-in_err-rows-clause-gives
+returns-in_err-rows-clause-gives g c = gives_none c.from_residual-in_err-rows.result _ _ _ _ c.from_residual-in_err-rows.ensures.0 (c.all_rows.ensures.leaves open_demands_of_selects)
 
-pub returns-clause-rows : goal.returns-clause-rows
-returns-clause-rows g c clean b was =
+pub returns-clause-gives : goal.returns-clause-gives
+returns-clause-gives g c =
     let old = state g.S.Store c.args.conn.now in
     let new = state g.S.Store c.all_rows.new.conn in
-    held_given open_demands_of_text (Int (pos c.args.after) ∷ Int (pos c.args.most) ∷ Text c.args.material ∷ []) old new open_demands_of_selects c.all_rows.ensures.leaves b (λ rows. rows ≡ map listed_demand (take c.args.most (open_demands b.content c.args.after (Some c.args.material)))) (Ok c.in_ok-rows.rows) clean was
-    (λ rows has. lists_open_demands_of old new b has c.args.after c.args.most c.args.material rows) (rw (c.params-to_sql.ensures, c.params-to_sql-2.ensures, c.params-to_sql-3.ensures, c.in_ok-limit.ensures, c.as_str.ensures.value) at (c.in_ok-rows.ensures.rows clean))
-
-pub returns-clause-leaves : goal.returns-clause-leaves
-returns-clause-leaves g c = c.all_rows.ensures.leaves open_demands_of_selects
+    gives open_demands_of_text (Int (pos c.args.after) ∷ Int (pos c.args.most) ∷ Text c.args.material ∷ []) old new _ _ (Ok c.in_ok-rows.rows) open_demands_of_selects c.all_rows.ensures.leaves (λ clean. rw (c.params-to_sql.ensures, c.params-to_sql-2.ensures, c.params-to_sql-3.ensures, c.in_ok-limit.ensures, c.as_str.ensures.value) at (c.in_ok-rows.ensures.rows clean))
+    (λ b has rows. lists_open_demands_of old new b has c.args.after c.args.most c.args.material rows) (λ h rows. open_demands_of_shown old new h c.args.after c.args.most c.args.material rows)

@@ -1,0 +1,214 @@
+-- What the queries that list rows show, whatever rows are in the tables.
+use Rattle.std.proofs.Common.{◌≡◌, ◌+◌, ◌<◌, ℕ, pos, Bool, true, false, ◌&&◌, ◌||◌, if◌then◌else◌, List, [], ◌∷◌, ◌++◌, length, map, filter, take, get_or, Option, Some, None, Ok, Err, Result, Vec, IfOk, IsErr, refl, sym, ap, subst, ◌∙◌, arith, IsPermutation, IsSorted}
+use Rattle.std.specs.List.{list_all}
+use Rattle.std.specs.declared.cmp.Ordering.{Ordering}
+use Rattle.std.proofs.lemmas.List.{get_or-map, length-map, map-append, take-map, take_more}
+use Rattle.sqlite_value.specs.declared.keys.Collation.TheVariants.{Binary}
+use Rattle.sqlite_value.specs.declared.keys.Key.{Key}
+use Rattle.sqlite_value.specs.declared.value.Value.{Value}
+use Rattle.sqlite_value.specs.declared.value.Value.TheVariants.{Int, Null, Text}
+use Rattle.sqlite_value.specs.Order.{Row, column, value_cmp}
+use Rattle.sqlite_value.proofs.OrderLemmas.{then-Equal}
+use Rattle.sqlite_sql.specs.declared.ops.BinaryOp.TheVariants.{Compare, Or}
+use Rattle.sqlite_sql.specs.declared.ops.CompareOp.{CompareOp}
+use Rattle.sqlite_sql.specs.declared.ops.CompareOp.TheVariants.{Eq, Gt}
+use Rattle.sqlite_sql.specs.Ops.{binary, from_truth, is_true, or3, truth}
+use Rattle.sqlite_trees.proofs.ListLemmas.{pull_back}
+use Rattle.sqlite.specs.Tree.{Trees}
+use Rattle.sqlite.specs.Term.{Term, col, eval, holds}
+use Rattle.sqlite.specs.Query.{Query, Output, as_count, limited, output, output_cmp}
+use Rattle.sqlite.specs.Program.{overlay, IsProgramAnswer}
+use Rattle.sqlite.specs.Schema.{Schema}
+use Rattle.std.specs.declared.alloc.Global.{Global}
+use Rattle.std.proofs.lemmas.Result.{IfOk-from_err, IfOk-weaker}
+use Rattle.sqlite.specs.declared.rows.Row.{Row as Answered}
+use Rattle.sqlite.specs.State.{State, HasCleanDisk, Shown}
+use Rattle.shop_statements.specs.Selecting.{is_select}
+use Rattle.shop_statements.specs.Shown.{Books, Leaves, Shows}
+use Rattle.shop_statements.proofs.Kept.{shown_open}
+use Rattle.sqlite.proofs.Callers.{reads_as}
+use Rattle.cut_measure.specs.Names.{Name}
+use Rattle.shop_records.specs.declared.records.Demand.{Demand}
+use Rattle.shop_records.specs.declared.records.Material.{Material}
+use Rattle.shop_statements.specs.declared.faults.TableFault.{TableFault}
+use Rattle.shop_statements.specs.Found.{are_equal, columns_of}
+use Rattle.shop_statements.specs.Rows.{demand_columns, material_columns}
+use Rattle.shop_statements.specs.Layout.{IsShop}
+use Rattle.shop_statements.proofs.Keys.{and_true}
+use Rattle.shop_statements.proofs.Lists.{map-map}
+use Rattle.shop_statements.proofs.Selects.{selects}
+use Rattle.shop_statements.proofs.Terms.{from_table}
+use Rattle.shop_statements.proofs.Texts.{shop, shop_is}
+use Rattle.shop_tables.specs.ListedRows.{listed_demand, listed_material}
+use Rattle.shop_tables.specs.RowsShown.{AreDemandRows, AreJobRows, AreMaterialRows, ArePartRows, AreShown, GivesRows, by_columns, is_above, is_at_least, is_below}
+use Rattle.shop_tables.proofs.Firsts.{first_answer}
+use Rattle.shop_tables.proofs.FirstRows.{and_and, held_given}
+use Rattle.shop_tables.proofs.ListTexts.{all_materials_is, all_materials_terms, all_materials_text, by_code, by_rowid, first_of, first_parts_is, first_parts_text, open_demands_is, open_demands_of_is, open_demands_of_tests, open_demands_of_text, open_demands_terms, open_demands_tests, open_demands_text, parts_behind_is, parts_behind_tests, parts_behind_text, parts_of_order, parts_of_terms, parts_of_tests, waiting_jobs_is, waiting_jobs_terms, waiting_jobs_tests, waiting_jobs_text}
+
+-- ---- a query on one table
+
+sorted_from : {A B : Type 0} (cmp : B → B → Ordering) (f : A → B) (xs : List A) → IsSorted cmp (map f xs) → IsSorted (λ a b. cmp (f a) (f b)) xs
+sorted_from cmp f xs up k d low inside = rw (get_or-map f xs (k + 1) d (f d) inside, get_or-map f xs k d (f d) (omega arith)) at (up k (f d) low (rw length-map inside))
+
+module _ (tree : ℕ) (tests terms : List Term) (order : List (Term × Key)) (db : Trees) (params : Row) (low : overlay db [] tree ≡ db tree) where
+  abbrev asked : Query
+  asked = from_table tree tests terms order
+
+  abbrev out : Row → Output
+  out r = output asked (params ∷ r ∷ [])
+
+  module _ (shown : Row → Row) (keys : List ℕ) (passes : Row → Bool) (tested : (r : Row) → list_all (holds (params ∷ r ∷ [])) tests ≡ passes r)
+      (ordered : (a b : Row) → output_cmp asked (out a) (out b) ≡ by_columns keys a b) (shows : (r : Row) → (out r).1 ≡ shown r) where
+    pub shown_whole : (rows : List Row) → IsProgramAnswer [] asked db params rows → AreShown shown keys None passes (db tree) rows
+    shown_whole rows a =
+        let s = selects tree tests terms order db params low rows a in
+        let back = pull_back out _ s.ordered s.same (filter (λ r. list_all (holds (params ∷ r ∷ [])) tests) (db tree)) refl in
+        record {
+          rows = back.0;
+          same = subst (λ (p : Row → Bool). IsPermutation (filter p (db tree)) back.0) (λ i r. tested r i) back.1;
+          rising = subst (λ (cmp : Row → Row → Ordering). IsSorted cmp back.0) (λ i x y. ordered x y i) (sorted_from (output_cmp asked) out back.0 (subst (IsSorted (output_cmp asked)) back.2 s.sorted));
+          are = s.shown ∙ ap (map (λ (o : Output). o.1)) back.2 ∙ map-map (λ (o : Output). o.1) out back.0 ∙ (λ i. map (λ r. shows r i) back.0);
+        }
+
+    pub shown_first : (most : Term) (n : ℕ) → as_count (eval most (params ∷ [])) ≡ Some n → (rows : List Row) → IsProgramAnswer [] (first_of most asked) db params rows → AreShown shown keys (Some n) passes (db tree) rows
+    shown_first most n counts rows a =
+        let first = first_answer tree tests terms order most db params rows a in
+        let all = shown_whole first.0 first.1 in
+        record { rows = all.rows; same = all.same; rising = all.rising; are = first.2 ∙ (λ i. limited (counts i) (all.are i)) ∙ take-map shown n all.rows }
+
+-- ---- tests
+
+either_of : (n t m u : Bool) → is_true (from_truth (or3 (truth (if n then Null else from_truth (Some t))) (truth (if m then Null else from_truth (Some u)))))
+    ≡ (is_true (if n then Null else from_truth (Some t)) || is_true (if m then Null else from_truth (Some u)))
+either_of true t true u = refl
+either_of true t false true = refl
+either_of true t false false = refl
+either_of false true true u = refl
+either_of false false true u = refl
+either_of false true false true = refl
+either_of false true false false = refl
+either_of false false false true = refl
+either_of false false false false = refl
+
+abbrev compared : CompareOp → Value → Value → Value
+compared op a b = binary (Compare op Binary) a b
+
+either : (op more : CompareOp) (a b c d : Value) → is_true (binary Or (compared op a b) (compared more c d)) ≡ (is_true (compared op a b) || is_true (compared more c d))
+unfolding binary
+either op more a b c d = either_of _ _ _ _
+
+-- a part's row behind a name
+part_tests : (a b c d : Value) (code : List ℕ) (name : Name) → ((are_equal c (Text code)) && (is_true (binary Or (compared Eq d (Int (pos 0))) (compared Eq d (Int (pos 1)))) && (is_at_least a (Int (pos name.act)) && (is_true (binary Or (compared Gt a (Int (pos name.act))) (compared Gt b (Int (pos name.node)))) && true))))
+    ≡ ((are_equal c (Text code) && (are_equal d (Int (pos 0)) || are_equal d (Int (pos 1)))) && (is_at_least a (Int (pos name.act)) && (is_above a (Int (pos name.act)) || is_above b (Int (pos name.node)))))
+part_tests a b c d code name = (λ i. are_equal c (Text code) && (either Eq Eq d (Int (pos 0)) d (Int (pos 1)) i && (is_at_least a (Int (pos name.act)) && (and_true _ ∙ either Gt Gt a (Int (pos name.act)) b (Int (pos name.node))) i))) ∙ and_and (are_equal c (Text code)) (are_equal d (Int (pos 0)) || are_equal d (Int (pos 1))) (is_at_least a (Int (pos name.act)) && (is_above a (Int (pos name.act)) || is_above b (Int (pos name.node))))
+
+-- a part's row
+pub listed_tests : (code : List ℕ) (c d : Value) → (are_equal c (Text code) && (is_true (binary Or (compared Eq d (Int (pos 0))) (compared Eq d (Int (pos 1)))) && true)) ≡ ((are_equal c (Text code) && (are_equal d (Int (pos 0)) || are_equal d (Int (pos 1)))) && true)
+listed_tests code c d = (λ i. are_equal c (Text code) && (and_true _ ∙ either Eq Eq d (Int (pos 0)) d (Int (pos 1))) i) ∙ sym (and_true _)
+
+-- ---- what each list shows
+
+module _ (old new : State) (h : IsShop old.now.schema) where
+  abbrev over : Schema
+  over = shop old.now.schema h
+
+  pub materials_shown : (rows : List Row) → Shown all_materials_text [] old new rows → AreMaterialRows (old.now.trees 2) rows
+  materials_shown rows shown =
+      let is = all_materials_is old.now.schema h in
+      shown_whole 2 [] all_materials_terms by_code old.now.trees [] refl _ (1 ∷ []) (λ _. true) (λ r. refl) (λ a b. refl) (λ r. refl) rows
+      (reads_as all_materials_text [] old new over (shop_is old.now.schema h) _ is.command is.plain is.listing rows shown).answer
+
+  pub first_parts_shown : (code : List ℕ) (most : ℕ) (rows : List Row) → Shown first_parts_text (Text code ∷ Int (pos most) ∷ []) old new rows → ArePartRows code None (Some most) (old.now.trees 4) rows
+  first_parts_shown code most rows shown =
+      let is = first_parts_is old.now.schema h in
+      let params = Text code ∷ Int (pos most) ∷ [] in
+      shown_first 4 parts_of_tests parts_of_terms parts_of_order old.now.trees params refl _ (1 ∷ 2 ∷ []) _ (λ r. listed_tests code (column r 3) (column r 11)) (λ a b. refl) (λ r. refl) (col 0 1) most refl rows
+      (reads_as first_parts_text params old new over (shop_is old.now.schema h) _ is.command is.plain is.listing rows shown).answer
+
+  pub parts_behind_shown : (code : List ℕ) (after : Name) (most : ℕ) (rows : List Row) → Shown parts_behind_text (Text code ∷ Int (pos after.act) ∷ Int (pos after.node) ∷ Int (pos most) ∷ []) old new rows → ArePartRows code (Some after) (Some most) (old.now.trees 4) rows
+  parts_behind_shown code after most rows shown =
+      let is = parts_behind_is old.now.schema h in
+      let params = Text code ∷ Int (pos after.act) ∷ Int (pos after.node) ∷ Int (pos most) ∷ [] in
+      shown_first 4 parts_behind_tests parts_of_terms parts_of_order old.now.trees params refl _ (1 ∷ 2 ∷ []) _ (λ r. part_tests (column r 1) (column r 2) (column r 3) (column r 11) code after) (λ a b. refl) (λ r. refl) (col 0 3) most refl rows
+      (reads_as parts_behind_text params old new over (shop_is old.now.schema h) _ is.command is.plain is.listing rows shown).answer
+
+  pub open_demands_shown : (after most : ℕ) (rows : List Row) → Shown open_demands_text (Int (pos after) ∷ Int (pos most) ∷ []) old new rows → AreDemandRows after None most (old.now.trees 9) rows
+  open_demands_shown after most rows shown =
+      let is = open_demands_is old.now.schema h in
+      let params = Int (pos after) ∷ Int (pos most) ∷ [] in
+      shown_first 9 open_demands_tests open_demands_terms by_rowid old.now.trees params refl _ (0 ∷ []) _ (λ r i. is_above (column r 0) (Int (pos after)) && and_true (is_below (column r 11) (column r 9)) i) (λ a b. refl) (λ r. refl) (col 0 1) most refl rows
+      (reads_as open_demands_text params old new over (shop_is old.now.schema h) _ is.command is.plain is.listing rows shown).answer
+
+  pub open_demands_of_shown : (after most : ℕ) (code : List ℕ) (rows : List Row) → Shown open_demands_of_text (Int (pos after) ∷ Int (pos most) ∷ Text code ∷ []) old new rows → AreDemandRows after (Some code) most (old.now.trees 9) rows
+  open_demands_of_shown after most code rows shown =
+      let is = open_demands_of_is old.now.schema h in
+      let params = Int (pos after) ∷ Int (pos most) ∷ Text code ∷ [] in
+      shown_first 9 open_demands_of_tests open_demands_terms by_rowid old.now.trees params refl _ (0 ∷ []) _ (λ r i. is_above (column r 0) (Int (pos after)) && (are_equal (column r 4) (Text code) && and_true (is_below (column r 11) (column r 9)) i)) (λ a b. refl) (λ r. refl) (col 0 1) most refl rows
+      (reads_as open_demands_of_text params old new over (shop_is old.now.schema h) _ is.command is.plain is.listing rows shown).answer
+
+  pub waiting_jobs_shown : (after most : ℕ) (rows : List Row) → Shown waiting_jobs_text (Int (pos after) ∷ Int (pos most) ∷ []) old new rows → AreJobRows after most (old.now.trees 6) rows
+  waiting_jobs_shown after most rows shown =
+      let is = waiting_jobs_is old.now.schema h in
+      let params = Int (pos after) ∷ Int (pos most) ∷ [] in
+      shown_first 6 waiting_jobs_tests waiting_jobs_terms by_rowid old.now.trees params refl _ (0 ∷ []) _ (λ r i. is_above (column r 0) (Int (pos after)) && and_true (are_equal (column r 5) (Int (pos 0))) i) (λ a b. refl) (λ r. refl) (col 0 1) most refl rows
+      (reads_as waiting_jobs_text params old new over (shop_is old.now.schema h) _ is.command is.plain is.listing rows shown).answer
+
+-- ---- a query of rows
+
+module _ (sql : List ℕ) (params : Row) (old new : State) (of_books : Books → List Row → Type 0) (of_tables : Trees → List Row → Type 0) where
+  pub gives : {E : Type 0} (r : Result (Vec Answered Global) E) → is_select sql ≡ true → (is_select sql ≡ true → Leaves old new) → (HasCleanDisk new → IfOk r (λ rows. Shown sql params old new rows.items))
+      → ((b : Books) → Shows old b → (rows : List Row) → Shown sql params old new rows → of_books b rows) → (IsShop old.now.schema → (rows : List Row) → Shown sql params old new rows → of_tables old.now.trees rows)
+      → GivesRows old new r of_books of_tables
+  gives r is left shown books tables = record {
+    rows = λ clean b was. held_given sql params old new is left b (of_books b) r clean was (λ rows has given. books b has rows given) (shown clean);
+    stands = λ clean h. IfOk-weaker r _ _ (λ rows given. tables h rows.items given) (shown clean);
+    was_open = λ clean. IfOk-weaker r _ _ (λ rows given. shown_open sql params old new rows.items given) (shown clean);
+    leaves = left is;
+  }
+
+-- nothing was answered
+pub gives_none : {E : Type 0} (r : Result (Vec Answered Global) E) (old new : State) (of_books : Books → List Row → Type 0) (of_tables : Trees → List Row → Type 0) → IsErr r → Leaves old new → GivesRows old new r of_books of_tables
+gives_none r old new of_books of_tables none left = record {
+  rows = λ clean b was. IfOk-from_err r _ none;
+  stands = λ clean h. IfOk-from_err r _ none;
+  was_open = λ clean. IfOk-from_err r _ none;
+  leaves = left;
+}
+
+-- ---- from rows to values
+
+-- what was shown, read whole, was shown
+pub shown_read : (cut shown : Row → Row) → ((r : Row) → cut (shown r) ≡ shown r) → (keys : List ℕ) (most : Option ℕ) (passes : Row → Bool) (stored rows read : List Row) → AreShown shown keys most passes stored rows → map cut rows ≡ read
+    → AreShown shown keys most passes stored read
+shown_read cut shown whole keys most passes stored rows read s is =
+    subst (AreShown shown keys most passes stored) (s.are ∙ (λ i. map (λ r. sym (whole r) i) (limited most s.rows)) ∙ sym (map-map cut shown (limited most s.rows)) ∙ ap (map cut) (sym s.are) ∙ is) s
+
+-- one more row was read
+pub read_more : {X : Type 0} (row_of : X → Row) (cut : Row → Row) (rows : List Row) (xs : List X) (i : ℕ) → map cut (take i rows) ≡ map row_of xs → i < length rows → (row : Row) → row ≡ get_or rows i row → (read : X) → cut row ≡ row_of read
+    → map cut (take (i + 1) rows) ≡ map row_of (xs ++ read ∷ [])
+read_more row_of cut rows xs i was inside row is read same =
+    ap (map cut) (take_more rows i row inside) ∙ map-append cut (take i rows) (get_or rows i row ∷ []) ∙ (λ k. was k ++ (ap cut (sym is) ∙ same) k ∷ []) ∙ sym (map-append row_of xs (read ∷ []))
+
+-- ---- a row that is read whole
+
+own_code : (row : Row) (code : List ℕ) (read : Material) → ((m : Material) (behind : Row) → m.code ≡ code → row ≡ material_columns m ++ behind → read ≡ m) → columns_of 4 0 row ≡ material_columns read → read.code ≡ code
+own_code [] code read is exact = absurd (cc)
+own_code (a ∷ []) code read is exact = absurd (cc)
+own_code (a ∷ b ∷ []) code read is exact = absurd (cc)
+own_code (a ∷ b ∷ c ∷ []) code read is exact = absurd (cc)
+own_code (a ∷ b ∷ c ∷ d ∷ behind) code read is exact = ap (λ (m : Material). m.code) (is (record read { code = code }) behind refl (λ i. exact i ++ behind))
+
+pub material_read : (r : Result Material TableFault) (row : Row) (code : List ℕ) → ((m : Material) (behind : Row) → m.code ≡ code → row ≡ material_columns m ++ behind → IfOk r (λ read. read ≡ m))
+    → IfOk r (λ read. columns_of 4 0 row ≡ material_columns read) → column row 4 ≡ Text code → IfOk r (λ read. columns_of 5 0 row ≡ listed_material read)
+material_read (Ok read) row code is exact last = λ i. exact i ++ (last ∙ ap Text (sym (own_code row code read is exact))) i ∷ []
+material_read (Err e) row code is exact last = tt
+
+pub demand_read : (r : Result Demand TableFault) (row : Row) (number : ℕ) → IfOk r (λ read. read.number ≡ number) → IfOk r (λ read. columns_of 10 0 row ≡ demand_columns read) → column row 10 ≡ Int (pos number)
+    → IfOk r (λ read. columns_of 11 0 row ≡ listed_demand read)
+demand_read (Ok read) row number own exact last = λ i. exact i ++ (last ∙ ap (λ n. Int (pos n)) (sym own)) i ∷ []
+demand_read (Err e) row number own exact last = tt
+
+-- what stands is said of an answer too
+pub always : {X E P : Type 0} (r : Result X E) → P → IfOk r (λ _. P)
+always (Ok x) h = h
+always (Err e) h = tt

@@ -1,0 +1,91 @@
+-- What a list shows, of tables that may stand for no books.
+use Rattle.std.specs.Prelude.{◌≡◌, ◌&&◌, ◌||◌, ℕ, pos, Bool, true, List, [], ◌∷◌, ◌++◌, map, filter, Option, Some, None, Result, Vec, IfOk, IsTrue, IsPermutation, IsSorted}
+use Rattle.std.specs.Ordering.{ordering_then}
+use Rattle.std.specs.declared.cmp.Ordering.{Ordering}
+use Rattle.std.specs.declared.cmp.Ordering.TheVariants.{Equal}
+use Rattle.sqlite_value.specs.declared.keys.Collation.TheVariants.{Binary}
+use Rattle.sqlite_value.specs.declared.value.Value.{Value}
+use Rattle.sqlite_value.specs.declared.value.Value.TheVariants.{Int, Text}
+use Rattle.sqlite_value.specs.Order.{Row, column, value_cmp}
+use Rattle.sqlite_sql.specs.declared.ops.BinaryOp.TheVariants.{Compare}
+use Rattle.sqlite_sql.specs.declared.ops.CompareOp.TheVariants.{Ge, Gt, Lt}
+use Rattle.sqlite_sql.specs.Ops.{binary, is_true}
+use Rattle.sqlite_trees.specs.Tree.{Trees}
+use Rattle.sqlite.specs.Query.{limited}
+use Rattle.sqlite.specs.State.{State, HasCleanDisk}
+use Rattle.sqlite.specs.declared.rows.Row.{Row as Answered}
+use Rattle.std.specs.declared.alloc.Global.{Global}
+use Rattle.cut_measure.specs.Names.{Name}
+use Rattle.shop_statements.specs.Found.{are_equal, columns_of}
+use Rattle.shop_statements.specs.Layout.{IsShop}
+use Rattle.shop_statements.specs.Shown.{Books, Leaves, OnBooks}
+
+-- by the values of these columns, one after another
+abbrev pub by_columns : List ℕ → Row → Row → Ordering
+by_columns [] a b = Equal
+by_columns (at ∷ more) a b = ordering_then (value_cmp (column a at) (column b at)) (by_columns more a b)
+
+-- What is given is shown of the rows of a table that pass, in the order of these columns: of the first so many, or of all. So
+-- no row among them is left out.
+pub record AreShown (shown : Row → Row) (keys : List ℕ) (most : Option ℕ) (passes : Row → Bool) (stored given : List Row) : Type 0 where
+  pub rows : List Row
+  pub same : IsPermutation (filter passes stored) rows
+  pub rising : IsSorted (by_columns keys) rows
+  pub are : given ≡ map shown (limited most rows)
+
+-- What a query of rows says of held books, and of whatever rows are in the tables, and what it leaves.
+pub record GivesRows {E : Type 0} (old new : State) (result : Result (Vec Answered Global) E) (of_books : Books → List Row → Type 0) (of_tables : Trees → List Row → Type 0) : Type 0 where
+  pub rows : OnBooks old new (λ books. IfOk result (λ rows. of_books books rows.items))
+  pub stands : HasCleanDisk new → IsShop old.now.schema → IfOk result (λ rows. of_tables old.now.trees rows.items)
+  pub was_open : HasCleanDisk new → IfOk result (λ _. IsTrue old.is_open)
+  pub leaves : Leaves old new
+
+-- while it is open, the connection sees its last commit, as it does outside a transaction
+abbrev pub SeesCommit : State → Type 0
+SeesCommit s = IsTrue s.is_open → s.now ≡ s.committed
+
+-- ---- what SQL takes for greater, less, or at least as great
+
+abbrev pub is_above : Value → Value → Bool
+is_above a b = is_true (binary (Compare Gt Binary) a b)
+
+abbrev pub is_below : Value → Value → Bool
+is_below a b = is_true (binary (Compare Lt Binary) a b)
+
+abbrev pub is_at_least : Value → Value → Bool
+is_at_least a b = is_true (binary (Compare Ge Binary) a b)
+
+-- ---- materials: every row of the table, by its code
+
+abbrev pub AreMaterialRows : List Row → List Row → Type 0
+AreMaterialRows = AreShown (λ row. columns_of 4 2 row ++ columns_of 1 1 row) (1 ∷ []) None (λ _. true)
+
+-- ---- parts of a material that stand or are reserved, behind a name if one is given, by their names
+
+abbrev pub stands_in : List ℕ → Row → Bool
+stands_in material row = are_equal (column row 3) (Text material) && (are_equal (column row 11) (Int (pos 0)) || are_equal (column row 11) (Int (pos 1)))
+
+abbrev pub is_past : Option Name → Row → Bool
+is_past None row = true
+is_past (Some name) row =
+    is_at_least (column row 1) (Int (pos name.act)) && (is_above (column row 1) (Int (pos name.act)) || is_above (column row 2) (Int (pos name.node)))
+
+abbrev pub ArePartRows : List ℕ → Option Name → Option ℕ → List Row → List Row → Type 0
+ArePartRows material after most = AreShown (columns_of 12 1) (1 ∷ 2 ∷ []) most (λ row. stands_in material row && is_past after row)
+
+-- ---- demands with greater numbers of which fewer are made than are wanted, of one material or of all, by their numbers
+
+abbrev pub is_for : Option (List ℕ) → Row → Bool
+is_for None row = true
+is_for (Some material) row = are_equal (column row 4) (Text material)
+
+abbrev pub AreDemandRows : ℕ → Option (List ℕ) → ℕ → List Row → List Row → Type 0
+AreDemandRows after material most =
+    AreShown (λ row. columns_of 10 2 row ++ columns_of 1 0 row) (0 ∷ []) (Some most)
+    (λ row. is_above (column row 0) (Int (pos after)) && (is_for material row && is_below (column row 11) (column row 9)))
+
+-- ---- jobs with greater numbers whose state is that of a waiting one, by their numbers
+
+abbrev pub AreJobRows : ℕ → ℕ → List Row → List Row → Type 0
+AreJobRows after most =
+    AreShown (columns_of 1 0) (0 ∷ []) (Some most) (λ row. is_above (column row 0) (Int (pos after)) && are_equal (column row 5) (Int (pos 0)))
