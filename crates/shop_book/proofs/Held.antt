@@ -31,6 +31,7 @@ use Rattle.std.specs.Bool.{Decides}
 use Rattle.std.specs.Cmp.Lexicographic.{pointwise}
 use Rattle.std.proofs.lemmas.Bool.Decides.{Decides-like}
 use Rattle.std.proofs.lemmas.Slice.Eq.{slice_eq-Decides}
+use Rattle.shop_rows.proofs.Mapped.{seconds}
 use Rattle.shop_rows.proofs.Places.{tested, met}
 
 module _ {X K : Type 0} (key_of : X → K) (cmp : K → K → Ordering) where
@@ -38,19 +39,20 @@ module _ {X K : Type 0} (key_of : X → K) (cmp : K → K → Ordering) where
   pub get-rows : (rows : List X) (key : K) → rise key_of cmp rows ≡ true → row_at key_of cmp key rows ≡ get (from_sorted {R = cmp} (entries_of key_of cmp rows)) key
   get-rows rows key up = sym (get-from_sorted cmp (entries_of key_of cmp rows) key (tested _ up))
 
-  seconds : (xs : List X) → map (λ (e : K × X). e.1) (entries_of key_of cmp xs) ≡ xs
-  seconds [] = refl
-  seconds (x ∷ xs) = ap (λ ys. x ∷ ys) (seconds xs)
-
   -- the rows are the map's values
   pub values-rows : (rows : List X) → rise key_of cmp rows ≡ true → values (from_sorted {R = cmp} (entries_of key_of cmp rows)) ≡ rows
-  values-rows rows up = ap (map (λ (e : K × X). e.1)) (entries-from_sorted cmp (entries_of key_of cmp rows) (tested _ up)) ∙ seconds rows
+  values-rows rows up = ap (map (λ (e : K × X). e.1)) (entries-from_sorted cmp (entries_of key_of cmp rows) (tested _ up)) ∙ seconds key_of cmp rows
 
-  -- rows are equal exactly where the maps are that they stand for
+  -- a test of rows is one of the maps that they stand for
+  pub maps_decide : (xs ys : List X) (r : Bool) → Decides r (xs ≡ ys) → rise key_of cmp xs ≡ true → rise key_of cmp ys ≡ true
+      → Decides r (from_sorted {R = cmp} (entries_of key_of cmp xs) ≡ from_sorted {R = cmp} (entries_of key_of cmp ys))
+  maps_decide xs ys r same up vp =
+      Decides-like r (ap (λ rows. from_sorted {R = cmp} (entries_of key_of cmp rows))) (λ p. sym (values-rows xs up) ∙ ap values p ∙ values-rows ys vp) same
+
+  -- so rows are equal exactly where the maps are
   pub rows_decide : {E : X → X → Bool} → ((a b : X) → Decides (E a b) (a ≡ b)) → (xs ys : List X) (r : Bool) → r ≡ pointwise E xs ys → rise key_of cmp xs ≡ true → rise key_of cmp ys ≡ true
       → Decides r (from_sorted {R = cmp} (entries_of key_of cmp xs) ≡ from_sorted {R = cmp} (entries_of key_of cmp ys))
-  rows_decide each xs ys r is up vp =
-      Decides-like r (ap (λ rows. from_sorted {R = cmp} (entries_of key_of cmp rows))) (λ p. sym (values-rows xs up) ∙ ap values p ∙ values-rows ys vp) (slice_eq-Decides each xs ys r is)
+  rows_decide each xs ys r is = maps_decide xs ys r (slice_eq-Decides each xs ys r is)
 
 -- to put an entry is to insert it
 pub put_is_insert : {K X : Type 0} (cmp : K → K → Ordering) → IsTotalOrder cmp → (key : K) (x : X) (old new : List (K × X)) → is_sorted cmp old ≡ true → new ≡ put cmp key x old

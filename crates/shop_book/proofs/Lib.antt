@@ -2,6 +2,7 @@
 pub mod Orders
 pub mod Replaced
 pub mod Held
+pub mod Tallied
 pub mod Handed
 -- the last number of a terminal
 pub mod Lasts

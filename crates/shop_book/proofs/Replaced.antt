@@ -1,15 +1,9 @@
 -- Sums of parts among which parts are put.
-use Rattle.std.proofs.Common.{◌≡◌, ℕ, ◌+◌, ◌*◌, ◌≤◌, Bool, true, false, List, [], ◌∷◌, ◌++◌, take, drop, map, refl, sym, ap, ◌∙◌, arith}
-use Rattle.std.specs.Prelude.{Option, Some, sum_by, nat_le, ◌&&◌, cond}
-use Rattle.std.specs.declared.cmp.Ordering.{Ordering}
-use Rattle.std.specs.declared.cmp.Ordering.TheVariants.{Less, Equal, Greater}
+use Rattle.std.proofs.Common.{◌≡◌, ℕ, ◌+◌, ◌*◌, ◌≤◌, Bool, true, false, List, [], ◌∷◌, ◌++◌, take, drop, map, sym, ap, ◌∙◌, arith}
+use Rattle.std.specs.Prelude.{Option, Some, sum_by, cond}
 use Rattle.std.specs.Ordering.{is_eq}
-use Rattle.std.specs.FinMap.{put}
-use Rattle.std.specs.FinMap.Entries.{by_order}
 use Rattle.std.proofs.lemmas.Bool.{le-leb}
 use Rattle.std.specs.List.{insert_slice}
-use Rattle.std.proofs.lemmas.List.{take-append-drop}
-use Rattle.std.proofs.lemmas.List.Folds.{list_all-append}
 use Rattle.std.proofs.lemmas.List.Sums.{sum_by-cons, sum_by-append, sum_by-take-drop}
 use Rattle.cut_measure.specs.Names.{Name, name_cmp}
 use Rattle.shop_records.specs.declared.records.Part.{Part}
@@ -19,15 +13,12 @@ use Rattle.shop_records.proofs.Sums.{sum-put}
 use Rattle.shop_rows.specs.declared.sums.Sums.{Sums}
 use Rattle.shop_rows.specs.Rows.{entries_of, rise, row_at, IsPut}
 use Rattle.shop_rows.specs.Sums.{sum_at, counted_cells, cells_for, AreSumsOf, most_cells, all_small}
+use Rattle.shop_rows.proofs.Mapped.{all-put, seconds}
 use Rattle.shop_rows.proofs.Places.{tested}
-use Rattle.shop_rows.proofs.Summed.{both, counted_own, is_small}
+use Rattle.shop_rows.proofs.Summed.{counted_own, is_small}
 use Rattle.shop_rows.specs.Keys.{part_key, names_total}
 
 -- ---- a part put among parts
-
-seconds : {K X : Type 0} (key : X → K) (cmp : K → K → Ordering) (xs : List X) → map (λ (e : K × X). e.1) (entries_of key cmp xs) ≡ xs
-seconds key cmp [] = refl
-seconds key cmp (x ∷ xs) = ap (λ ys. x ∷ ys) (seconds key cmp xs)
 
 -- the cells after a part was put, and those of the part that it replaced
 pub cells-put : (column : Column) (code : List ℕ) (part : Part) (old new : List Part) → rise part_key name_cmp old ≡ true → IsPut part_key name_cmp part old new
@@ -57,30 +48,11 @@ replaced_counted column name p parts rows sums e = omega (arith, counted_own col
 
 -- ---- small parts
 
-small_entries : (part : Part) (es : List (Name × Part)) → nat_le (part.size.w * part.size.h) most_cells ≡ true → all_small (map (λ (e : Name × Part). e.1) es) ≡ true
-    → all_small (map (λ (e : Name × Part). e.1) (put name_cmp part.name part es)) ≡ true
-small_entries part [] own old = ap (λ b. b && true) own
-small_entries part (e ∷ es) own old =
-    let t = both (nat_le (e.1.size.w * e.1.size.h) most_cells) (all_small (map (λ (e : Name × Part). e.1) es)) old in
-    elim (name_cmp part.name e.0) as (λ r. all_small (map (λ (e : Name × Part). e.1) (by_order r ((part.name, part) ∷ e ∷ es) ((e.0, part) ∷ es) (e ∷ put name_cmp part.name part es))) ≡ true) [
-      | Less ↦ ap (λ b. b && all_small (map (λ (e : Name × Part). e.1) (e ∷ es))) own ∙ old
-      | Equal ↦ ap (λ b. b && all_small (map (λ (e : Name × Part). e.1) es)) own ∙ t.1
-      | Greater ↦ ap (λ b. b && all_small (map (λ (e : Name × Part). e.1) (put name_cmp part.name part es))) t.0 ∙ small_entries part es own t.1
-    ]
-
 pub small-put : (part : Part) (old new : List Part) → part.size.w * part.size.h ≤ most_cells → all_small old ≡ true → IsPut part_key name_cmp part old new → all_small new ≡ true
-small-put part old new own small is_put =
-    ap all_small (sym (seconds part_key name_cmp new) ∙ ap (map (λ (e : Name × Part). e.1)) is_put)
-    ∙ small_entries part (entries_of part_key name_cmp old) (le-leb (part.size.w * part.size.h) most_cells own) (ap all_small (seconds part_key name_cmp old) ∙ small)
+small-put part old new own small is_put = all-put is_small part_key name_cmp part old new (le-leb (part.size.w * part.size.h) most_cells own) small is_put
 
 -- ---- parts that are put together
 
 pub cells-inserted : (column : Column) (code : List ℕ) (old added : List Part) (i : ℕ) → cells_in column code (insert_slice old i added) ≡ cells_in column code old + cells_in column code added
 cells-inserted column code old added i =
     omega (arith, sum_by-append (cells_for column code) (take i old ++ added) (drop i old), sum_by-append (cells_for column code) (take i old) added, sum_by-take-drop (cells_for column code) old i)
-
-pub small-inserted : (old added : List Part) (i : ℕ) → all_small old ≡ true → all_small added ≡ true → all_small (insert_slice old i added) ≡ true
-small-inserted old added i small more =
-    let t = both (all_small (take i old)) (all_small (drop i old)) (sym (list_all-append is_small (take i old) (drop i old)) ∙ ap all_small (take-append-drop i old) ∙ small) in
-    list_all-append is_small (take i old ++ added) (drop i old) ∙ ap (λ b. b && all_small (drop i old)) (list_all-append is_small (take i old) added)
-    ∙ ap (λ b. (b && all_small added) && all_small (drop i old)) t.0 ∙ ap (λ b. b && all_small (drop i old)) more ∙ t.1

@@ -13,18 +13,14 @@ use Rattle.std.specs.Cmp.Lexicographic.{nat_list_cmp_total}
 use Rattle.std.specs.List.{list_any}
 use Rattle.std.specs.Ordering.{eq_by_cmp}
 use Rattle.cut_measure.specs.Codes.{code_cmp}
-use Rattle.cut_measure.specs.Measures.{Extent, Rule}
-use Rattle.cut_measure.specs.Names.{Name}
+use Rattle.cut_measure.specs.Measures.{Rule}
 use Rattle.cut_measure.specs.declared.sizes.Kind.{Kind}
 use Rattle.cut_measure.specs.declared.sizes.Kind.TheVariants.{Bar, Sheet}
 use Rattle.shop_records.specs.declared.records.Material.{Material}
-use Rattle.shop_records.specs.declared.records.Part.{Part}
 use Rattle.shop_records.specs.declared.records.Job.{Job}
 use Rattle.shop_records.specs.declared.records.JobState.{JobState}
 use Rattle.shop_records.specs.declared.records.JobState.TheVariants as job_state
 use Rattle.shop_records.specs.declared.records.Demand.{Demand}
-use Rattle.shop_records.specs.declared.records.State.{State}
-use Rattle.shop_records.specs.declared.records.State.TheVariants as state
 use Rattle.shop_records.specs.declared.texts.Pair.{Pair}
 use Rattle.shop_records.specs.declared.texts.Kept.{Kept}
 use Rattle.shop_records.specs.declared.imports.Form.{Form}
@@ -34,8 +30,6 @@ use Rattle.shop_records.specs.Content.{Content}
 use Rattle.shop_records.specs.Same.{same_name, same_pair}
 use Rattle.shop_records.specs.contracts.records.MaterialPartialEq.TheImpl as material_eq
 use Rattle.cut_measure.specs.contracts.sizes.KindPartialEq.TheImpl as kind_eq
-use Rattle.shop_records.specs.contracts.records.StatePartialEq.TheImpl as state_eq
-use Rattle.shop_records.specs.contracts.records.PartPartialEq.TheImpl as part_eq
 use Rattle.shop_records.specs.contracts.records.JobPartialEq.TheImpl as job_eq
 use Rattle.shop_records.specs.contracts.records.JobStatePartialEq.TheImpl as job_state_eq
 use Rattle.shop_records.specs.contracts.records.DemandPartialEq.TheImpl as demand_eq
@@ -43,15 +37,13 @@ use Rattle.cut_tree.specs.SamePatterns.{same_pattern_decides}
 use Rattle.shop_records.specs.contracts.texts.KeptPartialEq.TheImpl as kept_eq
 use Rattle.shop_records.specs.contracts.imports.FormPartialEq.TheImpl as form_eq
 use Rattle.shop_records.specs.contracts.imports.ImportRowPartialEq.TheImpl as import_eq
+use Rattle.shop_rows.specs.SameParts.{name_decides, part_decides, same_part, size_decides}
 use Rattle.shop_book.specs.Memory.{MemoryBook}
 
 -- ---- tests, as `==` makes them
 
 abbrev pub same_material : Material → Material → Bool
 same_material = material_eq.ghosts.eq
-
-abbrev pub same_part : Part → Part → Bool
-same_part = part_eq.ghosts.eq
 
 abbrev pub same_job : Job → Job → Bool
 same_job = job_eq.ghosts.eq
@@ -118,100 +110,15 @@ own_kind Sheet = refl
 kind_decides : (a b : Kind) → Decides (kind_eq.ghosts.eq a b) (a ≡ b)
 kind_decides a b = (one_kind a b, λ e. subst (λ k. kind_eq.ghosts.eq a k ≡ true) e (own_kind a))
 
-abbrev same_state : State → State → Bool
-same_state = state_eq.ghosts.eq
-
-one_state : (a b : State) → same_state a b ≡ true → a ≡ b
-one_state state.Standing state.Standing e = refl
-one_state state.Standing (state.Reserved b) e = no e
-one_state state.Standing (state.Cut b) e = no e
-one_state state.Standing (state.Piece b) e = no e
-one_state state.Standing state.Kerf e = no e
-one_state state.Standing state.Scrap e = no e
-one_state state.Standing state.Returned e = no e
-one_state (state.Reserved a) state.Standing e = no e
-one_state (state.Reserved a) (state.Reserved b) e = ap state.Reserved ((unsigned_Decides a b).0 e)
-one_state (state.Reserved a) (state.Cut b) e = no e
-one_state (state.Reserved a) (state.Piece b) e = no e
-one_state (state.Reserved a) state.Kerf e = no e
-one_state (state.Reserved a) state.Scrap e = no e
-one_state (state.Reserved a) state.Returned e = no e
-one_state (state.Cut a) state.Standing e = no e
-one_state (state.Cut a) (state.Reserved b) e = no e
-one_state (state.Cut a) (state.Cut b) e = ap state.Cut ((unsigned_Decides a b).0 e)
-one_state (state.Cut a) (state.Piece b) e = no e
-one_state (state.Cut a) state.Kerf e = no e
-one_state (state.Cut a) state.Scrap e = no e
-one_state (state.Cut a) state.Returned e = no e
-one_state (state.Piece a) state.Standing e = no e
-one_state (state.Piece a) (state.Reserved b) e = no e
-one_state (state.Piece a) (state.Cut b) e = no e
-one_state (state.Piece a) (state.Piece b) e = ap state.Piece ((unsigned_Decides a b).0 e)
-one_state (state.Piece a) state.Kerf e = no e
-one_state (state.Piece a) state.Scrap e = no e
-one_state (state.Piece a) state.Returned e = no e
-one_state state.Kerf state.Standing e = no e
-one_state state.Kerf (state.Reserved b) e = no e
-one_state state.Kerf (state.Cut b) e = no e
-one_state state.Kerf (state.Piece b) e = no e
-one_state state.Kerf state.Kerf e = refl
-one_state state.Kerf state.Scrap e = no e
-one_state state.Kerf state.Returned e = no e
-one_state state.Scrap state.Standing e = no e
-one_state state.Scrap (state.Reserved b) e = no e
-one_state state.Scrap (state.Cut b) e = no e
-one_state state.Scrap (state.Piece b) e = no e
-one_state state.Scrap state.Kerf e = no e
-one_state state.Scrap state.Scrap e = refl
-one_state state.Scrap state.Returned e = no e
-one_state state.Returned state.Standing e = no e
-one_state state.Returned (state.Reserved b) e = no e
-one_state state.Returned (state.Cut b) e = no e
-one_state state.Returned (state.Piece b) e = no e
-one_state state.Returned state.Kerf e = no e
-one_state state.Returned state.Scrap e = no e
-one_state state.Returned state.Returned e = refl
-
-own_state : (a : State) → same_state a a ≡ true
-own_state state.Standing = refl
-own_state (state.Reserved a) = (unsigned_Decides a a).1 refl
-own_state (state.Cut a) = (unsigned_Decides a a).1 refl
-own_state (state.Piece a) = (unsigned_Decides a a).1 refl
-own_state state.Kerf = refl
-own_state state.Scrap = refl
-own_state state.Returned = refl
-
-state_decides : (a b : State) → Decides (same_state a b) (a ≡ b)
-state_decides a b = (one_state a b, λ e. subst (λ k. same_state a k ≡ true) e (own_state a))
-
 rule_decides : (a b : Rule) → Decides (nat_eq a.kerf b.kerf && (nat_eq a.min_long b.min_long && nat_eq a.min_short b.min_short)) (a ≡ b)
 rule_decides a b =
     Decides-like _ (λ p i. record { kerf = p.0 i; min_long = p.1.0 i; min_short = p.1.1 i }) (λ p. (ap (λ r. r.kerf) p, (ap (λ r. r.min_long) p, ap (λ r. r.min_short) p)))
     (Decides-and _ _ (unsigned_Decides a.kerf b.kerf) (Decides-and _ _ (unsigned_Decides a.min_long b.min_long) (unsigned_Decides a.min_short b.min_short)))
 
-size_decides : (a b : Extent) → Decides (nat_eq a.w b.w && nat_eq a.h b.h) (a ≡ b)
-size_decides a b =
-    Decides-like _ (λ p i. record { w = p.0 i; h = p.1 i }) (λ p. (ap (λ s. s.w) p, ap (λ s. s.h) p)) (Decides-and _ _ (unsigned_Decides a.w b.w) (unsigned_Decides a.h b.h))
-
 pub material_decides : (a b : Material) → Decides (same_material a b) (a ≡ b)
 material_decides a b =
     Decides-like _ (λ p i. record { code = p.0 i; kind = p.1.0 i; limits = p.1.1 i }) (λ p. (ap (λ m. m.code) p, (ap (λ m. m.kind) p, ap (λ m. m.limits) p)))
     (Decides-and _ _ (bytes_decides a.code b.code) (Decides-and _ _ (kind_decides a.kind b.kind) (rule_decides a.limits b.limits)))
-
-pub name_decides : (a b : Name) → Decides (same_name a b) (a ≡ b)
-name_decides a b =
-    Decides-like _ (λ p i. record { act = p.0 i; node = p.1 i }) (λ p. (ap (λ n. n.act) p, ap (λ n. n.node) p)) (Decides-and _ _ (unsigned_Decides a.act b.act) (unsigned_Decides a.node b.node))
-
-pub part_decides : (a b : Part) → Decides (same_part a b) (a ≡ b)
-part_decides a b =
-    Decides-like _
-    (λ p i. record { name = p.0 i; material = p.1.0 i; batch = p.1.1.0 i; root = p.1.1.1.0 i; x = p.1.1.1.1.0 i; y = p.1.1.1.1.1.0 i; size = p.1.1.1.1.1.1.0 i; state = p.1.1.1.1.1.1.1 i })
-    (λ p. (ap (λ r. r.name) p, (ap (λ r. r.material) p, (ap (λ r. r.batch) p, (ap (λ r. r.root) p, (ap (λ r. r.x) p, (ap (λ r. r.y) p, (ap (λ r. r.size) p, ap (λ r. r.state) p))))))))
-    (Decides-and _ _ (name_decides a.name b.name)
-    (Decides-and _ _ (bytes_decides a.material b.material)
-    (Decides-and _ _ (bytes_decides a.batch b.batch)
-    (Decides-and _ _ (name_decides a.root b.root)
-    (Decides-and _ _ (unsigned_Decides a.x b.x) (Decides-and _ _ (unsigned_Decides a.y b.y) (Decides-and _ _ (size_decides a.size b.size) (state_decides a.state b.state))))))))
 
 abbrev same_job_state : JobState → JobState → Bool
 same_job_state = job_state_eq.ghosts.eq

@@ -5,4 +5,5 @@ pub mod Kept
 -- a book in memory
 pub mod Memory
 pub mod Equal
+pub mod Tallies
 pub mod MemBooks

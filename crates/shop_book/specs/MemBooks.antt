@@ -3,19 +3,19 @@ use Rattle.std.specs.Prelude.{IsTrue}
 use Rattle.std.specs.Ordering.{nat_cmp}
 use Rattle.std.specs.FinMap.{is_sorted}
 use Rattle.cut_measure.specs.Codes.{code_cmp}
-use Rattle.cut_measure.specs.Names.{name_cmp}
 use Rattle.shop_records.specs.Content.{pair_cmp}
 use Rattle.shop_records.specs.Lists.{is_open}
 use Rattle.shop_rows.specs.Rows.{rise, row_at}
-use Rattle.shop_rows.specs.Open.{own_key, waits, AreInOrder, AreListed, ListsNumbers}
-use Rattle.shop_rows.specs.Sums.{sums_key, AreSumsOf, all_small}
+use Rattle.shop_rows.specs.Open.{own_key, waits, ListsNumbers}
+use Rattle.shop_rows.specs.PartRows.{parts_in, AreKnown}
 use Rattle.shop_book.specs.Memory.{MemoryBook, order_key, content_of_rows}
-use Rattle.shop_rows.specs.Keys.{material_key, part_key, job_key, demand_key, import_key}
+use Rattle.shop_book.specs.Tallies.{Tallies}
+use Rattle.shop_rows.specs.Keys.{material_key, job_key, demand_key, import_key}
 use Rattle.shop_book.specs.declared.memory.MemBook.TheInside.{Inside}
 
 abbrev pub book_of : Inside → MemoryBook
 book_of book = record {
-  content = content_of_rows book.materials.items book.parts.items book.jobs.items book.orders.keys book.demands.items book.kept.entries book.imports.items book.last_act book.last_demand;
+  content = content_of_rows book.materials.items (parts_in book.parts) book.jobs.items book.orders.keys book.demands.items book.kept.entries book.imports.items book.last_act book.last_demand;
   failures = book.failures;
 }
 
@@ -23,17 +23,13 @@ book_of book = record {
 -- the numbers of the jobs that wait and the demands that are open
 pub record IsConsistent (book : Inside) : Type 0 where
   pub materials : IsTrue (rise material_key code_cmp book.materials.items)
-  pub parts : IsTrue (rise part_key name_cmp book.parts.items)
-  pub totals : IsTrue (rise sums_key code_cmp book.totals.items)
+  pub known : AreKnown book.parts
+  pub tally : Tallies (parts_in book.parts) book.totals.items book.lists.parts.items
   pub jobs : IsTrue (rise job_key nat_cmp book.jobs.items)
   pub orders : IsTrue (rise order_key code_cmp book.orders.keys)
   pub demands : IsTrue (rise demand_key nat_cmp book.demands.items)
   pub kept : IsTrue (is_sorted pair_cmp book.kept.entries)
   pub imports : IsTrue (rise import_key code_cmp book.imports.items)
-  pub small : IsTrue (all_small book.parts.items)
-  pub sums : AreSumsOf book.parts.items book.totals.items
-  pub names : AreInOrder book.lists.parts.items
-  pub listed : AreListed book.parts.items book.lists.parts.items
   pub job_keys : IsTrue (rise own_key nat_cmp book.lists.jobs.items)
   pub waiting : ListsNumbers waits (λ number. row_at job_key nat_cmp number book.jobs.items) book.lists.jobs.items
   pub demand_keys : IsTrue (rise own_key nat_cmp book.lists.demands.items)

@@ -1,10 +1,14 @@
-//! How a message is kept in memory, in texts that take no more than they need.
+//! How a message is kept in memory, in texts that take no more than they need, and which is the last of a terminal.
 
-ghost use Rattle.std.specs.Prelude.{◌≡◌, OnOk, OnErr};
+ghost use Rattle.std.specs.Prelude.{◌≡◌, ◌⊎◌, ◌<◌, ◌≤◌, ◌^◌, ℕ, IfNone, IfOk, IfSome, IsSome, None, OnOk, OnErr, false};
+ghost use Rattle.std.specs.FinMap.{find as find_entry};
+ghost use Rattle.std.specs.Ordering.{is_lt};
+ghost use Rattle.shop_records.specs.Content.{pair_cmp};
+ghost use Rattle.shop_records.specs.declared.texts.Pair.{Pair as PairOf};
 ghost use Rattle.shop_book.specs.Memory.{put_kept};
 
 use shop_records::{Kept, KeptMessage, Pair};
-use std::alloc::AllocError;
+use std::alloc::{AllocError, Global};
 use std::collections::BTreeMap;
 
 /// Keeps a message, if there is one, in texts that take no more memory than they need. An `Err` keeps nothing.
@@ -17,4 +21,124 @@ pub fn keep(kept: &mut BTreeMap<Pair, Kept>, message: Option<KeptMessage>) -> Re
         kept.insert(message.pair, exact)?;
     }
     Ok(())
+}
+
+/// The same messages.
+pub(crate) fn copy_kept(kept: &BTreeMap<Pair, Kept>) -> Result<BTreeMap<Pair, Kept>, AllocError>
+    ensures { IfOk result (λ copy. copy.entries ≡ kept.now.entries) }
+{
+    let copy = kept.clone()?;
+    Ok(copy)
+}
+
+/// What is kept under a pair.
+pub(crate) fn find_kept(
+    alloc: Global,
+    kept: &BTreeMap<Pair, Kept>,
+    pair: Pair,
+) -> Result<Option<Kept>, AllocError>
+    ensures { IfOk result (λ row. row ≡ find_entry pair_cmp pair kept.now.entries) }
+{
+    match kept.get(&pair) {
+        None => Ok(None),
+        Some(row) => {
+            let copy = row.copy(alloc)?;
+            Ok(Some(copy))
+        }
+    }
+}
+
+// The same number, which 32 bits hold.
+fn in_bits(number: u32) -> u32
+    ensures same { result ≡ number }
+    ensures fits { number < 2 ^ 32 }
+{
+    number
+}
+
+// The same pair, of a terminal that 32 bits hold.
+fn read_pair(pair: &Pair) -> Pair
+    ensures same { result ≡ pair.now }
+    ensures fits { result.terminal < 2 ^ 32 }
+{
+    let terminal = in_bits(pair.terminal);
+    Pair {
+        terminal,
+        number: pair.number,
+    }
+}
+
+// The greatest of all pairs under which messages are kept.
+fn last_of_all(kept: &BTreeMap<Pair, Kept>) -> Option<Pair>
+    ensures none { IfNone result
+        ((pair : PairOf) → find_entry pair_cmp pair kept.now.entries ≡ None) }
+    ensures kept { IfSome result (λ last. IsSome (find_entry pair_cmp last kept.now.entries)) }
+    ensures greatest { IfSome result
+        (λ last. (pair : PairOf) → IsSome (find_entry pair_cmp pair kept.now.entries)
+        → is_lt (pair_cmp last pair) ≡ false) }
+    ensures fits { IfSome result (λ last. last.terminal < 2 ^ 32) }
+{
+    match kept.last_key_value() {
+        Some((pair, _)) => Some(read_pair(pair)),
+        None => None,
+    }
+}
+
+// The greatest pair of the terminals below this one.
+fn last_below(kept: &BTreeMap<Pair, Kept>, terminal: u32) -> Option<Pair>
+    ensures none { IfNone result
+        ((pair : PairOf) → pair.terminal < terminal
+        → find_entry pair_cmp pair kept.now.entries ≡ None) }
+    ensures kept { IfSome result (λ last. IsSome (find_entry pair_cmp last kept.now.entries)) }
+    ensures greatest { IfSome result
+        (λ last. (pair : PairOf) → pair.terminal < terminal
+        → IsSome (find_entry pair_cmp pair kept.now.entries)
+        → is_lt (pair_cmp last pair) ≡ false) }
+    ensures below { IfSome result (λ last. last.terminal < terminal) }
+{
+    let end = Pair {
+        terminal,
+        number: 0,
+    };
+    match kept.range(..end).next_back() {
+        Some((pair, _)) => Some(*pair),
+        None => None,
+    }
+}
+
+// The greatest pair of the terminals up to this one.
+fn last_upto(kept: &BTreeMap<Pair, Kept>, terminal: u32) -> Option<Pair>
+    ensures none { IfNone result
+        ((pair : PairOf) → pair.terminal ≤ terminal
+        → find_entry pair_cmp pair kept.now.entries ≡ None) }
+    ensures kept { IfSome result (λ last. IsSome (find_entry pair_cmp last kept.now.entries)) }
+    ensures greatest { IfSome result
+        (λ last. (pair : PairOf) → pair.terminal ≤ terminal
+        → IsSome (find_entry pair_cmp pair kept.now.entries)
+        → is_lt (pair_cmp last pair) ≡ false) }
+    ensures upto { IfSome result (λ last. last.terminal ≤ terminal) }
+{
+    match terminal.checked_add(1) {
+        Some(next) => last_below(kept, next),
+        None => last_of_all(kept),
+    }
+}
+
+/// The greatest number under which a message of a terminal is kept, 0 where none is.
+pub(crate) fn last_kept(kept: &BTreeMap<Pair, Kept>, terminal: u32) -> u32
+    ensures greatest { (number : ℕ)
+        → IsSome (find_entry pair_cmp
+        (record { terminal = terminal; number = number }) kept.now.entries)
+        → number ≤ result }
+    ensures kept { (result ≡ 0)
+        ⊎ IsSome (find_entry pair_cmp
+        (record { terminal = terminal; number = result }) kept.now.entries) }
+{
+    let Some(last) = last_upto(kept, terminal) else {
+        return 0;
+    };
+    if last.terminal != terminal {
+        return 0;
+    }
+    last.number
 }

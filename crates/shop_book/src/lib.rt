@@ -4,6 +4,8 @@
 mod books;
 mod keeping;
 mod memory;
+mod memory_lists;
+mod memory_parts;
 mod order_codes;
 
 pub use books::{Book, BookFault, MOST_FAILURES};

@@ -1,6 +1,6 @@
 //! The codes of orders in memory, put together with a kept message or not at all.
 
-ghost use Rattle.std.specs.Prelude.{◌≡◌, List, ℕ, OnOk, OnErr};
+ghost use Rattle.std.specs.Prelude.{◌≡◌, IfOk, OnOk, OnErr};
 ghost use Rattle.std.specs.Option.{option_to_list};
 ghost use Rattle.cut_measure.specs.Codes.{code_cmp};
 ghost use Rattle.shop_book.specs.Memory.{order_key, put_kept};
@@ -87,6 +87,14 @@ impl OrderCode {
     {
         OrderCode { code }
     }
+}
+
+/// The same codes.
+pub(crate) fn copy_orders(orders: &BTreeSet<OrderCode>) -> Result<BTreeSet<OrderCode>, AllocError>
+    ensures { IfOk result (λ copy. copy.keys ≡ orders.now.keys) }
+{
+    let copy = orders.clone()?;
+    Ok(copy)
 }
 
 /// Puts the code of an order and keeps a message, each if there is one. An `Err` leaves both as they were.

@@ -7,3 +7,6 @@ pub mod Named
 -- sums of parts
 pub mod Summed
 pub mod Counting
+-- rows made of others
+pub mod Mapped
+pub mod Packed

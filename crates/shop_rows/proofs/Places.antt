@@ -1,6 +1,6 @@
 -- Where a row stands among rows that rise by their keys, and what it is to put one there.
-use Rattle.std.proofs.Common.{◌≡◌, inl, inr, ℕ, zero, suc, ◌-◌, ◌<◌, ◌≤◌, Bool, true, false, List, [], ◌∷◌, ◌++◌, length, take, drop, get_or, refl, sym, ap, subst, ◌∙◌, arith}
-use Rattle.std.specs.Prelude.{All, Some, None, T, cond, not, is_some, ◌&&◌}
+use Rattle.std.proofs.Common.{◌≡◌, inl, inr, ℕ, zero, suc, ◌-◌, ◌<◌, ◌≤◌, Bool, true, false, List, [], ◌∷◌, ◌++◌, length, map, take, drop, get_or, refl, sym, ap, subst, ◌∙◌, arith}
+use Rattle.std.specs.Prelude.{All, Option, Some, None, T, cond, not, is_some, ◌&&◌}
 use Rattle.std.specs.declared.cmp.Ordering.{Ordering}
 use Rattle.std.specs.declared.cmp.Ordering.TheVariants.{Less, Equal, Greater}
 use Rattle.std.specs.Ordering.{eq_by_cmp, is_eq, is_lt, ordering_index, ordering_reverse}
@@ -12,11 +12,12 @@ use Rattle.std.specs.FinMap.Entries.{below_all, by_order, find-put, find-where_k
 use Rattle.std.proofs.Math.ListN.{set}
 use Rattle.std.proofs.Math.Seq.{drop-cons}
 use Rattle.std.proofs.lemmas.Bool.{cases_lt}
-use Rattle.std.proofs.lemmas.Option.{get_or_from_slice_get}
+use Rattle.std.specs.Option.{option_map}
+use Rattle.std.proofs.lemmas.Option.{get_or_from_slice_get, slice_get-map}
 use Rattle.std.proofs.lemmas.List.Elements.{filter-append}
 use Rattle.std.proofs.lemmas.List.{append_assoc, get_or_default, set_split, map-append, take-append-drop}
 use Rattle.shop_records.proofs.Sums.{first, second, less}
-use Rattle.shop_rows.specs.Rows.{entry_of, entries_of, rise, row_at, put_each, IsPut, IsSettled, IsTaken, ArePut}
+use Rattle.shop_rows.specs.Rows.{entry_of, entries_of, rise, row_at, put_each, IsPut, IsRun, IsSettled, IsTaken, ArePut}
 
 pub lesser : (r : Ordering) → r ≡ Less → T (is_lt r)
 lesser Less e = tt
@@ -295,6 +296,41 @@ module _ {X K : Type 0} (key_of : X → K) (cmp : K → K → Ordering) (o : IsT
       each [] under over = tt
       each (r ∷ rows) under over =
           (ap (row_at key_of cmp (key_of r)) (sym (take-append-drop i xs)) ∙ find_past (key_of r) (take i xs) (drop i xs) under.0 ∙ find_before (key_of r) (drop i xs) over.0, each rows under.1 over.1)
+
+  -- a key at an end of a run is that of a row
+  run_end : (rows : List X) (k : ℕ) (key : K) → slice_get (map key_of rows) k ≡ Some key → (row : X) × (slice_get rows k ≡ Some row) × (key_of row ≡ key)
+  run_end rows k key at = by_found (slice_get rows k) refl (sym (slice_get-map key_of rows k) ∙ at)
+    where
+      by_found : (found : Option X) → slice_get rows k ≡ found → option_map key_of found ≡ Some key → (row : X) × (slice_get rows k ≡ Some row) × (key_of row ≡ key)
+      by_found None is e = cc
+      by_found (Some row) is e = let same : key_of row ≡ key = cc in (row, is, same)
+
+  -- so a run is put, whose first would stand where the row stands that its last comes before
+  module _ (xs : List X) (up : T (rise key_of cmp xs)) (i : ℕ) (from to : K) (within : i ≤ length xs)
+      (point : IsNonDecreasingBy (λ z. ordering_index (cmp (key_of z) from)) xs → IsPartitionPoint (λ z. cmp (key_of z) from ≡ Less) (λ z. cmp (key_of z) from ≡ Greater) xs i)
+      (before : i < length xs → (d : X) → cmp (key_of (get_or xs i d)) to ≡ Greater) (added : List X) (run : IsRun key_of cmp from to added) where
+    point_at : (x : X) → key_of x ≡ from → IsNonDecreasingBy (λ z. ordering_index (cmp (key_of z) (key_of x))) xs
+        → IsPartitionPoint (λ z. cmp (key_of z) (key_of x) ≡ Less) (λ z. cmp (key_of z) (key_of x) ≡ Greater) xs i
+    point_at x is =
+        subst (λ k. IsNonDecreasingBy (λ z. ordering_index (cmp (key_of z) k)) xs → IsPartitionPoint (λ z. cmp (key_of z) k ≡ Less) (λ z. cmp (key_of z) k ≡ Greater) xs i) (sym is) point
+
+    before_at : (y : X) → key_of y ≡ to → i < length xs → (d : X) → cmp (key_of (get_or xs i d)) (key_of y) ≡ Greater
+    before_at y is = subst (λ k. i < length xs → (d : X) → cmp (key_of (get_or xs i d)) k ≡ Greater) (sym is) before
+
+    rising : T (rise key_of cmp added)
+    rising = subst T (sym run.rising) tt
+
+    pub run_put : ArePut key_of cmp added xs (insert_slice xs i added)
+    run_put =
+        let x = run_end added 0 from run.begins in
+        let y = run_end added (length added - 1) to run.ends in
+        sym (put_at xs added i x.0 y.0 up rising within x.1 y.1 (point_at x.0 x.2) (before_at y.0 y.2))
+
+    pub run_new : All (λ row. row_at key_of cmp (key_of row) xs ≡ None) added
+    run_new =
+        let x = run_end added 0 from run.begins in
+        let y = run_end added (length added - 1) to run.ends in
+        put_new xs added i x.0 y.0 up rising within x.1 y.1 (point_at x.0 x.2) (before_at y.0 y.2)
 
   -- ---- rows of which each is below the next rise
 

@@ -3,3 +3,5 @@ pub mod Keys
 pub mod Sums
 pub mod Adding
 pub mod Open
+pub mod PartRows
+pub mod SameParts

@@ -1,7 +1,8 @@
 -- Rows in the order of their keys, as entries of a map.
-use Rattle.std.specs.Prelude.{◌≡◌, List, [], ◌∷◌, map, Bool, Option, cond, is_some, not}
+use Rattle.std.specs.Prelude.{◌≡◌, ◌-◌, List, [], ◌∷◌, length, map, Bool, IsTrue, Option, Some, cond, is_some, not}
 use Rattle.std.specs.declared.cmp.Ordering.{Ordering}
 use Rattle.std.specs.Ordering.{eq_by_cmp}
+use Rattle.std.specs.List.{slice_get}
 use Rattle.std.specs.FinMap.{FinMap, is_sorted, find, put, insert, from_sorted}
 use Rattle.std.specs.FinMap.Entries.{where_key}
 
@@ -44,6 +45,12 @@ module _ {X K : Type 0} (key_of : X → K) (cmp : K → K → Ordering) where
   -- the new rows are the old ones with these put one after another
   abbrev pub ArePut : List X → List X → List X → Type 0
   ArePut rows old new = entries_of new ≡ put_each rows (entries_of old)
+
+  -- the rows rise from the one key to the other
+  pub record IsRun (from to : K) (rows : List X) : Type 0 where
+    pub rising : IsTrue (rise rows)
+    pub begins : slice_get (map key_of rows) 0 ≡ Some from
+    pub ends : slice_get (map key_of rows) (length rows - 1) ≡ Some to
 
   -- the map that the rows stand for
   abbrev pub map_of : List X → FinMap cmp X

@@ -4,6 +4,7 @@
 mod keys;
 mod names;
 mod open;
+mod part_rows;
 mod rows;
 mod sums;
 
@@ -11,6 +12,7 @@ pub use names::{
     NameList, OpenPart, list_all, list_in_place, list_part, make_room, names_behind, reserve_names,
 };
 pub use open::{OpenRows, list_demands, list_job, numbers_behind};
+pub use part_rows::{Origin, PartRow, PartRows};
 pub use rows::{
     Row, at, copy_rows, find, first_rows, put, put_all, put_run, put_some, rises, settle, take_row,
 };

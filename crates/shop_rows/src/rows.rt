@@ -6,7 +6,7 @@ ghost use Rattle.std.specs.Prelude.{◌≡◌, ◌+◌, ◌++◌, ◌<◌, ◌�
 ghost use Rattle.std.specs.List.{HoldsAt, insert_slice};
 ghost use Rattle.std.specs.List.Sorted.{IsBinarySearchResult, IsSearchInRange};
 ghost use Rattle.std.specs.Option.{option_to_list};
-ghost use Rattle.shop_rows.specs.Rows.{rise, row_at, IsPut, IsSettled, IsTaken, ArePut};
+ghost use Rattle.shop_rows.specs.Rows.{rise, row_at, IsRun, IsPut, IsSettled, IsTaken, ArePut};
 
 use shop_records::RowList;
 use std::alloc::{AllocError, Global};
@@ -109,8 +109,38 @@ fn is_before<R: Row>(rows: &[R], i: usize, key: R::Key) -> bool
     }
 }
 
-/// Where rows that rise would stand together between two others.
-pub(crate) fn run_place<R: Row>(rows: &[R], added: &[R]) -> Option<usize>
+/// The keys of the first and the last of rows that rise.
+pub(crate) fn ends<R: Row>(rows: &[R]) -> Option<(R::Key, R::Key)>
+    ensures { IfSome result (λ keys. IsRun R.key_of R.cmp keys.0 keys.1 rows.now) }
+{
+    if !rises(rows) {
+        return None;
+    }
+    Some((rows.first()?.key(), rows.last()?.key()))
+}
+
+/// Where rows that rise from one key to another would stand together between two others.
+pub(crate) fn gap<R: Row>(rows: &[R], first: R::Key, last: R::Key) -> Option<usize>
+    requires { IsTrue (rise R.key_of R.cmp rows.now) }
+    ensures range { IfSome result (λ i. i ≤ length rows.now) }
+    ensures put { IfSome result
+        (λ i. (added : List R) → IsRun R.key_of R.cmp first last added
+        → ArePut R.key_of R.cmp added rows.now (insert_slice rows.now i added)) }
+    ensures new { IfSome result
+        (λ i. (added : List R) → IsRun R.key_of R.cmp first last added
+        → All (λ row. row_at R.key_of R.cmp (R.key_of row) rows.now ≡ None) added) }
+{
+    let Err(i) = place(rows, first) else {
+        return None;
+    };
+    if !is_before(rows, i, last) {
+        return None;
+    }
+    Some(i)
+}
+
+// Where rows that rise would stand together between two others.
+fn run_place<R: Row>(rows: &[R], added: &[R]) -> Option<usize>
     requires { IsTrue (rise R.key_of R.cmp rows.now) }
     ensures range { IfSome result (λ i. i ≤ length rows.now) }
     ensures put { IfSome result
@@ -120,21 +150,8 @@ pub(crate) fn run_place<R: Row>(rows: &[R], added: &[R]) -> Option<usize>
     ensures rising { IfSome result
         (λ i. IsTrue (rise R.key_of R.cmp (insert_slice rows.now i added.now))) }
 {
-    let Some(first) = added.first() else {
-        return None;
-    };
-    let Some(last) = added.last() else {
-        return None;
-    };
-    if !rises(added) {
-        return None;
-    }
-    let Err(i) = place(rows, first.key()) else {
-        return None;
-    };
-    if !is_before(rows, i, last.key()) {
-        return None;
-    }
+    let (first, last) = ends(added)?;
+    let i = gap(rows, first, last)?;
     Some(i)
 }
 
@@ -233,14 +250,26 @@ pub fn put_some<R: Row>(rows: &mut Vec<R>, row: Option<R>)
     }
 }
 
-/// Moves the rows from `from` on to a place before them.
-pub(crate) fn move_to<R: Row>(rows: &mut [R], from: usize, i: usize)
+// Moves the rows from `from` on to a place before them.
+fn move_to<R: Row>(rows: &mut [R], from: usize, i: usize)
     requires order { i ≤ from }
     requires range { from ≤ length rows.old }
     ensures { (front back : List R) → rows.old ≡ front ++ back → length front ≡ from
         → rows.new ≡ insert_slice front i back }
 {
     rows[i..].rotate_left(from - i);
+}
+
+/// Moves the rows from `from` on to a place before them, of rows that a list has.
+pub(crate) fn move_back<R: Row>(rows: &mut Vec<R>, from: usize, i: usize)
+    requires order { i ≤ from }
+    requires range { from ≤ length rows.old.items }
+    ensures moved { (front back : List R) → rows.old.items ≡ front ++ back → length front ≡ from
+        → rows.new.items ≡ insert_slice front i back }
+    ensures len { vec_len rows.new ≡ vec_len rows.old }
+    ensures capacity { vec_capacity rows.new ≡ vec_capacity rows.old }
+{
+    move_to(rows, from, i);
 }
 
 /// Puts rows that stand together between two others, all by one move, and tells whether they do; else nothing changes.
@@ -263,7 +292,7 @@ pub fn put_run<R: Row + Copy>(rows: &mut Vec<R>, added: &[R]) -> bool
         Ok(()) => (),
         Err(_) => unreachable!(),
     }
-    move_to(rows, from, i);
+    move_back(rows, from, i);
     true
 }
 

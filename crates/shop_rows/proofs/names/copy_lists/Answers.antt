@@ -1,6 +1,6 @@
 use Rattle.std.proofs.Common.{map, ap, ◌∙◌}
 use Rattle.std.proofs.lemmas.List.{take_all}
-use Rattle.shop_rows.proofs.NameLists.{names_shown, order_shown, shown, shown_more}
+use Rattle.shop_rows.proofs.NameLists.{names_shown, order_shown, shown}
 use Rattle.shop_rows.proofs.names.copy_lists.Goals as goal
 
 pub returns-clause-order : goal.returns-clause-order

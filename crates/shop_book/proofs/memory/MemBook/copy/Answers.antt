@@ -4,39 +4,39 @@ use Rattle.shop_records.specs.Lists.{is_open}
 use Rattle.shop_records.specs.declared.records.Part.{Part}
 use Rattle.shop_records.specs.declared.records.Job.{Job}
 use Rattle.shop_records.specs.declared.records.Demand.{Demand}
-use Rattle.cut_measure.specs.Names.{name_cmp}
-use Rattle.shop_rows.specs.Keys.{part_key, job_key, demand_key}
-use Rattle.shop_rows.proofs.Listed.{still_listed}
-use Rattle.shop_rows.specs.Open.{waits, AreListed, ListsNumbers}
+use Rattle.shop_rows.specs.Keys.{job_key, demand_key}
+use Rattle.shop_rows.specs.Open.{waits, ListsNumbers}
+use Rattle.shop_rows.specs.PartRows.{parts_in}
+use Rattle.shop_rows.specs.declared.sums.Sums.{Sums}
 use Rattle.shop_rows.specs.Rows.{rise, row_at}
 use Rattle.std.specs.Prelude.{IsTrue}
 use Rattle.cut_measure.specs.Codes.{code_cmp}
 use Rattle.shop_book.specs.Memory.{order_key}
 use Rattle.shop_book.specs.Memory.{content_of_rows}
+use Rattle.shop_book.specs.Tallies.{Tallies}
+use Rattle.shop_book.proofs.Tallied.{tally_same}
 use Rattle.shop_book.proofs.memory.MemBook.copy.Goals as goal
 
 pub invariant_of-result : goal.invariant_of-result
 invariant_of-result c =
     let book = c.self.inside in
     let lists = c.in_ok-lists.lists in
-    let parts : c.in_ok-parts.parts.items ≡ book.parts.items = search rules in
+    let parts : parts_in c.in_ok-parts.parts ≡ parts_in book.parts = c.in_ok-parts.ensures.parts in
+    let totals : c.in_ok-totals.totals.items ≡ book.totals.items = search rules in
     let jobs : c.in_ok-jobs.jobs.items ≡ book.jobs.items = c.in_ok-jobs.ensures in
     let demands : c.in_ok-demands.demands.items ≡ book.demands.items = search rules in
     record {
       materials = search rules;
-      parts = search rules;
-      totals = search rules;
+      known = c.in_ok-parts.ensures.known;
+      tally =
+          tally_same (parts_in c.in_ok-parts.parts) c.in_ok-totals.totals.items book.lists.parts.items lists.parts.items c.in_ok-lists.ensures.parts c.in_ok-lists.ensures.order
+          (subst (λ (rows : List Part). Tallies rows c.in_ok-totals.totals.items book.lists.parts.items) (sym parts)
+          (subst (λ (totals : List Sums). Tallies (parts_in book.parts) totals book.lists.parts.items) (sym totals) c.self.invariant.tally));
       jobs = subst (λ (js : List Job). IsTrue (rise job_key nat_cmp js)) (sym jobs) c.self.invariant.jobs;
       orders = subst (λ (codes : List (List ℕ)). IsTrue (rise order_key code_cmp codes)) (sym c.in_ok-orders.ensures) c.self.invariant.orders;
       demands = search rules;
       kept = search rules;
       imports = search rules;
-      small = search rules;
-      sums = search rules;
-      names = c.in_ok-lists.ensures.order;
-      listed =
-          subst (λ (ps : List Part). AreListed ps lists.parts.items) (sym parts)
-          (still_listed (λ name. row_at part_key name_cmp name book.parts.items) book.lists.parts.items lists.parts.items c.in_ok-lists.ensures.parts c.self.invariant.listed);
       job_keys = search rules;
       waiting =
           subst (λ (js : List Job). ListsNumbers waits (λ number. row_at job_key nat_cmp number js) lists.jobs.items) (sym jobs)
@@ -51,7 +51,7 @@ pub returns : goal.returns
 returns c =
     let book = c.self.inside in
     let materials : c.in_ok-materials.materials.items ≡ book.materials.items = search rules in
-    let parts : c.in_ok-parts.parts.items ≡ book.parts.items = search rules in
+    let parts : parts_in c.in_ok-parts.parts ≡ parts_in book.parts = c.in_ok-parts.ensures.parts in
     let jobs : c.in_ok-jobs.jobs.items ≡ book.jobs.items = c.in_ok-jobs.ensures in
     let orders : c.in_ok-orders.orders.keys ≡ book.orders.keys = c.in_ok-orders.ensures in
     let demands : c.in_ok-demands.demands.items ≡ book.demands.items = search rules in

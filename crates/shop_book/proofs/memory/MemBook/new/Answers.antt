@@ -10,7 +10,7 @@ use Rattle.shop_book.proofs.memory.MemBook.new.Goals as goal
 
 pub returns-clause-content : goal.returns-clause-content
 returns-clause-content c =
-    (λ i. content_of_rows (c.new.ensures.items i) (c.new-2.ensures.items i) (c.new-4.ensures.items i) (c.new-5.ensures.empty i) (c.new-6.ensures.items i) (c.new-7.ensures.empty i) (c.new-8.ensures.items i) 0 0)
+    (λ i. content_of_rows (c.new.ensures.items i) (c.new-2.ensures.parts i) (c.new-4.ensures.items i) (c.new-5.ensures.empty i) (c.new-6.ensures.items i) (c.new-7.ensures.empty i) (c.new-8.ensures.items i) 0 0)
     ∙ (λ i.
     record {
       materials = no_rows code_cmp i;

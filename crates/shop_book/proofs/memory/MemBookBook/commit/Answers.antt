@@ -1,4 +1,4 @@
-use Rattle.std.proofs.Common.{◌≡◌, List, ap, ◌∙◌}
+use Rattle.std.proofs.Common.{◌≡◌, List, length, ap, ◌∙◌}
 use Rattle.std.specs.Ordering.{nat_cmp}
 use Rattle.std.specs.Option.{option_to_list}
 use Rattle.std.specs.Cmp.{nat_cmp_total}
@@ -9,6 +9,7 @@ use Rattle.cut_measure.specs.Names.{name_cmp}
 use Rattle.shop_records.specs.declared.records.Part.{Part}
 use Rattle.shop_records.specs.declared.records.Demand.{Demand}
 use Rattle.shop_records.specs.Content.{pair_cmp, with_material, with_parts, with_moved, with_job, with_order, with_demands, with_kept, with_import, with_number, changed}
+use Rattle.shop_rows.specs.PartRows.{parts_in}
 use Rattle.shop_rows.specs.Rows.{entries_of, put_each, map_of}
 use Rattle.shop_book.specs.Memory.{orders_in}
 use Rattle.shop_rows.specs.Keys.{material_key, part_key, job_key, demand_key, import_key}
@@ -20,22 +21,24 @@ pub invariant_of-self-2 : goal.invariant_of-self-2
 invariant_of-self-2 c =
     record {
       materials = c.put_some.ensures.rising;
-      parts = c.put_parts.ensures.parts;
-      totals = c.put_parts.ensures.totals;
+      known = c.put_parts.ensures.known;
+      tally = c.put_parts.ensures.tally;
       jobs = c.put_job.ensures.rising;
       orders = orders_rise c.args.change.order c.self.inside.orders.keys c.put_and_keep.new.orders.keys c.in_ok-put_and_keep.ensures.orders c.self.invariant.orders;
       demands = c.put_demands.ensures.rising;
       kept = kept_sorted c.args.change.kept c.self.inside.kept.entries c.put_and_keep.new.kept.entries c.self.invariant.kept c.in_ok-put_and_keep.ensures.kept;
       imports = c.put_some-2.ensures.rising;
-      small = c.put_parts.ensures.small;
-      sums = c.put_parts.ensures.sums;
-      names = c.put_parts.ensures.order;
-      listed = c.put_parts.ensures.listed;
       job_keys = c.put_job.ensures.keys;
       waiting = c.put_job.ensures.listed;
       demand_keys = c.put_demands.ensures.keys;
       open_demands = c.put_demands.ensures.listed;
     }
+
+pub put_parts-requires-clause-rooms : goal.put_parts-requires-clause-rooms
+put_parts-requires-clause-rooms c =
+    let rows = c.as_slice-rows.result.now in
+    let room = c.in_ok-reserve.ensures.room in
+    c.put_moved.ensures.rooms (length rows) rows (record { room = room.1; sums = room.2; names = c.in_ok-reserve_names.ensures.parts })
 
 pub returns-clause-ok : goal.returns-clause-ok
 returns-clause-ok c =
@@ -45,8 +48,8 @@ returns-clause-ok c =
     map_after material_key code_cmp nat_list_cmp_total (option_to_list change.material) old.materials.items c.reserve.new.materials.items c.put_some.new.rows.items
     c.self.invariant.materials c.reserve.ensures.materials c.put_some.ensures.put
     ∙ material_after change.material (map_of material_key code_cmp old.materials.items) in
-    let parts : map_of part_key name_cmp c.put_parts.new.parts.items ≡ with_parts change.parts (with_moved change.moved (map_of part_key name_cmp old.parts.items)) =
-    c.put_parts.ensures.put ∙ ap (λ (rows : List Part). with_parts rows (map_of part_key name_cmp c.put_moved.new.parts.items)) c.as_slice-rows.ensures
+    let parts : map_of part_key name_cmp (parts_in c.put_parts.new.parts) ≡ with_parts change.parts (with_moved change.moved (map_of part_key name_cmp (parts_in old.parts))) =
+    c.put_parts.ensures.put ∙ ap (λ (rows : List Part). with_parts rows (map_of part_key name_cmp (parts_in c.put_moved.new.parts))) c.as_slice-rows.ensures
     ∙ ap (with_parts change.parts) c.put_moved.ensures.put
     ∙ ap (λ (rows : List Part). with_parts change.parts (with_moved change.moved (map_of part_key name_cmp rows))) c.reserve.ensures.parts in
     let jobs : map_of job_key nat_cmp c.put_job.new.jobs.items ≡ with_job change.job (map_of job_key nat_cmp old.jobs.items) =

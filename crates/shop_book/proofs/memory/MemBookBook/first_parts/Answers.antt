@@ -1,6 +1,8 @@
 use Rattle.std.proofs.Common.{◌≡◌, List, ap, take, ◌∙◌}
 use Rattle.std.specs.Prelude.{filter}
 use Rattle.shop_records.specs.Lists.{is_behind, parts_behind}
+use Rattle.cut_measure.specs.Names.{Name}
+use Rattle.shop_rows.specs.PartRows.{parts_in}
 use Rattle.shop_rows.specs.Open.{names_of, parts_named}
 use Rattle.shop_rows.specs.declared.names.NameList.{NameList}
 use Rattle.shop_book.proofs.Handed.{first_named}
@@ -14,6 +16,6 @@ returns-clause-rows c =
     let book = c.self.inside in
     let names : c.first_rows.result.now ≡ take most (filter (is_behind after) (names_of code book.lists.parts.items)) =
     c.first_rows.ensures ∙ ap (take most) (c.names_behind-names.ensures ∙ ap (λ (lists : List NameList). filter (is_behind after) (names_of code lists)) c.deref.ensures.value) in
-    c.in_ok-rows.ensures ∙ (λ i. parts_named (names i) (c.deref-2.ensures.value i))
-    ∙ first_named code book.lists.parts.items book.parts.items c.self.invariant.names c.self.invariant.parts c.self.invariant.listed after most
+    c.in_ok-rows.ensures ∙ ap (λ (ns : List Name). parts_named ns (parts_in book.parts)) names
+    ∙ first_named code book.lists.parts.items (parts_in book.parts) c.self.invariant.tally.order c.self.invariant.tally.rising c.self.invariant.tally.listed after most
     ∙ ap (λ book. take most (parts_behind book.content code after)) c.self.view_is

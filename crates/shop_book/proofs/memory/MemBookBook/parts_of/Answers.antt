@@ -2,6 +2,8 @@ use Rattle.std.proofs.Common.{◌≡◌, List, None, ap, ◌∙◌}
 use Rattle.std.specs.Prelude.{filter}
 use Rattle.shop_records.specs.Content.{parts_of}
 use Rattle.shop_records.specs.Lists.{is_behind}
+use Rattle.cut_measure.specs.Names.{Name}
+use Rattle.shop_rows.specs.PartRows.{parts_in}
 use Rattle.shop_rows.specs.Open.{names_of, parts_named}
 use Rattle.shop_rows.specs.declared.names.NameList.{NameList}
 use Rattle.shop_book.proofs.Handed.{all_named}
@@ -12,5 +14,5 @@ returns-clause-rows c =
     let code = c.args.material in
     let book = c.self.inside in
     let names : c.names_behind-names.result.now ≡ filter (is_behind None) (names_of code book.lists.parts.items) = c.names_behind-names.ensures ∙ ap (λ (lists : List NameList). filter (is_behind None) (names_of code lists)) c.deref.ensures.value in
-    c.in_ok-rows.ensures ∙ (λ i. parts_named (names i) (c.deref-2.ensures.value i)) ∙ all_named code book.lists.parts.items book.parts.items c.self.invariant.names c.self.invariant.parts c.self.invariant.listed
+    c.in_ok-rows.ensures ∙ ap (λ (ns : List Name). parts_named ns (parts_in book.parts)) names ∙ all_named code book.lists.parts.items (parts_in book.parts) c.self.invariant.tally.order c.self.invariant.tally.rising c.self.invariant.tally.listed
     ∙ ap (λ book. parts_of book.content code) c.self.view_is

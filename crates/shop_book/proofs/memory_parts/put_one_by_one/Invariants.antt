@@ -1,0 +1,17 @@
+use Rattle.std.proofs.Common.{◌≡◌, ◌-◌, length, drop}
+use Rattle.cut_measure.specs.Names.{name_cmp}
+use Rattle.shop_records.specs.Content.{with_parts}
+use Rattle.shop_rows.specs.Keys.{part_key}
+use Rattle.shop_rows.specs.PartRows.{parts_in, AreKnown}
+use Rattle.shop_rows.specs.Rows.{map_of}
+use Rattle.shop_book.specs.Tallies.{HaveRooms, Tallies}
+use Rattle.shop_book.proofs.memory_parts.put_one_by_one.Given as goal
+
+abbrev pub invariant-loop-part : goal.invariant-loop-part
+invariant-loop-part l =
+    record {
+      known : AreKnown l.parts;
+      tally : Tallies (parts_in l.parts) l.totals.items l.lists.items;
+      rooms : HaveRooms (length l.rows - l.part-index) l.rows l.parts l.totals l.lists.items;
+      rest : with_parts (drop l.part-index l.rows) (map_of part_key name_cmp (parts_in l.parts)) ≡ with_parts l.rows (map_of part_key name_cmp (parts_in l.fn.parts));
+    }
