@@ -1,5 +1,5 @@
 -- What stands behind a head.
-use Rattle.std.proofs.Common.{◌≡◌, Bool, true, false, ℕ, zero, suc, ◌-◌, ◌<◌, ◌≤◌, List, [], ◌∷◌, ◌++◌, length, take, drop, Option, Some, None, Ok, Err, inl, inr, refl, sym, ap, subst, ◌∙◌, arith, append_assoc, append-nil, length-append, length-drop}
+use Rattle.std.proofs.Common.{◌≡◌, Bool, true, false, ℕ, zero, suc, ◌-◌, ◌<◌, ◌≤◌, List, [], ◌∷◌, ◌++◌, length, take, drop, Option, Some, None, Result, Ok, Err, inl, inr, refl, sym, ap, subst, ◌∙◌, arith, append_assoc, append-nil, length-append, length-drop}
 use Rattle.std.specs.Prelude.{IfSome, if◌then◌else◌}
 use Rattle.std.proofs.Math.Seq.{take-length}
 use Rattle.std.proofs.lemmas.Bool.{lt-ltb, le-ltb}
@@ -13,7 +13,11 @@ use Rattle.httparse.specs.Spans.{IsRequestWithin, IsRequestAt, header_bytes, nam
 use Rattle.shop_request.specs.declared.faults.Fault.{Fault}
 use Rattle.shop_request.specs.declared.faults.Fault.TheVariants.{BadRequest}
 use Rattle.shop_request.specs.Heads.{front, Plea, judged, BeginsWith, HasHead}
-use Rattle.shop_request.specs.Reading.{IsReadOn}
+use Rattle.shop_request.specs.Reading.{IsHeadRead, IsParsed, IsReadOn, pleas}
+use Rattle.shop_request.specs.declared.heads.HeadRead.{HeadRead}
+use Rattle.shop_request.specs.declared.heads.HeadRead.TheVariants as heads
+use Rattle.shop_request.specs.declared.heads.Parsed.TheVariants as parsed
+use Rattle.shop_request.specs.declared.judging.Pleaded.{Pleaded}
 use Rattle.shop_request.specs.Requests.{Sense, faulty, asking, silent, HasSense, on_plea, with_body}
 use Rattle.shop_request.specs.Routes.{takes_body}
 use Rattle.shop_request.proofs.Front.{begins}
@@ -46,61 +50,95 @@ pub bad_head : (old : Option (List ℕ)) (f : Fault) → IfSome old (λ input. (
 bad_head None f h = tt
 bad_head (Some xs) f h = inr (h.0, Err f, h.1, refl)
 
-module _ (came : List ℕ) (some : 0 < length came) (headers : List HeaderSpan) (spans : RequestSpans) (h : RequestHead) (room : length headers ≡ 64)
-    (within : IsRequestWithin (front came) headers spans) (at : IsRequestAt (front came) headers spans h) where
-  pub few : length h.fields ≤ 64
+-- ---- a whole head
+
+-- A whole head came, in these spans, and this is judged of it.
+pub record IsJudged (came : List ℕ) (headers : List HeaderSpan) (spans : RequestSpans) (answer : Result Plea Fault) : Type 0 where
+  pub some : 0 < length came
+  pub room : length headers ≡ 64
+  pub within : IsRequestWithin (front came) headers spans
+  pub head : RequestHead
+  pub at : IsRequestAt (front came) headers spans head
+  pub said : judged head ≡ answer
+
+-- it was found in a text that is the front of what came
+pub is_judged : (came text : List ℕ) (headers : List HeaderSpan) (spans : RequestSpans) (result : Result Pleaded Fault) → text ≡ front came → 0 < length came → length headers ≡ 64
+    → IsParsed text headers (parsed.Whole spans) → ((h : RequestHead) → IsRequestAt text headers spans h → pleas result ≡ judged h) → IsJudged came headers spans (pleas result)
+is_judged came text headers spans result same some room is judges =
+    record {
+      some = some;
+      room = room;
+      within = subst (λ b. IsRequestWithin b headers spans) same is.0;
+      head = is.1.0;
+      at = subst (λ b. IsRequestAt b headers spans is.1.0) same is.1.1;
+      said = sym (judges is.1.0 is.1.1);
+    }
+
+-- it is the head that was read
+pub judged_read : (old mid : Option (List ℕ)) (came text : List ℕ) (headers : List HeaderSpan) (read : HeadRead) (spans : RequestSpans) (result : Result Pleaded Fault) → IsHeadRead old mid came headers read
+    → read ≡ heads.Whole spans → text ≡ front came → length headers ≡ 64 → ((h : RequestHead) → IsRequestAt text headers spans h → pleas result ≡ judged h)
+    → IsJudged came headers spans (pleas result) × Consumes old mid came
+judged_read old mid came text headers read spans result is whole same room judges =
+    let r = subst (IsHeadRead old mid came headers) whole is in
+    (is_judged came text headers spans result same r.0 room (subst (λ b. IsParsed b headers (parsed.Whole spans)) (sym same) (r.1, r.2)) judges, r.3)
+
+module _ {came : List ℕ} {headers : List HeaderSpan} {spans : RequestSpans} {answer : Result Plea Fault} (j : IsJudged came headers spans answer) where
+  pub few : length j.head.fields ≤ 64
   few =
       omega (
         arith,
-        room,
-        ap length at.fields,
+        j.room,
+        ap length j.at.fields,
         length-map (take spans.headers headers) (header_bytes (front came)),
-        length-map h.fields name_and_value,
+        length-map j.head.fields name_and_value,
         length-take spans.headers headers,
       )
 
-  len_fits : length (print_request h) ≤ length came
-  len_fits = omega (arith, at.len, within.section.len_fits, length-take 8192 came)
+  len_fits : length (print_request j.head) ≤ length came
+  len_fits = omega (arith, j.at.len, j.within.section.len_fits, length-take 8192 came)
 
   -- the sense of an input that goes on so behind what came with its head
-  core : (input m : List ℕ) (s : Sense) → input ≡ came ++ m → on_plea (judged h) (drop (length (print_request h)) came ++ m) ≡ s → HasSense input s
+  core : (input m : List ℕ) (s : Sense) → input ≡ came ++ m → on_plea answer (drop (length (print_request j.head)) came ++ m) ≡ s → HasSense input s
   core input m s is e =
       inr (
-        omega (arith, ap length is, length-append came m, some),
-        Ok h,
-        subst (λ l. BeginsWith l h) (sym is) (begins came m h (drop spans.len (front came)) few at.reads),
-        sym (ap (λ l. on_plea (judged h) (drop (length (print_request h)) l)) is ∙ ap (on_plea (judged h)) (drop-append (length (print_request h)) came m len_fits) ∙ e),
+        omega (arith, ap length is, length-append came m, j.some),
+        Ok j.head,
+        subst (λ l. BeginsWith l j.head) (sym is) (begins came m j.head (drop spans.len (front came)) few j.at.reads),
+        sym (ap (λ l. on_plea (judged j.head) (drop (length (print_request j.head)) l)) is
+            ∙ ap (on_plea (judged j.head)) (drop-append (length (print_request j.head)) came m len_fits)
+            ∙ ap (λ a. on_plea a (drop (length (print_request j.head)) came ++ m)) j.said
+            ∙ e),
       )
 
-  pub sense_of_fault : (old mid : Option (List ℕ)) → Consumes old mid came → (f : Fault) → judged h ≡ Err f → IfSome old (λ input. HasSense input (faulty f))
+  pub sense_of_fault : (old mid : Option (List ℕ)) → Consumes old mid came → (f : Fault) → answer ≡ Err f → IfSome old (λ input. HasSense input (faulty f))
   sense_of_fault None mid taken f e = tt
   sense_of_fault (Some xs) None taken f e = absurd taken
-  sense_of_fault (Some xs) (Some ys) taken f e = core xs ys (faulty f) taken (ap (λ j. on_plea j (drop (length (print_request h)) came ++ ys)) e)
+  sense_of_fault (Some xs) (Some ys) taken f e = core xs ys (faulty f) taken (ap (λ a. on_plea a (drop (length (print_request j.head)) came ++ ys)) e)
 
-  pub sense_of_part : (old mid : Option (List ℕ)) → Consumes old mid came → (plea : Plea) → judged h ≡ Ok plea → takes_body plea.route ≡ false → (part : List ℕ) → part ≡ plea.part
+  pub sense_of_part : (old mid : Option (List ℕ)) → Consumes old mid came → (plea : Plea) → answer ≡ Ok plea → takes_body plea.route ≡ false → (part : List ℕ) → part ≡ plea.part
       → IfSome old (λ input. HasSense input (asking plea.route part))
   sense_of_part None mid taken plea e no_body part is = tt
   sense_of_part (Some xs) None taken plea e no_body part is = absurd taken
   sense_of_part (Some xs) (Some ys) taken plea e no_body part is =
-      let behind = drop (length (print_request h)) came ++ ys in
+      let behind = drop (length (print_request j.head)) came ++ ys in
       core xs ys (asking plea.route part) taken
-      (ap (λ j. on_plea j behind) e ∙ ap (λ (b : Bool). if b then with_body plea.route plea.length behind else asking plea.route plea.part) no_body ∙ ap (asking plea.route) (sym is))
+      (ap (λ a. on_plea a behind) e ∙ ap (λ (b : Bool). if b then with_body plea.route plea.length behind else asking plea.route plea.part) no_body ∙ ap (asking plea.route) (sym is))
 
   -- with a body, of which more bytes came
-  module _ (old mid new : Option (List ℕ)) (taken : Consumes old mid came) (plea : Plea) (e : judged h ≡ Ok plea) (body : takes_body plea.route ≡ true) (came' : List ℕ) (on : IsReadOn mid new came came') where
+  module _ (old mid new : Option (List ℕ)) (taken : Consumes old mid came) (plea : Plea) (e : answer ≡ Ok plea) (body : takes_body plea.route ≡ true) (came' : List ℕ) (on : IsReadOn mid new came came') where
     -- what came behind the head
-    behind_is : (ys : List ℕ) → drop (length (print_request h)) came ++ (on.0 ++ ys) ≡ drop spans.len came' ++ ys
+    behind_is : (ys : List ℕ) → drop (length (print_request j.head)) came ++ (on.0 ++ ys) ≡ drop spans.len came' ++ ys
     behind_is ys =
-        sym (append_assoc (drop (length (print_request h)) came) on.0 ys)
-        ∙ ap (λ l. l ++ ys) (sym (drop-append (length (print_request h)) came on.0 len_fits) ∙ ap (drop (length (print_request h))) (sym on.1) ∙ ap (λ n. drop n came') (sym at.len))
+        sym (append_assoc (drop (length (print_request j.head)) came) on.0 ys)
+        ∙ ap (λ l. l ++ ys) (sym (drop-append (length (print_request j.head)) came on.0 len_fits) ∙ ap (drop (length (print_request j.head))) (sym on.1) ∙ ap (λ n. drop n came') (sym j.at.len))
 
     whole : (xs ys : List ℕ) → Consumes (Some xs) mid came → Consumes mid (Some ys) on.0 → xs ≡ came ++ (on.0 ++ ys)
     whole xs ys first second = Consumes-trans (Some xs) mid (Some ys) came on.0 first second ∙ append_assoc came on.0 ys
 
-    told : (ys : List ℕ) (s : Sense) → with_body plea.route plea.length (drop spans.len came' ++ ys) ≡ s → on_plea (judged h) (drop (length (print_request h)) came ++ (on.0 ++ ys)) ≡ s
+    told : (ys : List ℕ) (s : Sense) → with_body plea.route plea.length (drop spans.len came' ++ ys) ≡ s → on_plea answer (drop (length (print_request j.head)) came ++ (on.0 ++ ys)) ≡ s
     told ys s is =
-        let behind = drop (length (print_request h)) came ++ (on.0 ++ ys) in
-        ap (λ j. on_plea j behind) e ∙ ap (λ (b : Bool). if b then with_body plea.route plea.length behind else asking plea.route plea.part) body ∙ ap (with_body plea.route plea.length) (behind_is ys) ∙ is
+        let behind = drop (length (print_request j.head)) came ++ (on.0 ++ ys) in
+        ap (λ a. on_plea a behind) e ∙ ap (λ (b : Bool). if b then with_body plea.route plea.length behind else asking plea.route plea.part) body ∙ ap (with_body plea.route plea.length) (behind_is ys) ∙ is
 
     enough : (ys : List ℕ) → plea.length ≤ length came' - spans.len → with_body plea.route plea.length (drop spans.len came' ++ ys) ≡ asking plea.route (take plea.length (drop spans.len came'))
     enough ys long =
@@ -114,7 +152,7 @@ module _ (came : List ℕ) (some : 0 < length came) (headers : List HeaderSpan) 
         let d = drop spans.len came' in
         ap (λ (b : Bool). if b then faulty BadRequest else asking plea.route (take plea.length (d ++ ys))) (lt-ltb (length (d ++ ys)) plea.length (omega (arith, short, length-drop spans.len came', length-append d ys, ap length end)))
 
-  pub sense_of_body : (old mid new : Option (List ℕ)) → Consumes old mid came → (plea : Plea) → judged h ≡ Ok plea → takes_body plea.route ≡ true → (came' : List ℕ) → IsReadOn mid new came came'
+  pub sense_of_body : (old mid new : Option (List ℕ)) → Consumes old mid came → (plea : Plea) → answer ≡ Ok plea → takes_body plea.route ≡ true → (came' : List ℕ) → IsReadOn mid new came came'
       → plea.length ≤ length came' - spans.len → (body : List ℕ) → body ≡ take plea.length (drop spans.len came') → IfSome old (λ input. HasSense input (asking plea.route body))
   sense_of_body None mid new taken plea e b came' on long body is = tt
   sense_of_body (Some xs) None new taken plea e b came' on long body is = absurd taken
@@ -123,7 +161,7 @@ module _ (came : List ℕ) (some : 0 < length came) (headers : List HeaderSpan) 
       core xs (on.0 ++ ys) (asking plea.route body) (whole (Some xs) (Some zs) (Some ys) taken plea e b came' on xs ys taken on.2)
       (told (Some xs) (Some zs) (Some ys) taken plea e b came' on ys (asking plea.route body) (enough (Some xs) (Some zs) (Some ys) taken plea e b came' on ys long ∙ ap (asking plea.route) (sym is)))
 
-  pub sense_of_short : (old mid new : Option (List ℕ)) → Consumes old mid came → (plea : Plea) → judged h ≡ Ok plea → takes_body plea.route ≡ true → (came' : List ℕ) → IsReadOn mid new came came'
+  pub sense_of_short : (old mid new : Option (List ℕ)) → Consumes old mid came → (plea : Plea) → answer ≡ Ok plea → takes_body plea.route ≡ true → (came' : List ℕ) → IsReadOn mid new came came'
       → length came' - spans.len < plea.length → IsAtEnd new → IfSome old (λ input. HasSense input (faulty BadRequest))
   sense_of_short None mid new taken plea e b came' on short end = tt
   sense_of_short (Some xs) None new taken plea e b came' on short end = absurd taken

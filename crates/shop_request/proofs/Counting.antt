@@ -1,20 +1,16 @@
 -- How many reads a request takes at most.
-use Rattle.std.proofs.Common.{◌≡◌, ℕ, ◌≤◌, List, Bool, true, false, Option, Some, None, Result, Ok, Err, nat_le, refl, sym, ap, subst, ◌∙◌, arith}
+use Rattle.std.proofs.Common.{◌≡◌, ℕ, ◌≤◌, List, Bool, true, false, Option, Some, None, Result, Ok, Err, nat_le, refl, ◌∙◌, arith}
 use Rattle.std.specs.Prelude.{not, if◌then◌else◌, bytes_eq, codes}
 use Rattle.std.proofs.lemmas.Bool.{leb-true}
 use Rattle.httparse.specs.Grammar.{RequestHead}
 use Rattle.httparse.specs.declared.spans.HeaderSpan.{HeaderSpan}
 use Rattle.httparse.specs.declared.spans.RequestSpans.{RequestSpans}
-use Rattle.httparse.specs.Spans.{IsRequestAt}
 use Rattle.shop_request.specs.declared.faults.Fault.{Fault}
 use Rattle.shop_request.specs.declared.faults.Fault.TheVariants.{BadRequest, NoLength, LargeBody, OnlyGet, OnlyPost}
 use Rattle.shop_request.specs.declared.routes.Route.{Route}
 use Rattle.shop_request.specs.Routes.{takes_body, part_of, path_of, route_of}
-use Rattle.shop_request.specs.declared.heads.HeadRead.{HeadRead}
-use Rattle.shop_request.specs.declared.heads.HeadRead.TheVariants.{Whole}
-use Rattle.shop_request.specs.declared.judging.Pleaded.{Pleaded}
-use Rattle.shop_request.specs.Reading.{IsHeadRead, plea_of, pleas}
-use Rattle.shop_request.specs.Heads.{front, Plea, body_length, by_method, judged, most_body, on_length, on_route, with_length}
+use Rattle.shop_request.specs.Heads.{Plea, body_length, by_method, judged, most_body, on_length, on_route, with_length}
+use Rattle.shop_request.proofs.Behind.{IsJudged}
 
 -- ---- a plea is for a short body
 
@@ -53,15 +49,10 @@ module _ (p : Plea) where
   short_parts true false method path r is = short_on method path r is
   short_parts false coded method path r is = absurd (cc is)
 
-  pub short_plea : (h : RequestHead) → judged h ≡ Ok p → p.length ≤ most_body
+  short_plea : (h : RequestHead) → judged h ≡ Ok p → p.length ≤ most_body
   unfolding judged
   short_plea h is = short_parts _ _ h.method (path_of h.target) _ is
 
 -- what is pleaded for is short
-pub short_body : (old new : Option (List ℕ)) (came at : List ℕ) (headers : List HeaderSpan) (spans : RequestSpans) (read : HeadRead) (result : Result Pleaded Fault) (plea : Pleaded)
-    → IsHeadRead old new came headers read → read ≡ Whole spans → at ≡ front came → ((h : RequestHead) → IsRequestAt at headers spans h → pleas result ≡ judged h) → result ≡ Ok plea
-    → plea.length ≤ most_body
-short_body old new came at headers spans read result plea is whole fronts judges ok =
-    let r = subst (IsHeadRead old new came headers) whole is in
-    let h = r.2 in
-    short_plea (plea_of plea) h.0 (sym (judges h.0 (subst (λ b. IsRequestAt b headers spans h.0) (sym fronts) h.1)) ∙ ap pleas ok)
+pub short_body : {came : List ℕ} {headers : List HeaderSpan} {spans : RequestSpans} {answer : Result Plea Fault} → IsJudged came headers spans answer → (plea : Plea) → answer ≡ Ok plea → plea.length ≤ most_body
+short_body j plea e = short_plea plea j.head (j.said ∙ e)

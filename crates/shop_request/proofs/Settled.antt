@@ -1,21 +1,20 @@
 -- Bytes whose sense is settled, whatever follows.
-use Rattle.std.proofs.Common.{◌≡◌, ◌∙◌, ℕ, ◌+◌, ◌<◌, ◌≤◌, List, [], ◌++◌, length, take, drop, Some, Ok, true, inl, inr, refl, sym, subst, arith, append_assoc, append-nil, length-append}
+use Rattle.std.proofs.Common.{◌≡◌, ◌∙◌, ℕ, ◌+◌, ◌<◌, ◌≤◌, List, [], ◌++◌, length, take, drop, Some, Result, Ok, true, inl, inr, refl, sym, subst, arith, append_assoc, append-nil, length-append}
 use Rattle.std.specs.Prelude.{◌⊎◌, replicate}
 use Rattle.std.proofs.lemmas.List.{length-replicate, length-take}
-use Rattle.httparse.specs.Grammar.{RequestHead, HasNoRequest, MayBecomeRequest}
+use Rattle.httparse.specs.Grammar.{HasNoRequest, MayBecomeRequest}
 use Rattle.httparse.specs.declared.spans.HeaderSpan.{HeaderSpan}
 use Rattle.httparse.specs.declared.spans.RequestSpans.{RequestSpans}
-use Rattle.httparse.specs.Spans.{IsRequestWithin, IsRequestAt}
 use Rattle.shop_request.specs.declared.faults.Fault.{Fault}
 use Rattle.shop_request.specs.declared.faults.Fault.TheVariants.{BadRequest, LargeHead}
 use Rattle.shop_request.specs.declared.routes.Route.{Route}
-use Rattle.shop_request.specs.Heads.{front, Plea, judged}
+use Rattle.shop_request.specs.Heads.{front, Plea}
 use Rattle.shop_request.specs.Reading.{IsRefused}
 use Rattle.shop_request.specs.Requests.{Sense, faulty, asking, HasSense}
 use Rattle.shop_request.specs.Routes.{takes_body}
 use Rattle.shop_request.specs.Senses.{IsHeadFault, IsSettled, MayBeEither}
 use Rattle.shop_request.proofs.Front.{front_is_full, refused}
-use Rattle.shop_request.proofs.Behind.{bad_head, sense_of_body, sense_of_short}
+use Rattle.shop_request.proofs.Behind.{IsJudged, bad_head, sense_of_body, sense_of_short}
 use Rattle.shop_request.proofs.Uniqueness.{one_sense}
 
 pub refused_settled : (came : List ℕ) → 0 < length came → (fault : Fault) → IsRefused (front came) fault → IsSettled came
@@ -45,17 +44,16 @@ unsettled input fill route body short long settled =
     differ s route body (MayBeEither input) (MayBeEither (input ++ fill)) (one_sense input s (faulty BadRequest) here short) (one_sense (input ++ fill) s (asking route body) (settled.1 fill) long)
 
 -- a head that says more of a body than came
-pub body_unsettled : (came : List ℕ) (some : 0 < length came) (headers : List HeaderSpan) (spans : RequestSpans) (h : RequestHead) (room : length headers ≡ 64)
-    (within : IsRequestWithin (front came) headers spans) (at : IsRequestAt (front came) headers spans h) (plea : Plea) → judged h ≡ Ok plea → takes_body plea.route ≡ true
+pub body_unsettled : {came : List ℕ} {headers : List HeaderSpan} {spans : RequestSpans} {answer : Result Plea Fault} → IsJudged came headers spans answer → (plea : Plea) → answer ≡ Ok plea → takes_body plea.route ≡ true
     → (more : List ℕ) → length (came ++ more) < spans.len + plea.length → IsSettled (came ++ more) → ⊥
-body_unsettled came some headers spans h room within at plea e body more few =
+body_unsettled {came} {headers} {spans} j plea e body more few =
     let input = came ++ more in
     let fill : List ℕ = replicate (spans.len + plea.length) 0 in
-    let head : spans.len ≤ length came = omega (arith, within.section.len_fits, length-take 8192 came) in
-    let short : HasSense input (faulty BadRequest) = sense_of_short came some headers spans h room within at (Some input) (Some more) (Some []) refl plea e body input
+    let head : spans.len ≤ length came = omega (arith, j.within.section.len_fits, length-take 8192 came) in
+    let short : HasSense input (faulty BadRequest) = sense_of_short j (Some input) (Some more) (Some []) refl plea e body input
     (more, refl, sym (append-nil more)) (omega (arith, few, head, length-append came more)) refl in
     let whole : input ++ fill ≡ came ++ (more ++ fill) = append_assoc came more fill in
     let text = take plea.length (drop spans.len (input ++ fill)) in
-    let long : HasSense (input ++ fill) (asking plea.route text) = sense_of_body came some headers spans h room within at (Some (input ++ fill)) (Some (more ++ fill)) (Some []) whole plea e body
+    let long : HasSense (input ++ fill) (asking plea.route text) = sense_of_body j (Some (input ++ fill)) (Some (more ++ fill)) (Some []) whole plea e body
     (input ++ fill) (more ++ fill, whole, sym (append-nil (more ++ fill))) (omega (arith, length-append input fill, length-replicate {A = ℕ} (spans.len + plea.length) 0)) text refl in
     unsettled input fill plea.route text short long

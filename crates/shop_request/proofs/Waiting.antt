@@ -1,15 +1,15 @@
 -- Bytes of an unfinished request.
-use Rattle.std.proofs.Common.{◌≡◌, ℕ, ◌+◌, ◌<◌, List, [], ◌∷◌, ◌++◌, length, drop, Ok, true, inl, inr, refl, ◌∙◌, sym, ap, subst, arith, append-nil, length-append}
+use Rattle.std.proofs.Common.{◌≡◌, ℕ, ◌+◌, ◌<◌, List, [], ◌∷◌, ◌++◌, length, drop, Result, Ok, true, inl, inr, refl, ◌∙◌, sym, ap, subst, arith, append-nil, length-append}
 use Rattle.std.proofs.lemmas.List.{take_all}
-use Rattle.httparse.specs.Grammar.{RequestHead, HasNoRequest, MayBecomeRequest}
+use Rattle.httparse.specs.Grammar.{HasNoRequest, MayBecomeRequest}
 use Rattle.httparse.specs.declared.spans.HeaderSpan.{HeaderSpan}
 use Rattle.httparse.specs.declared.spans.RequestSpans.{RequestSpans}
-use Rattle.httparse.specs.Spans.{IsRequestWithin, IsRequestAt}
-use Rattle.shop_request.specs.Heads.{front, Plea, judged}
+use Rattle.shop_request.specs.declared.faults.Fault.{Fault}
+use Rattle.shop_request.specs.Heads.{front, Plea}
 use Rattle.shop_request.specs.Routes.{takes_body}
 use Rattle.shop_request.specs.Senses.{IsUnfinished}
 use Rattle.shop_request.proofs.Front.{begins}
-use Rattle.shop_request.proofs.Behind.{few}
+use Rattle.shop_request.proofs.Behind.{IsJudged, few}
 
 empty : (came : List ℕ) → length came < 1 → came ≡ []
 empty [] none = refl
@@ -27,15 +27,14 @@ head_waits came more short none may few =
     subst IsUnfinished (sym same) (inr (inl (record { few = short; none = subst HasNoRequest whole none; may = subst MayBecomeRequest whole may })))
 
 -- a whole head came, and fewer bytes behind it than its body has
-pub body_waits : (came : List ℕ) (some : 0 < length came) (headers : List HeaderSpan) (spans : RequestSpans) (h : RequestHead) (room : length headers ≡ 64)
-    (within : IsRequestWithin (front came) headers spans) (at : IsRequestAt (front came) headers spans h) (plea : Plea) → judged h ≡ Ok plea → takes_body plea.route ≡ true
+pub body_waits : {came : List ℕ} {headers : List HeaderSpan} {spans : RequestSpans} {answer : Result Plea Fault} → IsJudged came headers spans answer → (plea : Plea) → answer ≡ Ok plea → takes_body plea.route ≡ true
     → (more : List ℕ) → length (came ++ more) < spans.len + plea.length → IsUnfinished (came ++ more)
-body_waits came some headers spans h room within at plea e body more short =
+body_waits {came} {headers} {spans} j plea e body more short =
     inr (inr (record {
-      head = h;
-      begins = begins came more h (drop spans.len (front came)) (few came some headers spans h room within at) at.reads;
+      head = j.head;
+      begins = begins came more j.head (drop spans.len (front came)) (few j) j.at.reads;
       plea = plea;
-      asks = e;
+      asks = j.said ∙ e;
       body = body;
-      few = subst (λ n. length (came ++ more) < n + plea.length) at.len short;
+      few = subst (λ n. length (came ++ more) < n + plea.length) j.at.len short;
     }))
