@@ -1,5 +1,5 @@
 -- Parts that are taken in turn.
-use Rattle.std.proofs.Common.{◌≡◌, ◌+◌, ◌<◌, ◌≤◌, ℕ, List, [], ◌∷◌, ◌++◌, Bool, true, false, true≢false, Ok, Err, length, filter, take, drop, get_or, refl, sym, ap, subst, ◌∙◌, append-nil}
+use Rattle.std.proofs.Common.{◌≡◌, ◌+◌, ◌<◌, ◌≤◌, ℕ, List, [], ◌∷◌, ◌++◌, Bool, true, false, true≢false, Ok, Err, length, map, filter, take, drop, get_or, refl, sym, ap, subst, ◌∙◌, append-nil}
 use Rattle.std.specs.Prelude.{Result}
 use Rattle.std.specs.Result.{IsErr}
 use Rattle.std.proofs.lemmas.Fn.{FoldsTo-push}
@@ -12,6 +12,14 @@ use Rattle.shop_store.specs.declared.takers.PartTaker.{PartTaker}
 use Rattle.shop_store.specs.SqlBooks.{told}
 use Rattle.shop_store.specs.NamedParts.{AreStanding, IsTaken}
 use Rattle.shop_store.specs.Takers.{TakesPart}
+use Rattle.sqlite_trees.specs.Tree.{Trees}
+use Rattle.sqlite_trees.specs.declared.store.Store.{Ghosts}
+use Rattle.sqlite.specs.Held.{Held, state}
+use Rattle.shop_statements.specs.Layout.{IsShop}
+use Rattle.shop_tables.specs.RowsShown.{SeesCommit}
+use Rattle.sqlite.specs.Order.{Row}
+use Rattle.shop_tables.specs.Lending.{HandsOut}
+use Rattle.shop_tables.specs.ListedRows.{listed_part}
 use Rattle.shop_book.specs.declared.books.BookFault.{BookFault}
 use Rattle.shop_book.proofs.Handed.{take_front}
 use Rattle.shop_store.proofs.Telling.{as_told}
@@ -32,6 +40,12 @@ all_taken list says told old new went reads visit empty =
     let begins = reads _ visit.begins in
     let whole : list ≡ visit.parts = begins.1 ∙ ap (λ rest. visit.parts ++ rest) (begins.2 went) ∙ append-nil visit.parts in
     taken visit.parts old new goes ∙ ap (λ rows. rows ++ visit.parts) empty ∙ sym whole
+
+-- what was handed out to the end is shown whole
+pub all_handed : (shows : List Row → Type 0) (on : Bool) (old new : PartTaker) → on ≡ true → HandsOut TakesPart shows old new on → old.parts ≡ [] → shows (map listed_part new.parts)
+all_handed shows on old new went h empty =
+    let are : new.parts ≡ h.parts = taken h.parts old new (subst (λ b. HasSeen TakesPart h.parts b old new) went h.seen) ∙ ap (λ rows. rows ++ h.parts) empty in
+    subst shows (ap (λ rest. map listed_part h.parts ++ rest) (h.whole went) ∙ append-nil (map listed_part h.parts) ∙ ap (map listed_part) (sym are)) h.shown
 
 -- a visit is told as the book tells the tables' answer
 pub visit_told : {V : Type 0} (looks : V → Part → Bool → V → Type 0) (says more : (List Part → Type 0) → Type 0) (old new : V) (r : Result Bool TableFault) (answer : Result Bool BookFault) → answer ≡ told r
@@ -107,3 +121,10 @@ module _ {X : Type 0} (test : X → Bool) (rows : List X) (i : ℕ) where
 pub no_visit : {V Fault : Type 0} (looks : V → Part → Bool → V → Type 0) (says : (List Part → Type 0) → Type 0) (old : V) (r : Result Bool Fault) → IsErr r → ((what : List Part → Type 0) → ((list : List Part) → what list) → says what) → IsVisit looks says old r old
 no_visit looks says old (Ok on) is any = absurd (true≢false (sym is))
 no_visit looks says old (Err fault) is any = record { parts = []; on = true; visitor = refl; answer = tt; begins = any _ (λ list. (list, refl, tt)) }
+
+-- ---- a reading that was left out
+
+-- what is said of what was seen behind it is said of what was seen before
+pub unread_then : {S : Type 0} (g : Ghosts S) (What : Trees → Type 0) (old mid : Held S) → mid ≡ old → (IsShop (state g mid).now.schema → SeesCommit (state g mid) → What (state g mid).now.trees)
+    → IsShop (state g old).now.schema → SeesCommit (state g old) → What (state g old).now.trees
+unread_then g What old mid same = subst (λ h. IsShop (state g h).now.schema → SeesCommit (state g h) → What (state g h).now.trees) same

@@ -1,15 +1,20 @@
 //! The standing parts of a material, found under their names. The names are a hint alone: what they find is all exactly
 //! where it has the cells of the material's totals, and else all rows are gone through.
 
-ghost use Rattle.std.specs.Prelude.{◌≡◌, ◌++◌, [], ◌∷◌, false, filter, take, Ok, IfOk, IfSome, IsTrue, OnOk};
+ghost use Rattle.std.specs.Prelude.{◌≡◌, ◌++◌, [], ◌∷◌, false, filter, map, take, Some, None, Ok, IfOk, IfSome, IsTrue, OnOk};
 ghost use Rattle.cut_measure.specs.Names.{name_cmp};
 ghost use Rattle.sqlite.specs.Held.{state};
+ghost use Rattle.sqlite.specs.State.{HasCleanDisk};
 ghost use Rattle.shop_records.specs.Content.{parts_of};
 ghost use Rattle.shop_records.specs.Lists.{is_behind, parts_behind};
 ghost use Rattle.shop_records.specs.Visits.{IsVisit};
 ghost use Rattle.shop_records.specs.declared.records.Part.{Part as PartOf};
 ghost use Rattle.shop_tables.specs.Changing.{HasSums};
+ghost use Rattle.shop_statements.specs.Layout.{IsShop};
 ghost use Rattle.shop_statements.specs.Shown.{Leaves, OnBooks};
+ghost use Rattle.shop_tables.specs.Lending.{HandsOut};
+ghost use Rattle.shop_tables.specs.ListedRows.{listed_part};
+ghost use Rattle.shop_tables.specs.RowsShown.{ArePartRows, SeesCommit};
 ghost use Rattle.shop_rows.specs.Keys.{part_key};
 ghost use Rattle.shop_rows.specs.Rows.{rise};
 ghost use Rattle.shop_statements.specs.declared.faults.TableFault.{TableFault as Fault};
@@ -104,6 +109,8 @@ fn whole_parts<S: Alter>(
     ensures rows { OnBooks (state S.Store conn.old) (state S.Store conn.new)
         (λ books. HasSums books → IfOk result
         (λ found. IfSome found (λ parts. parts ≡ parts_of books.content material))) }
+    ensures unnamed { names.entry ≡ None → IfOk result (λ found. found ≡ None) }
+    ensures unread { names.entry ≡ None → conn.new ≡ conn.old }
     ensures leaves { Leaves (state S.Store conn.old) (state S.Store conn.new) }
     ensures mode { conn.old.in_transaction ≡ false → conn.new.in_transaction ≡ false }
 {
@@ -128,6 +135,10 @@ fn searched_parts<S: Alter>(
 ) -> Result<PartList, TableFault>
     ensures rows { OnBooks (state S.Store conn.old) (state S.Store conn.new)
         (λ books. IfOk result (λ rows. rows ≡ parts_of books.content material)) }
+    ensures stands { HasCleanDisk (state S.Store conn.new) → IsShop conn.old.schema
+        → SeesCommit (state S.Store conn.old) → IfOk result
+        (λ parts. ArePartRows material None None ((state S.Store conn.old).now.trees 4)
+        (map listed_part parts)) }
     ensures leaves { Leaves (state S.Store conn.old) (state S.Store conn.new) }
     ensures mode { conn.old.in_transaction ≡ false → conn.new.in_transaction ≡ false }
 {
@@ -151,6 +162,10 @@ pub fn listed_parts<S: Alter>(
 ) -> Result<PartList, TableFault>
     ensures rows { OnBooks (state S.Store conn.old) (state S.Store conn.new)
         (λ books. HasSums books → IfOk result (λ rows. rows ≡ parts_of books.content material)) }
+    ensures stands { HasCleanDisk (state S.Store conn.new) → IsShop conn.old.schema
+        → SeesCommit (state S.Store conn.old) → names.entry ≡ None → IfOk result
+        (λ parts. ArePartRows material None None ((state S.Store conn.old).now.trees 4)
+        (map listed_part parts)) }
     ensures leaves { Leaves (state S.Store conn.old) (state S.Store conn.new) }
     ensures mode { conn.old.in_transaction ≡ false → conn.new.in_transaction ≡ false }
 {
@@ -185,6 +200,10 @@ pub fn visit_listed<S: Alter, V: PartVisitor>(
         (λ what. OnBooks (state S.Store conn.old) (state S.Store conn.new)
         (λ books. HasSums books → what (parts_of books.content material))) visitor.old result
         visitor.new }
+    ensures stands { HasCleanDisk (state S.Store conn.new) → IsShop conn.old.schema
+        → SeesCommit (state S.Store conn.old) → names.entry ≡ None → IfOk result
+        (HandsOut V.looks (ArePartRows material None None
+        ((state S.Store conn.old).now.trees 4)) visitor.old visitor.new) }
     ensures leaves { Leaves (state S.Store conn.old) (state S.Store conn.new) }
     ensures mode { conn.old.in_transaction ≡ false → conn.new.in_transaction ≡ false }
 {
@@ -227,6 +246,10 @@ pub fn first_listed<S: Alter>(
     ensures rows { OnBooks (state S.Store conn.old) (state S.Store conn.new)
         (λ books. HasSums books → IfOk result
         (λ rows. rows ≡ take most (parts_behind books.content material after))) }
+    ensures stands { HasCleanDisk (state S.Store conn.new) → IsShop conn.old.schema
+        → SeesCommit (state S.Store conn.old) → names.entry ≡ None → IfOk result
+        (λ parts. ArePartRows material after (Some most)
+        ((state S.Store conn.old).now.trees 4) (map listed_part parts)) }
     ensures leaves { Leaves (state S.Store conn.old) (state S.Store conn.new) }
     ensures mode { conn.old.in_transaction ≡ false → conn.new.in_transaction ≡ false }
 {
