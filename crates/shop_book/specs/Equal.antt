@@ -201,6 +201,9 @@ pub kept_decides : (a b : Kept) → Decides (same_kept a b) (a ≡ b)
 kept_decides a b =
     Decides-like _ (λ p i. record { command = p.0 i; reply = p.1 i }) (λ p. (ap (λ n. n.command) p, ap (λ n. n.reply) p)) (Decides-and _ _ (bytes_decides a.command b.command) (bytes_decides a.reply b.reply))
 
+pub same_kept_laws : IsPartialEquivalence same_kept
+same_kept_laws = let is = decided same_kept kept_decides in record { symm = is.symm; trans = λ a b c e f. is.congr a b c e ∙ f }
+
 abbrev same_form : Form → Form → Bool
 same_form = form_eq.ghosts.eq
 

@@ -1,4 +1,4 @@
-//! How a message is kept in memory, in texts that take no more than they need, and which is the last of a terminal.
+//! How a message is kept in memory, in one text that takes no more than it needs, and which is the last of a terminal.
 
 ghost use Rattle.std.specs.Prelude.{◌≡◌, ◌⊎◌, ◌<◌, ◌≤◌, ◌^◌, ℕ, IfNone, IfOk, IfSome, IsSome, None, OnOk, OnErr, false};
 ghost use Rattle.std.specs.FinMap.{find as find_entry};
@@ -7,24 +7,121 @@ ghost use Rattle.shop_records.specs.Content.{pair_cmp};
 ghost use Rattle.shop_records.specs.declared.texts.Pair.{Pair as PairOf};
 ghost use Rattle.shop_book.specs.Memory.{put_kept};
 
-use shop_records::{Kept, KeptMessage, Pair};
+use shop_records::{Kept, KeptMessage, Pair, Text};
 use std::alloc::{AllocError, Global};
 use std::collections::BTreeMap;
+use std::marker::Model;
 
-/// Keeps a message, if there is one, in texts that take no more memory than they need. An `Err` keeps nothing.
-pub fn keep(kept: &mut BTreeMap<Pair, Kept>, message: Option<KeptMessage>) -> Result<(), AllocError>
+/// A kept command and its reply in one text, which takes no more memory than they need.
+#[derive(Drop)]
+pub struct KeptText {
+    text: String,
+    reply_at: usize,
+}
+
+impl Model for KeptText {
+    ghost use Rattle.std.specs.Prelude.{drop, string_bytes, take};
+    ghost use Rattle.std.specs.Str.{IsCharBoundary};
+    ghost use Rattle.shop_records.specs.contracts.texts.Kept as kept_type;
+    ghost use Rattle.shop_records.specs.declared.texts.Kept.{Kept as KeptOf};
+
+    ghost Value = { KeptOf };
+
+    ghost coded = { kept_type.the_row.coded };
+
+    ghost view = { λ t. record {
+      command = take t.reply_at (string_bytes t.text);
+      reply = drop t.reply_at (string_bytes t.text);
+    } };
+
+    ghost invariant = { λ t. IsCharBoundary (string_bytes t.text) t.reply_at };
+}
+
+impl KeptText {
+    ghost use Rattle.std.specs.Prelude.{◌≡◌, IfOk};
+
+    /// The one text of a command and its reply.
+    pub fn of(alloc: Global, kept: &Kept) -> Result<KeptText, AllocError>
+        ensures { IfOk result (λ text. text ≡ kept.now) }
+    {
+        let command = kept.command.as_str();
+        let reply = kept.reply.as_str();
+        let mut text = String::with_capacity(alloc, command.len().saturating_add(reply.len()))?;
+        text.push_str(command)?;
+        text.push_str(reply)?;
+        Ok(KeptText {
+            text,
+            reply_at: command.len(),
+        })
+    }
+
+    // The command and the reply.
+    fn both(&self) -> (&str, &str)
+        ensures command { result.0.now ≡ self.now.command }
+        ensures reply { result.1.now ≡ self.now.reply }
+    {
+        self.text.as_str().split_at(self.reply_at)
+    }
+
+    /// The command and the reply in texts of their own.
+    pub fn kept(&self, alloc: Global) -> Result<Kept, AllocError>
+        ensures { IfOk result (λ kept. kept ≡ self.now) }
+    {
+        let (command, reply) = self.both();
+        let command = Text::from_str(alloc, command)?;
+        let reply = Text::from_str(alloc, reply)?;
+        Ok(Kept { command, reply })
+    }
+}
+
+impl Clone for KeptText {
+    ghost use Rattle.std.specs.Prelude.{◌≡◌};
+
+    ghost is_clone = { λ s t. t ≡ s };
+
+    fn clone(&self) -> Result<KeptText, AllocError> {
+        let text = self.text.clone()?;
+        Ok(KeptText {
+            text,
+            reply_at: self.reply_at,
+        })
+    }
+}
+
+impl PartialEq for KeptText {
+    ghost use Rattle.shop_book.specs.Equal.{same_kept, same_kept_laws};
+
+    ghost eq = { same_kept };
+
+    ghost laws = { same_kept_laws };
+
+    fn eq(&self, other: &KeptText) -> bool {
+        let (command, reply) = self.both();
+        let (other_command, other_reply) = other.both();
+        command == other_command && reply == other_reply
+    }
+}
+
+/// Keeps a message, if there is one, in one text. An `Err` keeps nothing.
+pub fn keep(
+    alloc: Global,
+    kept: &mut BTreeMap<Pair, KeptText>,
+    message: Option<KeptMessage>,
+) -> Result<(), AllocError>
     ensures ok { OnOk result (kept.new.entries ≡ put_kept message kept.old.entries) }
     ensures err { OnErr result (kept.new.entries ≡ kept.old.entries) }
 {
     if let Some(message) = message {
-        let exact = message.kept.clone()?;
+        let exact = KeptText::of(alloc, &message.kept)?;
         kept.insert(message.pair, exact)?;
     }
     Ok(())
 }
 
 /// The same messages.
-pub(crate) fn copy_kept(kept: &BTreeMap<Pair, Kept>) -> Result<BTreeMap<Pair, Kept>, AllocError>
+pub(crate) fn copy_kept(
+    kept: &BTreeMap<Pair, KeptText>,
+) -> Result<BTreeMap<Pair, KeptText>, AllocError>
     ensures { IfOk result (λ copy. copy.entries ≡ kept.now.entries) }
 {
     let copy = kept.clone()?;
@@ -34,7 +131,7 @@ pub(crate) fn copy_kept(kept: &BTreeMap<Pair, Kept>) -> Result<BTreeMap<Pair, Ke
 /// What is kept under a pair.
 pub(crate) fn find_kept(
     alloc: Global,
-    kept: &BTreeMap<Pair, Kept>,
+    kept: &BTreeMap<Pair, KeptText>,
     pair: Pair,
 ) -> Result<Option<Kept>, AllocError>
     ensures { IfOk result (λ row. row ≡ find_entry pair_cmp pair kept.now.entries) }
@@ -42,7 +139,7 @@ pub(crate) fn find_kept(
     match kept.get(&pair) {
         None => Ok(None),
         Some(row) => {
-            let copy = row.copy(alloc)?;
+            let copy = row.kept(alloc)?;
             Ok(Some(copy))
         }
     }
@@ -69,7 +166,7 @@ fn read_pair(pair: &Pair) -> Pair
 }
 
 // The greatest of all pairs under which messages are kept.
-fn last_of_all(kept: &BTreeMap<Pair, Kept>) -> Option<Pair>
+fn last_of_all(kept: &BTreeMap<Pair, KeptText>) -> Option<Pair>
     ensures none { IfNone result
         ((pair : PairOf) → find_entry pair_cmp pair kept.now.entries ≡ None) }
     ensures kept { IfSome result (λ last. IsSome (find_entry pair_cmp last kept.now.entries)) }
@@ -85,7 +182,7 @@ fn last_of_all(kept: &BTreeMap<Pair, Kept>) -> Option<Pair>
 }
 
 // The greatest pair of the terminals below this one.
-fn last_below(kept: &BTreeMap<Pair, Kept>, terminal: u32) -> Option<Pair>
+fn last_below(kept: &BTreeMap<Pair, KeptText>, terminal: u32) -> Option<Pair>
     ensures none { IfNone result
         ((pair : PairOf) → pair.terminal < terminal
         → find_entry pair_cmp pair kept.now.entries ≡ None) }
@@ -107,7 +204,7 @@ fn last_below(kept: &BTreeMap<Pair, Kept>, terminal: u32) -> Option<Pair>
 }
 
 // The greatest pair of the terminals up to this one.
-fn last_upto(kept: &BTreeMap<Pair, Kept>, terminal: u32) -> Option<Pair>
+fn last_upto(kept: &BTreeMap<Pair, KeptText>, terminal: u32) -> Option<Pair>
     ensures none { IfNone result
         ((pair : PairOf) → pair.terminal ≤ terminal
         → find_entry pair_cmp pair kept.now.entries ≡ None) }
@@ -125,7 +222,7 @@ fn last_upto(kept: &BTreeMap<Pair, Kept>, terminal: u32) -> Option<Pair>
 }
 
 /// The greatest number under which a message of a terminal is kept, 0 where none is.
-pub(crate) fn last_kept(kept: &BTreeMap<Pair, Kept>, terminal: u32) -> u32
+pub(crate) fn last_kept(kept: &BTreeMap<Pair, KeptText>, terminal: u32) -> u32
     ensures greatest { (number : ℕ)
         → IsSome (find_entry pair_cmp
         (record { terminal = terminal; number = number }) kept.now.entries)

@@ -9,7 +9,7 @@ ghost use Rattle.shop_records.specs.Visits.{IsVisit};
 ghost use Rattle.shop_book.specs.declared.books.BookFault.{BookFault as Fault};
 
 use crate::books::{Book, BookFault};
-use crate::keeping::{copy_kept, find_kept, last_kept};
+use crate::keeping::{KeptText, copy_kept, find_kept, last_kept};
 use crate::memory_lists::{
     copy_imports, copy_jobs, find_import, find_job, first_asked, put_demands, put_job,
     reserve_demands, reserve_numbers,
@@ -38,7 +38,7 @@ pub struct MemBook {
     jobs: Vec<Job>,
     orders: BTreeSet<OrderCode>,
     demands: Vec<Demand>,
-    kept: BTreeMap<Pair, Kept>,
+    kept: BTreeMap<Pair, KeptText>,
     imports: Vec<ImportRow>,
     last_act: u32,
     last_demand: u32,
@@ -456,7 +456,8 @@ impl Book for MemBook {
             wanted.len(),
         )?;
         reserve_numbers(&mut self.lists.jobs, &mut self.lists.demands, wanted.len())?;
-        put_and_keep(&mut self.orders, &mut self.kept, order, kept)?;
+        let alloc = *self.materials.allocator();
+        put_and_keep(alloc, &mut self.orders, &mut self.kept, order, kept)?;
         put_some(&mut self.materials, material);
         put_moved(
             &mut self.parts,

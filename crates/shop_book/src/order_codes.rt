@@ -6,10 +6,10 @@ ghost use Rattle.cut_measure.specs.Codes.{code_cmp};
 ghost use Rattle.shop_book.specs.Memory.{order_key, put_kept};
 ghost use Rattle.shop_rows.specs.Rows.{ArePut, IsPut};
 
-use crate::keeping::keep;
+use crate::keeping::{KeptText, keep};
 use cut_measure::Code;
-use shop_records::{Kept, KeptMessage, Pair};
-use std::alloc::AllocError;
+use shop_records::{KeptMessage, Pair};
+use std::alloc::{AllocError, Global};
 use std::cmp::Ordering;
 use std::collections::{BTreeMap, BTreeSet};
 use std::marker::Model;
@@ -99,8 +99,9 @@ pub(crate) fn copy_orders(orders: &BTreeSet<OrderCode>) -> Result<BTreeSet<Order
 
 /// Puts the code of an order and keeps a message, each if there is one. An `Err` leaves both as they were.
 pub fn put_and_keep(
+    alloc: Global,
     orders: &mut BTreeSet<OrderCode>,
-    kept: &mut BTreeMap<Pair, Kept>,
+    kept: &mut BTreeMap<Pair, KeptText>,
     order: Option<Code>,
     message: Option<KeptMessage>,
 ) -> Result<(), AllocError>
@@ -111,16 +112,17 @@ pub fn put_and_keep(
     ensures same_kept { OnErr result (kept.new.entries ≡ kept.old.entries) }
 {
     let Some(code) = order else {
-        let done = keep(kept, message)?;
+        let done = keep(alloc, kept, message)?;
         return Ok(done);
     };
-    put_one_and_keep(orders, kept, OrderCode::of(code), message)
+    put_one_and_keep(alloc, orders, kept, OrderCode::of(code), message)
 }
 
 // The same of an order that there is: it is taken out again where it is new and the message isn't kept.
 fn put_one_and_keep(
+    alloc: Global,
     orders: &mut BTreeSet<OrderCode>,
-    kept: &mut BTreeMap<Pair, Kept>,
+    kept: &mut BTreeMap<Pair, KeptText>,
     order: OrderCode,
     message: Option<KeptMessage>,
 ) -> Result<(), AllocError>
@@ -130,7 +132,7 @@ fn put_one_and_keep(
     ensures same_kept { OnErr result (kept.new.entries ≡ kept.old.entries) }
 {
     let is_new = orders.insert(order)?;
-    match keep(kept, message) {
+    match keep(alloc, kept, message) {
         Ok(()) => Ok(()),
         Err(fault) => {
             if is_new {

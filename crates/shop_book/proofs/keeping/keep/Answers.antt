@@ -8,5 +8,5 @@ use Rattle.shop_book.proofs.keeping.keep.Goals as goal
 pub returns-in_ok-insert-clause-ok : goal.returns-in_ok-insert-clause-ok
 returns-in_ok-insert-clause-ok c =
     c.in_ok-insert.ensures.entries ∙ insert_is_put pair_cmp c.in-Some.message.pair c.in_ok-exact.exact c.args.kept.now.entries
-    ∙ ap (λ text. map.put pair_cmp c.in-Some.message.pair text c.args.kept.now.entries) c.in_ok-exact.ensures.cases
+    ∙ ap (λ text. map.put pair_cmp c.in-Some.message.pair text c.args.kept.now.entries) c.in_ok-exact.ensures
     ∙ ap (λ message. put_kept message c.args.kept.now.entries) (sym c.in-Some.is)
