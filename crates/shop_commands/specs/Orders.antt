@@ -10,7 +10,7 @@ use Rattle.shop_files.specs.declared.orders.OrdersFault.{OrdersFault}
 use Rattle.shop_files.specs.declared.orders.OrdersFault.TheVariants as orders
 use Rattle.shop_records.specs.declared.imports.Form.TheVariants.{Csv}
 use Rattle.shop_records.specs.declared.messages.Command.TheVariants.{Import}
-use Rattle.shop_rules.specs.Forms.{json_texts}
+use Rattle.shop_forms.specs.Forms.{json_texts}
 use Rattle.shop_words.specs.declared.words.ImportAs.{ImportAs}
 use Rattle.shop_commands.specs.declared.faults.Fault.{Fault}
 use Rattle.shop_commands.specs.declared.faults.Fault.TheVariants.{File, Order, NoMemory, Write}

@@ -12,7 +12,7 @@ ghost use Rattle.shop_records.specs.declared.messages.Command.TheVariants.{AddMa
 ghost use Rattle.shop_records.specs.declared.messages.Reply.TheVariants.{Refused};
 ghost use Rattle.shop_records.specs.declared.refusals.Refusal.TheVariants.{BadMessage};
 ghost use Rattle.shop_records.specs.Soundness.{IsSound};
-ghost use Rattle.shop_rules.specs.Forms.{json_texts};
+ghost use Rattle.shop_forms.specs.Forms.{json_texts};
 ghost use Rattle.shop_desk.specs.Decided.{IsJudged, CountsOrDisagrees, AreJobRows};
 
 use crate::found::{found_leaves, found_lines, material_for, part_for, plan_for, totals_for};

@@ -12,7 +12,7 @@ ghost use Rattle.shop_records.specs.declared.messages.Message.{Message as Messag
 ghost use Rattle.shop_records.specs.declared.messages.Query.TheVariants.{Totals, Rack, Trace, Demand, Plan, Bound};
 ghost use Rattle.shop_records.specs.declared.messages.Reply.TheVariants.{Refused, Rack as RackParts};
 ghost use Rattle.shop_records.specs.declared.refusals.Refusal.TheVariants.{NoMemory, StoreFault};
-ghost use Rattle.shop_rules.specs.Forms.{json_texts};
+ghost use Rattle.shop_forms.specs.Forms.{json_texts};
 ghost use Rattle.shop_book.specs.Failures.{CountsFailure};
 ghost use Rattle.shop_book.specs.Kept.{Unchanged, OnContent};
 ghost use Rattle.shop_desk.specs.Faults.{CountsReply, CountsOrContradicts, CountsUp, StoreFailed};

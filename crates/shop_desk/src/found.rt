@@ -11,7 +11,7 @@ ghost use Rattle.shop_machine.specs.Machine.{Reads};
 ghost use Rattle.shop_machine.specs.Recounts.{plan_leaves, AreDemandsFound, IsNumbered, leaves_in};
 ghost use Rattle.shop_machine.specs.Ordering.{AreMaterialsFound, lines_in};
 ghost use Rattle.shop_answers.specs.Planning.{AreAsked, AreFound, numbers_in};
-ghost use Rattle.shop_rules.specs.Forms.{json_texts};
+ghost use Rattle.shop_forms.specs.Forms.{json_texts};
 ghost use Rattle.shop_book.specs.Failures.{CountsFailure};
 ghost use Rattle.shop_book.specs.Kept.{Unchanged, OnContent};
 

@@ -15,7 +15,7 @@ ghost use Rattle.shop_records.specs.Content.{Content, import_at};
 ghost use Rattle.shop_machine.specs.Importing.{IsRepeat};
 ghost use Rattle.shop_records.specs.Keeping.{Tells};
 ghost use Rattle.shop_records.specs.Soundness.{IsSound};
-ghost use Rattle.shop_rules.specs.Forms.{json_texts};
+ghost use Rattle.shop_forms.specs.Forms.{json_texts};
 ghost use Rattle.shop_book.specs.Failures.{CountsFailure};
 ghost use Rattle.shop_book.specs.Kept.{Unchanged, OnContent};
 ghost use Rattle.shop_desk.specs.Decided.{IsJudged, CountsOrDisagrees, AreReceiptRows};

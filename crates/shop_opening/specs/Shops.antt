@@ -7,7 +7,7 @@ use Rattle.shop_records.specs.declared.messages.Reply.{Reply}
 use Rattle.shop_records.specs.Messages.{refusal_in}
 use Rattle.shop_records.specs.Soundness.{IsSound}
 use Rattle.shop_desk.specs.Handled.{HasRun}
-use Rattle.shop_rules.specs.Forms.{json_texts}
+use Rattle.shop_forms.specs.Forms.{json_texts}
 use Rattle.shop_book.specs.declared.books.Book.{Ghosts}
 use Rattle.shop_book.specs.Kept.{OnContent}
 use Rattle.shop_opening.specs.declared.shops.AddFault.{AddFault}

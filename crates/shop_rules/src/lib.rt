@@ -1,32 +1,16 @@
-//! The forms of messages, queries and replies in JSON, over the shop as a machine, which it hands on.
+//! The rules of a shop, handed on for those who need all of them: its records and messages, their forms in JSON, and the shop as
+//! a machine.
 #![tactic(auto)]
-
-mod adding;
-mod asking;
-mod command_words;
-mod ending;
-mod fields;
-mod halting;
-mod importing;
-mod laws;
-mod listing;
-mod messages;
-mod ordering;
-mod receiving;
-mod replies;
-mod reserving;
-mod retiring;
-mod words;
-mod writing;
 
 pub use cut_measure::{Axis, Code, Kind, Limits, PartName, Size};
 pub use cut_tree::{CutList, Halt};
-pub use laws::{one_kind_of_value, one_text, read_back};
-pub use messages::{message_text, message_value, read_message, read_query};
-pub use replies::{kept_reply, read_reply, reply_text, reply_value};
 pub use shop_answers::{
     FoundDemand, FoundList, MOST_TOLD, answer_bound, answer_demands, answer_job, answer_parts,
     answer_plan, are_more, can_be_planned, first_told, job_row,
+};
+pub use shop_forms::{
+    kept_reply, message_text, message_value, one_kind_of_value, one_text, read_back, read_message,
+    read_query, read_reply, reply_text, reply_value,
 };
 pub use shop_machine::{
     FoundLeaf, FoundLine, accepted_changes_fit, decide_again, decide_break, decide_done,

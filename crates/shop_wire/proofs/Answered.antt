@@ -20,7 +20,7 @@ use Rattle.shop_records.specs.Soundness.{IsSound}
 use Rattle.shop_book.specs.declared.books.Book.{Ghosts}
 use Rattle.serde_json.specs.Data.{Data}
 use Rattle.serde_json.specs.Read.{read}
-use Rattle.shop_rules.specs.Forms.{message_of, query_of, json_texts}
+use Rattle.shop_forms.specs.Forms.{message_of, query_of, json_texts}
 use Rattle.shop_desk.specs.Faults.{StoreFailed}
 use Rattle.shop_desk.specs.Handled.{HasAccount}
 use Rattle.shop_desk.proofs.Steps.{fault_step}

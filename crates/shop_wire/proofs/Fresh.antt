@@ -3,7 +3,7 @@ use Rattle.std.proofs.Common.{◌≡◌, List, [], ◌++◌, length, ℕ, Option
 use Rattle.std.specs.Prelude.{IfOk, IfErr}
 use Rattle.shop_records.specs.Content.{fresh}
 use Rattle.shop_machine.proofs.Sound.{gives_sound}
-use Rattle.shop_rules.specs.Forms.{json_texts}
+use Rattle.shop_forms.specs.Forms.{json_texts}
 use Rattle.shop_desk.specs.Faults.{StoreFailed}
 use Rattle.shop_book.specs.declared.books.Book.{Ghosts}
 use Rattle.shop_wire.specs.declared.faults.ReplayFault.{ReplayFault}

@@ -13,7 +13,7 @@ use Rattle.shop_records.specs.declared.messages.Message.{Message}
 use Rattle.shop_records.specs.declared.messages.Reply.{Reply}
 use Rattle.shop_records.specs.Content.{Content}
 use Rattle.shop_records.specs.Soundness.{IsSound}
-use Rattle.shop_rules.specs.Forms.{message_of, json_texts}
+use Rattle.shop_forms.specs.Forms.{message_of, json_texts}
 use Rattle.shop_wire.specs.Lines.{lines_of, AreLines, GivesLine, kept_of}
 use Rattle.shop_book.specs.declared.books.Book.{Ghosts}
 use Rattle.shop_book.specs.Kept.{OnContent}

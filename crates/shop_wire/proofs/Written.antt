@@ -7,7 +7,7 @@ use Rattle.shop_records.specs.declared.messages.Reply.TheVariants.{Refused}
 use Rattle.shop_records.specs.declared.refusals.Refusal.TheVariants.{BadMessage}
 use Rattle.shop_records.specs.Content.{Content}
 use Rattle.shop_records.specs.Soundness.{IsSound}
-use Rattle.shop_rules.specs.Forms.{json_texts}
+use Rattle.shop_forms.specs.Forms.{json_texts}
 use Rattle.shop_book.specs.declared.books.Book.{Ghosts}
 use Rattle.shop_desk.proofs.Accounts.{account_same}
 use Rattle.shop_request.specs.declared.faults.Fault.{Fault}

@@ -10,7 +10,7 @@ use Rattle.shop_request.specs.declared.faults.Fault.TheVariants as faults
 use Rattle.shop_request.specs.declared.routes.Route.{Route}
 use Rattle.shop_request.specs.Routes.{takes_body}
 use Rattle.shop_request.specs.Requests.{Sense, silent, faulty, asking}
-use Rattle.shop_rules.specs.Forms.{json_texts}
+use Rattle.shop_forms.specs.Forms.{json_texts}
 
 -- what a status says in words
 abbrev pub phrase : ℕ → List ℕ

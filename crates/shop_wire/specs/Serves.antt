@@ -19,7 +19,7 @@ use Rattle.shop_records.specs.Content.{Content}
 use Rattle.shop_machine.specs.Machine.{Step}
 use Rattle.shop_answers.specs.Queries.{Answers}
 use Rattle.shop_records.specs.Soundness.{IsSound}
-use Rattle.shop_rules.specs.Forms.{query_of, json_texts}
+use Rattle.shop_forms.specs.Forms.{query_of, json_texts}
 use Rattle.shop_book.specs.declared.books.Book.{Ghosts}
 use Rattle.shop_book.specs.Kept.{OnContent}
 use Rattle.shop_desk.specs.Faults.{StoreFailed}

@@ -3,7 +3,7 @@
 ghost use Rattle.std.specs.Prelude.{◌≡◌, ◌++◌, ◌∷◌, [], ℕ, List, IfOk, IfSome, OnOk, OnErr, None};
 ghost use Rattle.serde_json.specs.View.{view};
 ghost use Rattle.shop_records.specs.Soundness.{IsSound};
-ghost use Rattle.shop_rules.specs.Forms.{message_of, json_texts};
+ghost use Rattle.shop_forms.specs.Forms.{message_of, json_texts};
 ghost use Rattle.shop_book.specs.Kept.{OnContent};
 ghost use Rattle.shop_desk.specs.Faults.{CountsUp};
 ghost use Rattle.shop_wire.specs.Replays.{HasAnswered, LineStep, ValueStep, data_of, line_message, reply_line};

@@ -4,7 +4,7 @@ ghost use Rattle.std.specs.Prelude.{◌≡◌, ◌⊎◌, ◌∷◌, [], Some, N
 ghost use Rattle.shop_records.specs.declared.messages.Reply.TheVariants.{Refused};
 ghost use Rattle.shop_records.specs.declared.refusals.Refusal.TheVariants.{StoreFault};
 ghost use Rattle.shop_records.specs.Soundness.{IsSound};
-ghost use Rattle.shop_rules.specs.Forms.{json_texts};
+ghost use Rattle.shop_forms.specs.Forms.{json_texts};
 ghost use Rattle.shop_book.specs.Kept.{Unchanged, OnContent};
 ghost use Rattle.shop_desk.specs.Faults.{CountsReply, CountsUp, StoreFailed};
 ghost use Rattle.shop_request.specs.Requests.{asking};

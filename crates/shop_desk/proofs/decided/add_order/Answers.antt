@@ -4,7 +4,7 @@ use Rattle.shop_records.specs.declared.messages.Command.TheVariants.{AddOrder}
 use Rattle.shop_records.specs.Readings.{unread}
 use Rattle.shop_records.specs.Content.{material_at}
 use Rattle.shop_machine.specs.Ordering.{AreMaterialsFound, lines_in, order_change}
-use Rattle.shop_rules.specs.Forms.{json_texts}
+use Rattle.shop_forms.specs.Forms.{json_texts}
 use Rattle.shop_desk.proofs.Deciding.{decided_by, same_order, order_by}
 use Rattle.shop_desk.proofs.decided.add_order.Goals as goal
 

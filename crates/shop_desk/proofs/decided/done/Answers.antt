@@ -4,7 +4,7 @@ use Rattle.shop_records.specs.declared.messages.Command.TheVariants.{Done}
 use Rattle.shop_records.specs.Content.{demand_at}
 use Rattle.shop_machine.specs.Recounts.{AreDemandsFound}
 use Rattle.shop_machine.specs.Ending.{IsDone}
-use Rattle.shop_rules.specs.Forms.{json_texts}
+use Rattle.shop_forms.specs.Forms.{json_texts}
 use Rattle.shop_desk.proofs.Deciding.{end_decided}
 use Rattle.shop_desk.proofs.decided.done.Goals as goal
 

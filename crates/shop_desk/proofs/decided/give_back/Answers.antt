@@ -3,7 +3,7 @@ use Rattle.shop_records.specs.declared.messages.Command.TheVariants.{GiveBack}
 use Rattle.shop_records.specs.declared.messages.Reply.TheVariants as reply
 use Rattle.shop_records.specs.declared.records.State.TheVariants.{Returned}
 use Rattle.shop_machine.specs.Retiring.{return_refusal}
-use Rattle.shop_rules.specs.Forms.{json_texts}
+use Rattle.shop_forms.specs.Forms.{json_texts}
 use Rattle.shop_desk.proofs.Deciding.{turn_decided}
 use Rattle.shop_desk.proofs.decided.give_back.Goals as goal
 

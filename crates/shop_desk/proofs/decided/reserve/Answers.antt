@@ -7,7 +7,7 @@ use Rattle.shop_records.specs.Content.{demand_at}
 use Rattle.shop_machine.specs.Recounts.{AreDemandsFound}
 use Rattle.shop_machine.specs.Reserving.{IsReservation}
 use Rattle.shop_machine.specs.Machine.{Reads}
-use Rattle.shop_rules.specs.Forms.{json_texts}
+use Rattle.shop_forms.specs.Forms.{json_texts}
 use Rattle.shop_desk.proofs.Deciding.{decided_by, same_reserve, reserve_by}
 use Rattle.shop_desk.proofs.decided.reserve.Goals as goal
 

@@ -3,7 +3,7 @@ use Rattle.shop_records.specs.declared.messages.Command.TheVariants.{Scrap}
 use Rattle.shop_records.specs.declared.messages.Reply.TheVariants as reply
 use Rattle.shop_records.specs.declared.records.State.TheVariants as state
 use Rattle.shop_machine.specs.Retiring.{scrap_refusal}
-use Rattle.shop_rules.specs.Forms.{json_texts}
+use Rattle.shop_forms.specs.Forms.{json_texts}
 use Rattle.shop_desk.proofs.Deciding.{turn_decided}
 use Rattle.shop_desk.proofs.decided.scrap.Goals as goal
 

@@ -4,7 +4,7 @@ use Rattle.shop_records.specs.Messages.{pair_of, refusal_in}
 use Rattle.shop_records.specs.Content.{changed}
 use Rattle.shop_machine.specs.Machine.{keeping}
 use Rattle.shop_records.specs.Soundness.{Fits}
-use Rattle.shop_rules.specs.Forms.{json_texts}
+use Rattle.shop_forms.specs.Forms.{json_texts}
 use Rattle.shop_records.specs.declared.refusals.Refusal.TheVariants.{BadMessage}
 use Rattle.shop_records.specs.declared.messages.Reply.TheVariants.{Refused}
 use Rattle.shop_desk.specs.Faults.{CountsReply}

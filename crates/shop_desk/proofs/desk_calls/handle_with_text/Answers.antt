@@ -2,7 +2,7 @@ use Rattle.std.proofs.Common.{◌≡◌, refl, sym, ◌∙◌}
 use Rattle.std.specs.Prelude.{Some, None}
 use Rattle.shop_records.specs.Messages.{pair_of}
 use Rattle.shop_records.specs.Content.{kept_at}
-use Rattle.shop_rules.specs.Forms.{json_texts}
+use Rattle.shop_forms.specs.Forms.{json_texts}
 use Rattle.shop_desk.proofs.Steps.{left_more, faulted, repeated, is_fault}
 use Rattle.shop_desk.proofs.desk_calls.handle_with_text.Goals as goal
 

@@ -5,7 +5,7 @@ use Rattle.shop_records.specs.declared.messages.Message.{Message}
 use Rattle.shop_records.specs.declared.messages.Reply.{Reply}
 use Rattle.shop_machine.proofs.Runs.{AreMessages, AreMessages-push, gives_after}
 use Rattle.shop_machine.proofs.Owners.{account_of}
-use Rattle.shop_rules.specs.Forms.{json_texts}
+use Rattle.shop_forms.specs.Forms.{json_texts}
 use Rattle.shop_desk.specs.Faults.{TellOfFailures}
 use Rattle.shop_desk.specs.Handled.{Leads, RefusalsKeep}
 use Rattle.shop_desk.proofs.Blame.{up_same, up_answer, up_more, tell_more, tell_one}

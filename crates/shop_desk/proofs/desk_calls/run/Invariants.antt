@@ -2,7 +2,7 @@ use Rattle.std.proofs.Common.{◌≡◌, ◌≤◌, length, take, vec_len, vec_c
 use Rattle.shop_records.specs.Content.{Content}
 use Rattle.shop_records.specs.Soundness.{IsSound}
 use Rattle.shop_machine.proofs.Runs.{AreMessages}
-use Rattle.shop_rules.specs.Forms.{json_texts}
+use Rattle.shop_forms.specs.Forms.{json_texts}
 use Rattle.shop_desk.specs.Faults.{CountsUp, TellOfFailures}
 use Rattle.shop_desk.specs.Handled.{Leads, RefusalsKeep}
 use Rattle.shop_desk.proofs.desk_calls.run.Given as goal

@@ -4,7 +4,7 @@ use Rattle.shop_files.specs.declared.orders.OrderLine.{OrderLine}
 use Rattle.shop_files.specs.Orders.{IsOrders}
 use Rattle.shop_records.specs.Content.{material_at}
 use Rattle.shop_machine.specs.Ordering.{AreMaterialsFound, lines_in}
-use Rattle.shop_rules.specs.Forms.{json_texts}
+use Rattle.shop_forms.specs.Forms.{json_texts}
 use Rattle.shop_desk.proofs.Deciding.{lines_decided}
 use Rattle.shop_desk.proofs.importing.import_lines.Goals as goal
 

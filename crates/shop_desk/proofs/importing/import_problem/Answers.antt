@@ -6,7 +6,7 @@ use Rattle.shop_files.specs.Problems.{IsProblem}
 use Rattle.shop_records.specs.Content.{material_at}
 use Rattle.shop_machine.specs.Ordering.{AreMaterialsFound, lines_in}
 use Rattle.shop_machine.specs.Importing.{problem_lines}
-use Rattle.shop_rules.specs.Forms.{json_texts}
+use Rattle.shop_forms.specs.Forms.{json_texts}
 use Rattle.shop_desk.proofs.Deciding.{problem_decided}
 use Rattle.shop_desk.proofs.importing.import_problem.Goals as goal
 

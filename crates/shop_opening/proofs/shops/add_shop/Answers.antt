@@ -3,7 +3,7 @@ use Rattle.std.specs.Prelude.{All}
 use Rattle.shop_desk.specs.Handled.{HasRun}
 use Rattle.shop_records.specs.declared.messages.Message.{Message}
 use Rattle.shop_records.specs.declared.messages.Reply.{Reply}
-use Rattle.shop_rules.specs.Forms.{json_texts}
+use Rattle.shop_forms.specs.Forms.{json_texts}
 use Rattle.shop_opening.specs.Shops.{IsAccepted, IsFirstRefused, shop_messages}
 use Rattle.shop_opening.proofs.shops.add_shop.Goals as goal
 

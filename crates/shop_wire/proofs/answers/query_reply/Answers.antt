@@ -1,4 +1,4 @@
-use Rattle.shop_rules.specs.Forms.{message_of}
+use Rattle.shop_forms.specs.Forms.{message_of}
 use Rattle.serde_json.specs.View.{view}
 use Rattle.shop_wire.specs.Replays.{ValueStep}
 use Rattle.shop_wire.proofs.Answered.{query_answered, one_refused, of_unasked, unasked_not_store}

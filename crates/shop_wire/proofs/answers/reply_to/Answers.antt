@@ -1,5 +1,5 @@
 use Rattle.serde_json.specs.View.{view}
-use Rattle.shop_rules.specs.Forms.{message_of}
+use Rattle.shop_forms.specs.Forms.{message_of}
 use Rattle.shop_desk.proofs.Blame.{up_answer}
 use Rattle.shop_wire.specs.Replays.{ValueStep}
 use Rattle.shop_wire.proofs.Answered.{message_answered, one_refused, of_no_memory, memory_not_store}

@@ -1,6 +1,6 @@
 use Rattle.std.proofs.Common.{inl, inr, refl, ap, ◌∙◌}
 use Rattle.std.specs.Prelude.{option_and_then}
-use Rattle.shop_rules.specs.Forms.{message_of}
+use Rattle.shop_forms.specs.Forms.{message_of}
 use Rattle.shop_wire.proofs.asking.message_in.Goals as goal
 
 pub returns-in-Ok : goal.returns-in-Ok

@@ -1,0 +1,570 @@
+-- Messages, queries and replies as JSON values: what a value stands for, and what is printed.
+use Rattle.std.specs.Prelude.{ℕ, ◌&&◌, List, length, map, nat_le, Bool, true, false, if◌then◌else◌, Option, Some, None, option_map, option_and_then, codes, bytes_eq}
+use Rattle.std.specs.Option.{option_or}
+use Rattle.cut_measure.specs.Names.{Name, name_text}
+use Rattle.cut_measure.specs.declared.sizes.Kind.{Kind}
+use Rattle.cut_tree.specs.declared.halts.Halt.{Halt}
+use Rattle.cut_tree.specs.declared.halts.Halt.TheVariants.{First, Listed}
+use Rattle.cut_tree.specs.declared.token.TheConstants.{MOST_CUTS}
+use Rattle.shop_records.specs.declared.messages.Command.{Command}
+use Rattle.shop_records.specs.declared.messages.Command.TheVariants.{AddMaterial, Receive, AddOrder, Reserve, Done, Break, Release, Scrap, GiveBack, Import}
+use Rattle.shop_records.specs.declared.imports.Form.{Form}
+use Rattle.shop_records.specs.declared.imports.Form.TheVariants.{Csv, Cgcut}
+use Rattle.shop_records.specs.declared.messages.Message.{Message}
+use Rattle.shop_files.specs.declared.orders.OrderLine.{OrderLine}
+use Rattle.shop_records.specs.declared.messages.Query.{Query}
+use Rattle.shop_records.specs.declared.records.Demand.{Demand}
+use Rattle.shop_records.specs.declared.records.JobRow.{JobRow}
+use Rattle.shop_records.specs.declared.records.JobState.{JobState}
+use Rattle.shop_records.specs.declared.records.Material.{Material}
+use Rattle.shop_records.specs.declared.records.Part.{Part}
+use Rattle.shop_records.specs.declared.records.RackRow.{RackRow}
+use Rattle.shop_records.specs.declared.messages.Query.TheVariants as query
+use Rattle.shop_records.specs.declared.messages.Reply.{Reply}
+use Rattle.shop_records.specs.declared.messages.Reply.TheVariants as reply
+use Rattle.shop_records.specs.Refusals.{refusal_number, refusal_name}
+use Rattle.shop_records.specs.Columns.{state_of, state_word}
+use Rattle.shop_records.specs.Messages.{Texts}
+use Rattle.serde_json.specs.Data.{Data, array, boolean, object, number, unsigned, Members, member, no_members, put}
+use Rattle.serde_json.specs.Read.{read}
+use Rattle.serde_json.specs.View.{items_of}
+use Rattle.serde_json.specs.Written.{compact_text}
+use Rattle.shop_forms.specs.Fields.{number_at, wide_at, numbers_at, flag_at, text_at, code_at, name_at, kind_at, behind_at, has_keys, word_at, elements_at, all_of, row, kind_text, state_text, job_state_text, text_member, number_member, name_member, flag_member}
+
+-- A command has a row of keys that is read, the keys that are printed but `terminal` and `number`, in byte order, and the same
+-- of the reply to it.
+
+-- ---- adding a material
+
+abbrev pub material_command : Data → Option Command
+material_command d =
+    option_and_then (λ material. option_and_then (λ kind. option_and_then (λ kerf. option_and_then (λ min_long. option_map (λ min_short.
+    AddMaterial material kind kerf min_long min_short)
+    (number_at (codes "min_short") d)) (number_at (codes "min_long") d)) (number_at (codes "kerf") d)) (kind_at (codes "kind") d)) (code_at (codes "material") d)
+
+abbrev pub material_members : List ℕ → Kind → (kerf min_long min_short : ℕ) → Members
+material_members material kind kerf min_long min_short =
+    text_member (codes "do") (codes "material") (number_member (codes "kerf") kerf (text_member (codes "kind") (kind_text kind)
+    (text_member (codes "material") material (number_member (codes "min_long") min_long (number_member (codes "min_short") min_short no_members)))))
+
+abbrev pub material_made : Data → Option Reply
+material_made d = option_map reply.AddMaterial (code_at (codes "material") d)
+
+abbrev pub material_told : List ℕ → Data
+material_told material =
+    object (text_member (codes "material") material (text_member (codes "ok") (codes "material") no_members))
+
+-- ---- receiving units
+
+abbrev pub receive_command : Data → Option Command
+receive_command d =
+    option_and_then (λ material. option_and_then (λ batch. option_and_then (λ w. option_and_then (λ h. option_map (λ count.
+    Receive material batch w h count)
+    (number_at (codes "count") d)) (number_at (codes "h") d)) (number_at (codes "w") d)) (code_at (codes "batch") d)) (code_at (codes "material") d)
+
+abbrev pub receive_members : (material batch : List ℕ) → (w h count : ℕ) → Members
+receive_members material batch w h count =
+    text_member (codes "batch") batch (number_member (codes "count") count (text_member (codes "do") (codes "receive")
+    (number_member (codes "h") h (text_member (codes "material") material (number_member (codes "w") w no_members)))))
+
+abbrev pub receive_made : Data → Option Reply
+receive_made d =
+    option_and_then (λ act. option_map (λ count. reply.Receive act count) (number_at (codes "count") d)) (number_at (codes "act") d)
+
+abbrev pub receive_told : (act count : ℕ) → Data
+receive_told act count =
+    object (number_member (codes "act") act (number_member (codes "count") count (text_member (codes "ok") (codes "receive") no_members)))
+
+-- ---- adding an order
+
+abbrev pub line_fields : Data → Option OrderLine
+line_fields d =
+    option_and_then (λ line. option_and_then (λ material. option_and_then (λ w. option_and_then (λ h. option_and_then (λ turn. option_and_then (λ count. option_map (λ worth.
+    record { line = line; material = material; w = w; h = h; turn = turn; count = count; worth = worth })
+    (number_at (codes "worth") d)) (number_at (codes "count") d)) (flag_at (codes "turn") d)) (number_at (codes "h") d)) (number_at (codes "w") d)) (code_at (codes "material") d)) (number_at (codes "line") d)
+
+-- an element of an order's lines
+abbrev pub line_of : Data → Option OrderLine
+line_of d = row 7 line_fields d
+
+abbrev pub lines_at : List ℕ → Data → Option (List OrderLine)
+lines_at key d = option_and_then (all_of line_of) (elements_at key d)
+
+abbrev pub order_command : Data → Option Command
+order_command d = option_and_then (λ order. option_map (λ lines. AddOrder order lines) (lines_at (codes "lines") d)) (code_at (codes "order") d)
+
+-- an order's line as an object, its keys in byte order
+abbrev pub line_data : OrderLine → Data
+line_data l =
+    object (number_member (codes "count") l.count (number_member (codes "h") l.h (number_member (codes "line") l.line
+    (text_member (codes "material") l.material (flag_member (codes "turn") l.turn (number_member (codes "w") l.w
+    (number_member (codes "worth") l.worth no_members)))))))
+
+abbrev pub lines_data : List OrderLine → Data
+lines_data lines = array (items_of (map line_data lines))
+
+abbrev pub order_members : List ℕ → List OrderLine → Members
+order_members order lines =
+    text_member (codes "do") (codes "order") (member (codes "lines") (lines_data lines) (text_member (codes "order") order no_members))
+
+abbrev pub order_made : Data → Option Reply
+order_made d =
+    option_and_then (λ count. option_and_then (λ first. option_map (λ order. reply.AddOrder count first order)
+    (code_at (codes "order") d)) (number_at (codes "first") d)) (number_at (codes "count") d)
+
+abbrev pub order_told : (count first : ℕ) → List ℕ → Data
+order_told count first order =
+    object (number_member (codes "count") count (number_member (codes "first") first (text_member (codes "ok") (codes "order")
+    (text_member (codes "order") order no_members))))
+
+-- ---- reserving a part
+
+abbrev pub reserve_command : Data → Option Command
+reserve_command d = option_and_then (λ part. option_map (λ tree. Reserve part tree) (text_at (codes "tree") d)) (name_at (codes "part") d)
+
+abbrev pub reserve_members : Name → List ℕ → Members
+reserve_members part tree =
+    text_member (codes "do") (codes "reserve") (name_member (codes "part") part (text_member (codes "tree") tree no_members))
+
+abbrev pub reserve_made : Data → Option Reply
+reserve_made d =
+    option_and_then (λ cuts. option_map (λ job. reply.Reserve cuts job) (number_at (codes "job") d)) (number_at (codes "cuts") d)
+
+abbrev pub reserve_told : (cuts job : ℕ) → Data
+reserve_told cuts job =
+    object (number_member (codes "cuts") cuts (number_member (codes "job") job (text_member (codes "ok") (codes "reserve") no_members)))
+
+-- ---- the end of a job
+
+abbrev pub done_command : Data → Option Command
+done_command d = option_map Done (number_at (codes "job") d)
+
+abbrev pub done_members : ℕ → Members
+done_members job =
+    text_member (codes "do") (codes "done") (number_member (codes "job") job no_members)
+
+-- what is told of a job that ended: its number, and the cells of kerf, pieces, rack and scrap
+abbrev pub ended_cells : Data → Option (ℕ × ℕ × ℕ × ℕ × ℕ)
+ended_cells d =
+    option_and_then (λ job. option_and_then (λ kerf. option_and_then (λ pieces. option_and_then (λ rack. option_map (λ scrap.
+    (job, kerf, pieces, rack, scrap))
+    (wide_at (codes "scrap") d)) (wide_at (codes "rack") d)) (wide_at (codes "pieces") d)) (wide_at (codes "kerf") d)) (number_at (codes "job") d)
+
+abbrev pub ended_told : List ℕ → (job kerf pieces rack scrap : ℕ) → Data
+ended_told word job kerf pieces rack scrap =
+    object (number_member (codes "job") job (number_member (codes "kerf") kerf (text_member (codes "ok") word
+    (number_member (codes "pieces") pieces (number_member (codes "rack") rack (number_member (codes "scrap") scrap no_members))))))
+
+abbrev pub done_made : Data → Option Reply
+done_made d = option_map (λ c. reply.Done c.0 c.1 c.2 c.3 c.4) (ended_cells d)
+
+-- ---- a broken job
+
+-- no cut went wrong
+abbrev pub none_lost : Bool → Option (Option ℕ)
+none_lost true = None
+none_lost false = Some None
+
+-- the cut that went wrong by its number, or `false` where none did
+abbrev pub lost_cut : List ℕ → Data → Option (Option ℕ)
+lost_cut key d = option_or (option_map Some (number_at key d)) (option_and_then none_lost (flag_at key d))
+
+-- how many first cuts were made, and whether the next one went wrong
+abbrev pub first_cuts : Data → Option Halt
+first_cuts d = option_and_then (λ cuts. option_map (λ lost. First cuts lost) (flag_at (codes "lost") d)) (number_at (codes "cuts") d)
+
+-- the cuts that were made, and the one that went wrong
+abbrev pub listed_cuts : Data → Option Halt
+listed_cuts d = option_and_then (λ cuts. option_map (λ lost. Listed cuts lost) (lost_cut (codes "lost") d)) (numbers_at (codes "cuts") d)
+
+abbrev pub break_command : Data → Option Command
+break_command d = option_and_then (λ job. option_map (λ halt. Break job halt) (option_or (first_cuts d) (listed_cuts d))) (number_at (codes "job") d)
+
+abbrev pub list_data : List ℕ → Data
+list_data cuts = array (items_of (map (λ cut. number (unsigned cut)) cuts))
+
+abbrev pub cuts_data : Halt → Data
+cuts_data (First cuts lost) = number (unsigned cuts)
+cuts_data (Listed cuts lost) = list_data cuts
+
+abbrev pub lost_data : Halt → Data
+lost_data (First cuts lost) = boolean lost
+lost_data (Listed cuts None) = boolean false
+lost_data (Listed cuts (Some cut)) = number (unsigned cut)
+
+abbrev pub break_members : ℕ → Halt → Members
+break_members job halt =
+    member (codes "cuts") (cuts_data halt) (text_member (codes "do") (codes "break") (number_member (codes "job") job
+    (member (codes "lost") (lost_data halt) no_members)))
+
+abbrev pub break_made : Data → Option Reply
+break_made d = option_map (λ c. reply.Break c.0 c.1 c.2 c.3 c.4) (ended_cells d)
+
+-- ---- a released job
+
+abbrev pub release_command : Data → Option Command
+release_command d = option_map Release (number_at (codes "job") d)
+
+abbrev pub release_members : ℕ → Members
+release_members job =
+    text_member (codes "do") (codes "release") (number_member (codes "job") job no_members)
+
+abbrev pub release_made : Data → Option Reply
+release_made d = option_map reply.Release (number_at (codes "job") d)
+
+abbrev pub release_told : ℕ → Data
+release_told job =
+    object (number_member (codes "job") job (text_member (codes "ok") (codes "release") no_members))
+
+abbrev pub scrap_command : Data → Option Command
+scrap_command d = option_map Scrap (name_at (codes "part") d)
+
+abbrev pub scrap_members : Name → Members
+scrap_members part =
+    text_member (codes "do") (codes "scrap") (name_member (codes "part") part no_members)
+
+abbrev pub scrap_made : Data → Option Reply
+scrap_made d = option_map reply.Scrap (name_at (codes "part") d)
+
+abbrev pub scrap_told : Name → Data
+scrap_told part =
+    object (text_member (codes "ok") (codes "scrap") (name_member (codes "part") part no_members))
+
+abbrev pub return_command : Data → Option Command
+return_command d = option_map GiveBack (name_at (codes "part") d)
+
+abbrev pub return_members : Name → Members
+return_members part =
+    text_member (codes "do") (codes "return") (name_member (codes "part") part no_members)
+
+abbrev pub return_made : Data → Option Reply
+return_made d = option_map reply.GiveBack (name_at (codes "part") d)
+
+abbrev pub return_told : Name → Data
+return_told part =
+    object (text_member (codes "ok") (codes "return") (name_member (codes "part") part no_members))
+
+-- ---- importing an order
+
+-- an import in a form that was read
+abbrev pub import_in : Form → Data → Option Command
+import_in form d =
+    option_and_then (λ order. option_map (λ text. Import order form text) (text_at (codes "text") d)) (code_at (codes "order") d)
+
+-- a problem file is of a material
+abbrev pub problem_command : Data → Option Command
+problem_command d = option_and_then (λ material. import_in (Cgcut material) d) (code_at (codes "material") d)
+
+-- the rows by the word of `form`
+abbrev pub import_by : List ℕ → Data → Option Command
+import_by word d =
+    if bytes_eq word (codes "csv") then row 6 (import_in Csv) d
+    else (if bytes_eq word (codes "cgcut") then row 7 problem_command d else None)
+
+abbrev pub import_command : Data → Option Command
+import_command d = option_and_then (λ word. import_by word d) (text_at (codes "form") d)
+
+abbrev pub import_members : List ℕ → Form → List ℕ → Members
+import_members order Csv text =
+    text_member (codes "do") (codes "import") (text_member (codes "form") (codes "csv") (text_member (codes "order") order
+    (text_member (codes "text") text no_members)))
+import_members order (Cgcut material) text =
+    text_member (codes "do") (codes "import") (text_member (codes "form") (codes "cgcut") (text_member (codes "material") material
+    (text_member (codes "order") order (text_member (codes "text") text no_members))))
+
+abbrev pub import_made : Data → Option Reply
+import_made d =
+    option_and_then (λ act. option_and_then (λ count. option_and_then (λ first. option_map (λ order. reply.Import act count first order)
+    (code_at (codes "order") d)) (number_at (codes "first") d)) (number_at (codes "count") d)) (number_at (codes "act") d)
+
+abbrev pub import_told : (act count first : ℕ) → List ℕ → Data
+import_told act count first order =
+    object (number_member (codes "act") act (number_member (codes "count") count (number_member (codes "first") first
+    (text_member (codes "ok") (codes "import") (text_member (codes "order") order no_members)))))
+
+-- ---- queries, and the replies to them
+
+abbrev pub totals_query : Data → Option Query
+totals_query d = option_map query.Totals (code_at (codes "material") d)
+
+abbrev pub totals_told : List ℕ → (received stock rack pieces kerf scrap returned : ℕ) → Data
+totals_told material received stock rack pieces kerf scrap returned =
+    object (number_member (codes "kerf") kerf (text_member (codes "material") material (text_member (codes "ok") (codes "totals")
+    (number_member (codes "pieces") pieces (number_member (codes "rack") rack (number_member (codes "received") received
+    (number_member (codes "returned") returned (number_member (codes "scrap") scrap (number_member (codes "stock") stock no_members)))))))))
+
+abbrev pub rack_query : Data → Option Query
+rack_query d = option_map query.Rack (code_at (codes "material") d)
+
+-- a part on the rack as an object, its keys in byte order
+abbrev pub rack_row_data : RackRow → Data
+rack_row_data r =
+    object (number_member (codes "h") r.h (text_member (codes "part") (name_text r.part) (text_member (codes "state") (state_text r.state)
+    (number_member (codes "w") r.w no_members))))
+
+abbrev pub rack_data : List RackRow → Data
+rack_data parts = array (items_of (map rack_row_data parts))
+
+abbrev pub rack_told : List ℕ → List RackRow → Data
+rack_told material parts =
+    object (text_member (codes "material") material (text_member (codes "ok") (codes "rack") (member (codes "parts") (rack_data parts) no_members)))
+
+abbrev pub trace_query : Data → Option Query
+trace_query d = option_map query.Trace (name_at (codes "part") d)
+
+abbrev pub trace_data : (batch part root state : List ℕ) (h of w x y : ℕ) → Data
+trace_data batch part root state h of w x y =
+    object (text_member (codes "batch") batch (number_member (codes "h") h (number_member (codes "of") of (text_member (codes "ok") (codes "trace")
+    (text_member (codes "part") part (text_member (codes "root") root (text_member (codes "state") state
+    (number_member (codes "w") w (number_member (codes "x") x (number_member (codes "y") y no_members))))))))))
+
+abbrev pub demand_query : Data → Option Query
+demand_query d = option_map query.Demand (number_at (codes "demand") d)
+
+abbrev pub demand_told : (demand line made : ℕ) → (material order : List ℕ) → (reserved wanted : ℕ) → Data
+demand_told demand line made material order reserved wanted =
+    object (number_member (codes "demand") demand (number_member (codes "line") line (number_member (codes "made") made
+    (text_member (codes "material") material (text_member (codes "ok") (codes "demand") (text_member (codes "order") order
+    (number_member (codes "reserved") reserved (number_member (codes "wanted") wanted no_members))))))))
+
+abbrev pub plan_query : Data → Option Query
+plan_query d =
+    option_and_then (λ part. option_and_then (λ demands. option_map (λ step. query.Plan part demands step)
+    (number_at (codes "step") d)) (numbers_at (codes "demands") d)) (name_at (codes "part") d)
+
+abbrev pub plan_told : (ceiling dropped : ℕ) → List ℕ → (worth : ℕ) → Data
+plan_told ceiling dropped tree worth =
+    object (number_member (codes "ceiling") ceiling (number_member (codes "dropped") dropped (text_member (codes "ok") (codes "plan")
+    (text_member (codes "tree") tree (number_member (codes "worth") worth no_members)))))
+
+abbrev pub bound_query : Data → Option Query
+bound_query d =
+    option_and_then (λ material. option_and_then (λ w. option_and_then (λ h. option_and_then (λ demands. option_map (λ step. query.Bound material w h demands step)
+    (number_at (codes "step") d)) (numbers_at (codes "demands") d)) (number_at (codes "h") d)) (number_at (codes "w") d)) (code_at (codes "material") d)
+
+abbrev pub bound_told : (best units : ℕ) → Data
+bound_told best units =
+    object (number_member (codes "best") best (text_member (codes "ok") (codes "bound") (number_member (codes "units") units no_members)))
+
+-- ---- lists of what is there, open or waiting
+
+abbrev pub parts_query : Data → Option Query
+parts_query d =
+    option_and_then (λ material. option_map (λ after. query.Parts material after) (behind_at (codes "after") d)) (code_at (codes "material") d)
+
+abbrev pub all_demands : Data → Option Query
+all_demands d = option_map (λ after. query.Demands after None) (number_at (codes "after") d)
+
+abbrev pub demands_of : Data → Option Query
+demands_of d =
+    option_and_then (λ material. option_map (λ after. query.Demands after (Some material)) (number_at (codes "after") d)) (code_at (codes "material") d)
+
+-- of a material, or without that key of all
+abbrev pub demands_query : Data → Option Query
+demands_query d = if has_keys 2 d then all_demands d else row 3 demands_of d
+
+abbrev pub jobs_query : Data → Option Query
+jobs_query d = option_map query.Jobs (number_at (codes "after") d)
+
+abbrev pub job_query : Data → Option Query
+job_query d = option_map query.Job (number_at (codes "job") d)
+
+abbrev pub terminal_query : Data → Option Query
+terminal_query d = option_map query.Terminal (number_at (codes "terminal") d)
+
+-- the rows of a list as a value
+abbrev pub rows_data : {T : Type 0} → (T → Data) → List T → Data
+rows_data said rows = array (items_of (map said rows))
+
+abbrev pub material_data : Material → Data
+material_data m =
+    object (number_member (codes "kerf") m.limits.kerf (text_member (codes "kind") (kind_text m.kind) (text_member (codes "material") m.code
+    (number_member (codes "min_long") m.limits.min_long (number_member (codes "min_short") m.limits.min_short no_members)))))
+
+abbrev pub materials_told : List Material → Data
+materials_told materials =
+    object (member (codes "materials") (rows_data material_data materials) (text_member (codes "ok") (codes "materials") no_members))
+
+-- a part as in a trace, without its place
+abbrev pub part_data : Part → Data
+part_data p =
+    object (text_member (codes "batch") p.batch (number_member (codes "h") p.size.h (number_member (codes "of") (state_of p.state)
+    (name_member (codes "part") p.name (name_member (codes "root") p.root (text_member (codes "state") (state_text (state_word p.state))
+    (number_member (codes "w") p.size.w no_members)))))))
+
+abbrev pub parts_told : List ℕ → Bool → List Part → Data
+parts_told material more parts =
+    object (text_member (codes "material") material (flag_member (codes "more") more (text_member (codes "ok") (codes "parts")
+    (member (codes "parts") (rows_data part_data parts) no_members))))
+
+abbrev pub open_demand_data : Demand → Data
+open_demand_data d =
+    object (number_member (codes "demand") d.number (number_member (codes "h") d.size.h (number_member (codes "line") d.line
+    (number_member (codes "made") d.made (text_member (codes "material") d.material (text_member (codes "order") d.order
+    (number_member (codes "reserved") d.reserved (flag_member (codes "turn") d.may_turn (number_member (codes "w") d.size.w
+    (number_member (codes "wanted") d.wanted (number_member (codes "worth") d.worth no_members)))))))))))
+
+abbrev pub job_row_data : JobRow → Data
+job_row_data j =
+    object (number_member (codes "cuts") j.cuts (number_member (codes "h") j.h (number_member (codes "job") j.job
+    (text_member (codes "material") j.material (name_member (codes "part") j.part (number_member (codes "w") j.w no_members))))))
+
+-- what is told of rows behind a number: the list at its word, and whether others follow
+abbrev pub behind_told : {T : Type 0} → List ℕ → (T → Data) → List T → Bool → Data
+behind_told word said rows more =
+    object (member word (rows_data said rows) (flag_member (codes "more") more (text_member (codes "ok") word no_members)))
+
+abbrev pub job_told : (cuts h job kerf : ℕ) → (material : List ℕ) → Name → JobState → (tree : List ℕ) → (w : ℕ) → Data
+job_told cuts h job kerf material part state tree w =
+    object (number_member (codes "cuts") cuts (number_member (codes "h") h (number_member (codes "job") job (number_member (codes "kerf") kerf
+    (text_member (codes "material") material (text_member (codes "ok") (codes "job") (name_member (codes "part") part
+    (text_member (codes "state") (job_state_text state) (text_member (codes "tree") tree (number_member (codes "w") w no_members))))))))))
+
+abbrev pub terminal_told : (last terminal : ℕ) → Data
+terminal_told last terminal =
+    object (number_member (codes "last") last (text_member (codes "ok") (codes "terminal") (number_member (codes "terminal") terminal no_members)))
+
+-- the rows of lists with other keys than one beside `ask`, by their words
+abbrev pub list_query : List ℕ → Data → Option Query
+list_query word d =
+    if bytes_eq word (codes "materials") then row 1 (λ d. Some query.Materials) d
+    else (if bytes_eq word (codes "parts") then row 3 parts_query d
+    else (if bytes_eq word (codes "demands") then demands_query d else None))
+
+-- the rows with one key beside `ask`, by its word
+abbrev pub short_query : List ℕ → Data → Option Query
+short_query word d =
+    if bytes_eq word (codes "totals") then totals_query d
+    else (if bytes_eq word (codes "rack") then rack_query d
+    else (if bytes_eq word (codes "trace") then trace_query d
+    else (if bytes_eq word (codes "demand") then demand_query d
+    else (if bytes_eq word (codes "jobs") then jobs_query d
+    else (if bytes_eq word (codes "job") then job_query d
+    else (if bytes_eq word (codes "terminal") then terminal_query d else None))))))
+
+-- the rows by the word of `ask`, each with `ask`
+abbrev pub asked_of : List ℕ → Data → Option Query
+asked_of word d =
+    if bytes_eq word (codes "plan") then row 4 plan_query d
+    else (if bytes_eq word (codes "bound") then row 6 bound_query d
+    else option_or (row 2 (short_query word) d) (list_query word d))
+
+abbrev pub query_of : Data → Option Query
+query_of d = option_and_then (λ word. asked_of word d) (word_at (codes "ask") (codes "do") d)
+
+-- ---- messages
+
+-- the rows by the word of `do`, each with `do`, `terminal` and `number`
+abbrev pub command_of : List ℕ → Data → Option Command
+command_of word d =
+    if bytes_eq word (codes "material") then row 8 material_command d
+    else (if bytes_eq word (codes "receive") then row 8 receive_command d
+    else (if bytes_eq word (codes "order") then row 5 order_command d
+    else (if bytes_eq word (codes "reserve") then row 5 reserve_command d
+    else (if bytes_eq word (codes "done") then row 4 done_command d
+    else (if bytes_eq word (codes "break") then row 6 break_command d
+    else (if bytes_eq word (codes "release") then row 4 release_command d
+    else (if bytes_eq word (codes "scrap") then row 4 scrap_command d
+    else (if bytes_eq word (codes "return") then row 4 return_command d
+    else (if bytes_eq word (codes "import") then import_command d else None)))))))))
+
+-- the word of `do`, the terminal and the number
+abbrev pub sent_head : Data → Option (List ℕ × ℕ × ℕ)
+sent_head d =
+    option_and_then (λ word. option_and_then (λ terminal. option_map (λ number. (word, terminal, number))
+    (number_at (codes "number") d)) (number_at (codes "terminal") d)) (word_at (codes "do") (codes "ask") d)
+
+-- a message of any terminal
+abbrev pub sent_of : Data → Option Message
+sent_of d =
+    option_and_then (λ head. option_map (λ command. record { terminal = head.1; number = head.2; command = command }) (command_of head.0 d)) (sent_head d)
+
+-- a halt lists at most 255 cuts
+abbrev pub has_few_cuts : Command → Bool
+has_few_cuts (Break job (Listed cuts lost)) = nat_le (length cuts) MOST_CUTS
+has_few_cuts _ = true
+
+-- terminal 0 sends nothing, and no terminal a long list of cuts
+abbrev pub from_one : Message → Option Message
+from_one message = if nat_le 1 message.terminal && has_few_cuts message.command then Some message else None
+
+abbrev pub message_of : Data → Option Message
+message_of d = option_and_then from_one (sent_of d)
+
+-- the keys of a command's row but `terminal` and `number`, in byte order
+abbrev pub command_members : Command → Members
+command_members (AddMaterial material kind kerf min_long min_short) = material_members material kind kerf min_long min_short
+command_members (Receive material batch w h count) = receive_members material batch w h count
+command_members (AddOrder order lines) = order_members order lines
+command_members (Reserve part tree) = reserve_members part tree
+command_members (Done job) = done_members job
+command_members (Break job halt) = break_members job halt
+command_members (Release job) = release_members job
+command_members (Scrap part) = scrap_members part
+command_members (GiveBack part) = return_members part
+command_members (Import order form text) = import_members order form text
+
+-- a message as an object, its keys in byte order
+abbrev pub message_data : Message → Data
+message_data message =
+    object (put (codes "terminal") (number (unsigned message.terminal)) (put (codes "number") (number (unsigned message.number)) (command_members message.command)))
+
+-- ---- replies
+
+-- of the replies that an accepted message can get, the rows by the word of `ok`, each with `ok`
+abbrev pub made_of : List ℕ → Data → Option Reply
+made_of word d =
+    if bytes_eq word (codes "material") then row 2 material_made d
+    else (if bytes_eq word (codes "receive") then row 3 receive_made d
+    else (if bytes_eq word (codes "order") then row 4 order_made d
+    else (if bytes_eq word (codes "reserve") then row 3 reserve_made d
+    else (if bytes_eq word (codes "done") then row 6 done_made d
+    else (if bytes_eq word (codes "break") then row 6 break_made d
+    else (if bytes_eq word (codes "release") then row 2 release_made d
+    else (if bytes_eq word (codes "scrap") then row 2 scrap_made d
+    else (if bytes_eq word (codes "return") then row 2 return_made d
+    else (if bytes_eq word (codes "import") then row 5 import_made d else None)))))))))
+
+abbrev pub reply_of : Data → Option Reply
+reply_of d = option_and_then (λ word. made_of word d) (text_at (codes "ok") d)
+
+-- a reply as an object, its keys in byte order
+abbrev pub reply_data : Reply → Data
+reply_data (reply.AddMaterial material) = material_told material
+reply_data (reply.Receive act count) = receive_told act count
+reply_data (reply.AddOrder count first order) = order_told count first order
+reply_data (reply.Reserve cuts job) = reserve_told cuts job
+reply_data (reply.Done job kerf pieces rack scrap) = ended_told (codes "done") job kerf pieces rack scrap
+reply_data (reply.Break job kerf pieces rack scrap) = ended_told (codes "break") job kerf pieces rack scrap
+reply_data (reply.Release job) = release_told job
+reply_data (reply.Scrap part) = scrap_told part
+reply_data (reply.GiveBack part) = return_told part
+reply_data (reply.Import act count first order) = import_told act count first order
+reply_data (reply.Totals material received stock rack pieces kerf scrap returned) = totals_told material received stock rack pieces kerf scrap returned
+reply_data (reply.Rack material parts) = rack_told material parts
+reply_data (reply.Trace batch h of part root state w x y) = trace_data batch (name_text part) (name_text root) (state_text state) h of w x y
+reply_data (reply.Demand demand line made material order reserved wanted) = demand_told demand line made material order reserved wanted
+reply_data (reply.Plan ceiling dropped tree worth) = plan_told ceiling dropped tree worth
+reply_data (reply.Bound best units) = bound_told best units
+reply_data (reply.Materials materials) = materials_told materials
+reply_data (reply.Parts material more parts) = parts_told material more parts
+reply_data (reply.Demands demands more) = behind_told (codes "demands") open_demand_data demands more
+reply_data (reply.Jobs jobs more) = behind_told (codes "jobs") job_row_data jobs more
+reply_data (reply.Job cuts h job kerf material part state tree w) = job_told cuts h job kerf material part state tree w
+reply_data (reply.Terminal last terminal) = terminal_told last terminal
+reply_data (reply.Refused refusal) =
+    object (text_member (codes "name") (refusal_name refusal) (number_member (codes "refused") (refusal_number refusal) no_members))
+
+-- ---- texts
+
+-- the canonical text of a message, and the text of a reply: compact JSON
+unfoldable pub json_texts : Texts
+json_texts =
+    record {
+      of_message = λ message. compact_text (message_data message);
+      of_reply = λ answer. compact_text (reply_data answer);
+    }
+
+-- the reply that a kept text is
+abbrev pub kept_reply_of : List ℕ → Option Reply
+kept_reply_of text = option_and_then reply_of (read text)

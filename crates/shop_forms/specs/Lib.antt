@@ -1,0 +1,6 @@
+pub mod Fields
+pub mod Forms
+pub mod Tokens
+pub mod Members
+pub mod CommandWords
+pub mod Told

@@ -1,0 +1,97 @@
+//! JSON of adding a material: its command and its reply, read and written.
+
+ghost use Rattle.std.specs.Prelude.{◌≡◌, OnOk};
+ghost use Rattle.serde_json.specs.View.{view};
+ghost use Rattle.shop_records.specs.declared.messages.Command.TheVariants.{AddMaterial};
+ghost use Rattle.shop_records.specs.declared.messages.Reply.TheVariants as reply;
+ghost use Rattle.shop_forms.specs.Fields.{row};
+ghost use Rattle.shop_forms.specs.Forms as form;
+ghost use Rattle.shop_forms.specs.Forms.{message_data, reply_data};
+ghost use Rattle.shop_forms.specs.Tokens.{AddsValue};
+
+use crate::fields::{code_at, has_keys, kind_at, number_at};
+use crate::words::kind_word;
+use crate::writing::{Member, write_object};
+use cut_measure::Kind;
+use json::Writer;
+use serde_json::Value;
+use shop_records::{Command, Reply};
+use std::alloc::AllocError;
+
+// The command to add a material.
+pub(crate) fn material_command(value: &Value) -> Option<Command>
+    ensures { result ≡ row 8 form.material_command (view value.now) }
+{
+    if !has_keys(value, 8) {
+        return None;
+    }
+    let material = code_at(value, "material")?;
+    let kind = kind_at(value, "kind")?;
+    let kerf = number_at(value, "kerf")?;
+    let min_long = number_at(value, "min_long")?;
+    let min_short = number_at(value, "min_short")?;
+    Some(Command::AddMaterial {
+        material,
+        kind,
+        kerf,
+        min_long,
+        min_short,
+    })
+}
+
+// Writes a message that adds a material.
+pub(crate) fn write_material(
+    writer: &mut Writer,
+    pair: (u64, u64),
+    material: &str,
+    kind: Kind,
+    kerf: u64,
+    min_long: u64,
+    min_short: u64,
+) -> Result<(), AllocError>
+    ensures { OnOk result (AddsValue writer.old writer.new
+        (message_data (record {
+          terminal = pair.0;
+          number = pair.1;
+          command = AddMaterial material.now kind kerf min_long min_short;
+        }))) }
+{
+    write_object(
+        writer,
+        &[
+            Member::Text("do", "material"),
+            Member::Number("kerf", kerf),
+            Member::Text("kind", kind_word(kind)),
+            Member::Text("material", material),
+            Member::Number("min_long", min_long),
+            Member::Number("min_short", min_short),
+            Member::Number("number", pair.1),
+            Member::Number("terminal", pair.0),
+        ],
+    )
+}
+
+// The reply to it.
+pub(crate) fn material_made(value: &Value) -> Option<Reply>
+    ensures { result ≡ row 2 form.material_made (view value.now) }
+{
+    if !has_keys(value, 2) {
+        return None;
+    }
+    let material = code_at(value, "material")?;
+    Some(Reply::AddMaterial { material })
+}
+
+// Writes the reply to it.
+pub(crate) fn tell_material(writer: &mut Writer, material: &str) -> Result<(), AllocError>
+    ensures { OnOk result (AddsValue writer.old writer.new
+        (reply_data (reply.AddMaterial material.now))) }
+{
+    write_object(
+        writer,
+        &[
+            Member::Text("material", material),
+            Member::Text("ok", "material"),
+        ],
+    )
+}

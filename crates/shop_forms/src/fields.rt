@@ -1,0 +1,129 @@
+//! What stands at the keys of a JSON object: numbers, flags, texts, codes, names and lists.
+
+ghost use Rattle.std.specs.Prelude.{◌≡◌, ℕ, IfOk, map, option_map};
+ghost use Rattle.serde_json.specs.View.{view};
+ghost use Rattle.shop_forms.specs.Fields as form;
+
+use cut_measure::{Code, Kind, PartName, RowList};
+use serde_json::Value;
+use std::alloc::{AllocError, Global};
+
+// A whole number of 64 bits.
+pub(crate) fn wide_at(value: &Value, key: &str) -> Option<u64>
+    ensures { result ≡ form.wide_at key.now (view value.now) }
+{
+    value.get(key)?.as_u64()
+}
+
+// A whole number of 32 bits.
+pub(crate) fn number_at(value: &Value, key: &str) -> Option<u32>
+    ensures { result ≡ form.number_at key.now (view value.now) }
+{
+    number_of(value.get(key)?)
+}
+
+// The same of a value.
+pub(crate) fn number_of(value: &Value) -> Option<u32>
+    ensures { result ≡ form.number_of (view value.now) }
+{
+    let number = value.as_u64()?;
+    if number < 4_294_967_296 {
+        Some(number as u32)
+    } else {
+        None
+    }
+}
+
+// `true` or `false`.
+pub(crate) fn flag_at(value: &Value, key: &str) -> Option<bool>
+    ensures { result ≡ form.flag_at key.now (view value.now) }
+{
+    value.get(key)?.as_bool()
+}
+
+pub(crate) fn text_at<'a>(value: &'a Value, key: &str) -> Option<&'a str>
+    ensures { option_map (λ text. text.now) result ≡ form.text_at key.now (view value.now) }
+{
+    value.get(key)?.as_str()
+}
+
+pub(crate) fn code_at(value: &Value, key: &str) -> Option<Code>
+    ensures { result ≡ form.code_at key.now (view value.now) }
+{
+    Code::read(text_at(value, key)?)
+}
+
+pub(crate) fn name_at(value: &Value, key: &str) -> Option<PartName>
+    ensures { result ≡ form.name_at key.now (view value.now) }
+{
+    PartName::read(text_at(value, key)?)
+}
+
+pub(crate) fn kind_at(value: &Value, key: &str) -> Option<Kind>
+    ensures { result ≡ form.kind_at key.now (view value.now) }
+{
+    let text = text_at(value, key)?;
+    if text == "bar" {
+        Some(Kind::Bar)
+    } else if text == "sheet" {
+        Some(Kind::Sheet)
+    } else {
+        None
+    }
+}
+
+// The text at a key of an object without the other key.
+pub(crate) fn word_at<'a>(value: &'a Value, key: &str, other: &str) -> Option<&'a str>
+    ensures { option_map (λ text. text.now) result
+        ≡ form.word_at key.now other.now (view value.now) }
+{
+    match value.get(other) {
+        Some(_) => None,
+        None => text_at(value, key),
+    }
+}
+
+// The elements of the list at a key.
+pub(crate) fn elements_at<'a>(value: &'a Value, key: &str) -> Option<&'a Vec<Value>>
+    ensures { option_map (λ values. map view values.now.items) result
+        ≡ form.elements_at key.now (view value.now) }
+{
+    value.get(key)?.as_array()
+}
+
+// The numbers that values stand for, where each stands for one.
+fn read_numbers(alloc: Global, values: &[Value]) -> Result<Option<RowList<u32>>, AllocError>
+    ensures { IfOk result (λ numbers. numbers ≡ form.all_of form.number_of (map view values.now)) }
+{
+    let mut numbers = RowList::new(alloc);
+    for value in values {
+        let Some(number) = number_of(value) else {
+            return Ok(None);
+        };
+        numbers.push(number)?;
+    }
+    Ok(Some(numbers))
+}
+
+// The numbers of the list at a key.
+pub(crate) fn numbers_at(
+    alloc: Global,
+    value: &Value,
+    key: &str,
+) -> Result<Option<RowList<u32>>, AllocError>
+    ensures { IfOk result (λ numbers. numbers ≡ form.numbers_at key.now (view value.now)) }
+{
+    match elements_at(value, key) {
+        Some(values) => read_numbers(alloc, values),
+        None => Ok(None),
+    }
+}
+
+pub(crate) fn has_keys(value: &Value, count: usize) -> bool
+    ensures { result ≡ form.has_keys count (view value.now) }
+{
+    match value.as_object() {
+        Some(members) => members.len() == count,
+        None => false,
+    }
+}

@@ -1,0 +1,93 @@
+//! JSON of reserving a part for a plan: its command and its reply, read and written.
+
+ghost use Rattle.std.specs.Prelude.{◌≡◌, IfOk, OnOk};
+ghost use Rattle.serde_json.specs.View.{view};
+ghost use Rattle.shop_records.specs.declared.messages.Command.TheVariants.{Reserve};
+ghost use Rattle.shop_records.specs.declared.messages.Reply.TheVariants as reply;
+ghost use Rattle.shop_forms.specs.Fields.{row};
+ghost use Rattle.shop_forms.specs.Forms as form;
+ghost use Rattle.shop_forms.specs.Forms.{message_data, reply_data};
+ghost use Rattle.shop_forms.specs.Told.{HasWideNumbers};
+ghost use Rattle.shop_forms.specs.Tokens.{AddsValue};
+
+use crate::fields::{has_keys, name_at, number_at, text_at};
+use crate::writing::{Member, write_object};
+use cut_measure::PartName;
+use json::Writer;
+use serde_json::Value;
+use shop_records::{Command, Reply, Text};
+use std::alloc::{AllocError, Global};
+
+// The command to reserve a part.
+pub(crate) fn reserve_command(alloc: Global, value: &Value) -> Result<Option<Command>, AllocError>
+    ensures { IfOk result (λ command. command ≡ row 5 form.reserve_command (view value.now)) }
+{
+    if !has_keys(value, 5) {
+        return Ok(None);
+    }
+    match name_at(value, "part") {
+        Some(part) => match text_at(value, "tree") {
+            Some(tree) => {
+                let tree = Text::from_str(alloc, tree)?;
+                Ok(Some(Command::Reserve { part, tree }))
+            }
+            None => Ok(None),
+        },
+        None => Ok(None),
+    }
+}
+
+// Writes a message that reserves a part.
+pub(crate) fn write_reserve<'a>(
+    alloc: Global,
+    writer: &mut Writer,
+    pair: (u64, u64),
+    part: &'a PartName,
+    tree: &'a str,
+) -> Result<(), AllocError>
+    ensures { OnOk result (AddsValue writer.old writer.new
+        (message_data (record {
+          terminal = pair.0;
+          number = pair.1;
+          command = Reserve part.now tree.now;
+        }))) }
+{
+    write_object(
+        writer,
+        &[
+            Member::Text("do", "reserve"),
+            Member::Number("number", pair.1),
+            Member::Name("part", part, alloc),
+            Member::Number("terminal", pair.0),
+            Member::Text("tree", tree),
+        ],
+    )
+}
+
+// The reply to it.
+pub(crate) fn reserve_made(value: &Value) -> Option<Reply>
+    ensures { result ≡ row 3 form.reserve_made (view value.now) }
+{
+    if !has_keys(value, 3) {
+        return None;
+    }
+    let cuts = number_at(value, "cuts")?;
+    let job = number_at(value, "job")?;
+    Some(Reply::Reserve { cuts, job })
+}
+
+// Writes the reply to it.
+pub(crate) fn tell_reserve(writer: &mut Writer, cuts: u64, job: u64) -> Result<(), AllocError>
+    ensures value { OnOk result
+        (AddsValue writer.old writer.new (reply_data (reply.Reserve cuts job))) }
+    ensures wide { OnOk result (HasWideNumbers (reply.Reserve cuts job)) }
+{
+    write_object(
+        writer,
+        &[
+            Member::Number("cuts", cuts),
+            Member::Number("job", job),
+            Member::Text("ok", "reserve"),
+        ],
+    )
+}

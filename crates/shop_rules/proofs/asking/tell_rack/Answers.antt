@@ -1,7 +1,0 @@
-use Rattle.shop_rules.proofs.Pieces.{one, then}
-use Rattle.shop_rules.proofs.asking.tell_rack.Goals as goal
-
-pub returns-clause-value : goal.returns-clause-value
-returns-clause-value c =
-    let all = then (one c.in_ok-begin_object.ensures) (then c.in_ok-write_text.ensures (then c.in_ok-write_text-2.ensures (then (one c.in_ok-key.ensures) (then c.in_ok-write_rack.ensures.value (one c.in_ok-end_object.ensures))))) in
-    record { tokens = all.tokens; before = all.before }
