@@ -1,13 +1,13 @@
 -- Names of parts that stand, and what a change makes of them.
 use Rattle.std.proofs.Common.{◌≡◌, ◌<◌, ℕ, Bool, true, false, true≢false, cond, List, [], ◌∷◌, ◌++◌, length, get_or, Option, Some, None, is_some, refl, sym, ap, subst, ◌∙◌, arith, suc}
-use Rattle.std.specs.Prelude.{IfSome, AllPairs}
+use Rattle.std.specs.Prelude.{IfSome}
 use Rattle.std.specs.Option.{option_to_list}
 use Rattle.std.specs.declared.cmp.Ordering.TheVariants.{Less}
 use Rattle.std.specs.Ordering.{eq_by_cmp, is_eq, ordering_reverse}
 use Rattle.std.specs.FinMap.{FinMap, get, get-insert, insert}
 use Rattle.cut_measure.specs.Names.{Name, name_cmp}
 use Rattle.shop_records.specs.Content.{Content, changed, part_at, with_moved, with_parts}
-use Rattle.shop_records.specs.Soundness.{Fits, IsMovedPart, IsNewPart}
+use Rattle.shop_records.specs.Soundness.{Fits, IsMovedPart}
 use Rattle.shop_records.specs.declared.changes.Change.{Change}
 use Rattle.shop_records.specs.declared.records.Part.{Part}
 use Rattle.shop_rows.specs.Keys.{part_key, names_total, names_exact}

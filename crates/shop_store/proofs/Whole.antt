@@ -1,9 +1,7 @@
 -- Parts that stand for a material and have its cells are all that do.
-use Rattle.std.proofs.Common.{◌≡◌, ◌⊎◌, inl, inr, ℕ, zero, suc, ◌+◌, ◌*◌, ◌<◌, ◌≤◌, Bool, true, false, true≢false, cond, ◌&&◌, List, [], ◌∷◌, ◌++◌, map, filter, length, take, get_or, Option, Some, None, is_some, refl, sym, ap, subst, ◌∙◌, arith, if◌then◌else◌}
-use Rattle.std.specs.Prelude.{T, nat_le, not, sum_by, unwrap_or, IsTrue}
+use Rattle.std.proofs.Common.{◌≡◌, inl, inr, ℕ, zero, suc, ◌+◌, ◌*◌, ◌≤◌, Bool, true, false, true≢false, cond, ◌&&◌, List, [], ◌∷◌, Some, None, is_some, refl, sym, ap, ◌∙◌, arith, if◌then◌else◌}
+use Rattle.std.specs.Prelude.{T, nat_le, not, unwrap_or, IsTrue}
 use Rattle.std.specs.List.{AllByRecursion}
-use Rattle.std.specs.declared.cmp.Ordering.{Ordering}
-use Rattle.std.specs.declared.cmp.Ordering.TheVariants.{Less, Equal, Greater}
 use Rattle.std.specs.Ordering.{eq_by_cmp, is_eq}
 use Rattle.std.specs.Cmp.{tied_itself}
 use Rattle.std.specs.FinMap.{empty, entries, entries_sorted, find, get, get-empty, get-entries, get-insert, insert, is_sorted, values}
@@ -11,18 +9,15 @@ use Rattle.std.specs.FinMap.Entries.{below_all}
 use Rattle.std.proofs.lemmas.Bool.{and_parts, leb-true}
 use Rattle.std.proofs.lemmas.List.Sums.{sum_by-cons}
 use Rattle.cut_measure.specs.Codes.{code_cmp}
-use Rattle.cut_measure.specs.Measures.{is_size}
 use Rattle.cut_measure.specs.Names.{Name, name_cmp}
 use Rattle.cut_measure.specs.declared.ranges.TheConstants.{MOST_HEIGHT}
-use Rattle.cut_measure.specs.declared.sizes.Kind.TheVariants.{Sheet}
 use Rattle.shop_records.specs.Columns.{is_there, is_whole}
 use Rattle.shop_records.specs.Content.{Content, fresh, no_totals, cells_in, counts_for, is_listed, part_at, parts_of, totals_of}
 use Rattle.shop_records.specs.declared.records.Column.TheVariants.{Stock, Rack}
 use Rattle.shop_records.specs.declared.records.Part.{Part}
 use Rattle.shop_records.specs.declared.records.Totals.{Totals}
-use Rattle.shop_records.proofs.Sums.{first, second, less, none_below}
+use Rattle.shop_records.proofs.Sums.{first, second, less}
 use Rattle.shop_rows.specs.Keys.{part_key, names_total, names_exact}
-use Rattle.shop_rows.specs.Rows.{entries_of, rise}
 use Rattle.shop_rows.proofs.Listed.{tie}
 use Rattle.shop_rows.proofs.Places.{tested}
 use Rattle.sqlite.specs.State.{State, HasCleanDisk}
@@ -32,7 +27,7 @@ use Rattle.shop_statements.specs.Shown.{Books, Holds}
 use Rattle.shop_statements.proofs.Finding.{code_total}
 use Rattle.shop_store.proofs.Weights.{all_or_fewer, weights, IsAt}
 use Rattle.shop_statements.specs.Values.{IsPartValue}
-use Rattle.shop_store.specs.NamedParts.{AreStanding, HaveCells, Stands}
+use Rattle.shop_store.specs.NamedParts.{AreStanding, HaveCells}
 
 module _ (code : List ℕ) where
   abbrev cells : Part → ℕ

@@ -1,21 +1,18 @@
 //! The standing parts of a material, found under their names. The names are a hint alone: what they find is all exactly
 //! where it has the cells of the material's totals, and else all rows are gone through.
 
-ghost use Rattle.std.specs.Prelude.{◌≡◌, ◌++◌, [], ◌∷◌, false, filter, map, take, Some, None, Ok, IfOk, IfSome, IsTrue, OnOk};
-ghost use Rattle.cut_measure.specs.Names.{name_cmp};
+ghost use Rattle.std.specs.Prelude.{◌≡◌, false, map, take, Some, None, Ok, IfOk, IfSome, IsTrue};
 ghost use Rattle.sqlite.specs.Held.{state};
 ghost use Rattle.sqlite.specs.State.{HasCleanDisk};
 ghost use Rattle.shop_records.specs.Content.{parts_of};
 ghost use Rattle.shop_records.specs.Lists.{is_behind, parts_behind};
 ghost use Rattle.shop_records.specs.Visits.{IsVisit};
-ghost use Rattle.shop_records.specs.declared.records.Part.{Part as PartOf};
 ghost use Rattle.shop_tables.specs.Changing.{HasSums};
 ghost use Rattle.shop_statements.specs.Layout.{IsShop};
 ghost use Rattle.shop_statements.specs.Shown.{Leaves, OnBooks};
 ghost use Rattle.shop_tables.specs.Lending.{HandsOut};
 ghost use Rattle.shop_tables.specs.ListedRows.{listed_part};
 ghost use Rattle.shop_tables.specs.RowsShown.{ArePartRows, SeesCommit};
-ghost use Rattle.shop_rows.specs.Keys.{part_key};
 ghost use Rattle.shop_rows.specs.Rows.{rise};
 ghost use Rattle.shop_statements.specs.declared.faults.TableFault.{TableFault as Fault};
 ghost use Rattle.shop_store.specs.NamedParts.{AreStanding, HaveCells, IsTaken};

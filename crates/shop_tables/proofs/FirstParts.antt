@@ -1,5 +1,5 @@
 -- What the queries that list the first parts of a material give of the books.
-use Rattle.std.proofs.Common.{◌≡◌, ℕ, pos, Bool, true, false, cond, ◌&&◌, ◌||◌, nat_le, nat_lt, List, [], ◌∷◌, map, filter, take, Option, Some, None, refl, sym, ap, ◌∙◌, arith}
+use Rattle.std.proofs.Common.{◌≡◌, ℕ, pos, Bool, true, false, cond, ◌&&◌, ◌||◌, nat_le, nat_lt, List, [], ◌∷◌, map, filter, take, Some, None, refl, sym, ap, ◌∙◌, arith}
 use Rattle.std.specs.Ordering.{is_ge, is_gt, is_lt, nat_cmp, ordering_then}
 use Rattle.std.specs.FinMap.{values}
 use Rattle.std.proofs.lemmas.Bool.Decides.{nat_tests}
@@ -11,10 +11,8 @@ use Rattle.sqlite_value.specs.Order.{Row, column}
 use Rattle.sqlite_sql.specs.declared.ops.BinaryOp.TheVariants.{Compare, Or}
 use Rattle.sqlite_sql.specs.declared.ops.CompareOp.TheVariants.{Ge, Gt}
 use Rattle.sqlite_sql.specs.Ops.{binary, is_true}
-use Rattle.sqlite.specs.Query.{as_count, limited}
-use Rattle.sqlite.specs.Program.{IsProgramAnswer}
 use Rattle.sqlite.specs.State.{State, Shown}
-use Rattle.sqlite.specs.Term.{Term, eval, holds}
+use Rattle.sqlite.specs.Term.{Term}
 use Rattle.sqlite.proofs.Callers.{reads_as}
 use Rattle.cut_measure.specs.Names.{Name}
 use Rattle.shop_records.specs.Content.{is_listed, parts_of}

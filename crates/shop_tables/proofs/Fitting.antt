@@ -9,7 +9,7 @@ use Rattle.std.specs.FinMap.{FinMap, IsAntisymmetric, get, insert, get-insert, n
 use Rattle.cut_measure.specs.Codes.{code_cmp}
 use Rattle.cut_measure.specs.Names.{Name, name_cmp}
 use Rattle.shop_records.specs.Content as content
-use Rattle.shop_records.specs.Content.{Content, material_at, part_at, import_at, totals_of, no_totals, changed}
+use Rattle.shop_records.specs.Content.{Content, material_at, part_at, import_at, totals_of, no_totals}
 use Rattle.shop_records.specs.Elements.{IsIn}
 use Rattle.shop_records.specs.Soundness.{Fits, TotalsFit, with_totals, IsNewPart, IsMovedPart, IsNewJob, IsMovedJob, IsNewDemand, IsMovedDemand}
 use Rattle.shop_records.specs.declared.changes.Change.{Change}

@@ -2,7 +2,7 @@
 use Rattle.std.proofs.Common.{◌≡◌, inl, inr, true, false, true≢false, Ok, Err, Result, IsTrue, OnOk, sym, ap, subst, ◌∙◌}
 use Rattle.sqlite_trees.specs.declared.store.Store.{Ghosts}
 use Rattle.sqlite.specs.Effect.{Database}
-use Rattle.sqlite.specs.State.{State, HasCleanDisk, KeepsCommit, IsRolledBack, Survives}
+use Rattle.sqlite.specs.State.{State, HasCleanDisk, IsRolledBack, Survives}
 use Rattle.sqlite.specs.State as sql
 use Rattle.sqlite.specs.Held.{Held, state}
 use Rattle.sqlite.specs.Steps.{FailsToCommit}

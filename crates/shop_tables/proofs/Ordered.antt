@@ -1,5 +1,5 @@
 -- The rows of a table that a query shows in the order of their keys.
-use Rattle.std.proofs.Common.{◌≡◌, ℕ, suc, ◌+◌, ◌<◌, Bool, true, List, [], ◌∷◌, ◌++◌, length, map, drop, filter, get_or, Ok, Err, Result, IfOk, IsTrue, refl, sym, ap, subst, ◌∙◌, arith, IsSorted, Vec}
+use Rattle.std.proofs.Common.{◌≡◌, ℕ, suc, ◌+◌, ◌<◌, Bool, true, List, [], ◌∷◌, length, map, drop, filter, get_or, Result, IfOk, IsTrue, refl, sym, ap, subst, ◌∙◌, arith, IsSorted, Vec}
 use Rattle.std.specs.List.{AllByRecursion, list_all}
 use Rattle.std.specs.declared.alloc.Global.{Global}
 use Rattle.std.specs.declared.cmp.Ordering.{Ordering}

@@ -1,7 +1,5 @@
 use Rattle.std.proofs.Common.{Ok, IfOk, ◌≡◌, refl, ap, subst, ◌∙◌}
-use Rattle.std.specs.Bool.{Decides}
 use Rattle.sqlite.specs.Held.{state}
-use Rattle.shop_store.specs.Checking.{AreSumsIn}
 use Rattle.shop_tables.specs.Lending.{gone_through}
 use Rattle.shop_store.proofs.Counting.{added_all, stopped_at}
 use Rattle.shop_store.proofs.Checked.{leaves_itself}

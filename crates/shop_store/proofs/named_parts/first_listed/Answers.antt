@@ -1,4 +1,4 @@
-use Rattle.std.proofs.Common.{Bool, List, Some, IfOk, filter, map, take, ap, ◌∙◌}
+use Rattle.std.proofs.Common.{List, Some, IfOk, filter, map, take, ap, ◌∙◌}
 use Rattle.shop_records.specs.Lists.{is_behind}
 use Rattle.shop_records.specs.declared.records.Part.{Part}
 use Rattle.shop_statements.proofs.Reading.{leaves_then}

@@ -1,4 +1,4 @@
-use Rattle.std.proofs.Common.{List, None, IfOk, sym, subst, ◌∙◌}
+use Rattle.std.proofs.Common.{List, None, IfOk, subst, ◌∙◌}
 use Rattle.shop_records.specs.declared.records.Part.{Part}
 use Rattle.shop_statements.proofs.Reading.{leaves_then}
 use Rattle.shop_records.specs.Content.{parts_of}

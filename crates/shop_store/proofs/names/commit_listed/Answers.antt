@@ -1,4 +1,4 @@
-use Rattle.std.proofs.Common.{◌++◌, ap, sym, subst, List}
+use Rattle.std.proofs.Common.{◌++◌, sym, subst, List}
 use Rattle.std.specs.Option.{option_to_list}
 use Rattle.cut_measure.specs.Names.{name_cmp}
 use Rattle.shop_records.specs.Content.{changed, part_at}
