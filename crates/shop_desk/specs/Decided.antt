@@ -12,8 +12,11 @@ use Rattle.shop_records.specs.declared.refusals.Refusal.TheVariants.{StoreFault}
 use Rattle.shop_records.specs.Messages.{Texts}
 use Rattle.shop_records.specs.Readings.{Reading}
 use Rattle.shop_records.specs.Content.{Content, material_at, job_at, demand_at, part_of_job, material_of, totals_of, totals_for}
+use Rattle.shop_records.specs.Soundness.{IsSound}
 use Rattle.shop_machine.specs.Recounts.{AreDemandsFound}
 use Rattle.shop_machine.specs.Machine.{Reads, refusal_of, Makes, Refuses}
+use Rattle.shop_book.specs.declared.books.Book.{Ghosts}
+use Rattle.shop_book.specs.Kept.{OnContent}
 use Rattle.shop_desk.specs.Faults.{StoreFailed, CountsDecision}
 
 -- The command is allowed and the change is its own, what its text stands for being read; or it is refused.
@@ -35,6 +38,11 @@ BlamesStore texts m command before result after =
 pub record IsJudged (texts : Texts) (m : Content) (command : Command) (before : ℕ) (result : Result Change Refusal) (after : ℕ) : Type 0 where
   pub decision : IsDecided texts m command result
   pub blame : BlamesStore texts m command before result after
+
+-- what is decided on a command over a book, for each sound content that it held
+abbrev pub Judges : {B : Type 0} → Ghosts B → Texts → Command → B → Result Change Refusal → B → Type 0
+Judges book texts command old result new =
+    OnContent book old new (λ m. IsSound texts m → IsJudged texts m command (book.failed old) result (book.failed new))
 
 -- the failures that a decision goes with: where rows contradict each other the store didn't fail, and none is counted
 abbrev pub CountsOrDisagrees : Result Change Refusal → ℕ → ℕ → Type 0

@@ -11,9 +11,8 @@ ghost use Rattle.shop_book.specs.Kept.{Unchanged, OnContent};
 ghost use Rattle.shop_records.specs.declared.messages.Command.TheVariants.{AddMaterial, Receive, AddOrder, Reserve, Done, Break, Release, Scrap, GiveBack};
 ghost use Rattle.shop_records.specs.declared.messages.Reply.TheVariants.{Refused};
 ghost use Rattle.shop_records.specs.declared.refusals.Refusal.TheVariants.{BadMessage};
-ghost use Rattle.shop_records.specs.Soundness.{IsSound};
 ghost use Rattle.shop_forms.specs.Forms.{json_texts};
-ghost use Rattle.shop_desk.specs.Decided.{IsJudged, CountsOrDisagrees, AreJobRows};
+ghost use Rattle.shop_desk.specs.Decided.{Judges, CountsOrDisagrees, AreJobRows};
 
 use crate::found::{found_leaves, found_lines, material_for, part_for, plan_for, totals_for};
 use crate::importing::import_order;
@@ -37,10 +36,8 @@ fn add_material<B: Book>(
     min_long: u32,
     min_short: u32,
 ) -> Result<Change, Refusal>
-    ensures decision { OnContent B.Book book.old book.new
-        (λ m. IsSound json_texts m
-        → IsJudged json_texts m (AddMaterial material kind kerf min_long min_short)
-        (B.failed book.old) result (B.failed book.new)) }
+    ensures decision { Judges B.Book json_texts
+        (AddMaterial material kind kerf min_long min_short) book.old result book.new }
     ensures keeps { Unchanged B.Book (CountsOrDisagrees result) book.old book.new }
     ensures told { IfOk result (λ change. IsTrue (is_accepted change.reply)) }
 {
@@ -58,10 +55,8 @@ fn receive<B: Book>(
     h: u32,
     count: u32,
 ) -> Result<Change, Refusal>
-    ensures decision { OnContent B.Book book.old book.new
-        (λ m. IsSound json_texts m
-        → IsJudged json_texts m (Receive material batch w h count) (B.failed book.old) result
-        (B.failed book.new)) }
+    ensures decision { Judges B.Book json_texts
+        (Receive material batch w h count) book.old result book.new }
     ensures keeps { Unchanged B.Book (CountsOrDisagrees result) book.old book.new }
     ensures told { IfOk result (λ change. IsTrue (is_accepted change.reply)) }
 {
@@ -78,10 +73,8 @@ fn add_order<B: Book>(
     order: Code,
     lines: &LineList,
 ) -> Result<Change, Refusal>
-    ensures decision { OnContent B.Book book.old book.new
-        (λ m. IsSound json_texts m
-        → IsJudged json_texts m (AddOrder order lines.now) (B.failed book.old) result
-        (B.failed book.new)) }
+    ensures decision { Judges B.Book json_texts
+        (AddOrder order lines.now) book.old result book.new }
     ensures keeps { Unchanged B.Book (CountsOrDisagrees result) book.old book.new }
     ensures told { IfOk result (λ change. IsTrue (is_accepted change.reply)) }
 {
@@ -136,10 +129,7 @@ fn reserve<B: Book>(
     part: PartName,
     tree: &Text,
 ) -> Result<Change, Refusal>
-    ensures decision { OnContent B.Book book.old book.new
-        (λ m. IsSound json_texts m
-        → IsJudged json_texts m (Reserve part tree.now) (B.failed book.old) result
-        (B.failed book.new)) }
+    ensures decision { Judges B.Book json_texts (Reserve part tree.now) book.old result book.new }
     ensures keeps { Unchanged B.Book (CountsOrDisagrees result) book.old book.new }
     ensures told { IfOk result (λ change. IsTrue (is_accepted change.reply)) }
 {
@@ -187,9 +177,7 @@ fn job_rows<B: Book>(alloc: Global, book: &mut B, number: u32) -> Result<JobRows
 
 // Finishes a job.
 fn done<B: Book>(alloc: Global, book: &mut B, number: u32) -> Result<Change, Refusal>
-    ensures decision { OnContent B.Book book.old book.new
-        (λ m. IsSound json_texts m
-        → IsJudged json_texts m (Done number) (B.failed book.old) result (B.failed book.new)) }
+    ensures decision { Judges B.Book json_texts (Done number) book.old result book.new }
     ensures keeps { Unchanged B.Book (CountsOrDisagrees result) book.old book.new }
     ensures told { IfOk result (λ change. IsTrue (is_accepted change.reply)) }
 {
@@ -210,10 +198,7 @@ fn break_off<B: Book>(
     number: u32,
     halt: &Halt,
 ) -> Result<Change, Refusal>
-    ensures decision { OnContent B.Book book.old book.new
-        (λ m. IsSound json_texts m
-        → IsJudged json_texts m (Break number halt.now) (B.failed book.old) result
-        (B.failed book.new)) }
+    ensures decision { Judges B.Book json_texts (Break number halt.now) book.old result book.new }
     ensures keeps { Unchanged B.Book (CountsOrDisagrees result) book.old book.new }
     ensures told { IfOk result (λ change. IsTrue (is_accepted change.reply)) }
 {
@@ -229,10 +214,7 @@ fn break_off<B: Book>(
 
 // Releases a job.
 fn release<B: Book>(alloc: Global, book: &mut B, number: u32) -> Result<Change, Refusal>
-    ensures decision { OnContent B.Book book.old book.new
-        (λ m. IsSound json_texts m
-        → IsJudged json_texts m (Release number) (B.failed book.old) result
-        (B.failed book.new)) }
+    ensures decision { Judges B.Book json_texts (Release number) book.old result book.new }
     ensures keeps { Unchanged B.Book (CountsOrDisagrees result) book.old book.new }
     ensures told { IfOk result (λ change. IsTrue (is_accepted change.reply)) }
 {
@@ -248,9 +230,7 @@ fn release<B: Book>(alloc: Global, book: &mut B, number: u32) -> Result<Change, 
 
 // Makes a part scrap.
 fn scrap<B: Book>(alloc: Global, book: &mut B, part: PartName) -> Result<Change, Refusal>
-    ensures decision { OnContent B.Book book.old book.new
-        (λ m. IsSound json_texts m
-        → IsJudged json_texts m (Scrap part) (B.failed book.old) result (B.failed book.new)) }
+    ensures decision { Judges B.Book json_texts (Scrap part) book.old result book.new }
     ensures keeps { Unchanged B.Book (CountsOrDisagrees result) book.old book.new }
     ensures told { IfOk result (λ change. IsTrue (is_accepted change.reply)) }
 {
@@ -261,10 +241,7 @@ fn scrap<B: Book>(alloc: Global, book: &mut B, part: PartName) -> Result<Change,
 
 // Returns a unit to its supplier.
 fn give_back<B: Book>(alloc: Global, book: &mut B, part: PartName) -> Result<Change, Refusal>
-    ensures decision { OnContent B.Book book.old book.new
-        (λ m. IsSound json_texts m
-        → IsJudged json_texts m (GiveBack part) (B.failed book.old) result
-        (B.failed book.new)) }
+    ensures decision { Judges B.Book json_texts (GiveBack part) book.old result book.new }
     ensures keeps { Unchanged B.Book (CountsOrDisagrees result) book.old book.new }
     ensures told { IfOk result (λ change. IsTrue (is_accepted change.reply)) }
 {
@@ -275,9 +252,7 @@ fn give_back<B: Book>(alloc: Global, book: &mut B, part: PartName) -> Result<Cha
 
 /// What is decided on a command, from the rows that it needs.
 pub fn decide<B: Book>(alloc: Global, book: &mut B, command: &Command) -> Result<Change, Refusal>
-    ensures decision { OnContent B.Book book.old book.new
-        (λ m. IsSound json_texts m
-        → IsJudged json_texts m command.now (B.failed book.old) result (B.failed book.new)) }
+    ensures decision { Judges B.Book json_texts command.now book.old result book.new }
     ensures keeps { Unchanged B.Book (CountsOrDisagrees result) book.old book.new }
     ensures told { IfOk result (λ change. IsTrue (is_accepted change.reply)) }
 {

@@ -18,7 +18,7 @@ ghost use Rattle.shop_records.specs.Soundness.{IsSound};
 ghost use Rattle.shop_forms.specs.Forms.{json_texts};
 ghost use Rattle.shop_book.specs.Failures.{CountsFailure};
 ghost use Rattle.shop_book.specs.Kept.{Unchanged, OnContent};
-ghost use Rattle.shop_desk.specs.Decided.{IsJudged, CountsOrDisagrees, AreReceiptRows};
+ghost use Rattle.shop_desk.specs.Decided.{IsJudged, Judges, CountsOrDisagrees, AreReceiptRows};
 
 use crate::found::found_lines;
 use cut_measure::Code;
@@ -219,10 +219,8 @@ pub fn import_order<B: Book>(
     form: &Form,
     text: &Text,
 ) -> Result<Change, Refusal>
-    ensures decision { OnContent B.Book book.old book.new
-        (λ m. IsSound json_texts m
-        → IsJudged json_texts m (Import order form.now text.now) (B.failed book.old) result
-        (B.failed book.new)) }
+    ensures decision { Judges B.Book json_texts
+        (Import order form.now text.now) book.old result book.new }
     ensures keeps { Unchanged B.Book (CountsOrDisagrees result) book.old book.new }
     ensures told { IfOk result (λ change. IsTrue (is_accepted change.reply)) }
 {

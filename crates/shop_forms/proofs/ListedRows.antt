@@ -1,47 +1,107 @@
--- Rows of lists as values and as text.
-use Rattle.std.proofs.Common.{◌≡◌, ℕ, suc, ◌≤◌, List, [], ◌∷◌, map, Some, refl, ap, ◌∙◌, arith}
-use Rattle.std.specs.Prelude.{All, max, option_map, option_and_then}
-use Rattle.std.specs.List.{AllByRecursion}
-use Rattle.std.proofs.lemmas.List.Elements.{recursion_from_All}
+-- Rows of lists as values and as text: numbers, the lines of an order, parts on the rack, and what lists tell of.
+use Rattle.std.proofs.Common.{◌≡◌, ℕ, suc, ◌<◌, ◌≤◌, ◌^◌, List, map, Some, refl, arith, codes}
+use Rattle.std.specs.Prelude.{All, max}
 use Rattle.std.proofs.Math.Nat.{max-le}
 use Rattle.json.proofs.Printed.Decimals.{IsNumber-decimal}
-use Rattle.json.specs.Tree.{ItemsHaveNumbers, HasNumbers, depth, items_depth}
-use Rattle.serde_json.specs.Data.{Data, item}
+use Rattle.json.specs.Tree.{ItemsHaveNumbers, HasNumbers, items_depth}
+use Rattle.serde_json.specs.Data.{Data, boolean, number, string, unsigned}
+use Rattle.serde_json.specs.Find.{get}
 use Rattle.serde_json.specs.Read.{of_json, of_items}
 use Rattle.serde_json.specs.View.{items_of}
 use Rattle.serde_json.specs.Written.{outline, items_outline}
 use Rattle.serde_json.proofs.Numbers.{number_of-decimal}
+use Rattle.shop_files.specs.declared.orders.OrderLine.{OrderLine}
 use Rattle.shop_records.specs.declared.records.Demand.{Demand}
 use Rattle.shop_records.specs.declared.records.JobRow.{JobRow}
 use Rattle.shop_records.specs.declared.records.Material.{Material}
 use Rattle.shop_records.specs.declared.records.Part.{Part}
+use Rattle.shop_records.specs.declared.records.RackRow.{RackRow}
 use Rattle.shop_records.specs.Columns.{state_of}
-use Rattle.shop_forms.specs.Told.{HasWideLimits, HasWidePart, HasWideDemand, HasWideJob}
-use Rattle.shop_forms.specs.Forms.{material_data, part_data, open_demand_data, job_row_data}
+use Rattle.shop_records.specs.Messages.{IsLine, IsNumber}
+use Rattle.shop_forms.specs.Fields.{number_of, numbers_at}
+use Rattle.shop_forms.specs.Forms.{line_fields, line_of, lines_at, line_data, lines_data, list_data, material_data, part_data, open_demand_data, job_row_data, rack_row_data}
+use Rattle.shop_forms.specs.Told.{HasWideSides, HasWideLimits, HasWidePart, HasWideDemand, HasWideJob}
+use Rattle.shop_forms.proofs.FieldFacts.{small_is, number_there, code_there, flag_there}
+use Rattle.shop_forms.proofs.Lists.{rows_numbers, rows_shallow, rows_json, rows_there}
 
--- ---- over any rows
+wide : (n : ℕ) → n < 2 ^ 32 → n < 2 ^ 64
+wide n h = omega arith
 
-module _ {T : Type 0} (said : T → Data) (IsWide : T → Type 0) where
-  module _ (one : (x : T) → IsWide x → HasNumbers (outline (said x))) where
-    numbers_by : (xs : List T) → AllByRecursion IsWide xs → ItemsHaveNumbers (items_outline (items_of (map said xs)))
-    numbers_by [] h = tt
-    numbers_by (x ∷ xs) h = (one x h.0, numbers_by xs h.1)
+-- ---- numbers
 
-    rows_numbers : (xs : List T) → All IsWide xs → ItemsHaveNumbers (items_outline (items_of (map said xs)))
-    rows_numbers xs h = numbers_by xs (recursion_from_All IsWide xs h)
+abbrev pub cut_data : ℕ → Data
+cut_data cut = number (unsigned cut)
 
-  rows_shallow : ((x : T) → depth (outline (said x)) ≤ 1) → (xs : List T) → items_depth (items_outline (items_of (map said xs))) ≤ 1
-  rows_shallow one [] = omega arith
-  rows_shallow one (x ∷ xs) = max-le (one x) (rows_shallow one xs)
+pub cuts_there : (key : List ℕ) (d : Data) (cuts : List ℕ) → get key d ≡ Some (list_data cuts) → All IsNumber cuts → numbers_at key d ≡ Some cuts
+cuts_there key d cuts is h = rows_there cut_data IsNumber number_of small_is key d cuts is h
 
-  module _ (one : (x : T) → IsWide x → of_json (outline (said x)) ≡ Some (said x)) where
-    json_by : (xs : List T) → AllByRecursion IsWide xs → of_items (items_outline (items_of (map said xs))) ≡ Some (items_of (map said xs))
-    json_by [] h = refl
-    json_by (x ∷ xs) h =
-        ap (λ o. option_and_then (λ d. option_map (item d) (of_items (items_outline (items_of (map said xs))))) o) (one x h.0) ∙ ap (option_map (item (said x))) (json_by xs h.1)
+pub cuts_numbers : (cuts : List ℕ) → All IsNumber cuts → ItemsHaveNumbers (items_outline (items_of (map cut_data cuts)))
+cuts_numbers cuts h = rows_numbers cut_data IsNumber (λ c small. IsNumber-decimal c (wide c small)) cuts h
 
-    rows_json : (xs : List T) → All IsWide xs → of_items (items_outline (items_of (map said xs))) ≡ Some (items_of (map said xs))
-    rows_json xs h = json_by xs (recursion_from_All IsWide xs h)
+pub cuts_shallow : (cuts : List ℕ) → items_depth (items_outline (items_of (map cut_data cuts))) ≤ 1
+cuts_shallow cuts = rows_shallow cut_data IsNumber (λ c. omega arith) cuts
+
+pub cuts_json : (cuts : List ℕ) → All IsNumber cuts → of_items (items_outline (items_of (map cut_data cuts))) ≡ Some (items_of (map cut_data cuts))
+cuts_json cuts h = rows_json cut_data IsNumber (λ c small. rw (number_of-decimal c (wide c small)) refl) cuts h
+
+-- ---- the lines of an order
+
+read_line : (d : Data) (l : OrderLine)
+    → get (codes "line") d ≡ Some (number (unsigned l.line)) → get (codes "material") d ≡ Some (string l.material) → get (codes "w") d ≡ Some (number (unsigned l.w))
+    → get (codes "h") d ≡ Some (number (unsigned l.h)) → get (codes "turn") d ≡ Some (boolean l.turn) → get (codes "count") d ≡ Some (number (unsigned l.count))
+    → get (codes "worth") d ≡ Some (number (unsigned l.worth)) → IsLine l → line_fields d ≡ Some l
+read_line d l a b c e f g k h =
+    rw (
+      number_there (codes "line") d l.line a h.line,
+      code_there (codes "material") d l.material b h.material,
+      number_there (codes "w") d l.w c h.w,
+      number_there (codes "h") d l.h e h.h,
+      flag_there (codes "turn") d l.turn f,
+      number_there (codes "count") d l.count g h.count,
+      number_there (codes "worth") d l.worth k h.worth,
+    ) refl
+
+line_back : (l : OrderLine) → IsLine l → line_of (line_data l) ≡ Some l
+line_back l h = read_line (line_data l) l refl refl refl refl refl refl refl h
+
+pub lines_there : (key : List ℕ) (d : Data) (ls : List OrderLine) → get key d ≡ Some (lines_data ls) → All IsLine ls → lines_at key d ≡ Some ls
+lines_there key d ls is h = rows_there line_data IsLine line_of line_back key d ls is h
+
+line_numbers : (l : OrderLine) → IsLine l → HasNumbers (outline (line_data l))
+line_numbers l h = (
+  IsNumber-decimal l.count (wide l.count h.count),
+  (IsNumber-decimal l.h (wide l.h h.h), (IsNumber-decimal l.line (wide l.line h.line), (tt, (tt, (IsNumber-decimal l.w (wide l.w h.w), (IsNumber-decimal l.worth (wide l.worth h.worth), tt)))))),
+)
+
+pub lines_numbers : (ls : List OrderLine) → All IsLine ls → ItemsHaveNumbers (items_outline (items_of (map line_data ls)))
+lines_numbers ls h = rows_numbers line_data IsLine line_numbers ls h
+
+pub lines_shallow : (ls : List OrderLine) → items_depth (items_outline (items_of (map line_data ls))) ≤ 1
+lines_shallow ls = rows_shallow line_data IsLine (λ l. omega arith) ls
+
+line_json : (l : OrderLine) → IsLine l → of_json (outline (line_data l)) ≡ Some (line_data l)
+line_json l h =
+    rw (number_of-decimal l.count (wide l.count h.count), number_of-decimal l.h (wide l.h h.h), number_of-decimal l.line (wide l.line h.line), number_of-decimal l.w (wide l.w h.w), number_of-decimal l.worth (wide l.worth h.worth)) refl
+
+pub lines_json : (ls : List OrderLine) → All IsLine ls → of_items (items_outline (items_of (map line_data ls))) ≡ Some (items_of (map line_data ls))
+lines_json ls h = rows_json line_data IsLine line_json ls h
+
+-- ---- parts on the rack
+
+rack_row_numbers : (row : RackRow) → HasWideSides row → HasNumbers (outline (rack_row_data row))
+rack_row_numbers row h = (IsNumber-decimal row.h h.0, (tt, (tt, (IsNumber-decimal row.w h.1, tt))))
+
+rack_row_json : (row : RackRow) → HasWideSides row → of_json (outline (rack_row_data row)) ≡ Some (rack_row_data row)
+rack_row_json row h = rw (number_of-decimal row.h h.0, number_of-decimal row.w h.1) refl
+
+pub rack_numbers : (parts : List RackRow) → All HasWideSides parts → ItemsHaveNumbers (items_outline (items_of (map rack_row_data parts)))
+rack_numbers parts h = rows_numbers rack_row_data HasWideSides rack_row_numbers parts h
+
+pub rack_shallow : (parts : List RackRow) → items_depth (items_outline (items_of (map rack_row_data parts))) ≤ 1
+rack_shallow parts = rows_shallow rack_row_data HasWideSides (λ row. omega arith) parts
+
+pub rack_json : (parts : List RackRow) → All HasWideSides parts → of_items (items_outline (items_of (map rack_row_data parts))) ≡ Some (items_of (map rack_row_data parts))
+rack_json parts h = rows_json rack_row_data HasWideSides rack_row_json parts h
 
 -- ---- materials
 

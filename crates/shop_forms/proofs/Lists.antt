@@ -1,25 +1,19 @@
--- Lists of values: what each element stands for, and the lines of an order.
-use Rattle.std.proofs.Common.{◌≡◌, ℕ, suc, ◌+◌, ◌<◌, ◌≤◌, ◌^◌, List, [], ◌∷◌, ◌++◌, map, length, take, drop, get_or, Bool, true, false, Option, Some, None, refl, sym, ap, subst, ◌∙◌, arith, codes, Bor, Vec, Global}
+-- Lists of values: what each element stands for, and how the rows of a list are written and read back.
+use Rattle.std.proofs.Common.{◌≡◌, ℕ, suc, ◌+◌, ◌<◌, ◌≤◌, List, [], ◌∷◌, ◌++◌, map, length, take, drop, get_or, Bool, true, false, Option, Some, None, refl, sym, ap, subst, ◌∙◌, arith, Bor, Vec, Global}
 use Rattle.std.specs.Prelude.{All, option_map, option_and_then, if◌then◌else◌}
 use Rattle.std.specs.List.{AllByRecursion}
 use Rattle.std.proofs.lemmas.List.{append_assoc, append-nil, take_all, drop_all}
 use Rattle.std.proofs.lemmas.List.Elements.{recursion_from_All, All-from_recursion, All-append}
 use Rattle.std.proofs.Math.Seq.{take-suc, drop-cons}
 use Rattle.std.proofs.Math.Nat.{max-le}
-use Rattle.json.proofs.Printed.Decimals.{IsNumber-decimal}
-use Rattle.json.specs.Tree.{ItemsHaveNumbers, HasNumbers, items_depth}
-use Rattle.serde_json.specs.Data.{Data, Items, item, boolean, string, number, unsigned}
+use Rattle.json.specs.Tree.{ItemsHaveNumbers, HasNumbers, depth, items_depth}
+use Rattle.serde_json.specs.Data.{Data, Items, item, array}
 use Rattle.serde_json.specs.Find.{get, as_array}
 use Rattle.serde_json.specs.Read.{of_json, of_items}
 use Rattle.serde_json.specs.View.{view, items_of, items_view}
 use Rattle.serde_json.specs.Written.{outline, items_outline}
 use Rattle.serde_json.specs.declared.value.Value.{Value}
-use Rattle.serde_json.proofs.Numbers.{number_of-decimal}
-use Rattle.shop_files.specs.declared.orders.OrderLine.{OrderLine}
-use Rattle.shop_records.specs.Messages.{IsLine}
-use Rattle.shop_forms.specs.Fields.{elements, all_of}
-use Rattle.shop_forms.specs.Forms.{line_fields, line_of, lines_at, line_data, lines_data}
-use Rattle.shop_forms.proofs.FieldFacts.{number_there, code_there, flag_there}
+use Rattle.shop_forms.specs.Fields.{elements, elements_at, all_of}
 
 -- ---- elements
 
@@ -93,65 +87,36 @@ module _ {T : Type 0} (P : T → Type 0) where
   pub seen_all : (xs : List T) (i : ℕ) → length xs ≤ i → All P (take i xs) → All P xs
   seen_all xs i past h = subst (All P) (take_all i xs past) h
 
--- ---- lines
+-- ---- rows as values and as text
 
-read_line : (d : Data) (l : OrderLine)
-    → get (codes "line") d ≡ Some (number (unsigned l.line)) → get (codes "material") d ≡ Some (string l.material) → get (codes "w") d ≡ Some (number (unsigned l.w))
-    → get (codes "h") d ≡ Some (number (unsigned l.h)) → get (codes "turn") d ≡ Some (boolean l.turn) → get (codes "count") d ≡ Some (number (unsigned l.count))
-    → get (codes "worth") d ≡ Some (number (unsigned l.worth)) → IsLine l → line_fields d ≡ Some l
-read_line d l a b c e f g k h =
-    rw (
-      number_there (codes "line") d l.line a h.line,
-      code_there (codes "material") d l.material b h.material,
-      number_there (codes "w") d l.w c h.w,
-      number_there (codes "h") d l.h e h.h,
-      flag_there (codes "turn") d l.turn f,
-      number_there (codes "count") d l.count g h.count,
-      number_there (codes "worth") d l.worth k h.worth,
-    ) refl
+module _ {T : Type 0} (said : T → Data) (Is : T → Type 0) where
+  module _ (one : (x : T) → Is x → HasNumbers (outline (said x))) where
+    numbers_by : (xs : List T) → AllByRecursion Is xs → ItemsHaveNumbers (items_outline (items_of (map said xs)))
+    numbers_by [] h = tt
+    numbers_by (x ∷ xs) h = (one x h.0, numbers_by xs h.1)
 
-line_back : (l : OrderLine) → IsLine l → line_of (line_data l) ≡ Some l
-line_back l h = read_line (line_data l) l refl refl refl refl refl refl refl h
+    pub rows_numbers : (xs : List T) → All Is xs → ItemsHaveNumbers (items_outline (items_of (map said xs)))
+    rows_numbers xs h = numbers_by xs (recursion_from_All Is xs h)
 
-lines_back_by : (ls : List OrderLine) → AllByRecursion IsLine ls → all_of line_of (elements (items_of (map line_data ls))) ≡ Some ls
-lines_back_by [] h = all_empty line_of
-lines_back_by (l ∷ ls) h =
-    all_some line_of (line_data l) (elements (items_of (map line_data ls))) l (line_back l h.0) ∙ ap (option_map (λ more. l ∷ more)) (lines_back_by ls h.1)
+  pub rows_shallow : ((x : T) → depth (outline (said x)) ≤ 1) → (xs : List T) → items_depth (items_outline (items_of (map said xs))) ≤ 1
+  rows_shallow one [] = omega arith
+  rows_shallow one (x ∷ xs) = max-le (one x) (rows_shallow one xs)
 
-pub lines_there : (key : List ℕ) (d : Data) (ls : List OrderLine) → get key d ≡ Some (lines_data ls) → All IsLine ls → lines_at key d ≡ Some ls
-lines_there key d ls is h =
-    ap (λ o. option_and_then (all_of line_of) (option_map elements (option_and_then as_array o))) is ∙ lines_back_by ls (recursion_from_All IsLine ls h)
+  module _ (one : (x : T) → Is x → of_json (outline (said x)) ≡ Some (said x)) where
+    json_by : (xs : List T) → AllByRecursion Is xs → of_items (items_outline (items_of (map said xs))) ≡ Some (items_of (map said xs))
+    json_by [] h = refl
+    json_by (x ∷ xs) h =
+        ap (λ o. option_and_then (λ d. option_map (item d) (of_items (items_outline (items_of (map said xs))))) o) (one x h.0) ∙ ap (option_map (item (said x))) (json_by xs h.1)
 
--- ---- their text
+    pub rows_json : (xs : List T) → All Is xs → of_items (items_outline (items_of (map said xs))) ≡ Some (items_of (map said xs))
+    rows_json xs h = json_by xs (recursion_from_All Is xs h)
 
-wide : (n : ℕ) → n < 2 ^ 32 → n < 2 ^ 64
-wide n h = omega arith
+  module _ (read : Data → Option T) (one : (x : T) → Is x → read (said x) ≡ Some x) where
+    back_by : (xs : List T) → AllByRecursion Is xs → all_of read (elements (items_of (map said xs))) ≡ Some xs
+    back_by [] h = all_empty read
+    back_by (x ∷ xs) h =
+        all_some read (said x) (elements (items_of (map said xs))) x (one x h.0) ∙ ap (option_map (λ more. x ∷ more)) (back_by xs h.1)
 
-line_numbers : (l : OrderLine) → IsLine l → HasNumbers (outline (line_data l))
-line_numbers l h = (
-  IsNumber-decimal l.count (wide l.count h.count),
-  (IsNumber-decimal l.h (wide l.h h.h), (IsNumber-decimal l.line (wide l.line h.line), (tt, (tt, (IsNumber-decimal l.w (wide l.w h.w), (IsNumber-decimal l.worth (wide l.worth h.worth), tt)))))),
-)
-
-lines_numbers_by : (ls : List OrderLine) → AllByRecursion IsLine ls → ItemsHaveNumbers (items_outline (items_of (map line_data ls)))
-lines_numbers_by [] h = tt
-lines_numbers_by (l ∷ ls) h = (line_numbers l h.0, lines_numbers_by ls h.1)
-
-pub lines_numbers : (ls : List OrderLine) → All IsLine ls → ItemsHaveNumbers (items_outline (items_of (map line_data ls)))
-lines_numbers ls h = lines_numbers_by ls (recursion_from_All IsLine ls h)
-
-pub lines_shallow : (ls : List OrderLine) → items_depth (items_outline (items_of (map line_data ls))) ≤ 1
-lines_shallow [] = omega arith
-lines_shallow (l ∷ ls) = max-le (omega arith) (lines_shallow ls)
-
-line_json : (l : OrderLine) → IsLine l → of_json (outline (line_data l)) ≡ Some (line_data l)
-line_json l h =
-    rw (number_of-decimal l.count (wide l.count h.count), number_of-decimal l.h (wide l.h h.h), number_of-decimal l.line (wide l.line h.line), number_of-decimal l.w (wide l.w h.w), number_of-decimal l.worth (wide l.worth h.worth)) refl
-
-lines_json_by : (ls : List OrderLine) → AllByRecursion IsLine ls → of_items (items_outline (items_of (map line_data ls))) ≡ Some (items_of (map line_data ls))
-lines_json_by [] h = refl
-lines_json_by (l ∷ ls) h =
-    ap (λ o. option_and_then (λ d. option_map (item d) (of_items (items_outline (items_of (map line_data ls))))) o) (line_json l h.0) ∙ ap (option_map (item (line_data l))) (lines_json_by ls h.1)
-
-pub lines_json : (ls : List OrderLine) → All IsLine ls → of_items (items_outline (items_of (map line_data ls))) ≡ Some (items_of (map line_data ls))
-lines_json ls h = lines_json_by ls (recursion_from_All IsLine ls h)
+    pub rows_there : (key : List ℕ) (d : Data) (xs : List T) → get key d ≡ Some (array (items_of (map said xs))) → All Is xs → option_and_then (all_of read) (elements_at key d) ≡ Some xs
+    rows_there key d xs is h =
+        ap (λ o. option_and_then (all_of read) (option_map elements (option_and_then as_array o))) is ∙ back_by xs (recursion_from_All Is xs h)

@@ -139,9 +139,12 @@ reserve_told cuts job =
 abbrev pub done_command : Data → Option Command
 done_command d = option_map Done (number_at (codes "job") d)
 
+-- a command on a job, by its word
+abbrev pub job_members : List ℕ → ℕ → Members
+job_members word job = text_member (codes "do") word (number_member (codes "job") job no_members)
+
 abbrev pub done_members : ℕ → Members
-done_members job =
-    text_member (codes "do") (codes "done") (number_member (codes "job") job no_members)
+done_members job = job_members (codes "done") job
 
 -- what is told of a job that ended: its number, and the cells of kerf, pieces, rack and scrap
 abbrev pub ended_cells : Data → Option (ℕ × ℕ × ℕ × ℕ × ℕ)
@@ -206,8 +209,7 @@ abbrev pub release_command : Data → Option Command
 release_command d = option_map Release (number_at (codes "job") d)
 
 abbrev pub release_members : ℕ → Members
-release_members job =
-    text_member (codes "do") (codes "release") (number_member (codes "job") job no_members)
+release_members job = job_members (codes "release") job
 
 abbrev pub release_made : Data → Option Reply
 release_made d = option_map reply.Release (number_at (codes "job") d)
@@ -216,33 +218,38 @@ abbrev pub release_told : ℕ → Data
 release_told job =
     object (number_member (codes "job") job (text_member (codes "ok") (codes "release") no_members))
 
+-- ---- a part that as a whole gets another state
+
+-- a command on a part, and what is told of it, by their word
+abbrev pub turned_members : List ℕ → Name → Members
+turned_members word part = text_member (codes "do") word (name_member (codes "part") part no_members)
+
+abbrev pub turned_told : List ℕ → Name → Data
+turned_told word part = object (text_member (codes "ok") word (name_member (codes "part") part no_members))
+
 abbrev pub scrap_command : Data → Option Command
 scrap_command d = option_map Scrap (name_at (codes "part") d)
 
 abbrev pub scrap_members : Name → Members
-scrap_members part =
-    text_member (codes "do") (codes "scrap") (name_member (codes "part") part no_members)
+scrap_members part = turned_members (codes "scrap") part
 
 abbrev pub scrap_made : Data → Option Reply
 scrap_made d = option_map reply.Scrap (name_at (codes "part") d)
 
 abbrev pub scrap_told : Name → Data
-scrap_told part =
-    object (text_member (codes "ok") (codes "scrap") (name_member (codes "part") part no_members))
+scrap_told part = turned_told (codes "scrap") part
 
 abbrev pub return_command : Data → Option Command
 return_command d = option_map GiveBack (name_at (codes "part") d)
 
 abbrev pub return_members : Name → Members
-return_members part =
-    text_member (codes "do") (codes "return") (name_member (codes "part") part no_members)
+return_members part = turned_members (codes "return") part
 
 abbrev pub return_made : Data → Option Reply
 return_made d = option_map reply.GiveBack (name_at (codes "part") d)
 
 abbrev pub return_told : Name → Data
-return_told part =
-    object (text_member (codes "ok") (codes "return") (name_member (codes "part") part no_members))
+return_told part = turned_told (codes "return") part
 
 -- ---- importing an order
 
@@ -504,10 +511,14 @@ command_members (Scrap part) = scrap_members part
 command_members (GiveBack part) = return_members part
 command_members (Import order form text) = import_members order form text
 
+-- a command's keys with `terminal` and `number`, as an object
+abbrev pub sent_data : (terminal n : ℕ) → Members → Data
+sent_data terminal n members =
+    object (put (codes "terminal") (number (unsigned terminal)) (put (codes "number") (number (unsigned n)) members))
+
 -- a message as an object, its keys in byte order
 abbrev pub message_data : Message → Data
-message_data message =
-    object (put (codes "terminal") (number (unsigned message.terminal)) (put (codes "number") (number (unsigned message.number)) (command_members message.command)))
+message_data message = sent_data message.terminal message.number (command_members message.command)
 
 -- ---- replies
 

@@ -4,15 +4,16 @@ ghost use Rattle.std.specs.Prelude.{◌≡◌, OnOk};
 ghost use Rattle.serde_json.specs.View.{view};
 ghost use Rattle.shop_records.specs.declared.messages.Command.TheVariants.{AddMaterial};
 ghost use Rattle.shop_records.specs.declared.messages.Reply.TheVariants as reply;
+ghost use Rattle.shop_records.specs.Messages.{IsCommand};
 ghost use Rattle.shop_forms.specs.Fields.{row};
 ghost use Rattle.shop_forms.specs.Forms as form;
-ghost use Rattle.shop_forms.specs.Forms.{message_data, reply_data};
+ghost use Rattle.shop_forms.specs.Forms.{reply_data, sent_data};
 ghost use Rattle.shop_forms.specs.Tokens.{AddsValue};
 
 use crate::fields::{code_at, has_keys, kind_at, number_at};
-use crate::words::kind_word;
+use crate::words::{kind_word, wide};
 use crate::writing::{Member, write_object};
-use cut_measure::Kind;
+use cut_measure::{Code, Kind};
 use json::Writer;
 use serde_json::Value;
 use shop_records::{Command, Reply};
@@ -43,28 +44,26 @@ pub(crate) fn material_command(value: &Value) -> Option<Command>
 pub(crate) fn write_material(
     writer: &mut Writer,
     pair: (u64, u64),
-    material: &str,
+    material: &Code,
     kind: Kind,
-    kerf: u64,
-    min_long: u64,
-    min_short: u64,
+    kerf: u32,
+    min_long: u32,
+    min_short: u32,
 ) -> Result<(), AllocError>
-    ensures { OnOk result (AddsValue writer.old writer.new
-        (message_data (record {
-          terminal = pair.0;
-          number = pair.1;
-          command = AddMaterial material.now kind kerf min_long min_short;
-        }))) }
+    ensures value { OnOk result (AddsValue writer.old writer.new
+        (sent_data pair.0 pair.1
+        (form.material_members material.now kind kerf min_long min_short))) }
+    ensures seen { IsCommand (AddMaterial material.now kind kerf min_long min_short) }
 {
     write_object(
         writer,
         &[
             Member::Text("do", "material"),
-            Member::Number("kerf", kerf),
+            Member::Number("kerf", wide(kerf)),
             Member::Text("kind", kind_word(kind)),
-            Member::Text("material", material),
-            Member::Number("min_long", min_long),
-            Member::Number("min_short", min_short),
+            Member::Text("material", material.as_str()),
+            Member::Number("min_long", wide(min_long)),
+            Member::Number("min_short", wide(min_short)),
             Member::Number("number", pair.1),
             Member::Number("terminal", pair.0),
         ],
@@ -83,14 +82,14 @@ pub(crate) fn material_made(value: &Value) -> Option<Reply>
 }
 
 // Writes the reply to it.
-pub(crate) fn tell_material(writer: &mut Writer, material: &str) -> Result<(), AllocError>
+pub(crate) fn tell_material(writer: &mut Writer, material: &Code) -> Result<(), AllocError>
     ensures { OnOk result (AddsValue writer.old writer.new
         (reply_data (reply.AddMaterial material.now))) }
 {
     write_object(
         writer,
         &[
-            Member::Text("material", material),
+            Member::Text("material", material.as_str()),
             Member::Text("ok", "material"),
         ],
     )

@@ -1,6 +1,6 @@
 //! JSON of the queries for totals, racks, parts, demands, plans and bounds, and of the replies to them.
 
-ghost use Rattle.std.specs.Prelude.{◌≡◌, IfOk, OnOk, All};
+ghost use Rattle.std.specs.Prelude.{◌≡◌, IfOk, OnOk};
 ghost use Rattle.serde_json.specs.View.{view};
 ghost use Rattle.shop_records.specs.declared.messages.Reply.TheVariants as reply;
 ghost use Rattle.shop_forms.specs.Fields.{row};
@@ -9,14 +9,15 @@ ghost use Rattle.shop_forms.specs.Forms.{reply_data};
 ghost use Rattle.shop_forms.specs.Told.{HasWideNumbers, HasWideSides};
 ghost use Rattle.shop_forms.specs.Tokens.{AddsValue};
 
-use crate::fields::{code_at, has_keys, name_at, number_at, numbers_at, word_at};
+use crate::elements::{Listed, rows_at, write_rows};
+use crate::fields::{code_at, has_keys, name_at, number_at, word_at};
 use crate::listing::{job_query, jobs_query, list_query, terminal_query};
 use crate::words::{state_word, wide};
 use crate::writing::{Member, write_object, write_text};
-use cut_measure::PartName;
+use cut_measure::{Code, PartName};
 use json::Writer;
 use serde_json::Value;
-use shop_records::{Query, RackRow, StateWord};
+use shop_records::{Query, RackRow, StateWord, Text};
 use std::alloc::{AllocError, Global};
 
 // The query for a material's cells.
@@ -30,7 +31,7 @@ fn totals_query(value: &Value) -> Option<Query>
 // Writes the reply to it.
 pub(crate) fn tell_totals(
     writer: &mut Writer,
-    material: &str,
+    material: &Code,
     received: u64,
     stock: u64,
     rack: u64,
@@ -51,7 +52,7 @@ pub(crate) fn tell_totals(
         writer,
         &[
             Member::Number("kerf", kerf),
-            Member::Text("material", material),
+            Member::Text("material", material.as_str()),
             Member::Text("ok", "totals"),
             Member::Number("pieces", pieces),
             Member::Number("rack", rack),
@@ -71,40 +72,29 @@ fn rack_query(value: &Value) -> Option<Query>
     Some(Query::Rack { material })
 }
 
-// Writes a part on the rack.
-fn write_rack_row(alloc: Global, writer: &mut Writer, row: &RackRow) -> Result<(), AllocError>
-    ensures value { OnOk result (AddsValue writer.old writer.new (form.rack_row_data row.now)) }
-    ensures wide { OnOk result (HasWideSides row.now) }
-{
-    write_object(
-        writer,
-        &[
-            Member::Number("h", wide(row.h)),
-            Member::Name("part", &row.part, alloc),
-            Member::Text("state", state_word(row.state)),
-            Member::Number("w", wide(row.w)),
-        ],
-    )
-}
+impl Listed for RackRow {
+    ghost said = { form.rack_row_data };
 
-// Writes the parts on the rack.
-fn write_rack(alloc: Global, writer: &mut Writer, parts: &[RackRow]) -> Result<(), AllocError>
-    ensures value { OnOk result (AddsValue writer.old writer.new (form.rack_data parts.now)) }
-    ensures wide { OnOk result (All HasWideSides parts.now) }
-{
-    writer.begin_array()?;
-    for row in parts {
-        write_rack_row(alloc, writer, row)?;
+    ghost is_wide = { HasWideSides };
+
+    fn write(&self, alloc: Global, writer: &mut Writer) -> Result<(), AllocError> {
+        write_object(
+            writer,
+            &[
+                Member::Number("h", wide(self.h)),
+                Member::Name("part", &self.part, alloc),
+                Member::Text("state", state_word(self.state)),
+                Member::Number("w", wide(self.w)),
+            ],
+        )
     }
-    writer.end_array()?;
-    Ok(())
 }
 
 // Writes the reply to it.
 pub(crate) fn tell_rack(
     alloc: Global,
     writer: &mut Writer,
-    material: &str,
+    material: &Code,
     parts: &[RackRow],
 ) -> Result<(), AllocError>
     ensures value { OnOk result
@@ -112,10 +102,10 @@ pub(crate) fn tell_rack(
     ensures wide { OnOk result (HasWideNumbers (reply.Rack material.now parts.now)) }
 {
     writer.begin_object()?;
-    write_text(writer, "material", material)?;
+    write_text(writer, "material", material.as_str())?;
     write_text(writer, "ok", "rack")?;
     writer.key("parts")?;
-    write_rack(alloc, writer, parts)?;
+    write_rows(alloc, writer, parts)?;
     writer.end_object()?;
     Ok(())
 }
@@ -131,18 +121,18 @@ fn trace_query(value: &Value) -> Option<Query>
 // The place of a part: its sides, and where it begins.
 #[derive(Clone, Copy)]
 pub(crate) struct Place {
-    pub(crate) w: u64,
-    pub(crate) h: u64,
-    pub(crate) x: u64,
-    pub(crate) y: u64,
+    pub(crate) w: u32,
+    pub(crate) h: u32,
+    pub(crate) x: u32,
+    pub(crate) y: u32,
 }
 
 // Writes the reply to the query.
 pub(crate) fn tell_trace<'a>(
     alloc: Global,
     writer: &mut Writer,
-    batch: &'a str,
-    of: u64,
+    batch: &'a Code,
+    of: u32,
     part: &'a PartName,
     root: &'a PartName,
     state: StateWord,
@@ -159,16 +149,16 @@ pub(crate) fn tell_trace<'a>(
     write_object(
         writer,
         &[
-            Member::Text("batch", batch),
-            Member::Number("h", place.h),
-            Member::Number("of", of),
+            Member::Text("batch", batch.as_str()),
+            Member::Number("h", wide(place.h)),
+            Member::Number("of", wide(of)),
             Member::Text("ok", "trace"),
             Member::Name("part", part, alloc),
             Member::Name("root", root, alloc),
             Member::Text("state", state_word(state)),
-            Member::Number("w", place.w),
-            Member::Number("x", place.x),
-            Member::Number("y", place.y),
+            Member::Number("w", wide(place.w)),
+            Member::Number("x", wide(place.x)),
+            Member::Number("y", wide(place.y)),
         ],
     )
 }
@@ -184,18 +174,18 @@ fn demand_query(value: &Value) -> Option<Query>
 // What is wanted, and of that reserved and made.
 #[derive(Clone, Copy)]
 pub(crate) struct Counts {
-    pub(crate) wanted: u64,
-    pub(crate) reserved: u64,
-    pub(crate) made: u64,
+    pub(crate) wanted: u32,
+    pub(crate) reserved: u32,
+    pub(crate) made: u32,
 }
 
 // Writes the reply to it.
 pub(crate) fn tell_demand<'a>(
     writer: &mut Writer,
-    demand: u64,
-    line: u64,
-    material: &'a str,
-    order: &'a str,
+    demand: u32,
+    line: u32,
+    material: &'a Code,
+    order: &'a Code,
     counts: Counts,
 ) -> Result<(), AllocError>
     ensures value { OnOk result
@@ -209,14 +199,14 @@ pub(crate) fn tell_demand<'a>(
     write_object(
         writer,
         &[
-            Member::Number("demand", demand),
-            Member::Number("line", line),
-            Member::Number("made", counts.made),
-            Member::Text("material", material),
+            Member::Number("demand", wide(demand)),
+            Member::Number("line", wide(line)),
+            Member::Number("made", wide(counts.made)),
+            Member::Text("material", material.as_str()),
             Member::Text("ok", "demand"),
-            Member::Text("order", order),
-            Member::Number("reserved", counts.reserved),
-            Member::Number("wanted", counts.wanted),
+            Member::Text("order", order.as_str()),
+            Member::Number("reserved", wide(counts.reserved)),
+            Member::Number("wanted", wide(counts.wanted)),
         ],
     )
 }
@@ -230,7 +220,7 @@ fn plan_query(alloc: Global, value: &Value) -> Result<Option<Query>, AllocError>
     }
     let (Some(part), Some(demands), Some(step)) = (
         name_at(value, "part"),
-        numbers_at(alloc, value, "demands")?,
+        rows_at(alloc, value, "demands")?,
         number_at(value, "step"),
     ) else {
         return Ok(None);
@@ -246,8 +236,8 @@ fn plan_query(alloc: Global, value: &Value) -> Result<Option<Query>, AllocError>
 pub(crate) fn tell_plan(
     writer: &mut Writer,
     ceiling: u64,
-    dropped: u64,
-    tree: &str,
+    dropped: u32,
+    tree: &Text,
     worth: u64,
 ) -> Result<(), AllocError>
     ensures value { OnOk result
@@ -258,9 +248,9 @@ pub(crate) fn tell_plan(
         writer,
         &[
             Member::Number("ceiling", ceiling),
-            Member::Number("dropped", dropped),
+            Member::Number("dropped", wide(dropped)),
             Member::Text("ok", "plan"),
-            Member::Text("tree", tree),
+            Member::Text("tree", tree.as_str()),
             Member::Number("worth", worth),
         ],
     )
@@ -280,10 +270,8 @@ fn bound_query(alloc: Global, value: &Value) -> Result<Option<Query>, AllocError
     ) else {
         return Ok(None);
     };
-    let (Some(demands), Some(step)) = (
-        numbers_at(alloc, value, "demands")?,
-        number_at(value, "step"),
-    ) else {
+    let (Some(demands), Some(step)) = (rows_at(alloc, value, "demands")?, number_at(value, "step"))
+    else {
         return Ok(None);
     };
     Ok(Some(Query::Bound {

@@ -2,16 +2,16 @@
 
 ghost use Rattle.std.specs.Prelude.{◌≡◌, OnOk};
 ghost use Rattle.serde_json.specs.View.{view};
-ghost use Rattle.shop_records.specs.declared.messages.Command.TheVariants.{Done, Release};
 ghost use Rattle.shop_records.specs.declared.messages.Reply.TheVariants as reply;
-ghost use Rattle.shop_records.specs.Messages.{IsWide};
+ghost use Rattle.shop_records.specs.Messages.{IsNumber, IsWide};
 ghost use Rattle.shop_forms.specs.Fields.{row};
 ghost use Rattle.shop_forms.specs.Forms as form;
-ghost use Rattle.shop_forms.specs.Forms.{message_data, reply_data};
+ghost use Rattle.shop_forms.specs.Forms.{reply_data};
 ghost use Rattle.shop_forms.specs.Told.{HasWideNumbers};
 ghost use Rattle.shop_forms.specs.Tokens.{AddsValue};
 
 use crate::fields::{has_keys, number_at, wide_at};
+use crate::words::wide;
 use crate::writing::{Member, write_object};
 use json::Writer;
 use serde_json::Value;
@@ -29,16 +29,33 @@ pub(crate) fn done_command(value: &Value) -> Option<Command>
     Some(Command::Done { job })
 }
 
-// Writes a message that ends a job.
-pub(crate) fn write_done(writer: &mut Writer, pair: (u64, u64), job: u64) -> Result<(), AllocError>
-    ensures { OnOk result (AddsValue writer.old writer.new
-        (message_data (record { terminal = pair.0; number = pair.1; command = Done job }))) }
+// The command to release a job's part.
+pub(crate) fn release_command(value: &Value) -> Option<Command>
+    ensures { result ≡ row 4 form.release_command (view value.now) }
+{
+    if !has_keys(value, 4) {
+        return None;
+    }
+    let job = number_at(value, "job")?;
+    Some(Command::Release { job })
+}
+
+// Writes a message that ends a job, by its word.
+pub(crate) fn write_end(
+    writer: &mut Writer,
+    pair: (u64, u64),
+    word: &str,
+    job: u32,
+) -> Result<(), AllocError>
+    ensures value { OnOk result (AddsValue writer.old writer.new
+        (form.sent_data pair.0 pair.1 (form.job_members word.now job))) }
+    ensures seen { IsNumber job }
 {
     write_object(
         writer,
         &[
-            Member::Text("do", "done"),
-            Member::Number("job", job),
+            Member::Text("do", word),
+            Member::Number("job", wide(job)),
             Member::Number("number", pair.1),
             Member::Number("terminal", pair.0),
         ],
@@ -78,7 +95,7 @@ pub(crate) fn done_made(value: &Value) -> Option<Reply>
 pub(crate) fn tell_ended(
     writer: &mut Writer,
     word: &str,
-    job: u64,
+    job: u32,
     kerf: u64,
     pieces: u64,
     rack: u64,
@@ -92,43 +109,12 @@ pub(crate) fn tell_ended(
     write_object(
         writer,
         &[
-            Member::Number("job", job),
+            Member::Number("job", wide(job)),
             Member::Number("kerf", kerf),
             Member::Text("ok", word),
             Member::Number("pieces", pieces),
             Member::Number("rack", rack),
             Member::Number("scrap", scrap),
-        ],
-    )
-}
-
-// The command to release a job's part.
-pub(crate) fn release_command(value: &Value) -> Option<Command>
-    ensures { result ≡ row 4 form.release_command (view value.now) }
-{
-    if !has_keys(value, 4) {
-        return None;
-    }
-    let job = number_at(value, "job")?;
-    Some(Command::Release { job })
-}
-
-// Writes a message that releases a job's part.
-pub(crate) fn write_release(
-    writer: &mut Writer,
-    pair: (u64, u64),
-    job: u64,
-) -> Result<(), AllocError>
-    ensures { OnOk result (AddsValue writer.old writer.new
-        (message_data (record { terminal = pair.0; number = pair.1; command = Release job }))) }
-{
-    write_object(
-        writer,
-        &[
-            Member::Text("do", "release"),
-            Member::Number("job", job),
-            Member::Number("number", pair.1),
-            Member::Number("terminal", pair.0),
         ],
     )
 }
@@ -145,12 +131,15 @@ pub(crate) fn release_made(value: &Value) -> Option<Reply>
 }
 
 // Writes the reply to it.
-pub(crate) fn tell_release(writer: &mut Writer, job: u64) -> Result<(), AllocError>
+pub(crate) fn tell_release(writer: &mut Writer, job: u32) -> Result<(), AllocError>
     ensures value { OnOk result (AddsValue writer.old writer.new (reply_data (reply.Release job))) }
     ensures wide { OnOk result (HasWideNumbers (reply.Release job)) }
 {
     write_object(
         writer,
-        &[Member::Number("job", job), Member::Text("ok", "release")],
+        &[
+            Member::Number("job", wide(job)),
+            Member::Text("ok", "release"),
+        ],
     )
 }

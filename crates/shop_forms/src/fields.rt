@@ -1,12 +1,11 @@
 //! What stands at the keys of a JSON object: numbers, flags, texts, codes, names and lists.
 
-ghost use Rattle.std.specs.Prelude.{◌≡◌, ℕ, IfOk, map, option_map};
+ghost use Rattle.std.specs.Prelude.{◌≡◌, ℕ, map, option_map};
 ghost use Rattle.serde_json.specs.View.{view};
 ghost use Rattle.shop_forms.specs.Fields as form;
 
-use cut_measure::{Code, Kind, PartName, RowList};
+use cut_measure::{Code, Kind, PartName};
 use serde_json::Value;
-use std::alloc::{AllocError, Global};
 
 // A whole number of 64 bits.
 pub(crate) fn wide_at(value: &Value, key: &str) -> Option<u64>
@@ -89,34 +88,6 @@ pub(crate) fn elements_at<'a>(value: &'a Value, key: &str) -> Option<&'a Vec<Val
         ≡ form.elements_at key.now (view value.now) }
 {
     value.get(key)?.as_array()
-}
-
-// The numbers that values stand for, where each stands for one.
-fn read_numbers(alloc: Global, values: &[Value]) -> Result<Option<RowList<u32>>, AllocError>
-    ensures { IfOk result (λ numbers. numbers ≡ form.all_of form.number_of (map view values.now)) }
-{
-    let mut numbers = RowList::new(alloc);
-    for value in values {
-        let Some(number) = number_of(value) else {
-            return Ok(None);
-        };
-        numbers.push(number)?;
-    }
-    Ok(Some(numbers))
-}
-
-// The numbers of the list at a key.
-pub(crate) fn numbers_at(
-    alloc: Global,
-    value: &Value,
-    key: &str,
-) -> Result<Option<RowList<u32>>, AllocError>
-    ensures { IfOk result (λ numbers. numbers ≡ form.numbers_at key.now (view value.now)) }
-{
-    match elements_at(value, key) {
-        Some(values) => read_numbers(alloc, values),
-        None => Ok(None),
-    }
 }
 
 pub(crate) fn has_keys(value: &Value, count: usize) -> bool

@@ -3,15 +3,16 @@
 ghost use Rattle.std.specs.Prelude.{◌≡◌, IfOk, OnOk, All, codes};
 ghost use Rattle.serde_json.specs.View.{view};
 ghost use Rattle.shop_records.specs.declared.messages.Command.TheVariants.{Break};
-ghost use Rattle.shop_records.specs.Messages.{IsNumber, IsHalt};
+ghost use Rattle.shop_records.specs.Messages.{IsCommand, IsNumber, IsHalt};
 ghost use Rattle.shop_forms.specs.Fields.{row};
 ghost use Rattle.shop_forms.specs.Forms as form;
-ghost use Rattle.shop_forms.specs.Forms.{message_data};
+ghost use Rattle.shop_forms.specs.Forms.{sent_data};
 ghost use Rattle.shop_forms.specs.Members.{IsAt};
 ghost use Rattle.shop_forms.specs.Tokens.{AddsValue};
 
+use crate::elements::rows_at;
 use crate::ending::ended_cells;
-use crate::fields::{flag_at, has_keys, number_at, numbers_at};
+use crate::fields::{flag_at, has_keys, number_at};
 use crate::words::wide;
 use crate::writing::{Member, write_object};
 use cut_tree::{Halt, MOST_CUTS};
@@ -46,7 +47,7 @@ fn first_cuts(value: &Value) -> Option<Halt>
 fn listed_cuts(alloc: Global, value: &Value) -> Result<Option<Halt>, AllocError>
     ensures { IfOk result (λ halt. halt ≡ form.listed_cuts (view value.now)) }
 {
-    match numbers_at(alloc, value, "cuts")? {
+    match rows_at(alloc, value, "cuts")? {
         Some(cuts) => match lost_cut(value, "lost") {
             Some(lost) => Ok(Some(Halt::Listed { cuts, lost })),
             None => Ok(None),
@@ -114,22 +115,20 @@ fn lost_member(halt: &Halt) -> Member<'static>
 pub(crate) fn write_break(
     writer: &mut Writer,
     pair: (u64, u64),
-    job: u64,
+    job: u32,
     halt: &Halt,
 ) -> Result<(), AllocError>
-    ensures { OnOk result (AddsValue writer.old writer.new
-        (message_data (record {
-          terminal = pair.0;
-          number = pair.1;
-          command = Break job halt.now;
-        }))) }
+    ensures value { OnOk result (AddsValue writer.old writer.new
+        (sent_data pair.0 pair.1 (form.break_members job halt.now))) }
+    ensures seen { IsCommand (Break job halt.now) }
 {
+    see_halt(halt);
     write_object(
         writer,
         &[
             cuts_member(halt),
             Member::Text("do", "break"),
-            Member::Number("job", job),
+            Member::Number("job", wide(job)),
             lost_member(halt),
             Member::Number("number", pair.1),
             Member::Number("terminal", pair.0),
@@ -147,7 +146,7 @@ fn see_cuts(cuts: &[u32])
 }
 
 // Reads a halt, which so is known to be in range.
-pub(crate) fn see_halt(halt: &Halt)
+fn see_halt(halt: &Halt)
     ensures { IsHalt halt.now }
 {
     match halt {

@@ -5,14 +5,17 @@ ghost use Rattle.serde_json.specs.View.{view};
 ghost use Rattle.shop_records.specs.declared.messages.Command.TheVariants.{Import};
 ghost use Rattle.shop_records.specs.declared.messages.Reply.TheVariants as reply;
 ghost use Rattle.shop_records.specs.declared.imports.Form.TheVariants.{Csv, Cgcut};
+ghost use Rattle.shop_records.specs.Messages.{IsCommand};
 ghost use Rattle.shop_forms.specs.Fields.{row};
 ghost use Rattle.shop_forms.specs.Forms as forms;
-ghost use Rattle.shop_forms.specs.Forms.{message_data, reply_data};
+ghost use Rattle.shop_forms.specs.Forms.{reply_data, sent_data};
 ghost use Rattle.shop_forms.specs.Told.{HasWideNumbers};
 ghost use Rattle.shop_forms.specs.Tokens.{AddsValue};
 
 use crate::fields::{code_at, has_keys, number_at, text_at};
+use crate::words::wide;
 use crate::writing::{Member, write_object};
+use cut_measure::Code;
 use json::Writer;
 use serde_json::Value;
 use shop_records::{Command, Form, Reply, Text};
@@ -75,18 +78,14 @@ pub(crate) fn import_command(alloc: Global, value: &Value) -> Result<Option<Comm
 }
 
 // Writes a message that imports an order file.
-pub(crate) fn write_csv<'a>(
+fn write_csv<'a>(
     writer: &mut Writer,
     pair: (u64, u64),
     order: &'a str,
     text: &'a str,
 ) -> Result<(), AllocError>
     ensures { OnOk result (AddsValue writer.old writer.new
-        (message_data (record {
-          terminal = pair.0;
-          number = pair.1;
-          command = Import order.now Csv text.now;
-        }))) }
+        (sent_data pair.0 pair.1 (forms.import_members order.now Csv text.now))) }
 {
     write_object(
         writer,
@@ -102,7 +101,7 @@ pub(crate) fn write_csv<'a>(
 }
 
 // Writes a message that imports a problem file, for a material.
-pub(crate) fn write_problem<'a>(
+fn write_problem<'a>(
     writer: &mut Writer,
     pair: (u64, u64),
     material: &'a str,
@@ -110,11 +109,8 @@ pub(crate) fn write_problem<'a>(
     text: &'a str,
 ) -> Result<(), AllocError>
     ensures { OnOk result (AddsValue writer.old writer.new
-        (message_data (record {
-          terminal = pair.0;
-          number = pair.1;
-          command = Import order.now (Cgcut material.now) text.now;
-        }))) }
+        (sent_data pair.0 pair.1
+        (forms.import_members order.now (Cgcut material.now) text.now))) }
 {
     write_object(
         writer,
@@ -128,6 +124,25 @@ pub(crate) fn write_problem<'a>(
             Member::Text("text", text),
         ],
     )
+}
+
+// Writes a message that imports an order.
+pub(crate) fn write_import(
+    writer: &mut Writer,
+    pair: (u64, u64),
+    order: &Code,
+    form: &Form,
+    text: &Text,
+) -> Result<(), AllocError>
+    ensures value { OnOk result (AddsValue writer.old writer.new
+        (sent_data pair.0 pair.1 (forms.import_members order.now form.now text.now))) }
+    ensures seen { IsCommand (Import order.now form.now text.now) }
+{
+    let (order, text) = (order.as_str(), text.as_str());
+    match form {
+        Form::Csv => write_csv(writer, pair, order, text),
+        Form::Cgcut(material) => write_problem(writer, pair, material.as_str(), order, text),
+    }
 }
 
 // The reply to it.
@@ -152,10 +167,10 @@ pub(crate) fn import_made(value: &Value) -> Option<Reply>
 // Writes the reply to it.
 pub(crate) fn tell_import(
     writer: &mut Writer,
-    act: u64,
-    count: u64,
-    first: u64,
-    order: &str,
+    act: u32,
+    count: u32,
+    first: u32,
+    order: &Code,
 ) -> Result<(), AllocError>
     ensures value { OnOk result
         (AddsValue writer.old writer.new (reply_data (reply.Import act count first order.now))) }
@@ -164,11 +179,11 @@ pub(crate) fn tell_import(
     write_object(
         writer,
         &[
-            Member::Number("act", act),
-            Member::Number("count", count),
-            Member::Number("first", first),
+            Member::Number("act", wide(act)),
+            Member::Number("count", wide(count)),
+            Member::Number("first", wide(first)),
             Member::Text("ok", "import"),
-            Member::Text("order", order),
+            Member::Text("order", order.as_str()),
         ],
     )
 }

@@ -4,6 +4,7 @@
 mod adding;
 mod asking;
 mod command_words;
+mod elements;
 mod ending;
 mod fields;
 mod halting;

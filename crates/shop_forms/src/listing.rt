@@ -1,8 +1,7 @@
 //! JSON of the queries for lists, for a job and for a terminal, and of the replies to them.
 
-ghost use Rattle.std.specs.Prelude.{◌≡◌, OnOk, All, codes, map};
-ghost use Rattle.serde_json.specs.Data.{Data, array};
-ghost use Rattle.serde_json.specs.View.{view, items_of};
+ghost use Rattle.std.specs.Prelude.{◌≡◌, OnOk, All, codes};
+ghost use Rattle.serde_json.specs.View.{view};
 ghost use Rattle.shop_records.specs.declared.messages.Reply.TheVariants as reply;
 ghost use Rattle.shop_forms.specs.Fields.{behind_at, row};
 ghost use Rattle.shop_forms.specs.Forms as form;
@@ -11,13 +10,14 @@ ghost use Rattle.shop_forms.specs.Told as told;
 ghost use Rattle.shop_forms.specs.Told.{HasWideNumbers};
 ghost use Rattle.shop_forms.specs.Tokens.{AddsValue};
 
+use crate::elements::{Listed, write_rows};
 use crate::fields::{code_at, has_keys, number_at, text_at};
 use crate::words::{job_state_word, kind_word, state_word, wide};
 use crate::writing::{Member, write_flag, write_object, write_text};
-use cut_measure::PartName;
+use cut_measure::{Code, PartName};
 use json::Writer;
 use serde_json::Value;
-use shop_records::{Demand, JobRow, JobState, Material, Part, Query};
+use shop_records::{Demand, JobRow, JobState, Material, Part, Query, Text};
 use std::alloc::{AllocError, Global};
 
 // ---- what is read
@@ -128,20 +128,6 @@ pub(crate) fn list_query(value: &Value, word: &str) -> Option<Query>
 
 // ---- what is told
 
-// A row of a list, as it is told: an object.
-pub(crate) trait Listed {
-    // The object.
-    ghost said: { Self → Data };
-
-    // Each of its numbers has 64 bits.
-    ghost is_wide: { Self → Type 0 };
-
-    // Writes it.
-    fn write(&self, alloc: Global, writer: &mut Writer) -> Result<(), AllocError>
-        ensures value { OnOk result (AddsValue writer.old writer.new (said self.now)) }
-        ensures wide { OnOk result (is_wide self.now) };
-}
-
 impl Listed for Material {
     ghost said = { form.material_data };
 
@@ -227,20 +213,6 @@ impl Listed for JobRow {
     }
 }
 
-// Writes a list of rows.
-fn write_rows<T: Listed>(alloc: Global, writer: &mut Writer, rows: &[T]) -> Result<(), AllocError>
-    ensures value { OnOk result
-        (AddsValue writer.old writer.new (array (items_of (map T.said rows.now)))) }
-    ensures wide { OnOk result (All T.is_wide rows.now) }
-{
-    writer.begin_array()?;
-    for row in rows {
-        row.write(alloc, writer)?;
-    }
-    writer.end_array()?;
-    Ok(())
-}
-
 // Writes the reply to the query for all materials.
 pub(crate) fn tell_materials(
     alloc: Global,
@@ -263,7 +235,7 @@ pub(crate) fn tell_materials(
 pub(crate) fn tell_parts(
     alloc: Global,
     writer: &mut Writer,
-    material: &str,
+    material: &Code,
     more: bool,
     parts: &[Part],
 ) -> Result<(), AllocError>
@@ -272,7 +244,7 @@ pub(crate) fn tell_parts(
     ensures wide { OnOk result (HasWideNumbers (reply.Parts material.now more parts.now)) }
 {
     writer.begin_object()?;
-    write_text(writer, "material", material)?;
+    write_text(writer, "material", material.as_str())?;
     write_flag(writer, "more", more)?;
     write_text(writer, "ok", "parts")?;
     writer.key("parts")?;
@@ -305,11 +277,11 @@ pub(crate) fn tell_behind<T: Listed>(
 // The numbers of a job: its own, its cuts and its kerf, and the sides of its part.
 #[derive(Clone, Copy)]
 pub(crate) struct JobNumbers {
-    pub(crate) cuts: u64,
-    pub(crate) h: u64,
-    pub(crate) job: u64,
-    pub(crate) kerf: u64,
-    pub(crate) w: u64,
+    pub(crate) cuts: u32,
+    pub(crate) h: u32,
+    pub(crate) job: u32,
+    pub(crate) kerf: u32,
+    pub(crate) w: u32,
 }
 
 // Writes the reply to the query for a job.
@@ -317,10 +289,10 @@ pub(crate) fn tell_job<'a>(
     alloc: Global,
     writer: &mut Writer,
     numbers: JobNumbers,
-    material: &'a str,
+    material: &'a Code,
     part: &'a PartName,
     state: JobState,
-    tree: &'a str,
+    tree: &'a Text,
 ) -> Result<(), AllocError>
     ensures value { OnOk result
         (AddsValue writer.old writer.new
@@ -333,22 +305,22 @@ pub(crate) fn tell_job<'a>(
     write_object(
         writer,
         &[
-            Member::Number("cuts", numbers.cuts),
-            Member::Number("h", numbers.h),
-            Member::Number("job", numbers.job),
-            Member::Number("kerf", numbers.kerf),
-            Member::Text("material", material),
+            Member::Number("cuts", wide(numbers.cuts)),
+            Member::Number("h", wide(numbers.h)),
+            Member::Number("job", wide(numbers.job)),
+            Member::Number("kerf", wide(numbers.kerf)),
+            Member::Text("material", material.as_str()),
             Member::Text("ok", "job"),
             Member::Name("part", part, alloc),
             Member::Text("state", job_state_word(state)),
-            Member::Text("tree", tree),
-            Member::Number("w", numbers.w),
+            Member::Text("tree", tree.as_str()),
+            Member::Number("w", wide(numbers.w)),
         ],
     )
 }
 
 // Writes the reply to the query for a terminal's last number.
-pub(crate) fn tell_terminal(writer: &mut Writer, last: u64, terminal: u64) -> Result<(), AllocError>
+pub(crate) fn tell_terminal(writer: &mut Writer, last: u32, terminal: u32) -> Result<(), AllocError>
     ensures value { OnOk result
         (AddsValue writer.old writer.new (reply_data (reply.Terminal last terminal))) }
     ensures wide { OnOk result (HasWideNumbers (reply.Terminal last terminal)) }
@@ -356,9 +328,9 @@ pub(crate) fn tell_terminal(writer: &mut Writer, last: u64, terminal: u64) -> Re
     write_object(
         writer,
         &[
-            Member::Number("last", last),
+            Member::Number("last", wide(last)),
             Member::Text("ok", "terminal"),
-            Member::Number("terminal", terminal),
+            Member::Number("terminal", wide(terminal)),
         ],
     )
 }

@@ -11,19 +11,19 @@ ghost use Rattle.shop_forms.specs.Tokens.{AddsValue};
 use crate::adding::{material_command, write_material};
 use crate::asking::asked;
 use crate::command_words::{CommandWord, command_word_of};
-use crate::ending::{done_command, release_command, write_done, write_release};
+use crate::ending::{done_command, release_command, write_end};
 use crate::fields::{number_at, word_at};
-use crate::halting::{break_command, has_few_cuts, see_halt, write_break};
-use crate::importing::{import_command, write_csv, write_problem};
+use crate::halting::{break_command, has_few_cuts, write_break};
+use crate::importing::{import_command, write_import};
 use crate::ordering::{order_command, see_lines, write_order};
 use crate::receiving::{receive_command, write_receive};
 use crate::reserving::{reserve_command, write_reserve};
-use crate::retiring::{return_command, scrap_command, write_return, write_scrap};
-use crate::words::{see_part, wide};
+use crate::retiring::{return_command, scrap_command, write_turned};
+use crate::words::wide;
 use crate::writing::{new_writer, value_of, written_text};
 use json::Writer;
 use serde_json::Value;
-use shop_records::{Command, Form, Message, Query, Refusal, Text};
+use shop_records::{Command, Message, Query, Refusal, Text};
 use std::alloc::{AllocError, Global};
 
 // The command that a value stands for, by the word of `do`.
@@ -108,68 +108,25 @@ fn write_message(alloc: Global, writer: &mut Writer, message: &Message) -> Resul
             kerf,
             min_long,
             min_short,
-        } => write_material(
-            writer,
-            pair,
-            material.as_str(),
-            *kind,
-            wide(*kerf),
-            wide(*min_long),
-            wide(*min_short),
-        ),
+        } => write_material(writer, pair, material, *kind, *kerf, *min_long, *min_short),
         Command::Receive {
             material,
             batch,
             w,
             h,
             count,
-        } => write_receive(
-            writer,
-            pair,
-            material.as_str(),
-            batch.as_str(),
-            wide(*w),
-            wide(*h),
-            wide(*count),
-        ),
+        } => write_receive(writer, pair, material, batch, *w, *h, *count),
         Command::AddOrder { order, lines } => {
             see_lines(lines.as_slice());
-            write_order(writer, pair, order.as_str(), lines.as_slice())
+            write_order(alloc, writer, pair, order.as_str(), lines.as_slice())
         }
-        Command::Reserve { part, tree } => {
-            see_part(part);
-            write_reserve(alloc, writer, pair, part, tree.as_str())
-        }
-        Command::Done { job } => write_done(writer, pair, wide(*job)),
-        Command::Break { job, halt } => {
-            see_halt(halt);
-            write_break(writer, pair, wide(*job), halt)
-        }
-        Command::Release { job } => write_release(writer, pair, wide(*job)),
-        Command::Scrap { part } => {
-            see_part(part);
-            write_scrap(alloc, writer, pair, part)
-        }
-        Command::GiveBack { part } => {
-            see_part(part);
-            write_return(alloc, writer, pair, part)
-        }
-        Command::Import {
-            order,
-            form: Form::Csv,
-            text,
-        } => write_csv(writer, pair, order.as_str(), text.as_str()),
-        Command::Import {
-            order,
-            form: Form::Cgcut(material),
-            text,
-        } => write_problem(
-            writer,
-            pair,
-            material.as_str(),
-            order.as_str(),
-            text.as_str(),
-        ),
+        Command::Reserve { part, tree } => write_reserve(alloc, writer, pair, part, tree),
+        Command::Done { job } => write_end(writer, pair, "done", *job),
+        Command::Break { job, halt } => write_break(writer, pair, *job, halt),
+        Command::Release { job } => write_end(writer, pair, "release", *job),
+        Command::Scrap { part } => write_turned(alloc, writer, pair, "scrap", part),
+        Command::GiveBack { part } => write_turned(alloc, writer, pair, "return", part),
+        Command::Import { order, form, text } => write_import(writer, pair, order, form, text),
     }
 }
 

@@ -1,22 +1,23 @@
 //! JSON of adding an order: its lines, its command and its reply, read and written.
 
-ghost use Rattle.std.specs.Prelude.{◌≡◌, IfOk, OnOk, All, map};
+ghost use Rattle.std.specs.Prelude.{◌≡◌, IfOk, OnOk, All};
 ghost use Rattle.serde_json.specs.View.{view};
-ghost use Rattle.shop_records.specs.declared.messages.Command.TheVariants.{AddOrder};
 ghost use Rattle.shop_records.specs.declared.messages.Reply.TheVariants as reply;
 ghost use Rattle.shop_records.specs.Messages.{IsLine};
-ghost use Rattle.shop_forms.specs.Fields.{all_of, row};
+ghost use Rattle.shop_forms.specs.Fields.{row};
 ghost use Rattle.shop_forms.specs.Forms as form;
-ghost use Rattle.shop_forms.specs.Forms.{message_data, reply_data};
+ghost use Rattle.shop_forms.specs.Forms.{reply_data, sent_data};
 ghost use Rattle.shop_forms.specs.Told.{HasWideNumbers};
 ghost use Rattle.shop_forms.specs.Tokens.{AddsValue};
 
-use crate::fields::{code_at, elements_at, flag_at, has_keys, number_at};
+use crate::elements::{Listed, Read, rows_at, write_rows};
+use crate::fields::{code_at, flag_at, has_keys, number_at};
 use crate::words::wide;
 use crate::writing::{Member, write_number, write_object, write_text};
+use cut_measure::Code;
 use json::Writer;
 use serde_json::Value;
-use shop_records::{Command, LineList, OrderLine, Reply};
+use shop_records::{Command, OrderLine, Reply};
 use std::alloc::{AllocError, Global};
 
 fn line_fields(value: &Value) -> Option<OrderLine>
@@ -40,37 +41,15 @@ fn line_fields(value: &Value) -> Option<OrderLine>
     })
 }
 
-fn read_line(value: &Value) -> Option<OrderLine>
-    ensures { result ≡ form.line_of (view value.now) }
-{
-    if has_keys(value, 7) {
-        line_fields(value)
-    } else {
-        None
-    }
-}
+impl Read for OrderLine {
+    ghost meant = { form.line_of };
 
-// The lines that the values stand for, where each stands for one.
-fn read_lines(alloc: Global, values: &[Value]) -> Result<Option<LineList>, AllocError>
-    ensures { IfOk result (λ lines. lines ≡ all_of form.line_of (map view values.now)) }
-{
-    let mut lines = LineList::new(alloc);
-    for value in values {
-        let Some(line) = read_line(value) else {
-            return Ok(None);
-        };
-        lines.push(line)?;
-    }
-    Ok(Some(lines))
-}
-
-// The lines at a key.
-fn lines_at(alloc: Global, value: &Value, key: &str) -> Result<Option<LineList>, AllocError>
-    ensures { IfOk result (λ lines. lines ≡ form.lines_at key.now (view value.now)) }
-{
-    match elements_at(value, key) {
-        Some(values) => read_lines(alloc, values),
-        None => Ok(None),
+    fn read(value: &Value) -> Option<OrderLine> {
+        if has_keys(value, 7) {
+            line_fields(value)
+        } else {
+            None
+        }
     }
 }
 
@@ -82,7 +61,7 @@ pub(crate) fn order_command(alloc: Global, value: &Value) -> Result<Option<Comma
         return Ok(None);
     }
     match code_at(value, "order") {
-        Some(order) => match lines_at(alloc, value, "lines")? {
+        Some(order) => match rows_at(alloc, value, "lines")? {
             Some(lines) => Ok(Some(Command::AddOrder { order, lines })),
             None => Ok(None),
         },
@@ -90,54 +69,42 @@ pub(crate) fn order_command(alloc: Global, value: &Value) -> Result<Option<Comma
     }
 }
 
-// Writes an order's line.
-fn write_line(writer: &mut Writer, line: &OrderLine) -> Result<(), AllocError>
-    ensures { OnOk result (AddsValue writer.old writer.new (form.line_data line.now)) }
-{
-    write_object(
-        writer,
-        &[
-            Member::Number("count", wide(line.count)),
-            Member::Number("h", wide(line.h)),
-            Member::Number("line", wide(line.line)),
-            Member::Text("material", line.material.as_str()),
-            Member::Flag("turn", line.turn),
-            Member::Number("w", wide(line.w)),
-            Member::Number("worth", wide(line.worth)),
-        ],
-    )
-}
+impl Listed for OrderLine {
+    ghost said = { form.line_data };
 
-// Writes an order's lines.
-fn write_lines(writer: &mut Writer, lines: &[OrderLine]) -> Result<(), AllocError>
-    ensures { OnOk result (AddsValue writer.old writer.new (form.lines_data lines.now)) }
-{
-    writer.begin_array()?;
-    for line in lines {
-        write_line(writer, line)?;
+    ghost is_wide = { IsLine };
+
+    fn write(&self, _alloc: Global, writer: &mut Writer) -> Result<(), AllocError> {
+        write_object(
+            writer,
+            &[
+                Member::Number("count", wide(self.count)),
+                Member::Number("h", wide(self.h)),
+                Member::Number("line", wide(self.line)),
+                Member::Text("material", self.material.as_str()),
+                Member::Flag("turn", self.turn),
+                Member::Number("w", wide(self.w)),
+                Member::Number("worth", wide(self.worth)),
+            ],
+        )
     }
-    writer.end_array()?;
-    Ok(())
 }
 
 // Writes a message that adds an order.
 pub(crate) fn write_order(
+    alloc: Global,
     writer: &mut Writer,
     pair: (u64, u64),
     order: &str,
     lines: &[OrderLine],
 ) -> Result<(), AllocError>
     ensures { OnOk result (AddsValue writer.old writer.new
-        (message_data (record {
-          terminal = pair.0;
-          number = pair.1;
-          command = AddOrder order.now lines.now;
-        }))) }
+        (sent_data pair.0 pair.1 (form.order_members order.now lines.now))) }
 {
     writer.begin_object()?;
     write_text(writer, "do", "order")?;
     writer.key("lines")?;
-    write_lines(writer, lines)?;
+    write_rows(alloc, writer, lines)?;
     write_number(writer, "number", pair.1)?;
     write_text(writer, "order", order)?;
     write_number(writer, "terminal", pair.0)?;
@@ -188,9 +155,9 @@ pub(crate) fn order_made(value: &Value) -> Option<Reply>
 // Writes the reply to it.
 pub(crate) fn tell_order(
     writer: &mut Writer,
-    count: u64,
-    first: u64,
-    order: &str,
+    count: u32,
+    first: u32,
+    order: &Code,
 ) -> Result<(), AllocError>
     ensures value { OnOk result
         (AddsValue writer.old writer.new (reply_data (reply.AddOrder count first order.now))) }
@@ -199,10 +166,10 @@ pub(crate) fn tell_order(
     write_object(
         writer,
         &[
-            Member::Number("count", count),
-            Member::Number("first", first),
+            Member::Number("count", wide(count)),
+            Member::Number("first", wide(first)),
             Member::Text("ok", "order"),
-            Member::Text("order", order),
+            Member::Text("order", order.as_str()),
         ],
     )
 }

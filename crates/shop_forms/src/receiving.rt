@@ -4,14 +4,17 @@ ghost use Rattle.std.specs.Prelude.{◌≡◌, OnOk};
 ghost use Rattle.serde_json.specs.View.{view};
 ghost use Rattle.shop_records.specs.declared.messages.Command.TheVariants.{Receive};
 ghost use Rattle.shop_records.specs.declared.messages.Reply.TheVariants as reply;
+ghost use Rattle.shop_records.specs.Messages.{IsCommand};
 ghost use Rattle.shop_forms.specs.Fields.{row};
 ghost use Rattle.shop_forms.specs.Forms as form;
-ghost use Rattle.shop_forms.specs.Forms.{message_data, reply_data};
+ghost use Rattle.shop_forms.specs.Forms.{reply_data, sent_data};
 ghost use Rattle.shop_forms.specs.Told.{HasWideNumbers};
 ghost use Rattle.shop_forms.specs.Tokens.{AddsValue};
 
 use crate::fields::{code_at, has_keys, number_at};
+use crate::words::wide;
 use crate::writing::{Member, write_object};
+use cut_measure::Code;
 use json::Writer;
 use serde_json::Value;
 use shop_records::{Command, Reply};
@@ -42,30 +45,27 @@ pub(crate) fn receive_command(value: &Value) -> Option<Command>
 pub(crate) fn write_receive<'a>(
     writer: &mut Writer,
     pair: (u64, u64),
-    material: &'a str,
-    batch: &'a str,
-    w: u64,
-    h: u64,
-    count: u64,
+    material: &'a Code,
+    batch: &'a Code,
+    w: u32,
+    h: u32,
+    count: u32,
 ) -> Result<(), AllocError>
-    ensures { OnOk result (AddsValue writer.old writer.new
-        (message_data (record {
-          terminal = pair.0;
-          number = pair.1;
-          command = Receive material.now batch.now w h count;
-        }))) }
+    ensures value { OnOk result (AddsValue writer.old writer.new
+        (sent_data pair.0 pair.1 (form.receive_members material.now batch.now w h count))) }
+    ensures seen { IsCommand (Receive material.now batch.now w h count) }
 {
     write_object(
         writer,
         &[
-            Member::Text("batch", batch),
-            Member::Number("count", count),
+            Member::Text("batch", batch.as_str()),
+            Member::Number("count", wide(count)),
             Member::Text("do", "receive"),
-            Member::Number("h", h),
-            Member::Text("material", material),
+            Member::Number("h", wide(h)),
+            Member::Text("material", material.as_str()),
             Member::Number("number", pair.1),
             Member::Number("terminal", pair.0),
-            Member::Number("w", w),
+            Member::Number("w", wide(w)),
         ],
     )
 }
@@ -83,7 +83,7 @@ pub(crate) fn receive_made(value: &Value) -> Option<Reply>
 }
 
 // Writes the reply to it.
-pub(crate) fn tell_receive(writer: &mut Writer, act: u64, count: u64) -> Result<(), AllocError>
+pub(crate) fn tell_receive(writer: &mut Writer, act: u32, count: u32) -> Result<(), AllocError>
     ensures value { OnOk result
         (AddsValue writer.old writer.new (reply_data (reply.Receive act count))) }
     ensures wide { OnOk result (HasWideNumbers (reply.Receive act count)) }
@@ -91,8 +91,8 @@ pub(crate) fn tell_receive(writer: &mut Writer, act: u64, count: u64) -> Result<
     write_object(
         writer,
         &[
-            Member::Number("act", act),
-            Member::Number("count", count),
+            Member::Number("act", wide(act)),
+            Member::Number("count", wide(count)),
             Member::Text("ok", "receive"),
         ],
     )

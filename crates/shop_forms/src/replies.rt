@@ -98,29 +98,29 @@ fn write_reply(alloc: Global, writer: &mut Writer, reply: &Reply) -> Result<(), 
     ensures wide { OnOk result (HasWideNumbers reply.now) }
 {
     match reply {
-        Reply::AddMaterial { material } => { tell_material(writer, material.as_str()) }
-        Reply::Receive { act, count } => { tell_receive(writer, wide(*act), wide(*count)) }
+        Reply::AddMaterial { material } => tell_material(writer, material),
+        Reply::Receive { act, count } => tell_receive(writer, *act, *count),
         Reply::AddOrder {
             count,
             first,
             order,
-        } => tell_order(writer, wide(*count), wide(*first), order.as_str()),
-        Reply::Reserve { cuts, job } => { tell_reserve(writer, wide(*cuts), wide(*job)) }
+        } => tell_order(writer, *count, *first, order),
+        Reply::Reserve { cuts, job } => tell_reserve(writer, *cuts, *job),
         Reply::Done {
             job,
             kerf,
             pieces,
             rack,
             scrap,
-        } => tell_ended(writer, "done", wide(*job), *kerf, *pieces, *rack, *scrap),
+        } => tell_ended(writer, "done", *job, *kerf, *pieces, *rack, *scrap),
         Reply::Break {
             job,
             kerf,
             pieces,
             rack,
             scrap,
-        } => tell_ended(writer, "break", wide(*job), *kerf, *pieces, *rack, *scrap),
-        Reply::Release { job } => { tell_release(writer, wide(*job)) }
+        } => tell_ended(writer, "break", *job, *kerf, *pieces, *rack, *scrap),
+        Reply::Release { job } => tell_release(writer, *job),
         Reply::Scrap { part } => tell_turned(alloc, writer, "scrap", part),
         Reply::GiveBack { part } => tell_turned(alloc, writer, "return", part),
         Reply::Import {
@@ -128,13 +128,7 @@ fn write_reply(alloc: Global, writer: &mut Writer, reply: &Reply) -> Result<(), 
             count,
             first,
             order,
-        } => tell_import(
-            writer,
-            wide(*act),
-            wide(*count),
-            wide(*first),
-            order.as_str(),
-        ),
+        } => tell_import(writer, *act, *count, *first, order),
         Reply::Totals {
             material,
             received,
@@ -145,19 +139,9 @@ fn write_reply(alloc: Global, writer: &mut Writer, reply: &Reply) -> Result<(), 
             scrap,
             returned,
         } => tell_totals(
-            writer,
-            material.as_str(),
-            *received,
-            *stock,
-            *rack,
-            *pieces,
-            *kerf,
-            *scrap,
-            *returned,
+            writer, material, *received, *stock, *rack, *pieces, *kerf, *scrap, *returned,
         ),
-        Reply::Rack { material, parts } => {
-            tell_rack(alloc, writer, material.as_str(), parts.as_slice())
-        }
+        Reply::Rack { material, parts } => tell_rack(alloc, writer, material, parts.as_slice()),
         Reply::Trace {
             batch,
             h,
@@ -170,21 +154,12 @@ fn write_reply(alloc: Global, writer: &mut Writer, reply: &Reply) -> Result<(), 
             y,
         } => {
             let place = Place {
-                w: wide(*w),
-                h: wide(*h),
-                x: wide(*x),
-                y: wide(*y),
+                w: *w,
+                h: *h,
+                x: *x,
+                y: *y,
             };
-            tell_trace(
-                alloc,
-                writer,
-                batch.as_str(),
-                wide(*of),
-                part,
-                root,
-                *state,
-                place,
-            )
+            tell_trace(alloc, writer, batch, *of, part, root, *state, place)
         }
         Reply::Demand {
             demand,
@@ -196,36 +171,29 @@ fn write_reply(alloc: Global, writer: &mut Writer, reply: &Reply) -> Result<(), 
             wanted,
         } => {
             let counts = Counts {
-                wanted: wide(*wanted),
-                reserved: wide(*reserved),
-                made: wide(*made),
+                wanted: *wanted,
+                reserved: *reserved,
+                made: *made,
             };
-            tell_demand(
-                writer,
-                wide(*demand),
-                wide(*line),
-                material.as_str(),
-                order.as_str(),
-                counts,
-            )
+            tell_demand(writer, *demand, *line, material, order, counts)
         }
         Reply::Plan {
             ceiling,
             dropped,
             tree,
             worth,
-        } => tell_plan(writer, *ceiling, wide(*dropped), tree.as_str(), *worth),
-        Reply::Bound { best, units } => { tell_bound(writer, *best, *units) }
-        Reply::Materials { materials } => { tell_materials(alloc, writer, materials.as_slice()) }
+        } => tell_plan(writer, *ceiling, *dropped, tree, *worth),
+        Reply::Bound { best, units } => tell_bound(writer, *best, *units),
+        Reply::Materials { materials } => tell_materials(alloc, writer, materials.as_slice()),
         Reply::Parts {
             material,
             more,
             parts,
-        } => tell_parts(alloc, writer, material.as_str(), *more, parts.as_slice()),
+        } => tell_parts(alloc, writer, material, *more, parts.as_slice()),
         Reply::Demands { demands, more } => {
             tell_behind(alloc, writer, "demands", demands.as_slice(), *more)
         }
-        Reply::Jobs { jobs, more } => { tell_behind(alloc, writer, "jobs", jobs.as_slice(), *more) }
+        Reply::Jobs { jobs, more } => tell_behind(alloc, writer, "jobs", jobs.as_slice(), *more),
         Reply::Job {
             cuts,
             h,
@@ -238,25 +206,15 @@ fn write_reply(alloc: Global, writer: &mut Writer, reply: &Reply) -> Result<(), 
             w,
         } => {
             let numbers = JobNumbers {
-                cuts: wide(*cuts),
-                h: wide(*h),
-                job: wide(*job),
-                kerf: wide(*kerf),
-                w: wide(*w),
+                cuts: *cuts,
+                h: *h,
+                job: *job,
+                kerf: *kerf,
+                w: *w,
             };
-            tell_job(
-                alloc,
-                writer,
-                numbers,
-                material.as_str(),
-                part,
-                *state,
-                tree.as_str(),
-            )
+            tell_job(alloc, writer, numbers, material, part, *state, tree)
         }
-        Reply::Terminal { last, terminal } => {
-            tell_terminal(writer, wide(*last), wide(*terminal))
-        }
+        Reply::Terminal { last, terminal } => tell_terminal(writer, *last, *terminal),
         Reply::Refused(refusal) => tell_refusal(writer, *refusal),
     }
 }

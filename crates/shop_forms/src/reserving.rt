@@ -4,13 +4,15 @@ ghost use Rattle.std.specs.Prelude.{◌≡◌, IfOk, OnOk};
 ghost use Rattle.serde_json.specs.View.{view};
 ghost use Rattle.shop_records.specs.declared.messages.Command.TheVariants.{Reserve};
 ghost use Rattle.shop_records.specs.declared.messages.Reply.TheVariants as reply;
+ghost use Rattle.shop_records.specs.Messages.{IsCommand};
 ghost use Rattle.shop_forms.specs.Fields.{row};
 ghost use Rattle.shop_forms.specs.Forms as form;
-ghost use Rattle.shop_forms.specs.Forms.{message_data, reply_data};
+ghost use Rattle.shop_forms.specs.Forms.{reply_data, sent_data};
 ghost use Rattle.shop_forms.specs.Told.{HasWideNumbers};
 ghost use Rattle.shop_forms.specs.Tokens.{AddsValue};
 
 use crate::fields::{has_keys, name_at, number_at, text_at};
+use crate::words::{see_part, wide};
 use crate::writing::{Member, write_object};
 use cut_measure::PartName;
 use json::Writer;
@@ -43,15 +45,13 @@ pub(crate) fn write_reserve<'a>(
     writer: &mut Writer,
     pair: (u64, u64),
     part: &'a PartName,
-    tree: &'a str,
+    tree: &'a Text,
 ) -> Result<(), AllocError>
-    ensures { OnOk result (AddsValue writer.old writer.new
-        (message_data (record {
-          terminal = pair.0;
-          number = pair.1;
-          command = Reserve part.now tree.now;
-        }))) }
+    ensures value { OnOk result (AddsValue writer.old writer.new
+        (sent_data pair.0 pair.1 (form.reserve_members part.now tree.now))) }
+    ensures seen { IsCommand (Reserve part.now tree.now) }
 {
+    see_part(part);
     write_object(
         writer,
         &[
@@ -59,7 +59,7 @@ pub(crate) fn write_reserve<'a>(
             Member::Number("number", pair.1),
             Member::Name("part", part, alloc),
             Member::Number("terminal", pair.0),
-            Member::Text("tree", tree),
+            Member::Text("tree", tree.as_str()),
         ],
     )
 }
@@ -77,7 +77,7 @@ pub(crate) fn reserve_made(value: &Value) -> Option<Reply>
 }
 
 // Writes the reply to it.
-pub(crate) fn tell_reserve(writer: &mut Writer, cuts: u64, job: u64) -> Result<(), AllocError>
+pub(crate) fn tell_reserve(writer: &mut Writer, cuts: u32, job: u32) -> Result<(), AllocError>
     ensures value { OnOk result
         (AddsValue writer.old writer.new (reply_data (reply.Reserve cuts job))) }
     ensures wide { OnOk result (HasWideNumbers (reply.Reserve cuts job)) }
@@ -85,8 +85,8 @@ pub(crate) fn tell_reserve(writer: &mut Writer, cuts: u64, job: u64) -> Result<(
     write_object(
         writer,
         &[
-            Member::Number("cuts", cuts),
-            Member::Number("job", job),
+            Member::Number("cuts", wide(cuts)),
+            Member::Number("job", wide(job)),
             Member::Text("ok", "reserve"),
         ],
     )

@@ -1,6 +1,6 @@
 use Rattle.std.proofs.Common.{◌∷◌, drop}
 use Rattle.json.specs.Token.{begin_array}
-use Rattle.shop_forms.proofs.Cuts.{cut_data}
+use Rattle.shop_forms.proofs.ListedRows.{cut_data}
 use Rattle.shop_forms.specs.Tokens.{elements_tokens, Lacks}
 use Rattle.shop_forms.proofs.writing.write_list.Given as goal
 

@@ -1,6 +1,6 @@
 use Rattle.shop_forms.proofs.Lists.{seen_more, seen_all}
 use Rattle.shop_forms.proofs.Pieces.{one_more}
-use Rattle.shop_forms.proofs.listing.write_rows.Goals as goal
+use Rattle.shop_forms.proofs.elements.write_rows.Goals as goal
 
 pub loop-row-preserved : goal.loop-row-preserved
 loop-row-preserved g c = (

@@ -2,7 +2,7 @@ use Rattle.std.proofs.Common.{◌∷◌, take, drop}
 use Rattle.std.specs.Prelude.{All}
 use Rattle.json.specs.Token.{begin_array}
 use Rattle.shop_forms.specs.Tokens.{elements_tokens, Lacks}
-use Rattle.shop_forms.proofs.listing.write_rows.Given as goal
+use Rattle.shop_forms.proofs.elements.write_rows.Given as goal
 
 abbrev pub invariant-loop-row : goal.invariant-loop-row
 invariant-loop-row g l =
