@@ -86,8 +86,8 @@ pub(crate) fn answer<B: Book>(alloc: Global, book: &mut B, line: &[u8]) -> (Repl
     }
 }
 
-// The text of a reply: the one that was told, where there is one.
-fn text_of(alloc: Global, reply: &Reply, told: Option<Text>) -> Result<Text, AllocError>
+/// The text of a reply: the one that was told, where there is one.
+pub(crate) fn text_of(alloc: Global, reply: &Reply, told: Option<Text>) -> Result<Text, AllocError>
     requires { IfSome told (λ text. text ≡ json_texts.of_reply reply.now) }
     ensures { IfOk result (λ text. text ≡ json_texts.of_reply reply.now) }
 {

@@ -1,6 +1,6 @@
 //! What a request is told: its route's message, query, ticket or report, done over a book.
 
-ghost use Rattle.std.specs.Prelude.{◌≡◌, ◌⊎◌, ◌∷◌, [], Some, None, IfErr, IfOk};
+ghost use Rattle.std.specs.Prelude.{◌≡◌, ◌⊎◌, ◌∷◌, [], Some, None, IfErr, IfOk, IfSome};
 ghost use Rattle.shop_records.specs.declared.messages.Reply.TheVariants.{Refused};
 ghost use Rattle.shop_records.specs.declared.refusals.Refusal.TheVariants.{StoreFault};
 ghost use Rattle.shop_records.specs.Soundness.{IsSound};
@@ -12,16 +12,16 @@ ghost use Rattle.shop_request.specs.declared.routes.Route.TheVariants.{Message a
 ghost use Rattle.shop_wire.specs.AnswerBytes.{replied};
 ghost use Rattle.shop_wire.specs.Replays.{line_message};
 ghost use Rattle.shop_wire.specs.Serves.{AskStep, HasServed, asked_at, body_query, code_at, is_of, name_at, numbered, path_query, text_at};
-ghost use Rattle.shop_wire.specs.Tellings.{IsRead, IsToldOf, PrintsCounted, telling_of};
+ghost use Rattle.shop_wire.specs.Tellings.{IsPrinted, IsRead, IsToldOf, PrintsCounted, telling_of};
 
 use crate::answers::value_in;
 use crate::paths::{demands_at, number_before, number_of, parts_at, terminal_in};
 use crate::telling::Told;
 use cut_measure::MOST_NUMBERS;
 use shop_book::Book;
-use shop_desk::{ask, handle};
+use shop_desk::{ask, handle_with_text};
 use shop_request::Route;
-use shop_rules::{Code, Message, PartName, Query, Refusal, Reply, read_message, read_query};
+use shop_rules::{Code, Message, PartName, Query, Refusal, Reply, Text, read_message, read_query};
 use shop_text::{report_text, ticket_text};
 use std::alloc::Global;
 use std::str;
@@ -40,18 +40,32 @@ fn message_in(alloc: Global, body: &[u8]) -> Result<Message, Refusal>
     }
 }
 
-// The reply to a body as a message.
-fn message_reply<B: Book>(alloc: Global, book: &mut B, body: &[u8]) -> Reply
+// The reply to a body as a message, and its text, where it was written to be kept.
+fn message_reply<B: Book>(alloc: Global, book: &mut B, body: &[u8]) -> (Reply, Option<Text>)
     ensures served { OnContent B.Book book.old book.new
         (λ m. IsSound json_texts m
-        → HasServed B.Book book.old book.new m (asking AtMessage body.now) (replied result)) }
+        → HasServed B.Book book.old book.new m (asking AtMessage body.now) (replied result.0)) }
+    ensures told { IfSome result.1 (λ text. text ≡ json_texts.of_reply result.0) }
     ensures honest { B.is_honest book.new → B.is_honest book.old }
     ensures failures { CountsUp (B.failed book.old) (B.failed book.new) }
 {
     match message_in(alloc, body) {
-        Ok(message) => handle(alloc, book, &message),
-        Err(refusal) => Reply::Refused(refusal),
+        Ok(message) => handle_with_text(alloc, book, &message),
+        Err(refusal) => (Reply::Refused(refusal), None),
     }
+}
+
+// What a body is told as a message.
+fn message_told<B: Book>(alloc: Global, book: &mut B, body: &[u8]) -> Told
+    ensures served { OnContent B.Book book.old book.new
+        (λ m. IsSound json_texts m
+        → HasServed B.Book book.old book.new m (asking AtMessage body.now) (telling_of result)) }
+    ensures printed { IsPrinted result }
+    ensures honest { B.is_honest book.new → B.is_honest book.old }
+    ensures failures { CountsUp (B.failed book.old) (B.failed book.new) }
+{
+    let (reply, text) = message_reply(alloc, book, body);
+    Told::Reply(reply, text)
 }
 
 // Whether a query is the one of a route.
@@ -160,11 +174,12 @@ fn ask_reply<B: Book>(alloc: Global, book: &mut B, route: Route, text: &[u8]) ->
 
 // A text, or the refusal that stands for it.
 fn told_of(made: Result<String, Refusal>) -> Told
-    ensures { IsToldOf made (telling_of result) }
+    ensures told { IsToldOf made (telling_of result) }
+    ensures printed { IsPrinted result }
 {
     match made {
         Ok(text) => Told::Text(text),
-        Err(refusal) => Told::Reply(Reply::Refused(refusal)),
+        Err(refusal) => Told::Reply(Reply::Refused(refusal), None),
     }
 }
 
@@ -173,11 +188,12 @@ fn ticket_told<B: Book>(alloc: Global, book: &mut B, part: &[u8]) -> Told
     ensures answer { OnContent B.Book book.old book.new
         (λ m. PrintsCounted (text_at m AtTicket part.now) (telling_of result) (B.failed book.old)
         (B.failed book.new)) }
+    ensures printed { IsPrinted result }
     ensures keeps { Unchanged B.Book CountsUp book.old book.new }
 {
     match number_in(part) {
         Some(job) => told_of(ticket_text(alloc, book, job)),
-        None => Told::Reply(Reply::Refused(Refusal::BadMessage)),
+        None => Told::Reply(Reply::Refused(Refusal::BadMessage), None),
     }
 }
 
@@ -186,11 +202,12 @@ fn yield_told<B: Book>(alloc: Global, book: &mut B, part: &[u8]) -> Told
     ensures answer { OnContent B.Book book.old book.new
         (λ m. PrintsCounted (text_at m AtYield part.now) (telling_of result) (B.failed book.old)
         (B.failed book.new)) }
+    ensures printed { IsPrinted result }
     ensures keeps { Unchanged B.Book CountsUp book.old book.new }
 {
     match code_in(part) {
         Some(material) => told_of(report_text(alloc, book, material)),
-        None => Told::Reply(Reply::Refused(Refusal::BadMessage)),
+        None => Told::Reply(Reply::Refused(Refusal::BadMessage), None),
     }
 }
 
@@ -199,13 +216,14 @@ pub(crate) fn respond<B: Book>(alloc: Global, book: &mut B, route: Route, text: 
     ensures served { OnContent B.Book book.old book.new
         (λ m. IsSound json_texts m
         → HasServed B.Book book.old book.new m (asking route text.now) (telling_of result)) }
+    ensures printed { IsPrinted result }
     ensures honest { B.is_honest book.new → B.is_honest book.old }
     ensures failures { CountsUp (B.failed book.old) (B.failed book.new) }
 {
     match route {
-        Route::Message => Told::Reply(message_reply(alloc, book, text)),
+        Route::Message => message_told(alloc, book, text),
         Route::Ticket => ticket_told(alloc, book, text),
         Route::Yield => yield_told(alloc, book, text),
-        _ => Told::Reply(ask_reply(alloc, book, route, text)),
+        _ => Told::Reply(ask_reply(alloc, book, route, text), None),
     }
 }

@@ -74,7 +74,7 @@ fn answer_request<W: Sink, B: Book>(
     ensures worked { OnOk result (W.failed sink.new ≡ W.failed sink.old) }
 {
     let told = respond(alloc, book, route, text);
-    match write_made(sink, told_text(alloc, route, &told)) {
+    match write_made(sink, told_text(alloc, route, told)) {
         Ok(()) => Ok(()),
         Err(fault) => Err(fault),
     }

@@ -1,20 +1,23 @@
 //! The bytes of an answer to a request: its status, its fields and its body.
 
-ghost use Rattle.std.specs.Prelude.{◌≡◌, ◌≤◌, ◌<◌, IfOk, decimal, string_bytes};
+ghost use Rattle.std.specs.Prelude.{◌≡◌, ◌≤◌, ◌<◌, IfOk, IfSome, decimal, string_bytes};
 ghost use Rattle.shop_wire.specs.AnswerBytes.{answer_bytes, fault_answer, fault_fields, fault_status, phrase, refusal_status, reply_answer, status_in, telling_answer, text_answer, unfound};
-ghost use Rattle.shop_wire.specs.Tellings.{telling_of};
+ghost use Rattle.shop_wire.specs.Tellings.{IsPrinted, telling_of};
 ghost use Rattle.shop_records.specs.Messages.{refusal_in};
 ghost use Rattle.shop_request.specs.Routes.{takes_body};
+ghost use Rattle.shop_rules.specs.Forms.{json_texts};
 
+use crate::answers::text_of;
 use http::StatusCode;
 use shop_request::{Fault, Route};
-use shop_rules::{Refusal, Reply, reply_text};
+use shop_rules::{Refusal, Reply, Text};
 use std::alloc::{AllocError, Global};
 
 /// What a request is told.
 #[derive(Drop)]
 pub(crate) enum Told {
-    Reply(Reply),
+    /// A reply, and its text, where it was written to be kept.
+    Reply(Reply, Option<Text>),
     Text(String),
 }
 
@@ -144,12 +147,18 @@ pub(crate) fn fault_text(alloc: Global, fault: Fault) -> Result<String, AllocErr
     Ok(text)
 }
 
-// The answer that tells a reply.
-fn reply_answer_text(alloc: Global, route: Route, reply: &Reply) -> Result<String, AllocError>
+// The answer that tells a reply. What was told of it is its text.
+fn reply_answer_text(
+    alloc: Global,
+    route: Route,
+    reply: &Reply,
+    told: Option<Text>,
+) -> Result<String, AllocError>
+    requires { IfSome told (λ text. text ≡ json_texts.of_reply reply.now) }
     ensures { IfOk result (λ text. string_bytes text
         ≡ answer_bytes (reply_answer route reply.now)) }
 {
-    let body = reply_text(alloc, reply)?;
+    let body = text_of(alloc, reply, told)?;
     let text = answer_text(
         alloc,
         reply_status(route, reply),
@@ -168,12 +177,13 @@ fn text_answer_text(alloc: Global, text: &str) -> Result<String, AllocError>
 }
 
 /// The answer that tells this.
-pub(crate) fn told_text(alloc: Global, route: Route, told: &Told) -> Result<String, AllocError>
+pub(crate) fn told_text(alloc: Global, route: Route, told: Told) -> Result<String, AllocError>
+    requires { IsPrinted told }
     ensures { IfOk result (λ text. string_bytes text
-        ≡ answer_bytes (telling_answer route (telling_of told.now))) }
+        ≡ answer_bytes (telling_answer route (telling_of told))) }
 {
     match told {
-        Told::Reply(reply) => reply_answer_text(alloc, route, reply),
+        Told::Reply(reply, text) => reply_answer_text(alloc, route, &reply, text),
         Told::Text(text) => text_answer_text(alloc, text.as_str()),
     }
 }

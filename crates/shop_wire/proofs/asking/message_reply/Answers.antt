@@ -4,12 +4,12 @@ use Rattle.shop_wire.proofs.asking.message_reply.Goals as goal
 
 pub returns-in-Ok-clause-served : goal.returns-in-Ok-clause-served
 returns-in-Ok-clause-served g c = λ honest m held sound.
-    let l = c.handle.ensures.step honest m held sound in
-    message_served g.B.Book c.args.book.now c.handle.new.book m c.args.body.now c.in-Ok.message c.handle.result l.next c.in-Ok.ensures c.handle.ensures.message l.step l.held l.sound
-    (c.handle.ensures.store_fault honest m held sound)
+    let l = c.handle_with_text.ensures.step honest m held sound in
+    message_served g.B.Book c.args.book.now c.handle_with_text.new.book m c.args.body.now c.in-Ok.message c.handle_with_text.result.0 l.next c.in-Ok.ensures c.handle_with_text.ensures.message l.step l.held l.sound
+    (c.handle_with_text.ensures.store_fault honest m held sound)
 
 pub returns-in-Ok-clause-failures : goal.returns-in-Ok-clause-failures
-returns-in-Ok-clause-failures g c = up_answer (g.B.Book.failed c.args.book.now) (g.B.Book.failed c.handle.new.book) c.handle.result c.handle.ensures.failures
+returns-in-Ok-clause-failures g c = up_answer (g.B.Book.failed c.args.book.now) (g.B.Book.failed c.handle_with_text.new.book) c.handle_with_text.result.0 c.handle_with_text.ensures.failures
 
 pub returns-in-Err-clause-served : goal.returns-in-Err-clause-served
 returns-in-Err-clause-served g c = λ honest m held sound.

@@ -1,7 +1,6 @@
 use Rattle.std.proofs.Common.{sym, subst}
 use Rattle.shop_desk.proofs.Blame.{up_reply}
 use Rattle.shop_request.specs.Requests.{asking}
-use Rattle.shop_wire.specs.AnswerBytes.{replied}
 use Rattle.shop_wire.specs.Serves.{HasServed}
 use Rattle.shop_wire.specs.Tellings.{telling_of}
 use Rattle.shop_wire.proofs.Acted.{asked_served, ticket_served, yield_served}
@@ -9,8 +8,8 @@ use Rattle.shop_wire.proofs.asking.respond.Goals as goal
 
 pub returns-in-Message-clause-served : goal.returns-in-Message-clause-served
 returns-in-Message-clause-served g c = λ honest m held sound.
-    subst (λ r. HasServed g.B.Book c.args.book.now c.message_reply.new.book m (asking r c.args.text.now) (replied c.message_reply.result)) (sym c.in-Message.is)
-    (c.message_reply.ensures.served honest m held sound)
+    subst (λ r. HasServed g.B.Book c.args.book.now c.message_told.new.book m (asking r c.args.text.now) (telling_of c.message_told.result)) (sym c.in-Message.is)
+    (c.message_told.ensures.served honest m held sound)
 
 pub returns-in-Ticket-clause-served : goal.returns-in-Ticket-clause-served
 returns-in-Ticket-clause-served g c = λ honest m held sound.

@@ -8,7 +8,7 @@ use Rattle.shop_wire.proofs.asking.ticket_told.Goals as goal
 pub returns-in-Some-clause-answer : goal.returns-in-Some-clause-answer
 returns-in-Some-clause-answer g c = λ honest m held.
     text_asked _ _ _ _ _ (ap (option_map (ticket_of m)) (sym c.number_in.ensures ∙ c.in-Some.is))
-    (told_counted c.ticket_text.result (telling_of c.told_of.result) _ _ _ c.told_of.ensures (c.ticket_text.ensures.told honest m held))
+    (told_counted c.ticket_text.result (telling_of c.told_of.result) _ _ _ c.told_of.ensures.told (c.ticket_text.ensures.told honest m held))
 
 pub returns-in-Some-clause-keeps : goal.returns-in-Some-clause-keeps
 returns-in-Some-clause-keeps g c =

@@ -8,7 +8,7 @@ use Rattle.shop_wire.proofs.asking.yield_told.Goals as goal
 pub returns-in-Some-clause-answer : goal.returns-in-Some-clause-answer
 returns-in-Some-clause-answer g c = λ honest m held.
     text_asked _ _ _ _ _ (ap (option_map (yield_of m)) (sym c.code_in.ensures ∙ c.in-Some.is))
-    (told_counted c.report_text.result (telling_of c.told_of.result) _ _ _ c.told_of.ensures (c.report_text.ensures.told honest m held))
+    (told_counted c.report_text.result (telling_of c.told_of.result) _ _ _ c.told_of.ensures.told (c.report_text.ensures.told honest m held))
 
 pub returns-in-Some-clause-keeps : goal.returns-in-Some-clause-keeps
 returns-in-Some-clause-keeps g c =

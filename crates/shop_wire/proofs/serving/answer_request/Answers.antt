@@ -9,8 +9,8 @@ returns-in-Ok-clause-ok g c =
     let whole = answer_bytes (telling_answer c.args.route telling) in
     record { telling = telling; bytes = whole; told = append-nil whole; written = c.in-Ok.ensures.ok whole c.told_text.ensures; run = c.respond-told.ensures.served }
 
-pub returns-clause-err : goal.returns-clause-err
-returns-clause-err g c =
+pub returns-in-Err-clause-err : goal.returns-in-Err-clause-err
+returns-in-Err-clause-err g c =
     let telling = telling_of c.respond-told.result in
     let part = c.in-Err.ensures.err (answer_bytes (telling_answer c.args.route telling)) c.told_text.ensures in
     (part.1, record { telling = telling; bytes = part.0; told = part.2; written = part.3; run = c.respond-told.ensures.served })
