@@ -5,7 +5,7 @@ use Rattle.shop_records.specs.declared.refusals.Refusal.{Refusal}
 use Rattle.shop_records.specs.declared.refusals.Refusal.TheVariants.{BadMessage, NoMemory}
 use Rattle.shop_records.specs.declared.messages.Reply.{Reply}
 use Rattle.shop_records.specs.declared.messages.Reply.TheVariants.{Refused}
-use Rattle.shop_rules.specs.Forms.{json_texts}
+use Rattle.shop_forms.specs.Forms.{json_texts}
 use Rattle.shop_text.specs.Printing.{IsFailure}
 use Rattle.shop_wire.specs.declared.telling.Told.{Told}
 use Rattle.shop_wire.specs.declared.telling.Told.TheVariants as told

@@ -5,7 +5,7 @@ ghost use Rattle.shop_wire.specs.AnswerBytes.{answer_bytes, fault_answer, fault_
 ghost use Rattle.shop_wire.specs.Tellings.{IsPrinted, telling_of};
 ghost use Rattle.shop_records.specs.Messages.{refusal_in};
 ghost use Rattle.shop_request.specs.Routes.{takes_body};
-ghost use Rattle.shop_rules.specs.Forms.{json_texts};
+ghost use Rattle.shop_forms.specs.Forms.{json_texts};
 
 use crate::answers::text_of;
 use http::StatusCode;
