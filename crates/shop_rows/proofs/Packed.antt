@@ -10,7 +10,7 @@ use Rattle.std.proofs.lemmas.List.Folds.{list_all-append}
 use Rattle.cut_measure.specs.Names.{Name, name_cmp}
 use Rattle.shop_records.specs.declared.records.Part.{Part}
 use Rattle.shop_rows.specs.Keys.{part_key}
-use Rattle.shop_rows.specs.PartRows.{no_origin, part_of, parts_in, row_key, are_below, AreAppended, AreKnown, HasRoom, IsNumbered, TakesNumber}
+use Rattle.shop_rows.specs.PartRows.{no_origin, part_of, parts_in, row_key, AreBelow, AreAppended, AreKnown, HasRoom, IsNumbered, TakesNumber}
 use Rattle.shop_rows.specs.SameParts.{part_decides, same_part}
 use Rattle.shop_rows.specs.Rows.{entries_of, put_each, rise, row_at, ArePut, IsPut, IsRun}
 use Rattle.shop_rows.specs.declared.part_rows.Origin.{Origin}
@@ -21,7 +21,7 @@ use Rattle.shop_rows.proofs.Summed.{both}
 
 -- ---- more origins
 
-pub below_more : (m n : ℕ) (rows : List PartRow) → m ≤ n → are_below m rows → are_below n rows
+pub below_more : (m n : ℕ) (rows : List PartRow) → m ≤ n → AreBelow m rows → AreBelow n rows
 below_more m n [] more known = refl
 below_more m n (row ∷ rows) more known =
     let t = both (nat_lt row.origin m) (list_all (λ r. nat_lt r.origin m) rows) known in
@@ -29,7 +29,7 @@ below_more m n (row ∷ rows) more known =
     ap (λ b. b && list_all (λ r. nat_lt r.origin n) rows) (lt-ltb row.origin n (omega arith)) ∙ below_more m n rows more t.1
 
 -- rows whose numbers are known stand for the same parts, whatever origins come
-pub same_parts : (origins more : List Origin) (rows : List PartRow) → are_below (length origins) rows → map (part_of (origins ++ more)) rows ≡ map (part_of origins) rows
+pub same_parts : (origins more : List Origin) (rows : List PartRow) → AreBelow (length origins) rows → map (part_of (origins ++ more)) rows ≡ map (part_of origins) rows
 same_parts origins more [] known = refl
 same_parts origins more (row ∷ rows) known =
     let t = both (nat_lt row.origin (length origins)) (list_all (λ r. nat_lt r.origin (length origins)) rows) known in
@@ -75,7 +75,7 @@ module _ (part : Part) (number : ℕ) (old mid : PartRows) (takes : TakesNumber 
   more_origins = let more = ap length takes.more.1 ∙ length-append old.origins.items takes.more.0 in omega (arith, more)
 
   pub known_mid : AreKnown mid
-  known_mid = below_more (length old.origins.items) (length mid.origins.items) mid.rows.items more_origins (subst (are_below (length old.origins.items)) (sym same_rows) known)
+  known_mid = below_more (length old.origins.items) (length mid.origins.items) mid.rows.items more_origins (subst (AreBelow (length old.origins.items)) (sym same_rows) known)
 
   module _ (row : PartRow) (numbered : row.origin ≡ number) (is : part_of mid.origins.items row ≡ part) (new : List PartRow) (is_put : IsPut row_key name_cmp row mid.rows.items new) where
     pub part_put : IsPut part_key name_cmp part (parts_in old) (map (part_of mid.origins.items) new)
@@ -84,7 +84,7 @@ module _ (part : Part) (number : ℕ) (old mid : PartRows) (takes : TakesNumber 
         subst (λ parts. IsPut part_key name_cmp part parts (map (part_of mid.origins.items) new)) same_mid
         (subst (λ p. IsPut part_key name_cmp p (parts_in mid) (map (part_of mid.origins.items) new)) is mapped)
 
-    pub known_put : are_below (length mid.origins.items) new
+    pub known_put : AreBelow (length mid.origins.items) new
     known_put =
         let less : row.origin < length mid.origins.items = subst (λ n. n < length mid.origins.items) (sym numbered) takes.origin.within in
         all-put (λ r. nat_lt r.origin (length mid.origins.items)) row_key name_cmp row mid.rows.items new (lt-ltb row.origin (length mid.origins.items) less) known_mid is_put
@@ -205,10 +205,10 @@ module _ (added : List Part) (old mid : PartRows) (appended : AreAppended added 
         let mapped = all_put-map row_key part_key name_cmp f (λ r. refl) appended.back old.rows.items (insert_slice old.rows.items i appended.back) are in
         ap (λ rows. entries_of part_key name_cmp (map f rows)) moved ∙ mapped ∙ (λ j. put_each part_key name_cmp (appended.parts j) (entries_of part_key name_cmp (same_old j)))
 
-    pub run_known : are_below (length mid.origins.items) new
+    pub run_known : AreBelow (length mid.origins.items) new
     run_known =
         let more = ap length appended.origins ∙ length-append old.origins.items appended.more in
-        subst (are_below (length mid.origins.items)) (sym moved)
+        subst (AreBelow (length mid.origins.items)) (sym moved)
         (all-inserted (λ r. nat_lt r.origin (length mid.origins.items)) old.rows.items appended.back i (below_more (length old.origins.items) (length mid.origins.items) old.rows.items (omega (arith, more)) known) appended.known)
 
   -- no part has the name of another

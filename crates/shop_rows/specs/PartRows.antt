@@ -37,12 +37,12 @@ abbrev pub parts_in : PartRows → List Part
 parts_in parts = map (part_of parts.origins.items) parts.rows.items
 
 -- each row's number is one of so many
-abbrev pub are_below : ℕ → List PartRow → Type 0
-are_below n rows = IsTrue (list_all (λ row. nat_lt row.origin n) rows)
+abbrev pub AreBelow : ℕ → List PartRow → Type 0
+AreBelow n rows = IsTrue (list_all (λ row. nat_lt row.origin n) rows)
 
 -- each row's number is that of an origin
 abbrev pub AreKnown : PartRows → Type 0
-AreKnown parts = are_below (length parts.origins.items) parts.rows.items
+AreKnown parts = AreBelow (length parts.origins.items) parts.rows.items
 
 -- an origin of this number is the part's
 pub record IsNumbered (part : Part) (number : ℕ) (origins : List Origin) : Type 0 where
@@ -70,5 +70,5 @@ pub record AreAppended (added : List Part) (old new : PartRows) : Type 0 where
   pub origins : new.origins.items ≡ old.origins.items ++ more
   pub rows : new.rows.items ≡ old.rows.items ++ back
   pub parts : map (part_of new.origins.items) back ≡ added
-  pub known : are_below (length new.origins.items) back
+  pub known : AreBelow (length new.origins.items) back
   pub room : (count : ℕ) → HasRoom (length added + count) old → HasRoom count new
