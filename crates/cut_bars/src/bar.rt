@@ -74,8 +74,7 @@ fn price(want: &Want, kerf: u32) -> u64
     ensures enough { want.now.worth ≤ (want.now.size.w + kerf) * result }
     ensures small { result ≤ 2 ^ 30 }
 {
-    let room = want.size.w() as u64 + kerf as u64;
-    (want.worth as u64 + (room - 1)) / room
+    (want.worth as u64).div_ceil(want.size.w() as u64 + kerf as u64)
 }
 
 /// The highest price of a want.

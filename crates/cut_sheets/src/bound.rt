@@ -53,8 +53,8 @@ fn up(want: &Want, kerf: u32, step: u32) -> Scaled
 {
     Scaled {
         demand: want.demand,
-        w: (want.size.w() + kerf + (step - 1)) / step,
-        h: (want.size.h() + kerf + (step - 1)) / step,
+        w: (want.size.w() + kerf).div_ceil(step),
+        h: (want.size.h() + kerf).div_ceil(step),
         may_turn: want.may_turn,
         left: want.left,
         worth: want.worth,
@@ -190,5 +190,5 @@ pub fn units(wants: &[Want], best: u64) -> u64
         → Meets wants.now k w h trees → result ≤ length trees }
 {
     let total = total_left(wants);
-    (total + (best - 1)) / best
+    total.div_ceil(best)
 }

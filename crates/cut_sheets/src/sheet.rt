@@ -168,8 +168,7 @@ fn price(want: &Scaled) -> u64
     ensures enough { want.now.worth ≤ result * (want.now.size.w * want.now.size.h) }
     ensures small { result ≤ 2 ^ 30 }
 {
-    let area = want.w as u64 * want.h as u64;
-    (want.worth as u64 + (area - 1)) / area
+    (want.worth as u64).div_ceil(want.w as u64 * want.h as u64)
 }
 
 /// The highest price of a want.

@@ -132,6 +132,14 @@ impl Plan {
         count_cuts(&self.root)
     }
 
+    /// Looks at a plan, which so is known to keep a plan's rules.
+    pub fn see(&self)
+        ensures few { cut_count self.now.tree ≤ MOST_CUTS }
+        ensures kept { IsPlan self.now }
+    {
+        let _root = &self.root;
+    }
+
     /// How many pieces of a demand the plan has.
     pub fn count(&self, demand: u32) -> u32
         ensures { result ≡ count_of self.now.tree demand }

@@ -182,7 +182,7 @@ fn bar_reply(
         Ok(proposal) => proposal,
         Err(fault) => return Err(planner_refusal(fault)),
     };
-    let _cuts = proposal.plan.cuts();
+    proposal.plan.see();
     let Ok(tree) = tree_text(alloc, &proposal.plan) else {
         return Err(Refusal::NoMemory);
     };
@@ -211,7 +211,7 @@ fn sheet_reply(
         Ok(proposal) => proposal,
         Err(fault) => return Err(planner_refusal(fault)),
     };
-    let _cuts = proposal.plan.cuts();
+    proposal.plan.see();
     let Ok(tree) = tree_text(alloc, &proposal.plan) else {
         return Err(Refusal::NoMemory);
     };

@@ -2,6 +2,8 @@
 use Rattle.std.specs.Prelude.{◌≡◌, ◌⊎◌, List, [], ◌∷◌, MatchOption, IfSome}
 use Rattle.shop_records.specs.declared.messages.Message.{Message}
 use Rattle.shop_records.specs.declared.messages.Reply.{Reply}
+use Rattle.shop_records.specs.declared.messages.Reply.TheVariants.{Refused}
+use Rattle.shop_records.specs.declared.refusals.Refusal.TheVariants.{StoreFault}
 use Rattle.shop_records.specs.Messages.{Texts, refusal_in, pair_of}
 use Rattle.shop_records.specs.Content.{Content, kept_at}
 use Rattle.shop_machine.specs.Machine.{StepNew, Step, Run}
@@ -9,7 +11,7 @@ use Rattle.shop_machine.specs.History.{Entry, messages_of, Gives, IsAccountOf, h
 use Rattle.shop_records.specs.Soundness.{IsSound}
 use Rattle.shop_book.specs.declared.books.Book.{Ghosts}
 use Rattle.shop_book.specs.Kept.{OnContent}
-use Rattle.shop_desk.specs.Faults.{TellOfFailures}
+use Rattle.shop_desk.specs.Faults.{StoreFailed, TellOfFailures}
 
 module _ (texts : Texts) {Left : Type 0} (stands : Left → Content → Type 0) where
   -- What may be left after a message that wasn't kept: once it is accepted what stands for the next content, and once it
@@ -40,6 +42,17 @@ module _ (texts : Texts) {Left : Type 0} (stands : Left → Content → Type 0) 
       (next : Content) × Step texts old message answer next × Leads (LeftBy before old message answer next) next messages answers new after
   Leads before old [] (answer ∷ answers) new after = ⊥
   Leads before old (message ∷ messages) [] new after = ⊥
+
+-- each sound content that an honest book held led to one a step of the machine later, which it holds
+abbrev pub Handles : {B : Type 0} → Texts → Ghosts B → B → B → Message → Reply → Type 0
+Handles texts book before after message answer =
+    OnContent book before after (λ m. IsSound texts m
+    → IsHandled texts book.stands (book.may_leave before) (book.may_leave after) (book.holds after) m message answer)
+
+-- over such a content a failed store is told of only where it failed
+abbrev pub BlamesStore : {B : Type 0} → Texts → Ghosts B → B → B → Reply → Type 0
+BlamesStore texts book before after answer =
+    OnContent book before after (λ m. IsSound texts m → answer ≡ Refused StoreFault → StoreFailed (book.failed before) (book.failed after))
 
 -- a refusal leaves each content that an honest book held, whether a history gives it or not
 abbrev pub RefusalKeeps : {B : Type 0} → Ghosts B → B → B → Reply → Type 0

@@ -16,7 +16,7 @@ ghost use Rattle.shop_forms.specs.Forms.{json_texts};
 ghost use Rattle.shop_book.specs.Failures.{CountsFailure};
 ghost use Rattle.shop_book.specs.Kept.{Unchanged, OnContent};
 ghost use Rattle.shop_desk.specs.Faults.{CountsReply, CountsOrContradicts, CountsUp, StoreFailed};
-ghost use Rattle.shop_desk.specs.Handled.{IsHandled, HasRun, RefusalKeeps, RefusalsKeep};
+ghost use Rattle.shop_desk.specs.Handled.{BlamesStore, Handles, HasRun, IsHandled, RefusalKeeps, RefusalsKeep};
 
 use crate::decided::{decide, keeping_message};
 use crate::found::{demands_for, material_for};
@@ -107,17 +107,13 @@ pub fn handle_with_text<B: Book>(
     book: &mut B,
     message: &Message,
 ) -> (Reply, Option<Text>)
-    ensures step { B.is_honest book.new → (m : Content) → B.holds book.old m → IsSound json_texts m
-        → IsHandled json_texts B.stands (B.may_leave book.old) (B.may_leave book.new)
-        (B.holds book.new) m message.now result.0 }
+    ensures step { Handles json_texts B.Book book.old book.new message.now result.0 }
     ensures refused { RefusalKeeps B.Book book.old book.new result.0 }
     ensures told { IfSome result.1 (λ text. text ≡ json_texts.of_reply result.0) }
     ensures message { IsMessage message.now }
     ensures honest { B.is_honest book.new → B.is_honest book.old }
     ensures failures { CountsOrContradicts result.0 (B.failed book.old) (B.failed book.new) }
-    ensures store_fault { B.is_honest book.new → (m : Content) → B.holds book.old m
-        → IsSound json_texts m
-        → result.0 ≡ Refused StoreFault → StoreFailed (B.failed book.old) (B.failed book.new) }
+    ensures store_fault { BlamesStore json_texts B.Book book.old book.new result.0 }
 {
     let Ok(text) = message_text(alloc, message) else {
         return (Reply::Refused(Refusal::NoMemory), None);
@@ -131,16 +127,12 @@ pub fn handle_with_text<B: Book>(
 
 /// Handles a message as `handle_with_text` does, and gives the reply alone.
 pub fn handle<B: Book>(alloc: Global, book: &mut B, message: &Message) -> Reply
-    ensures step { B.is_honest book.new → (m : Content) → B.holds book.old m → IsSound json_texts m
-        → IsHandled json_texts B.stands (B.may_leave book.old) (B.may_leave book.new)
-        (B.holds book.new) m message.now result }
+    ensures step { Handles json_texts B.Book book.old book.new message.now result }
     ensures refused { RefusalKeeps B.Book book.old book.new result }
     ensures message { IsMessage message.now }
     ensures honest { B.is_honest book.new → B.is_honest book.old }
     ensures failures { CountsOrContradicts result (B.failed book.old) (B.failed book.new) }
-    ensures store_fault { B.is_honest book.new → (m : Content) → B.holds book.old m
-        → IsSound json_texts m
-        → result ≡ Refused StoreFault → StoreFailed (B.failed book.old) (B.failed book.new) }
+    ensures store_fault { BlamesStore json_texts B.Book book.old book.new result }
 {
     handle_with_text(alloc, book, message).0
 }

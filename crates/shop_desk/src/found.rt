@@ -81,7 +81,7 @@ fn read_plan(
 {
     match Plan::read(alloc, tree, part.size, material.limits.kerf()) {
         Ok(plan) => {
-            let _few = plan.cuts();
+            plan.see();
             Ok(Some(plan))
         }
         Err(fault) => match fault.cause {

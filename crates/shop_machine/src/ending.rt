@@ -283,7 +283,7 @@ fn laid_rows(alloc: Global, plan: &Plan, stop: &Stop) -> Result<Vec<Row>, AllocE
     ensures few { IfOk result
         (λ rows. (d : ℕ) → pieces_in d rows.items ≤ count_of plan.now.tree d) }
 {
-    let _cuts = plan.cuts();
+    plan.see();
     let rows = plan.lay_as(alloc, stop)?;
     Ok(rows)
 }
