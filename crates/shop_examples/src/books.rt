@@ -6,9 +6,10 @@ use crate::lines::answered;
 use crate::messages::{MESSAGES, send};
 use anyhow::{Error, Result};
 use cut_measure::{Code, Kind, Limits, PartName, Size};
+use shop_machine::no_change;
 use shop_records::{
-    Change, Demand, DemandList, Material, MaterialTotals, Part, PartList, PartVisitor, Reply,
-    Totals, no_totals,
+    Change, Demand, DemandList, Material, MaterialTotals, Part, PartVisitor, Reply, Totals,
+    no_totals,
 };
 use shop_store::{Book, BookFault, MemBook, SqlBook};
 use std::alloc::Global;
@@ -81,20 +82,7 @@ pub fn stop_visits(alloc: Global) -> Result<()> {
 
 // A change of nothing.
 fn nothing(alloc: Global) -> Change {
-    Change {
-        material: None,
-        parts: PartList::new(alloc),
-        moved: None,
-        job: None,
-        order: None,
-        demands: DemandList::new(alloc),
-        totals: None,
-        act: None,
-        demand: None,
-        import: None,
-        kept: None,
-        reply: Reply::Receive { act: 1, count: 2 },
-    }
+    no_change(alloc, Reply::Receive { act: 1, count: 2 })
 }
 
 // A line of the order A-1, as demand 1.

@@ -15,6 +15,7 @@ mod reserving;
 mod retiring;
 
 pub use adding::decide_material;
+pub use decisions::no_change;
 pub use ending::{decide_break, decide_done, decide_release};
 pub use importing::{
     decide_again, decide_lines, decide_problem, problem_lines, repeats, unread_refusal,
