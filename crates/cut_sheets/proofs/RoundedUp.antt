@@ -3,7 +3,8 @@ use Rattle.std.proofs.Common.{◌≡◌, ℕ, ◌+◌, ◌-◌, ◌*◌, ◌/◌
 use Rattle.std.specs.Prelude.{Contains, IsTrue, nat_le, ◌&&◌, ◌||◌}
 use Rattle.std.proofs.lemmas.Bool.{cases_lt, leb-true, and_parts}
 use Rattle.std.proofs.lemmas.Nat.{mul-le}
-use Rattle.std.proofs.Math.Nat.{le_refl, lt-div-mul-add}
+use Rattle.std.proofs.lemmas.Grind.{div_ceil_times}
+use Rattle.std.proofs.Math.Nat.{le_refl}
 use Rattle.cut_wants.specs.declared.wants.Want.{Want}
 use Rattle.cut_tree.specs.Tree.{Tree, leaf_sum, cut_count, Rest, Piece, Trim, Cut}
 use Rattle.cut_measure.specs.declared.sizes.Axis.TheVariants.{X, Y}
@@ -20,7 +21,7 @@ up_from k s (x ∷ xs) y has =
     ]
 
 pub up_holds : (k s l : ℕ) → 1 ≤ s → l + k ≤ steps_up k s l * s
-up_holds k s l pos = let h : l + k + (s - 1) < (l + k + (s - 1)) / s * s + s = lt-div-mul-add pos in omega arith
+up_holds k s l pos = (div_ceil_times (l + k) s pos).0
 
 -- the side of a piece that was rounded up fits where its steps fit
 pub side_fits : (k s l p w : ℕ) → 1 ≤ s → steps_up k s l ≡ p → p * s ≤ w + k → l ≤ w

@@ -1,9 +1,10 @@
 -- Between a sheet with kerf and the same sheet in steps.
 use Rattle.std.proofs.Common.{◌≡◌, ℕ, ◌+◌, ◌-◌, ◌*◌, ◌/◌, ◌%◌, ◌<◌, ◌≤◌, true, false, cond, eqb, List, [], ◌∷◌, length, refl, ap, ◌∙◌, subst, inl, inr, arith}
-use Rattle.std.specs.Prelude.{Contains}
+use Rattle.std.specs.Prelude.{Contains, min}
+use Rattle.std.specs.Int.{div_ceil}
 use Rattle.std.specs.List.{list_all}
 use Rattle.std.proofs.lemmas.Bool.{cases_lt, and_parts, eqb-true}
-use Rattle.std.proofs.lemmas.Nat.{mul-le, div-add-mod', div-mul-add}
+use Rattle.std.proofs.lemmas.Nat.{mul-le}
 use Rattle.std.proofs.Math.Nat.{le_refl, lt-div-mul-add, div-mul-le_self, le-div_iff_mul-le}
 use Rattle.cut_wants.specs.declared.wants.Want.{Want}
 use Rattle.cut_tree.specs.Tree.{Tree, leaf_sum, Rest, Piece, Trim, Cut}
@@ -216,16 +217,14 @@ ups_more k s xs i d y items pushed lt is push e =
     ∙ sym (ap (wants_up k s) (take_more xs i d lt) ∙ map-append (want_up k s) (take i xs) (get_or xs i d ∷ []))
 
 -- whole steps rounded up are what they are rounded down
-whole_up : (n s : ℕ) → 1 ≤ s → n % s ≡ 0 → (n + (s - 1)) / s ≡ n / s
-whole_up n s some none =
-    let whole : n ≡ n / s * s = omega (arith, div-add-mod' n s) in
-    ap (λ m. (m + (s - 1)) / s) whole ∙ div-mul-add (n / s) s (s - 1) (omega arith)
+whole_up : (n s : ℕ) → n % s ≡ 0 → div_ceil n s ≡ n / s
+whole_up n s none = let no_more : min 1 (n % s) ≡ 0 = ap (min 1) none in omega (arith, no_more)
 
 pub exact_wants : (k s : ℕ) (wants : List Want) → 1 ≤ s → list_all (is_exact k s) wants ≡ true → wants_up k s wants ≡ wants_down k s wants
 exact_wants k s [] some exact = refl
 exact_wants k s (x ∷ xs) some exact =
     let here = and_parts (is_exact k s x) (list_all (is_exact k s) xs) exact in
     let sides = and_parts (eqb ((x.size.w + k) % s) 0) (eqb ((x.size.h + k) % s) 0) here.0 in
-    ap (λ w. record x { size = record { w = w; h = steps_up k s x.size.h } } ∷ wants_up k s xs) (whole_up (x.size.w + k) s some (eqb-true _ _ sides.0))
-    ∙ ap (λ h. record x { size = record { w = steps_down k s x.size.w; h = h } } ∷ wants_up k s xs) (whole_up (x.size.h + k) s some (eqb-true _ _ sides.1))
+    ap (λ w. record x { size = record { w = w; h = steps_up k s x.size.h } } ∷ wants_up k s xs) (whole_up (x.size.w + k) s (eqb-true _ _ sides.0))
+    ∙ ap (λ h. record x { size = record { w = steps_down k s x.size.w; h = h } } ∷ wants_up k s xs) (whole_up (x.size.h + k) s (eqb-true _ _ sides.1))
     ∙ ap (λ ys. want_down k s x ∷ ys) (exact_wants k s xs some here.1)

@@ -1,12 +1,16 @@
 -- What is left is worth no more than the units that meet it.
-use Rattle.std.proofs.Common.{◌≡◌, ℕ, ◌+◌, ◌-◌, ◌*◌, ◌/◌, ◌<◌, ◌≤◌, List, [], ◌∷◌, length, refl, ap, ◌∙◌, arith}
+use Rattle.std.proofs.Common.{◌≡◌, ℕ, ◌+◌, ◌*◌, ◌<◌, ◌≤◌, List, [], ◌∷◌, length, refl, ap, inl, inr, ◌∙◌, arith}
 use Rattle.std.specs.Prelude.{Contains}
+use Rattle.std.specs.Int.{div_ceil}
 use Rattle.std.proofs.lemmas.List.Sums.{sum_by-cons}
-use Rattle.std.proofs.Math.Nat.{div-lt_iff_lt-mul}
+use Rattle.std.proofs.lemmas.Bool.{cases_lt}
+use Rattle.std.proofs.lemmas.Grind.{div_ceil_times}
+use Rattle.std.proofs.lemmas.Nat.{mul-le}
+use Rattle.std.proofs.Math.Nat.{le_refl}
 use Rattle.cut_wants.specs.declared.wants.Want.{Want}
 use Rattle.cut_tree.specs.Tree.{Tree, count_of}
 use Rattle.cut_wants.specs.Legal.{Legal, of_demand, worth_of, IsWithinCounts, HaveOwnDemands}
-use Rattle.cut_sheets.specs.Bound.{AllLegal, total_count, Meets, worth_left, div_up}
+use Rattle.cut_sheets.specs.Bound.{AllLegal, total_count, Meets, worth_left}
 use Rattle.cut_wants.proofs.LeafSums.{of_demand_found, Contains-head, Contains-tail, weigh, weigh-zero, weigh-add, weigh-count}
 
 total_worth : List Want → List Tree → ℕ
@@ -37,11 +41,16 @@ total_le wants k w h best left each (t ∷ ts) legal within =
 
 -- any units that meet what is left are at least so many
 pub units_hold : (wants : List Want) (k w h best : ℕ) (ts : List Tree) → HaveOwnDemands wants → 1 ≤ best
-    → ((t : Tree) → Legal wants k t w h → IsWithinCounts wants t → worth_of wants t ≤ best) → Meets wants k w h ts → div_up (worth_left wants) best ≤ length ts
+    → ((t : Tree) → Legal wants k t w h → IsWithinCounts wants t → worth_of wants t ≤ best) → Meets wants k w h ts → div_ceil (worth_left wants) best ≤ length ts
 units_hold wants k w h best ts own pos each meets =
     let total = total_le wants k w h best (of_demand (λ x. x.left) wants) each ts meets.legal (λ d. omega (arith, meets.exact d)) in
     let sum = weigh-total wants ts own in
     let left = weigh-left wants wants (total_count ts) own (λ x h. h) meets.exact in
-    let lt : worth_left wants + (best - 1) < (length ts + 1) * best = omega arith in
-    let q : (worth_left wants + (best - 1)) / best < length ts + 1 = (div-lt_iff_lt-mul {k = best} {x = worth_left wants + (best - 1)} {y = length ts + 1} pos).1 lt in
-    omega arith
+    let units = div_ceil (worth_left wants) best in
+    let few : units * best < worth_left wants + best = (div_ceil_times (worth_left wants) best pos).1 in
+    elim (cases_lt (length ts) units) [
+      | inl more ↦
+          let over : length ts + 1 ≤ units = omega arith in
+          absurd (omega (arith, mul-le (length ts + 1) best units best over (le_refl best), few, total, sum, left))
+      | inr le ↦ le
+    ]

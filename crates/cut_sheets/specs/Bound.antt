@@ -1,5 +1,5 @@
 -- Lists of cut units that make what is left of each want.
-use Rattle.std.specs.Prelude.{◌≡◌, ℕ, ◌+◌, ◌-◌, ◌/◌, ◌*◌, List, [], ◌∷◌, sum_by}
+use Rattle.std.specs.Prelude.{◌≡◌, ℕ, ◌+◌, ◌*◌, List, [], ◌∷◌, sum_by}
 use Rattle.cut_wants.specs.declared.wants.Want.{Want}
 use Rattle.cut_tree.specs.Tree.{Tree, count_of}
 use Rattle.cut_wants.specs.Legal.{Legal, of_demand}
@@ -20,7 +20,3 @@ pub record Meets (wants : List Want) (k w h : ℕ) (trees : List Tree) : Type 0 
 -- what all that is left is worth
 abbrev pub worth_left : List Want → ℕ
 worth_left wants = sum_by (λ x. x.worth * x.left) wants
-
--- a quotient, rounded up
-abbrev pub div_up : ℕ → ℕ → ℕ
-div_up n d = (n + (d - 1)) / d

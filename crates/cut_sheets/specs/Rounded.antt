@@ -1,12 +1,13 @@
 -- A sheet problem in steps: the kerf is added to each side, and the sides are counted in steps.
-use Rattle.std.specs.Prelude.{ℕ, ◌+◌, ◌-◌, ◌/◌, ◌%◌, ◌==◌, ◌&&◌, ◌≤◌, Bool, List, map, Contains}
+use Rattle.std.specs.Prelude.{ℕ, ◌+◌, ◌/◌, ◌%◌, ◌==◌, ◌&&◌, ◌≤◌, Bool, List, map, Contains}
+use Rattle.std.specs.Int.{div_ceil}
 use Rattle.cut_wants.specs.declared.wants.Want.{Want}
 
 abbrev pub steps_down : ℕ → ℕ → ℕ → ℕ
 steps_down k s l = (l + k) / s
 
 abbrev pub steps_up : ℕ → ℕ → ℕ → ℕ
-steps_up k s l = (l + k + (s - 1)) / s
+steps_up k s l = div_ceil (l + k) s
 
 abbrev pub want_down : ℕ → ℕ → Want → Want
 want_down k s x = record x { size = record { w = steps_down k s x.size.w; h = steps_down k s x.size.h } }

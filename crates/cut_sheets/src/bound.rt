@@ -1,13 +1,14 @@
 //! The ceiling of a sheet, which no legal plan is worth more than, and the least number of units.
 
 ghost use Rattle.std.specs.Prelude.{◌≡◌, ℕ, ◌+◌, ◌*◌, ◌/◌, ◌^◌, ◌<◌, ◌≤◌, length, IfOk, sum_by, Contains, List};
+ghost use Rattle.std.specs.Int.{div_ceil};
 ghost use Rattle.std.specs.List.{list_all};
 ghost use Rattle.cut_wants.specs.declared.wants.Want.{Want};
 ghost use Rattle.cut_tree.specs.Tree.{Tree};
 ghost use Rattle.cut_wants.specs.Legal.{HaveOwnDemands, Legal, IsWithinCounts, worth_of};
 ghost use Rattle.cut_wants.specs.Best.{IsBestOf};
 ghost use Rattle.cut_sheets.specs.Rounded.{want_down, wants_down, want_up, wants_up, steps_down, IsStep, is_exact};
-ghost use Rattle.cut_sheets.specs.Bound.{Meets, worth_left, div_up};
+ghost use Rattle.cut_sheets.specs.Bound.{Meets, worth_left};
 ghost use Rattle.cut_sheets.specs.Table.{HaveBoundedWorths, HaveSides, HaveSidesAndBoundedWorths};
 
 use crate::read::worth_at;
@@ -183,7 +184,7 @@ pub fn units(wants: &[Want], best: u64) -> u64
     requires own { HaveOwnDemands wants.now }
     requires best { 1 ≤ best }
     requires small { worth_left wants.now + best < 2 ^ 64 }
-    ensures exact { result ≡ div_up (worth_left wants.now) best }
+    ensures exact { result ≡ div_ceil (worth_left wants.now) best }
     ensures bound { (k w h : ℕ) (trees : List Tree)
         → ((t : Tree) → Legal wants.now k t w h → IsWithinCounts wants.now t
         → worth_of wants.now t ≤ best)
