@@ -1,49 +1,49 @@
 //! JSON of the replies about totals, racks, parts, demands, plans and bounds.
 
 ghost use Rattle.std.specs.Prelude.{OnOk};
-ghost use Rattle.shop_records.specs.declared.messages.Reply.TheVariants as reply;
+ghost use Rattle.shop_records.specs.declared.messages.Reply.TheVariants as answer;
 ghost use Rattle.shop_forms.specs.Forms.{reply_data};
 ghost use Rattle.shop_forms.specs.Told.{HasWideNumbers};
 ghost use Rattle.shop_forms.specs.Tokens.{AddsValue};
+ghost use Rattle.shop_replies.specs.Variants.{IsTotals, IsTrace, IsDemand, IsPlan};
 
-use cut_measure::{Code, PartName};
+use cut_measure::Code;
 use json::Writer;
 use shop_forms::{Member, state_word, wide, write_object, write_rows, write_text};
-use shop_records::{RackRow, StateWord, Text};
+use shop_records::{RackRow, Reply};
 use std::alloc::{AllocError, Global};
 
 // Writes the reply about a material's cells.
-pub(crate) fn tell_totals(
-    writer: &mut Writer,
-    material: &Code,
-    received: u64,
-    stock: u64,
-    rack: u64,
-    pieces: u64,
-    kerf: u64,
-    scrap: u64,
-    returned: u64,
-) -> Result<(), AllocError>
-    ensures value { OnOk result
-        (AddsValue writer.old writer.new
-        (reply_data (reply.Totals material.now received stock rack pieces kerf scrap
-        returned))) }
-    ensures wide { OnOk result
-        (HasWideNumbers (reply.Totals material.now received stock rack pieces kerf scrap
-        returned)) }
+pub(crate) fn tell_totals(writer: &mut Writer, reply: &Reply) -> Result<(), AllocError>
+    requires { IsTotals reply.now }
+    ensures value { OnOk result (AddsValue writer.old writer.new (reply_data reply.now)) }
+    ensures wide { OnOk result (HasWideNumbers reply.now) }
 {
+    let Reply::Totals {
+        material,
+        received,
+        stock,
+        rack,
+        pieces,
+        kerf,
+        scrap,
+        returned,
+    } = reply
+    else {
+        unreachable!()
+    };
     write_object(
         writer,
         &[
-            Member::Number("kerf", kerf),
+            Member::Number("kerf", *kerf),
             Member::Text("material", material.as_str()),
             Member::Text("ok", "totals"),
-            Member::Number("pieces", pieces),
-            Member::Number("rack", rack),
-            Member::Number("received", received),
-            Member::Number("returned", returned),
-            Member::Number("scrap", scrap),
-            Member::Number("stock", stock),
+            Member::Number("pieces", *pieces),
+            Member::Number("rack", *rack),
+            Member::Number("received", *received),
+            Member::Number("returned", *returned),
+            Member::Number("scrap", *scrap),
+            Member::Number("stock", *stock),
         ],
     )
 }
@@ -56,8 +56,8 @@ pub(crate) fn tell_rack(
     parts: &[RackRow],
 ) -> Result<(), AllocError>
     ensures value { OnOk result
-        (AddsValue writer.old writer.new (reply_data (reply.Rack material.now parts.now))) }
-    ensures wide { OnOk result (HasWideNumbers (reply.Rack material.now parts.now)) }
+        (AddsValue writer.old writer.new (reply_data (answer.Rack material.now parts.now))) }
+    ensures wide { OnOk result (HasWideNumbers (answer.Rack material.now parts.now)) }
 {
     writer.begin_object()?;
     write_text(writer, "material", material.as_str())?;
@@ -68,111 +68,103 @@ pub(crate) fn tell_rack(
     Ok(())
 }
 
-// The place of a part: its sides, and where it begins.
-#[derive(Clone, Copy)]
-pub(crate) struct Place {
-    pub(crate) w: u32,
-    pub(crate) h: u32,
-    pub(crate) x: u32,
-    pub(crate) y: u32,
-}
-
 // Writes the reply about a part.
-pub(crate) fn tell_trace<'a>(
+pub(crate) fn tell_trace(
     alloc: Global,
     writer: &mut Writer,
-    batch: &'a Code,
-    of: u32,
-    part: &'a PartName,
-    root: &'a PartName,
-    state: StateWord,
-    place: Place,
+    reply: &Reply,
 ) -> Result<(), AllocError>
-    ensures value { OnOk result
-        (AddsValue writer.old writer.new
-        (reply_data (reply.Trace batch.now place.h of part.now root.now state place.w place.x
-        place.y))) }
-    ensures wide { OnOk result
-        (HasWideNumbers (reply.Trace batch.now place.h of part.now root.now state place.w place.x
-        place.y)) }
+    requires { IsTrace reply.now }
+    ensures value { OnOk result (AddsValue writer.old writer.new (reply_data reply.now)) }
+    ensures wide { OnOk result (HasWideNumbers reply.now) }
 {
+    let Reply::Trace {
+        batch,
+        h,
+        of,
+        part,
+        root,
+        state,
+        w,
+        x,
+        y,
+    } = reply
+    else {
+        unreachable!()
+    };
     write_object(
         writer,
         &[
             Member::Text("batch", batch.as_str()),
-            Member::Number("h", wide(place.h)),
-            Member::Number("of", wide(of)),
+            Member::Number("h", wide(*h)),
+            Member::Number("of", wide(*of)),
             Member::Text("ok", "trace"),
             Member::Name("part", part, alloc),
             Member::Name("root", root, alloc),
-            Member::Text("state", state_word(state)),
-            Member::Number("w", wide(place.w)),
-            Member::Number("x", wide(place.x)),
-            Member::Number("y", wide(place.y)),
+            Member::Text("state", state_word(*state)),
+            Member::Number("w", wide(*w)),
+            Member::Number("x", wide(*x)),
+            Member::Number("y", wide(*y)),
         ],
     )
 }
 
-// What is wanted, and of that reserved and made.
-#[derive(Clone, Copy)]
-pub(crate) struct Counts {
-    pub(crate) wanted: u32,
-    pub(crate) reserved: u32,
-    pub(crate) made: u32,
-}
-
 // Writes the reply about a demand.
-pub(crate) fn tell_demand<'a>(
-    writer: &mut Writer,
-    demand: u32,
-    line: u32,
-    material: &'a Code,
-    order: &'a Code,
-    counts: Counts,
-) -> Result<(), AllocError>
-    ensures value { OnOk result
-        (AddsValue writer.old writer.new
-        (reply_data (reply.Demand demand line counts.made material.now order.now counts.reserved
-        counts.wanted))) }
-    ensures wide { OnOk result
-        (HasWideNumbers (reply.Demand demand line counts.made material.now order.now counts.reserved
-        counts.wanted)) }
+pub(crate) fn tell_demand(writer: &mut Writer, reply: &Reply) -> Result<(), AllocError>
+    requires { IsDemand reply.now }
+    ensures value { OnOk result (AddsValue writer.old writer.new (reply_data reply.now)) }
+    ensures wide { OnOk result (HasWideNumbers reply.now) }
 {
+    let Reply::Demand {
+        demand,
+        line,
+        made,
+        material,
+        order,
+        reserved,
+        wanted,
+    } = reply
+    else {
+        unreachable!()
+    };
     write_object(
         writer,
         &[
-            Member::Number("demand", wide(demand)),
-            Member::Number("line", wide(line)),
-            Member::Number("made", wide(counts.made)),
+            Member::Number("demand", wide(*demand)),
+            Member::Number("line", wide(*line)),
+            Member::Number("made", wide(*made)),
             Member::Text("material", material.as_str()),
             Member::Text("ok", "demand"),
             Member::Text("order", order.as_str()),
-            Member::Number("reserved", wide(counts.reserved)),
-            Member::Number("wanted", wide(counts.wanted)),
+            Member::Number("reserved", wide(*reserved)),
+            Member::Number("wanted", wide(*wanted)),
         ],
     )
 }
 
 // Writes the reply that is a plan.
-pub(crate) fn tell_plan(
-    writer: &mut Writer,
-    ceiling: u64,
-    dropped: u32,
-    tree: &Text,
-    worth: u64,
-) -> Result<(), AllocError>
-    ensures value { OnOk result
-        (AddsValue writer.old writer.new (reply_data (reply.Plan ceiling dropped tree.now worth))) }
-    ensures wide { OnOk result (HasWideNumbers (reply.Plan ceiling dropped tree.now worth)) }
+pub(crate) fn tell_plan(writer: &mut Writer, reply: &Reply) -> Result<(), AllocError>
+    requires { IsPlan reply.now }
+    ensures value { OnOk result (AddsValue writer.old writer.new (reply_data reply.now)) }
+    ensures wide { OnOk result (HasWideNumbers reply.now) }
 {
+    let Reply::Plan {
+        ceiling,
+        dropped,
+        tree,
+        worth,
+    } = reply
+    else {
+        unreachable!()
+    };
     write_object(
         writer,
         &[
-            Member::Number("ceiling", ceiling),
-            Member::Number("dropped", wide(dropped)),
+            Member::Number("ceiling", *ceiling),
+            Member::Number("dropped", wide(*dropped)),
             Member::Text("ok", "plan"),
             Member::Text("tree", tree.as_str()),
-            Member::Number("worth", worth),
+            Member::Number("worth", *worth),
         ],
     )
 }
@@ -180,8 +172,8 @@ pub(crate) fn tell_plan(
 // Writes the reply that is a bound.
 pub(crate) fn tell_bound(writer: &mut Writer, best: u64, units: u64) -> Result<(), AllocError>
     ensures value { OnOk result
-        (AddsValue writer.old writer.new (reply_data (reply.Bound best units))) }
-    ensures wide { OnOk result (HasWideNumbers (reply.Bound best units)) }
+        (AddsValue writer.old writer.new (reply_data (answer.Bound best units))) }
+    ensures wide { OnOk result (HasWideNumbers (answer.Bound best units)) }
 {
     write_object(
         writer,

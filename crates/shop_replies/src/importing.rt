@@ -2,14 +2,13 @@
 
 ghost use Rattle.std.specs.Prelude.{◌≡◌, OnOk};
 ghost use Rattle.serde_json.specs.View.{view};
-ghost use Rattle.shop_records.specs.declared.messages.Reply.TheVariants as reply;
 ghost use Rattle.shop_forms.specs.Fields.{row};
 ghost use Rattle.shop_forms.specs.Forms as forms;
 ghost use Rattle.shop_forms.specs.Forms.{reply_data};
 ghost use Rattle.shop_forms.specs.Told.{HasWideNumbers};
 ghost use Rattle.shop_forms.specs.Tokens.{AddsValue};
+ghost use Rattle.shop_replies.specs.Variants.{IsImport};
 
-use cut_measure::Code;
 use json::Writer;
 use serde_json::Value;
 use shop_forms::{Member, code_at, has_keys, number_at, wide, write_object};
@@ -36,23 +35,26 @@ pub(crate) fn import_made(value: &Value) -> Option<Reply>
 }
 
 // Writes the reply about an order that was imported.
-pub(crate) fn tell_import(
-    writer: &mut Writer,
-    act: u32,
-    count: u32,
-    first: u32,
-    order: &Code,
-) -> Result<(), AllocError>
-    ensures value { OnOk result
-        (AddsValue writer.old writer.new (reply_data (reply.Import act count first order.now))) }
-    ensures wide { OnOk result (HasWideNumbers (reply.Import act count first order.now)) }
+pub(crate) fn tell_import(writer: &mut Writer, reply: &Reply) -> Result<(), AllocError>
+    requires { IsImport reply.now }
+    ensures value { OnOk result (AddsValue writer.old writer.new (reply_data reply.now)) }
+    ensures wide { OnOk result (HasWideNumbers reply.now) }
 {
+    let Reply::Import {
+        act,
+        count,
+        first,
+        order,
+    } = reply
+    else {
+        unreachable!()
+    };
     write_object(
         writer,
         &[
-            Member::Number("act", wide(act)),
-            Member::Number("count", wide(count)),
-            Member::Number("first", wide(first)),
+            Member::Number("act", wide(*act)),
+            Member::Number("count", wide(*count)),
+            Member::Number("first", wide(*first)),
             Member::Text("ok", "import"),
             Member::Text("order", order.as_str()),
         ],

@@ -1,18 +1,18 @@
 //! JSON of the replies about lists, a job and a terminal.
 
 ghost use Rattle.std.specs.Prelude.{OnOk, All};
-ghost use Rattle.shop_records.specs.declared.messages.Reply.TheVariants as reply;
+ghost use Rattle.shop_records.specs.declared.messages.Reply.TheVariants as answer;
 ghost use Rattle.shop_forms.specs.Forms as form;
 ghost use Rattle.shop_forms.specs.Forms.{reply_data};
 ghost use Rattle.shop_forms.specs.Told.{HasWideNumbers};
 ghost use Rattle.shop_forms.specs.Tokens.{AddsValue};
+ghost use Rattle.shop_replies.specs.Variants.{IsParts, IsJob};
 
-use cut_measure::{Code, PartName};
 use json::Writer;
 use shop_forms::{
     Listed, Member, job_state_word, wide, write_flag, write_object, write_rows, write_text,
 };
-use shop_records::{JobState, Material, Part, Text};
+use shop_records::{Material, Reply};
 use std::alloc::{AllocError, Global};
 
 // Writes the reply about all materials.
@@ -22,8 +22,8 @@ pub(crate) fn tell_materials(
     materials: &[Material],
 ) -> Result<(), AllocError>
     ensures value { OnOk result
-        (AddsValue writer.old writer.new (reply_data (reply.Materials materials.now))) }
-    ensures wide { OnOk result (HasWideNumbers (reply.Materials materials.now)) }
+        (AddsValue writer.old writer.new (reply_data (answer.Materials materials.now))) }
+    ensures wide { OnOk result (HasWideNumbers (answer.Materials materials.now)) }
 {
     writer.begin_object()?;
     writer.key("materials")?;
@@ -37,20 +37,26 @@ pub(crate) fn tell_materials(
 pub(crate) fn tell_parts(
     alloc: Global,
     writer: &mut Writer,
-    material: &Code,
-    more: bool,
-    parts: &[Part],
+    reply: &Reply,
 ) -> Result<(), AllocError>
-    ensures value { OnOk result
-        (AddsValue writer.old writer.new (reply_data (reply.Parts material.now more parts.now))) }
-    ensures wide { OnOk result (HasWideNumbers (reply.Parts material.now more parts.now)) }
+    requires { IsParts reply.now }
+    ensures value { OnOk result (AddsValue writer.old writer.new (reply_data reply.now)) }
+    ensures wide { OnOk result (HasWideNumbers reply.now) }
 {
+    let Reply::Parts {
+        material,
+        more,
+        parts,
+    } = reply
+    else {
+        unreachable!()
+    };
     writer.begin_object()?;
     write_text(writer, "material", material.as_str())?;
-    write_flag(writer, "more", more)?;
+    write_flag(writer, "more", *more)?;
     write_text(writer, "ok", "parts")?;
     writer.key("parts")?;
-    write_rows(alloc, writer, parts)?;
+    write_rows(alloc, writer, parts.as_slice())?;
     writer.end_object()?;
     Ok(())
 }
@@ -76,47 +82,39 @@ pub(crate) fn tell_behind<T: Listed>(
     Ok(())
 }
 
-// The numbers of a job: its own, its cuts and its kerf, and the sides of its part.
-#[derive(Clone, Copy)]
-pub(crate) struct JobNumbers {
-    pub(crate) cuts: u32,
-    pub(crate) h: u32,
-    pub(crate) job: u32,
-    pub(crate) kerf: u32,
-    pub(crate) w: u32,
-}
-
 // Writes the reply about a job.
-pub(crate) fn tell_job<'a>(
-    alloc: Global,
-    writer: &mut Writer,
-    numbers: JobNumbers,
-    material: &'a Code,
-    part: &'a PartName,
-    state: JobState,
-    tree: &'a Text,
-) -> Result<(), AllocError>
-    ensures value { OnOk result
-        (AddsValue writer.old writer.new
-        (reply_data (reply.Job numbers.cuts numbers.h numbers.job numbers.kerf material.now
-        part.now state tree.now numbers.w))) }
-    ensures wide { OnOk result
-        (HasWideNumbers (reply.Job numbers.cuts numbers.h numbers.job numbers.kerf material.now
-        part.now state tree.now numbers.w)) }
+pub(crate) fn tell_job(alloc: Global, writer: &mut Writer, reply: &Reply) -> Result<(), AllocError>
+    requires { IsJob reply.now }
+    ensures value { OnOk result (AddsValue writer.old writer.new (reply_data reply.now)) }
+    ensures wide { OnOk result (HasWideNumbers reply.now) }
 {
+    let Reply::Job {
+        cuts,
+        h,
+        job,
+        kerf,
+        material,
+        part,
+        state,
+        tree,
+        w,
+    } = reply
+    else {
+        unreachable!()
+    };
     write_object(
         writer,
         &[
-            Member::Number("cuts", wide(numbers.cuts)),
-            Member::Number("h", wide(numbers.h)),
-            Member::Number("job", wide(numbers.job)),
-            Member::Number("kerf", wide(numbers.kerf)),
+            Member::Number("cuts", wide(*cuts)),
+            Member::Number("h", wide(*h)),
+            Member::Number("job", wide(*job)),
+            Member::Number("kerf", wide(*kerf)),
             Member::Text("material", material.as_str()),
             Member::Text("ok", "job"),
             Member::Name("part", part, alloc),
-            Member::Text("state", job_state_word(state)),
+            Member::Text("state", job_state_word(*state)),
             Member::Text("tree", tree.as_str()),
-            Member::Number("w", wide(numbers.w)),
+            Member::Number("w", wide(*w)),
         ],
     )
 }
@@ -124,8 +122,8 @@ pub(crate) fn tell_job<'a>(
 // Writes the reply about a terminal's last number.
 pub(crate) fn tell_terminal(writer: &mut Writer, last: u32, terminal: u32) -> Result<(), AllocError>
     ensures value { OnOk result
-        (AddsValue writer.old writer.new (reply_data (reply.Terminal last terminal))) }
-    ensures wide { OnOk result (HasWideNumbers (reply.Terminal last terminal)) }
+        (AddsValue writer.old writer.new (reply_data (answer.Terminal last terminal))) }
+    ensures wide { OnOk result (HasWideNumbers (answer.Terminal last terminal)) }
 {
     write_object(
         writer,

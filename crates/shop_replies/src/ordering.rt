@@ -2,14 +2,13 @@
 
 ghost use Rattle.std.specs.Prelude.{◌≡◌, OnOk};
 ghost use Rattle.serde_json.specs.View.{view};
-ghost use Rattle.shop_records.specs.declared.messages.Reply.TheVariants as reply;
 ghost use Rattle.shop_forms.specs.Fields.{row};
 ghost use Rattle.shop_forms.specs.Forms as form;
 ghost use Rattle.shop_forms.specs.Forms.{reply_data};
 ghost use Rattle.shop_forms.specs.Told.{HasWideNumbers};
 ghost use Rattle.shop_forms.specs.Tokens.{AddsValue};
+ghost use Rattle.shop_replies.specs.Variants.{IsOrder};
 
-use cut_measure::Code;
 use json::Writer;
 use serde_json::Value;
 use shop_forms::{Member, code_at, has_keys, number_at, wide, write_object};
@@ -34,21 +33,24 @@ pub(crate) fn order_made(value: &Value) -> Option<Reply>
 }
 
 // Writes the reply about an order that was added.
-pub(crate) fn tell_order(
-    writer: &mut Writer,
-    count: u32,
-    first: u32,
-    order: &Code,
-) -> Result<(), AllocError>
-    ensures value { OnOk result
-        (AddsValue writer.old writer.new (reply_data (reply.AddOrder count first order.now))) }
-    ensures wide { OnOk result (HasWideNumbers (reply.AddOrder count first order.now)) }
+pub(crate) fn tell_order(writer: &mut Writer, reply: &Reply) -> Result<(), AllocError>
+    requires { IsOrder reply.now }
+    ensures value { OnOk result (AddsValue writer.old writer.new (reply_data reply.now)) }
+    ensures wide { OnOk result (HasWideNumbers reply.now) }
 {
+    let Reply::AddOrder {
+        count,
+        first,
+        order,
+    } = reply
+    else {
+        unreachable!()
+    };
     write_object(
         writer,
         &[
-            Member::Number("count", wide(count)),
-            Member::Number("first", wide(first)),
+            Member::Number("count", wide(*count)),
+            Member::Number("first", wide(*first)),
             Member::Text("ok", "order"),
             Member::Text("order", order.as_str()),
         ],

@@ -13,15 +13,11 @@ ghost use Rattle.shop_forms.specs.Told.{HasWideNumbers};
 ghost use Rattle.shop_forms.specs.Tokens.{AddsValue};
 
 use crate::adding::{material_made, tell_material};
-use crate::asking::{
-    Counts, Place, tell_bound, tell_demand, tell_plan, tell_rack, tell_totals, tell_trace,
-};
+use crate::asking::{tell_bound, tell_demand, tell_plan, tell_rack, tell_totals, tell_trace};
 use crate::ending::{done_made, release_made, tell_ended, tell_release};
 use crate::halting::break_made;
 use crate::importing::{import_made, tell_import};
-use crate::listing::{
-    JobNumbers, tell_behind, tell_job, tell_materials, tell_parts, tell_terminal,
-};
+use crate::listing::{tell_behind, tell_job, tell_materials, tell_parts, tell_terminal};
 use crate::ordering::{order_made, tell_order};
 use crate::receiving::{receive_made, tell_receive};
 use crate::reserving::{reserve_made, tell_reserve};
@@ -100,11 +96,7 @@ fn write_reply(alloc: Global, writer: &mut Writer, reply: &Reply) -> Result<(), 
     match reply {
         Reply::AddMaterial { material } => tell_material(writer, material),
         Reply::Receive { act, count } => tell_receive(writer, *act, *count),
-        Reply::AddOrder {
-            count,
-            first,
-            order,
-        } => tell_order(writer, *count, *first, order),
+        Reply::AddOrder { .. } => tell_order(writer, reply),
         Reply::Reserve { cuts, job } => tell_reserve(writer, *cuts, *job),
         Reply::Done {
             job,
@@ -123,97 +115,20 @@ fn write_reply(alloc: Global, writer: &mut Writer, reply: &Reply) -> Result<(), 
         Reply::Release { job } => tell_release(writer, *job),
         Reply::Scrap { part } => tell_turned(alloc, writer, "scrap", part),
         Reply::GiveBack { part } => tell_turned(alloc, writer, "return", part),
-        Reply::Import {
-            act,
-            count,
-            first,
-            order,
-        } => tell_import(writer, *act, *count, *first, order),
-        Reply::Totals {
-            material,
-            received,
-            stock,
-            rack,
-            pieces,
-            kerf,
-            scrap,
-            returned,
-        } => tell_totals(
-            writer, material, *received, *stock, *rack, *pieces, *kerf, *scrap, *returned,
-        ),
+        Reply::Import { .. } => tell_import(writer, reply),
+        Reply::Totals { .. } => tell_totals(writer, reply),
         Reply::Rack { material, parts } => tell_rack(alloc, writer, material, parts.as_slice()),
-        Reply::Trace {
-            batch,
-            h,
-            of,
-            part,
-            root,
-            state,
-            w,
-            x,
-            y,
-        } => {
-            let place = Place {
-                w: *w,
-                h: *h,
-                x: *x,
-                y: *y,
-            };
-            tell_trace(alloc, writer, batch, *of, part, root, *state, place)
-        }
-        Reply::Demand {
-            demand,
-            line,
-            made,
-            material,
-            order,
-            reserved,
-            wanted,
-        } => {
-            let counts = Counts {
-                wanted: *wanted,
-                reserved: *reserved,
-                made: *made,
-            };
-            tell_demand(writer, *demand, *line, material, order, counts)
-        }
-        Reply::Plan {
-            ceiling,
-            dropped,
-            tree,
-            worth,
-        } => tell_plan(writer, *ceiling, *dropped, tree, *worth),
+        Reply::Trace { .. } => tell_trace(alloc, writer, reply),
+        Reply::Demand { .. } => tell_demand(writer, reply),
+        Reply::Plan { .. } => tell_plan(writer, reply),
         Reply::Bound { best, units } => tell_bound(writer, *best, *units),
         Reply::Materials { materials } => tell_materials(alloc, writer, materials.as_slice()),
-        Reply::Parts {
-            material,
-            more,
-            parts,
-        } => tell_parts(alloc, writer, material, *more, parts.as_slice()),
+        Reply::Parts { .. } => tell_parts(alloc, writer, reply),
         Reply::Demands { demands, more } => {
             tell_behind(alloc, writer, "demands", demands.as_slice(), *more)
         }
         Reply::Jobs { jobs, more } => tell_behind(alloc, writer, "jobs", jobs.as_slice(), *more),
-        Reply::Job {
-            cuts,
-            h,
-            job,
-            kerf,
-            material,
-            part,
-            state,
-            tree,
-            w,
-        } => {
-            let numbers = JobNumbers {
-                cuts: *cuts,
-                h: *h,
-                job: *job,
-                kerf: *kerf,
-                w: *w,
-            };
-            tell_job(alloc, writer, numbers, material, part, *state, tree)
-        }
+        Reply::Job { .. } => tell_job(alloc, writer, reply),
         Reply::Terminal { last, terminal } => tell_terminal(writer, *last, *terminal),
         Reply::Refused(refusal) => tell_refusal(writer, *refusal),
     }
