@@ -25,7 +25,7 @@ import busy_shop
 from building import build
 
 HERE = os.path.dirname(os.path.abspath(__file__))
-LIBRARIES = ["shop_forms", "shop_records", "cut_tree", "cut_measure", "serde_json", "anyhow"]
+LIBRARIES = ["shop_messages", "shop_replies", "shop_forms", "shop_records", "cut_tree", "cut_measure", "serde_json", "anyhow"]
 
 
 def run(words, path, output):

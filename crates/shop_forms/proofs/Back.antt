@@ -22,7 +22,6 @@ use Rattle.json.proofs.Printed.Tokens.{tokens-print}
 use Rattle.json.proofs.Printed.Trees.{value-json_tokens, ArePrintable-json_tokens}
 use Rattle.json.specs.Json as json
 use Rattle.json.specs.Lex.{tokens}
-use Rattle.json.specs.Print.{print}
 use Rattle.json.specs.Tree.{HasNumbers, depth, json_tokens}
 use Rattle.serde_json.specs.Data.{Data, boolean, number, string, unsigned}
 use Rattle.serde_json.specs.Find.{get, as_number, as_str, as_u64}
@@ -31,7 +30,7 @@ use Rattle.serde_json.specs.Written.{compact_text, outline}
 use Rattle.serde_json.proofs.Numbers.{number_of-decimal}
 use Rattle.json.specs.Token.{Token}
 use Rattle.serde_json.proofs.Texts.{print-outline}
-use Rattle.shop_forms.specs.Forms.{message_of, sent_head, sent_of, from_one, command_of, material_command, receive_command, order_command, reserve_command, import_in, problem_command, import_by, import_command, query_of, asked_of, reply_of, made_of, order_made, reserve_made, ended_cells, first_cuts, listed_cuts, lost_cut, list_data, break_command, has_few_cuts, lines_data, message_data, reply_data, json_texts, kept_reply_of}
+use Rattle.shop_forms.specs.Forms.{message_of, sent_head, sent_of, from_one, command_of, material_command, receive_command, order_command, reserve_command, import_in, problem_command, import_by, import_command, query_of, asked_of, reply_of, made_of, order_made, reserve_made, ended_cells, first_cuts, listed_cuts, lost_cut, list_data, break_command, has_few_cuts, lines_data, message_data, reply_data, json_texts}
 use Rattle.shop_forms.specs.Told.{HasWideNumbers}
 use Rattle.shop_records.specs.Refusals.{refusal_number}
 use Rattle.shop_forms.proofs.ListedRows.{cuts_there, cuts_numbers, cuts_shallow, cuts_json, lines_there, lines_numbers, lines_shallow, lines_json, rack_numbers, rack_shallow, rack_json, materials_numbers, materials_shallow, materials_json, parts_numbers, parts_shallow, parts_json, demands_numbers, demands_shallow, demands_json, jobs_numbers, jobs_shallow, jobs_json, shallow_first_of_two, shallow_first_of_three, shallow_fourth}
@@ -218,14 +217,6 @@ reply_back (reply.Terminal last terminal) made = absurd made
 reply_back (reply.Refused refusal) h = absurd h
 
 -- ---- texts
-
-pub message_text_printed : (message : Message) → print (json_tokens (outline (message_data message))) ≡ json_texts.of_message message
-unfolding json_texts
-message_text_printed message = print-outline (message_data message)
-
-pub reply_text_printed : (answer : Reply) → print (json_tokens (outline (reply_data answer))) ≡ json_texts.of_reply answer
-unfolding json_texts
-reply_text_printed answer = print-outline (reply_data answer)
 
 -- the text of a value whose numbers are read back is read as the value
 read-compact : (d : Data) → HasNumbers (outline d) → depth (outline d) ≤ max_depth → of_json (outline d) ≡ Some d → read (compact_text d) ≡ Some d
@@ -424,10 +415,6 @@ unfolding json_texts
 one_reply a b p q same =
     let data_same : reply_data a ≡ reply_data b = same_some _ _ (sym (reply_text_read a p) ∙ ap read same ∙ reply_text_read b q) in
     same_some a b (sym (reply_back a p) ∙ ap reply_of data_same ∙ reply_back b q)
-
-pub kept_back : (answer : Reply) → IsMade answer → kept_reply_of (json_texts.of_reply answer) ≡ Some answer
-unfolding json_texts
-kept_back answer h = ap (option_and_then reply_of) (reply_text_read answer h) ∙ reply_back answer h
 
 -- ---- no value is both
 

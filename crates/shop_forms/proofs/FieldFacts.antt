@@ -1,5 +1,5 @@
 -- What is read of an object's fields.
-use Rattle.std.proofs.Common.{◌≡◌, ℕ, ◌<◌, ◌^◌, List, length, Bool, true, false, Some, None, nat_eq, refl, sym, ap, ◌∙◌, lt-ltb}
+use Rattle.std.proofs.Common.{◌≡◌, ℕ, ◌<◌, ◌^◌, List, length, Bool, false, Some, None, nat_eq, refl, sym, ap, ◌∙◌, lt-ltb}
 use Rattle.std.specs.Prelude.{IsTrue, unwrap_or, option_map, option_and_then, if◌then◌else◌}
 use Rattle.cut_measure.specs.declared.sizes.Kind.{Kind}
 use Rattle.cut_measure.specs.declared.sizes.Kind.TheVariants.{Bar, Sheet}
@@ -48,6 +48,3 @@ module _ (key : List ℕ) (d : Data) where
 
   pub kind_there : (kind : Kind) → get key d ≡ Some (string (kind_text kind)) → kind_at key d ≡ Some kind
   kind_there kind is = ap (option_and_then kind_of) (text_there (kind_text kind) is) ∙ kind_is kind
-
-pub not_memory : {M : Type 0} (b : Bool) → (M → b ≡ true) → b ≡ false → ¬ M
-not_memory b told is m = cc (told m)

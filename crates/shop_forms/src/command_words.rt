@@ -5,9 +5,9 @@ ghost use Rattle.serde_json.specs.Data.{Data};
 ghost use Rattle.shop_forms.specs.CommandWords.{command_word_text};
 ghost use Rattle.shop_forms.specs.Forms.{command_of, made_of};
 
-// What a command does.
+/// What a command does.
 #[derive(Clone, Copy)]
-pub(crate) enum CommandWord {
+pub enum CommandWord {
     Material,
     Receive,
     Order,
@@ -20,8 +20,8 @@ pub(crate) enum CommandWord {
     Import,
 }
 
-// What a word of `do` asks for, and a word of `ok` tells of.
-pub(crate) fn command_word_of(word: &str) -> Option<CommandWord>
+/// What a word of `do` asks for, and a word of `ok` tells of.
+pub fn command_word_of(word: &str) -> Option<CommandWord>
     ensures some { IfSome result (λ command_word. word.now ≡ command_word_text command_word) }
     ensures none { IfNone result
         ((d : Data) → (command_of word.now d ≡ None) × (made_of word.now d ≡ None)) }

@@ -12,12 +12,12 @@ use json::Writer;
 use serde_json::Value;
 use std::alloc::{AllocError, Global};
 
-// What an element of a list stands for.
-pub(crate) trait Read: Drop {
-    // What a value stands for, if anything.
+/// What an element of a list stands for.
+pub trait Read: Drop {
+    /// What a value stands for, if anything.
     ghost meant: { Data → Option Self };
 
-    // Reads a value.
+    /// Reads a value.
     fn read(value: &Value) -> Option<Self>
         ensures { result ≡ meant (view value.now) };
 }
@@ -44,8 +44,8 @@ fn read_all<T: Read>(alloc: Global, values: &[Value]) -> Result<Option<RowList<T
     Ok(Some(rows))
 }
 
-// What the elements of the list at a key stand for.
-pub(crate) fn rows_at<T: Read>(
+/// What the elements of the list at a key stand for.
+pub fn rows_at<T: Read>(
     alloc: Global,
     value: &Value,
     key: &str,
@@ -59,22 +59,22 @@ pub(crate) fn rows_at<T: Read>(
     }
 }
 
-// A row of a list, as it is told: an object.
-pub(crate) trait Listed {
-    // The object.
+/// A row of a list, as it is told: an object.
+pub trait Listed {
+    /// The object.
     ghost said: { Self → Data };
 
-    // Each of its numbers has 64 bits.
+    /// Each of its numbers has 64 bits.
     ghost is_wide: { Self → Type 0 };
 
-    // Writes it.
+    /// Writes it.
     fn write(&self, alloc: Global, writer: &mut Writer) -> Result<(), AllocError>
         ensures value { OnOk result (AddsValue writer.old writer.new (said self.now)) }
         ensures wide { OnOk result (is_wide self.now) };
 }
 
-// Writes a list of rows.
-pub(crate) fn write_rows<T: Listed>(
+/// Writes a list of rows.
+pub fn write_rows<T: Listed>(
     alloc: Global,
     writer: &mut Writer,
     rows: &[T],

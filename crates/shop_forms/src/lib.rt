@@ -1,25 +1,22 @@
-//! The forms of messages, queries and replies in JSON: how a value is read as one, and how each is printed.
+//! What the forms of messages, queries and replies in JSON are made of: what stands at the keys of an object, how objects and rows
+//! of lists are read and written, and what holds of all texts.
 #![tactic(auto)]
 
-mod adding;
-mod asking;
 mod command_words;
 mod elements;
-mod ending;
 mod fields;
-mod halting;
-mod importing;
 mod laws;
-mod listing;
-mod messages;
-mod ordering;
-mod receiving;
-mod replies;
-mod reserving;
-mod retiring;
+mod rows;
 mod words;
 mod writing;
 
+pub use command_words::{CommandWord, command_word_of};
+pub use elements::{Listed, Read, rows_at, write_rows};
+pub use fields::{
+    code_at, flag_at, has_keys, kind_at, name_at, number_at, part_in, text_at, wide_at, word_at,
+};
 pub use laws::{one_kind_of_value, one_text, read_back};
-pub use messages::{message_text, message_value, read_message, read_query};
-pub use replies::{kept_reply, read_reply, reply_text, reply_value};
+pub use words::{job_state_word, kind_word, see_part, state_word, wide};
+pub use writing::{
+    Member, new_writer, value_of, write_flag, write_number, write_object, write_text, written_text,
+};

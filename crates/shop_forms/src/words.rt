@@ -8,7 +8,8 @@ ghost use Rattle.shop_forms.specs.Fields.{job_state_text, kind_text, state_text}
 use cut_measure::{Kind, PartName};
 use shop_records::{JobState, StateWord};
 
-pub(crate) fn kind_word(kind: Kind) -> &'static str
+/// The word for a kind of material.
+pub fn kind_word(kind: Kind) -> &'static str
     ensures { result.now ≡ kind_text kind }
 {
     match kind {
@@ -17,7 +18,8 @@ pub(crate) fn kind_word(kind: Kind) -> &'static str
     }
 }
 
-pub(crate) fn state_word(state: StateWord) -> &'static str
+/// The word for the state of a part.
+pub fn state_word(state: StateWord) -> &'static str
     ensures { result.now ≡ state_text state }
 {
     match state {
@@ -31,7 +33,8 @@ pub(crate) fn state_word(state: StateWord) -> &'static str
     }
 }
 
-pub(crate) fn job_state_word(state: JobState) -> &'static str
+/// The word for the state of a job.
+pub fn job_state_word(state: JobState) -> &'static str
     ensures { result.now ≡ job_state_text state }
 {
     match state {
@@ -42,16 +45,16 @@ pub(crate) fn job_state_word(state: JobState) -> &'static str
     }
 }
 
-// A number of 32 bits as one of 64.
-pub(crate) fn wide(n: u32) -> u64
+/// A number of 32 bits as one of 64.
+pub fn wide(n: u32) -> u64
     ensures value { result ≡ n }
     ensures range { IsNumber n }
 {
     u64::from(n)
 }
 
-// Reads a name, which so is known to be one.
-pub(crate) fn see_part(part: &PartName)
+/// Reads a name, which so is known to be one.
+pub fn see_part(part: &PartName)
     ensures { IsName part.now }
 {
     let _act = part.act();

@@ -20,8 +20,8 @@ use serde_json::Value;
 use shop_records::Text;
 use std::alloc::{AllocError, Global};
 
-// A writer into memory of its own, with room for most texts where there is memory for it.
-pub(crate) fn new_writer(alloc: Global) -> Writer
+/// A writer into memory of its own, with room for most texts where there is memory for it.
+pub fn new_writer(alloc: Global) -> Writer
     ensures before { result.before ≡ [] }
     ensures tokens { result.tokens ≡ [] }
 {
@@ -30,8 +30,8 @@ pub(crate) fn new_writer(alloc: Global) -> Writer
     Writer::new(bytes)
 }
 
-// The text that was written.
-pub(crate) fn written_text(writer: Writer) -> Text
+/// The text that was written.
+pub fn written_text(writer: Writer) -> Text
     requires { writer.before ≡ [] }
     ensures { result ≡ print writer.tokens }
 {
@@ -41,10 +41,10 @@ pub(crate) fn written_text(writer: Writer) -> Text
     }
 }
 
-// A member of an object: a key, and the text, the number, the flag, the numbers or the part's name at it. The text of a name
-// takes memory.
+/// A member of an object: a key, and the text, the number, the flag, the numbers or the part's name at it. The text of a name
+/// takes memory.
 #[derive(Clone, Copy)]
-pub(crate) enum Member<'a> {
+pub enum Member<'a> {
     Text(&'static str, &'a str),
     Number(&'static str, u64),
     Flag(&'static str, bool),
@@ -52,8 +52,8 @@ pub(crate) enum Member<'a> {
     Name(&'static str, &'a PartName, Global),
 }
 
-// Writes an object of these members.
-pub(crate) fn write_object(writer: &mut Writer, members: &[Member<'_>]) -> Result<(), AllocError>
+/// Writes an object of these members.
+pub fn write_object(writer: &mut Writer, members: &[Member<'_>]) -> Result<(), AllocError>
     ensures { OnOk result (AddsValue writer.old writer.new (object (members_of members.now))) }
 {
     writer.begin_object()?;
@@ -77,8 +77,8 @@ fn write_member(writer: &mut Writer, member: &Member<'_>) -> Result<(), AllocErr
     }
 }
 
-// Writes a key with a text.
-pub(crate) fn write_text(writer: &mut Writer, key: &str, text: &str) -> Result<(), AllocError>
+/// Writes a key with a text.
+pub fn write_text(writer: &mut Writer, key: &str, text: &str) -> Result<(), AllocError>
     ensures { OnOk result (Adds writer.old writer.new
         (token.key key.now ∷ token.string text.now ∷ [])) }
 {
@@ -87,8 +87,8 @@ pub(crate) fn write_text(writer: &mut Writer, key: &str, text: &str) -> Result<(
     Ok(())
 }
 
-// Writes a key with a number.
-pub(crate) fn write_number(writer: &mut Writer, key: &str, n: u64) -> Result<(), AllocError>
+/// Writes a key with a number.
+pub fn write_number(writer: &mut Writer, key: &str, n: u64) -> Result<(), AllocError>
     ensures { OnOk result (Adds writer.old writer.new
         (token.key key.now ∷ token.number (decimal n) ∷ [])) }
 {
@@ -97,8 +97,8 @@ pub(crate) fn write_number(writer: &mut Writer, key: &str, n: u64) -> Result<(),
     Ok(())
 }
 
-// Writes a key with a flag.
-pub(crate) fn write_flag(writer: &mut Writer, key: &str, flag: bool) -> Result<(), AllocError>
+/// Writes a key with a flag.
+pub fn write_flag(writer: &mut Writer, key: &str, flag: bool) -> Result<(), AllocError>
     ensures { OnOk result (Adds writer.old writer.new
         (token.key key.now ∷ token.boolean flag ∷ [])) }
 {
@@ -143,8 +143,8 @@ fn write_name(
     write_text(writer, key, name.as_str())
 }
 
-// The value that a text stands for. A text that was written stands for one, so an Err is want of memory.
-pub(crate) fn value_of(alloc: Global, text: &Text) -> Result<Value, AllocError>
+/// The value that a text stands for. A text that was written stands for one, so an Err is want of memory.
+pub fn value_of(alloc: Global, text: &Text) -> Result<Value, AllocError>
     ensures { IfOk result (λ value. read text.now ≡ Some (view value)) }
 {
     let Ok(value) = Value::from_str(alloc, text.as_str()) else {

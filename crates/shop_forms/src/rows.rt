@@ -1,0 +1,174 @@
+//! Rows of lists in JSON: the lines of an order, read and written, and the rows that replies tell.
+
+ghost use Rattle.std.specs.Prelude.{◌≡◌};
+ghost use Rattle.serde_json.specs.View.{view};
+ghost use Rattle.shop_records.specs.Messages.{IsLine};
+ghost use Rattle.shop_forms.specs.Forms as form;
+ghost use Rattle.shop_forms.specs.Told as told;
+
+use crate::elements::{Listed, Read};
+use crate::fields::{code_at, flag_at, has_keys, number_at};
+use crate::words::{kind_word, state_word, wide};
+use crate::writing::{Member, write_object};
+use json::Writer;
+use serde_json::Value;
+use shop_records::{Demand, JobRow, Material, OrderLine, Part, RackRow};
+use std::alloc::{AllocError, Global};
+
+// The line of an order at the keys of an object.
+fn line_fields(value: &Value) -> Option<OrderLine>
+    ensures { result ≡ form.line_fields (view value.now) }
+{
+    let line = number_at(value, "line")?;
+    let material = code_at(value, "material")?;
+    let w = number_at(value, "w")?;
+    let h = number_at(value, "h")?;
+    let turn = flag_at(value, "turn")?;
+    let count = number_at(value, "count")?;
+    let worth = number_at(value, "worth")?;
+    Some(OrderLine {
+        line,
+        material,
+        w,
+        h,
+        turn,
+        count,
+        worth,
+    })
+}
+
+impl Read for OrderLine {
+    ghost meant = { form.line_of };
+
+    fn read(value: &Value) -> Option<OrderLine> {
+        if has_keys(value, 7) {
+            line_fields(value)
+        } else {
+            None
+        }
+    }
+}
+
+impl Listed for OrderLine {
+    ghost said = { form.line_data };
+
+    ghost is_wide = { IsLine };
+
+    fn write(&self, _alloc: Global, writer: &mut Writer) -> Result<(), AllocError> {
+        write_object(
+            writer,
+            &[
+                Member::Number("count", wide(self.count)),
+                Member::Number("h", wide(self.h)),
+                Member::Number("line", wide(self.line)),
+                Member::Text("material", self.material.as_str()),
+                Member::Flag("turn", self.turn),
+                Member::Number("w", wide(self.w)),
+                Member::Number("worth", wide(self.worth)),
+            ],
+        )
+    }
+}
+
+impl Listed for RackRow {
+    ghost said = { form.rack_row_data };
+
+    ghost is_wide = { told.HasWideSides };
+
+    fn write(&self, alloc: Global, writer: &mut Writer) -> Result<(), AllocError> {
+        write_object(
+            writer,
+            &[
+                Member::Number("h", wide(self.h)),
+                Member::Name("part", &self.part, alloc),
+                Member::Text("state", state_word(self.state)),
+                Member::Number("w", wide(self.w)),
+            ],
+        )
+    }
+}
+
+impl Listed for Material {
+    ghost said = { form.material_data };
+
+    ghost is_wide = { told.HasWideLimits };
+
+    fn write(&self, _alloc: Global, writer: &mut Writer) -> Result<(), AllocError> {
+        write_object(
+            writer,
+            &[
+                Member::Number("kerf", wide(self.limits.kerf())),
+                Member::Text("kind", kind_word(self.kind)),
+                Member::Text("material", self.code.as_str()),
+                Member::Number("min_long", wide(self.limits.min_long())),
+                Member::Number("min_short", wide(self.limits.min_short())),
+            ],
+        )
+    }
+}
+
+impl Listed for Part {
+    ghost said = { form.part_data };
+
+    ghost is_wide = { told.HasWidePart };
+
+    fn write(&self, alloc: Global, writer: &mut Writer) -> Result<(), AllocError> {
+        write_object(
+            writer,
+            &[
+                Member::Text("batch", self.batch.as_str()),
+                Member::Number("h", wide(self.size.h())),
+                Member::Number("of", wide(self.state.of())),
+                Member::Name("part", &self.name, alloc),
+                Member::Name("root", &self.root, alloc),
+                Member::Text("state", state_word(self.state.word())),
+                Member::Number("w", wide(self.size.w())),
+            ],
+        )
+    }
+}
+
+impl Listed for Demand {
+    ghost said = { form.open_demand_data };
+
+    ghost is_wide = { told.HasWideDemand };
+
+    fn write(&self, _alloc: Global, writer: &mut Writer) -> Result<(), AllocError> {
+        write_object(
+            writer,
+            &[
+                Member::Number("demand", wide(self.number)),
+                Member::Number("h", wide(self.size.h())),
+                Member::Number("line", wide(self.line)),
+                Member::Number("made", wide(self.made)),
+                Member::Text("material", self.material.as_str()),
+                Member::Text("order", self.order.as_str()),
+                Member::Number("reserved", wide(self.reserved)),
+                Member::Flag("turn", self.may_turn),
+                Member::Number("w", wide(self.size.w())),
+                Member::Number("wanted", wide(self.wanted)),
+                Member::Number("worth", wide(self.worth)),
+            ],
+        )
+    }
+}
+
+impl Listed for JobRow {
+    ghost said = { form.job_row_data };
+
+    ghost is_wide = { told.HasWideJob };
+
+    fn write(&self, alloc: Global, writer: &mut Writer) -> Result<(), AllocError> {
+        write_object(
+            writer,
+            &[
+                Member::Number("cuts", wide(self.cuts)),
+                Member::Number("h", wide(self.h)),
+                Member::Number("job", wide(self.job)),
+                Member::Text("material", self.material.as_str()),
+                Member::Name("part", &self.part, alloc),
+                Member::Number("w", wide(self.w)),
+            ],
+        )
+    }
+}

@@ -1,0 +1,115 @@
+//! JSON of the queries for lists, for a job and for a terminal.
+
+ghost use Rattle.std.specs.Prelude.{◌≡◌, codes};
+ghost use Rattle.serde_json.specs.View.{view};
+ghost use Rattle.shop_forms.specs.Fields.{behind_at};
+ghost use Rattle.shop_forms.specs.Forms as form;
+
+use cut_measure::PartName;
+use serde_json::Value;
+use shop_forms::{code_at, has_keys, number_at, text_at};
+use shop_records::Query;
+
+// The name behind which parts are asked for: none in an empty text.
+fn behind(value: &Value) -> Option<Option<PartName>>
+    ensures { result ≡ behind_at (codes "after") (view value.now) }
+{
+    let text = text_at(value, "after")?;
+    if text == "" {
+        return Some(None);
+    }
+    let name = PartName::read(text)?;
+    Some(Some(name))
+}
+
+// The query for a material's parts behind a name.
+fn parts_query(value: &Value) -> Option<Query>
+    ensures { result ≡ form.parts_query (view value.now) }
+{
+    let material = code_at(value, "material")?;
+    let after = behind(value)?;
+    Some(Query::Parts { material, after })
+}
+
+// The query for the open demands of all materials.
+fn all_demands(value: &Value) -> Option<Query>
+    ensures { result ≡ form.all_demands (view value.now) }
+{
+    let after = number_at(value, "after")?;
+    Some(Query::Demands {
+        after,
+        material: None,
+    })
+}
+
+// The query for a material's open demands.
+fn demands_of(value: &Value) -> Option<Query>
+    ensures { result ≡ form.demands_of (view value.now) }
+{
+    let material = code_at(value, "material")?;
+    let after = number_at(value, "after")?;
+    Some(Query::Demands {
+        after,
+        material: Some(material),
+    })
+}
+
+// The query for open demands.
+fn demands_query(value: &Value) -> Option<Query>
+    ensures { result ≡ form.demands_query (view value.now) }
+{
+    if has_keys(value, 2) {
+        all_demands(value)
+    } else if has_keys(value, 3) {
+        demands_of(value)
+    } else {
+        None
+    }
+}
+
+// The query for waiting jobs.
+pub(crate) fn jobs_query(value: &Value) -> Option<Query>
+    ensures { result ≡ form.jobs_query (view value.now) }
+{
+    let after = number_at(value, "after")?;
+    Some(Query::Jobs { after })
+}
+
+// The query for a job.
+pub(crate) fn job_query(value: &Value) -> Option<Query>
+    ensures { result ≡ form.job_query (view value.now) }
+{
+    let job = number_at(value, "job")?;
+    Some(Query::Job { job })
+}
+
+// The query for a terminal's last number.
+pub(crate) fn terminal_query(value: &Value) -> Option<Query>
+    ensures { result ≡ form.terminal_query (view value.now) }
+{
+    let terminal = number_at(value, "terminal")?;
+    Some(Query::Terminal { terminal })
+}
+
+// The query for a list of what is there, open or listed behind a name.
+pub(crate) fn list_query(value: &Value, word: &str) -> Option<Query>
+    ensures { result ≡ form.list_query word.now (view value.now) }
+{
+    if word == "materials" {
+        if has_keys(value, 1) {
+            Some(Query::Materials)
+        } else {
+            None
+        }
+    } else if word == "parts" {
+        if has_keys(value, 3) {
+            parts_query(value)
+        } else {
+            None
+        }
+    } else if word == "demands" {
+        demands_query(value)
+    } else {
+        None
+    }
+}

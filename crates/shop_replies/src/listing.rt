@@ -1,0 +1,136 @@
+//! JSON of the replies about lists, a job and a terminal.
+
+ghost use Rattle.std.specs.Prelude.{OnOk, All};
+ghost use Rattle.shop_records.specs.declared.messages.Reply.TheVariants as answer;
+ghost use Rattle.shop_forms.specs.Forms as form;
+ghost use Rattle.shop_forms.specs.Forms.{reply_data};
+ghost use Rattle.shop_forms.specs.Told.{HasWideNumbers};
+ghost use Rattle.shop_forms.specs.Tokens.{AddsValue};
+ghost use Rattle.shop_replies.specs.Variants.{IsParts, IsJob};
+
+use json::Writer;
+use shop_forms::{
+    Listed, Member, job_state_word, wide, write_flag, write_object, write_rows, write_text,
+};
+use shop_records::{Material, Reply};
+use std::alloc::{AllocError, Global};
+
+// Writes the reply about all materials.
+pub(crate) fn tell_materials(
+    alloc: Global,
+    writer: &mut Writer,
+    materials: &[Material],
+) -> Result<(), AllocError>
+    ensures value { OnOk result
+        (AddsValue writer.old writer.new (reply_data (answer.Materials materials.now))) }
+    ensures wide { OnOk result (HasWideNumbers (answer.Materials materials.now)) }
+{
+    writer.begin_object()?;
+    writer.key("materials")?;
+    write_rows(alloc, writer, materials)?;
+    write_text(writer, "ok", "materials")?;
+    writer.end_object()?;
+    Ok(())
+}
+
+// Writes the reply about parts behind a name.
+pub(crate) fn tell_parts(
+    alloc: Global,
+    writer: &mut Writer,
+    reply: &Reply,
+) -> Result<(), AllocError>
+    requires { IsParts reply.now }
+    ensures value { OnOk result (AddsValue writer.old writer.new (reply_data reply.now)) }
+    ensures wide { OnOk result (HasWideNumbers reply.now) }
+{
+    let Reply::Parts {
+        material,
+        more,
+        parts,
+    } = reply
+    else {
+        unreachable!()
+    };
+    writer.begin_object()?;
+    write_text(writer, "material", material.as_str())?;
+    write_flag(writer, "more", *more)?;
+    write_text(writer, "ok", "parts")?;
+    writer.key("parts")?;
+    write_rows(alloc, writer, parts.as_slice())?;
+    writer.end_object()?;
+    Ok(())
+}
+
+// Writes the reply about rows behind a number: the list at its word.
+pub(crate) fn tell_behind<T: Listed>(
+    alloc: Global,
+    writer: &mut Writer,
+    word: &str,
+    rows: &[T],
+    more: bool,
+) -> Result<(), AllocError>
+    ensures value { OnOk result
+        (AddsValue writer.old writer.new (form.behind_told word.now T.said rows.now more)) }
+    ensures wide { OnOk result (All T.is_wide rows.now) }
+{
+    writer.begin_object()?;
+    writer.key(word)?;
+    write_rows(alloc, writer, rows)?;
+    write_flag(writer, "more", more)?;
+    write_text(writer, "ok", word)?;
+    writer.end_object()?;
+    Ok(())
+}
+
+// Writes the reply about a job.
+pub(crate) fn tell_job(alloc: Global, writer: &mut Writer, reply: &Reply) -> Result<(), AllocError>
+    requires { IsJob reply.now }
+    ensures value { OnOk result (AddsValue writer.old writer.new (reply_data reply.now)) }
+    ensures wide { OnOk result (HasWideNumbers reply.now) }
+{
+    let Reply::Job {
+        cuts,
+        h,
+        job,
+        kerf,
+        material,
+        part,
+        state,
+        tree,
+        w,
+    } = reply
+    else {
+        unreachable!()
+    };
+    write_object(
+        writer,
+        &[
+            Member::Number("cuts", wide(*cuts)),
+            Member::Number("h", wide(*h)),
+            Member::Number("job", wide(*job)),
+            Member::Number("kerf", wide(*kerf)),
+            Member::Text("material", material.as_str()),
+            Member::Text("ok", "job"),
+            Member::Name("part", part, alloc),
+            Member::Text("state", job_state_word(*state)),
+            Member::Text("tree", tree.as_str()),
+            Member::Number("w", wide(*w)),
+        ],
+    )
+}
+
+// Writes the reply about a terminal's last number.
+pub(crate) fn tell_terminal(writer: &mut Writer, last: u32, terminal: u32) -> Result<(), AllocError>
+    ensures value { OnOk result
+        (AddsValue writer.old writer.new (reply_data (answer.Terminal last terminal))) }
+    ensures wide { OnOk result (HasWideNumbers (answer.Terminal last terminal)) }
+{
+    write_object(
+        writer,
+        &[
+            Member::Number("last", wide(last)),
+            Member::Text("ok", "terminal"),
+            Member::Number("terminal", wide(terminal)),
+        ],
+    )
+}
