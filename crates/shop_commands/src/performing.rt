@@ -29,7 +29,7 @@ use std::time::Clock;
 
 // What is told where words that `clap` takes ask for nothing.
 const NOTHING_ASKED: &str =
-    "error: the words ask for nothing: a code is 1 to 16 of A-Z, 0-9 and -, and --order, --terminal and --number stand together; try '--help'\n";
+    "error: MATERIAL and --order are codes, 1 to 16 of A-Z, 0-9 and -; --order, --terminal and --number of orders stand together; try '--help'\n";
 
 fn fault_line(alloc: Global, fault: Fault) -> Result<String, AllocError>
     ensures { IfOk result (λ text. string_bytes text ≡ spec.fault_line fault) }

@@ -366,7 +366,7 @@ fn serve_command<'a>(alloc: Global) -> Result<Command<'a>, AllocError>
         alloc,
         "serve",
         "Adds the materials of a shop file and serves terminals over HTTP, on this machine alone",
-        "Example:\n  cutshop serve --port 8017 --store shop.db --shop shop.toml",
+        "Example:\n  cutshop serve --port 8017 --store shop.db --shop shop.toml --page page/terminal.html",
         &[
             Argument::Port,
             Argument::Store,
