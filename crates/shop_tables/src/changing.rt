@@ -100,6 +100,7 @@ fn write_demands<S: Alter>(
 }
 
 // The material, the part that moves, the new parts and the totals.
+#[tactic(auto, using(crate::proofs::InTurn::stops, shop_statements::proofs::Steps::within_then))]
 fn write_stock<S: Alter>(tx: &mut Transaction<'_, S>, change: &Change) -> Result<(), TableFault>
     ensures same_reference { tx.new.conn.ghost_name ≡ tx.old.conn.ghost_name }
     ensures writes { Writes (state S.Store tx.old.conn.now) (state S.Store tx.new.conn.now) result
@@ -112,6 +113,7 @@ fn write_stock<S: Alter>(tx: &mut Transaction<'_, S>, change: &Change) -> Result
 }
 
 // The order, the import that it came by, and its demands or others.
+#[tactic(auto, using(crate::proofs::InTurn::stops, shop_statements::proofs::Steps::within_then))]
 fn write_work<S: Alter>(tx: &mut Transaction<'_, S>, change: &Change) -> Result<(), TableFault>
     ensures same_reference { tx.new.conn.ghost_name ≡ tx.old.conn.ghost_name }
     ensures writes { Writes (state S.Store tx.old.conn.now) (state S.Store tx.new.conn.now) result
@@ -123,6 +125,7 @@ fn write_work<S: Alter>(tx: &mut Transaction<'_, S>, change: &Change) -> Result<
 }
 
 // The numbers that were given.
+#[tactic(auto, using(crate::proofs::InTurn::stops, shop_statements::proofs::Steps::within_then))]
 fn write_numbers<S: Alter>(tx: &mut Transaction<'_, S>, change: &Change) -> Result<(), TableFault>
     ensures same_reference { tx.new.conn.ghost_name ≡ tx.old.conn.ghost_name }
     ensures writes { Writes (state S.Store tx.old.conn.now) (state S.Store tx.new.conn.now) result
@@ -134,6 +137,7 @@ fn write_numbers<S: Alter>(tx: &mut Transaction<'_, S>, change: &Change) -> Resu
 
 /// Writes the rows of a change, its kept message first, and runs a statement in any case. A change that fits the content
 /// makes the changed content of it.
+#[tactic(auto, using(crate::proofs::InTurn::stops, shop_statements::proofs::Steps::within_then))]
 pub(crate) fn write_change<S: Alter>(
     alloc: Global,
     tx: &mut Transaction<'_, S>,

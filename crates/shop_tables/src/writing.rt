@@ -152,6 +152,7 @@ pub(crate) fn write_some<W: Writing<Row>, Row, S: Alter>(
 }
 
 /// Writes rows one after another.
+#[tactic(auto, using(crate::proofs::InTurn::stops))]
 pub(crate) fn write_all<W: Writing<Row>, Row, S: Alter>(
     tx: &mut Transaction<'_, S>,
     rows: &[Row],

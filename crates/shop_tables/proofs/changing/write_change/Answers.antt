@@ -1,8 +1,8 @@
 use Rattle.std.proofs.Common.{refl}
 use Rattle.shop_tables.specs.Changing.{with_messages, with_jobs, with_stock}
-use Rattle.shop_statements.proofs.Steps.{went_then, ran_then, within_then, on_ok_then}
+use Rattle.shop_statements.proofs.Steps.{went_then, ran_then, on_ok_then}
 use Rattle.shop_tables.proofs.Fitting.{job_fits}
-use Rattle.shop_tables.proofs.InTurn.{ran_writes, stops, writes_so, writes_then}
+use Rattle.shop_tables.proofs.InTurn.{ran_writes, writes_so, writes_then}
 use Rattle.shop_tables.proofs.changing.write_change.Goals as goal
 
 pub returns-clause-ran : goal.returns-clause-ran
@@ -22,16 +22,3 @@ returns-clause-writes g c =
       tt,
     )) (λ b. refl)
     (writes_then (writes_then (writes_then (writes_then (ran_writes c.in_ok-keep.ensures.ran c.in_ok-keep.ensures.put c.keep.ensures.within) c.in_ok-write_job.ensures.writes) c.in_ok-write_stock.ensures.writes) c.in_ok-write_work.ensures.writes) c.write_numbers.ensures.writes)
-
-pub returns-in_err-keep-clause-writes : goal.returns-in_err-keep-clause-writes
-returns-in_err-keep-clause-writes g c = stops c.from_residual.ensures.0 c.keep.ensures.within
-
-pub returns-in_err-write_job-clause-writes : goal.returns-in_err-write_job-clause-writes
-returns-in_err-write_job-clause-writes g c = stops c.from_residual-in_err-write_job.ensures.0 (within_then _ _ _ c.keep.ensures.within c.write_job.ensures.writes.within)
-
-pub returns-in_err-write_stock-clause-writes : goal.returns-in_err-write_stock-clause-writes
-returns-in_err-write_stock-clause-writes g c = stops c.from_residual-in_err-write_stock.ensures.0 (within_then _ _ _ c.keep.ensures.within (within_then _ _ _ c.write_job.ensures.writes.within c.write_stock.ensures.writes.within))
-
-pub returns-in_err-write_work-clause-writes : goal.returns-in_err-write_work-clause-writes
-returns-in_err-write_work-clause-writes g c =
-    stops c.from_residual-in_err-write_work.ensures.0 (within_then _ _ _ c.keep.ensures.within (within_then _ _ _ c.write_job.ensures.writes.within (within_then _ _ _ c.write_stock.ensures.writes.within c.write_work.ensures.writes.within)))

@@ -1,11 +1,8 @@
 use Rattle.std.proofs.Common.{Option, Some, None, refl}
 use Rattle.std.specs.Prelude.{⊤, IfSome}
 use Rattle.shop_tables.specs.Changing.{with_act, with_number}
-use Rattle.shop_tables.proofs.InTurn.{of_some, stops, writes_so, writes_then}
+use Rattle.shop_tables.proofs.InTurn.{of_some, writes_so, writes_then}
 use Rattle.shop_tables.proofs.changing.write_numbers.Goals as goal
-
-pub returns-in_err-write_some-clause-writes : goal.returns-in_err-write_some-clause-writes
-returns-in_err-write_some-clause-writes g c = stops c.from_residual.ensures.0 c.write_some.ensures.writes.within
 
 pub returns-clause-writes : goal.returns-clause-writes
 returns-clause-writes g c =

@@ -3,19 +3,9 @@ use Rattle.std.specs.Prelude.{IfSome, is_some, not}
 use Rattle.std.specs.FinMap.{get}
 use Rattle.shop_records.specs.Content as content
 use Rattle.shop_tables.specs.Changing.{with_materials, with_moved, with_parts, with_sums}
-use Rattle.shop_statements.proofs.Steps.{within_then}
 use Rattle.shop_tables.proofs.Fitting.{moved_fits, parts_new, totals_fit}
-use Rattle.shop_tables.proofs.InTurn.{of_all, of_some, stops, writes_so, writes_then}
+use Rattle.shop_tables.proofs.InTurn.{of_all, of_some, writes_so, writes_then}
 use Rattle.shop_tables.proofs.changing.write_stock.Goals as goal
-
-pub returns-in_err-write_some-clause-writes : goal.returns-in_err-write_some-clause-writes
-returns-in_err-write_some-clause-writes g c = stops c.from_residual.ensures.0 c.write_some.ensures.writes.within
-
-pub returns-in_err-write_some-2-clause-writes : goal.returns-in_err-write_some-2-clause-writes
-returns-in_err-write_some-2-clause-writes g c = stops c.from_residual-in_err-write_some-2.ensures.0 (within_then _ _ _ c.write_some.ensures.writes.within c.write_some-2.ensures.writes.within)
-
-pub returns-in_err-write_all-clause-writes : goal.returns-in_err-write_all-clause-writes
-returns-in_err-write_all-clause-writes g c = stops c.from_residual-in_err-write_all.ensures.0 (within_then _ _ _ c.write_some.ensures.writes.within (within_then _ _ _ c.write_some-2.ensures.writes.within c.write_all.ensures.writes.within))
 
 pub returns-clause-writes : goal.returns-clause-writes
 returns-clause-writes g c =

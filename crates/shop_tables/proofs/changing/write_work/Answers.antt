@@ -3,16 +3,9 @@ use Rattle.std.specs.Prelude.{IfSome}
 use Rattle.std.specs.FinMap.{get}
 use Rattle.std.specs.FinSet as set
 use Rattle.shop_tables.specs.Changing.{with_orders, with_imports, with_demands}
-use Rattle.shop_statements.proofs.Steps.{within_then}
 use Rattle.shop_tables.proofs.Fitting.{demands_fit, import_new}
-use Rattle.shop_tables.proofs.InTurn.{of_some, stops, writes_so, writes_then}
+use Rattle.shop_tables.proofs.InTurn.{of_some, writes_so, writes_then}
 use Rattle.shop_tables.proofs.changing.write_work.Goals as goal
-
-pub returns-in_err-write_some-clause-writes : goal.returns-in_err-write_some-clause-writes
-returns-in_err-write_some-clause-writes g c = stops c.from_residual.ensures.0 c.write_some.ensures.writes.within
-
-pub returns-in_err-write_some-2-clause-writes : goal.returns-in_err-write_some-2-clause-writes
-returns-in_err-write_some-2-clause-writes g c = stops c.from_residual-in_err-write_some-2.ensures.0 (within_then _ _ _ c.write_some.ensures.writes.within c.write_some-2.ensures.writes.within)
 
 pub returns-clause-writes : goal.returns-clause-writes
 returns-clause-writes g c =

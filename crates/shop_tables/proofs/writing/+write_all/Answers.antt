@@ -1,13 +1,10 @@
 use Rattle.std.proofs.Common.{refl}
 use Rattle.shop_statements.proofs.Steps.{none_below}
-use Rattle.shop_tables.proofs.InTurn.{first_then, ran_writes, stops, writes_nothing}
+use Rattle.shop_tables.proofs.InTurn.{first_then, ran_writes, writes_nothing}
 use Rattle.shop_tables.proofs.writing.+write_all.Goals as goal
 
 pub returns-in_default-clause-writes : goal.returns-in_default-clause-writes
 returns-in_default-clause-writes g t c = rw (none_below c.args.rows.now c.in_default.len_below) (writes_nothing (λ b. refl))
-
-pub returns-in_err-write-clause-writes : goal.returns-in_err-write-clause-writes
-returns-in_err-write-clause-writes g t c = stops c.from_residual.ensures.0 c.write.ensures.within
 
 pub returns-clause-writes : goal.returns-clause-writes
 returns-clause-writes g t c =
