@@ -9,7 +9,7 @@ use Rattle.std.specs.FinMap.{FinMap, IsAntisymmetric, get, insert, get-insert, n
 use Rattle.cut_measure.specs.Codes.{code_cmp}
 use Rattle.cut_measure.specs.Names.{Name, name_cmp}
 use Rattle.shop_records.specs.Content as content
-use Rattle.shop_records.specs.Content.{Content, material_at, part_at, import_at, totals_of, no_totals}
+use Rattle.shop_records.specs.Content.{Content, material_at, part_at, demand_at, import_at, in_state, totals_of, no_totals}
 use Rattle.shop_records.specs.Elements.{IsIn}
 use Rattle.shop_records.specs.Soundness.{Fits, TotalsFit, with_totals, IsNewPart, IsMovedPart, IsNewJob, IsMovedJob, IsNewDemand, IsMovedDemand}
 use Rattle.shop_records.specs.declared.changes.Change.{Change}
@@ -23,33 +23,16 @@ use Rattle.shop_records.specs.declared.records.Demand.{Demand}
 use Rattle.shop_records.proofs.Basics.{names_total, names_same, codes_total, codes_same, none_some, key_cases, tied, untied, get_other, all_in}
 use Rattle.shop_records.proofs.Puts.{Pairwise, pairs_in, pairs_more}
 use Rattle.shop_statements.specs.Shown.{Books}
-use Rattle.shop_tables.specs.Changing.{HasSums, AreNew, IsCounted, AreCounted, with_row, with_change}
+use Rattle.shop_statements.specs.Changes.{with_part, with_demand}
+use Rattle.shop_tables.specs.Changing.{HasSums, AreDemandsFit, AreInTurn, IsOver, recounted, with_row, with_change}
 
 -- ---- rows that are put one after another
 
--- rows that are new, under different keys, are new in turn
-pub new_in_turn : {K X : Type 0} {R : K → K → Ordering} (o : IsTotalOrder R) (same : IsAntisymmetric R) (key : X → K) (xs : List X) (rows : FinMap R X)
-    → ((x : X) → IsIn x xs → get rows (key x) ≡ None) → Pairwise (λ a b. key a ≢ key b) xs → AreNew key xs rows
-new_in_turn o same key [] rows new apart = tt
-new_in_turn o same key (x ∷ xs) rows new apart = (
-  new x (inl refl),
-  new_in_turn o same key xs (insert rows (key x) x) (λ y i. get_other o same rows (key x) x (key y) (λ e. apart.0 y i (sym e)) ∙ new y (inr i)) apart.1,
-)
-
-pub counted_in_turn : (xs : List Demand) (rows : FinMap nat_cmp Demand) → ((x : Demand) → IsIn x xs → IsCounted rows x) → Pairwise (λ a b. a.number ≢ b.number) xs → AreCounted xs rows
-counted_in_turn [] rows there apart = tt
-counted_in_turn (x ∷ xs) rows there apart = (
-  there x (inl refl),
-  counted_in_turn xs (insert rows x.number x)
-      (λ y i.
-      let was = there y (inr i) in
-      record {
-        before = was.before;
-        found = get_other nat_cmp_total nat_cmp-IsAntisymmetric rows x.number x y.number (λ e. apart.0 y i (sym e)) ∙ was.found;
-        is = was.is;
-      })
-      apart.1,
-)
+-- rows that each find what they need, under different keys, find it in turn
+module _ {X : Type 0} (Needs : X → Books → Type 0) (with_one : X → Books → Books) (Apart : X → X → Type 0) (stays : (x y : X) (b : Books) → Apart x y → Needs y b → Needs y (with_one x b)) where
+  pub in_turn : (rows : List X) (b : Books) → ((x : X) → IsIn x rows → Needs x b) → Pairwise Apart rows → AreInTurn Needs with_one rows b
+  in_turn [] b each apart = tt
+  in_turn (x ∷ rows) b each apart = (each x (inl refl), in_turn rows (with_one x b) (λ y i. stays x y b (apart.0 y i) (each y (inr i))) apart.1)
 
 less_apart : (a b : Name) → name_cmp a b ≡ Less → a ≢ b
 less_apart a b less e = let tie : name_cmp b b ≡ Less = subst (λ n. name_cmp n b ≡ Less) e less in let own = tied_itself names_total b in cc
@@ -61,22 +44,36 @@ moved_new (Some part) m fits name new =
     get_other names_total names_same m.parts part.name part name (λ e. none_some _ (sym new ∙ ap (get m.parts) e ∙ fits.found)) ∙ new
 
 module _ (m : Content) (change : Change) (fits : Fits m change) where
-  pub parts_new : AreNew (λ part. part.name) change.parts (content.with_moved change.moved m.parts)
-  parts_new =
-      new_in_turn names_total names_same (λ part. part.name) change.parts _
-      (λ part i. moved_new change.moved m fits.moved part.name (all_in (IsNewPart m) change.parts fits.parts part i).new)
-      (pairs_more _ _ (λ a b. less_apart a.name b.name) change.parts (pairs_in _ change.parts fits.rising))
+  pub parts_new : (b : Books) → b.content.parts ≡ content.with_moved change.moved m.parts → AreInTurn (λ part n. part_at n.content part.name ≡ None) with_part change.parts b
+  parts_new b same =
+      in_turn (λ part n. part_at n.content part.name ≡ None) with_part (λ x y. x.name ≢ y.name)
+      (λ x y n apart new. get_other names_total names_same n.content.parts x.name x y.name (λ e. apart (sym e)) ∙ new) change.parts b
+      (λ part i. ap (λ rows. get rows part.name) same ∙ moved_new change.moved m fits.moved part.name (all_in (IsNewPart m) change.parts fits.parts part i).new)
+      (pairs_more _ _ (λ x y. less_apart x.name y.name) change.parts (pairs_in _ change.parts fits.rising))
 
-  pub demands_fit : MatchOption change.order (AreCounted change.demands m.demands) (λ _. AreNew (λ demand. demand.number) change.demands m.demands)
-  demands_fit = by change.order fits.demands
+  pub moved_fits : (b : Books) → b.content.parts ≡ m.parts → IfSome change.moved (λ part. IsOver b.content.parts part.name (in_state part.state) part)
+  moved_fits b same = by change.moved fits.moved
     where
-      apart : Pairwise (λ a b. a.number ≢ b.number) change.demands
+      by : (moved : Option Part) → IfSome moved (IsMovedPart m) → IfSome moved (λ part. IsOver b.content.parts part.name (in_state part.state) part)
+      by None h = tt
+      by (Some part) h = record { before = h.before; found = ap (λ rows. get rows part.name) same ∙ h.found; is = h.is }
+
+  pub demands_fit : (b : Books) → b.content.demands ≡ m.demands → AreDemandsFit change.order change.demands b
+  demands_fit b same = by change.order fits.demands
+    where
+      apart : Pairwise (λ x y. x.number ≢ y.number) change.demands
       apart = pairs_in _ change.demands fits.once
 
-      by : (order : Option (List ℕ)) → MatchOption order (All (IsMovedDemand m) change.demands) (λ code. All (IsNewDemand m code) change.demands)
-          → MatchOption order (AreCounted change.demands m.demands) (λ _. AreNew (λ demand. demand.number) change.demands m.demands)
-      by None all = counted_in_turn change.demands m.demands (λ x i. let was = all_in (IsMovedDemand m) change.demands all x i in record { before = was.before; found = was.found; is = was.is }) apart
-      by (Some code) all = new_in_turn nat_cmp_total nat_cmp-IsAntisymmetric (λ demand. demand.number) change.demands m.demands (λ x i. (all_in (IsNewDemand m code) change.demands all x i).new) apart
+      other : (x y : Demand) (n : Books) → x.number ≢ y.number → get (insert n.content.demands x.number x) y.number ≡ get n.content.demands y.number
+      other x y n apart = get_other nat_cmp_total nat_cmp-IsAntisymmetric n.content.demands x.number x y.number (λ e. apart (sym e))
+
+      by : (order : Option (List ℕ)) → MatchOption order (All (IsMovedDemand m) change.demands) (λ code. All (IsNewDemand m code) change.demands) → AreDemandsFit order change.demands b
+      by None all = in_turn (λ demand n. IsOver n.content.demands demand.number (recounted demand) demand) with_demand (λ x y. x.number ≢ y.number)
+          (λ x y n apart was. record { before = was.before; found = other x y n apart ∙ was.found; is = was.is }) change.demands b
+          (λ x i. let was = all_in (IsMovedDemand m) change.demands all x i in record { before = was.before; found = ap (λ rows. get rows x.number) same ∙ was.found; is = was.is }) apart
+      by (Some code) all = in_turn (λ demand n. demand_at n.content demand.number ≡ None) with_demand (λ x y. x.number ≢ y.number)
+          (λ x y n apart new. other x y n apart ∙ new) change.demands b
+          (λ x i. ap (λ rows. get rows x.number) same ∙ (all_in (IsNewDemand m code) change.demands all x i).new) apart
 
 -- ---- totals
 

@@ -35,131 +35,101 @@ use Rattle.shop_records.specs.declared.records.Demand.{Demand}
 use Rattle.shop_records.specs.declared.records.Totals.{Totals}
 use Rattle.shop_records.specs.declared.imports.ImportRow.{ImportRow}
 use Rattle.shop_records.specs.declared.texts.Kept.{Kept}
+use Rattle.shop_statements.specs.Earlier.{earlier_schema}
 use Rattle.shop_statements.specs.Layout.{Loose, no_schema, shop_schema, IsShop, meta_table, materials_table, parts_table, jobs_table, orders_table, demands_table, kept_table, imports_table, totals_table, totals2_table}
 use Rattle.shop_statements.specs.Rows.{AreRows, IsKeyed, meta_row, meta_entries, material_row, part_row, job_row, order_row, demand_row, kept_row, import_row, totals_row}
 use Rattle.shop_tables.specs.Adopting.{Lays as LaysTables}
 use Rattle.shop_statements.specs.Shown.{Shows, fresh_books}
 use Rattle.shop_statements.proofs.Keys.{cast-Int, cast-Null}
-use Rattle.shop_tables.proofs.Making.{MakesAs, Blank, blank_then, runs_in, IsBatch, Next, next}
+use Rattle.shop_tables.proofs.Making.{AreFirst, AreMade, Blank, IsBatch, MakesAs, all_created, joined, made_in_turn, next, runs_in, texts_of}
 use Rattle.shop_statements.proofs.Terms.{Writes}
 use Rattle.shop_statements.proofs.Writes.{inserted}
 use Rattle.shop_statements.proofs.Works.{no_works, unlike}
 
-abbrev pub tables_text : List ℕ
-tables_text = codes "CREATE TABLE meta (name TEXT NOT NULL PRIMARY KEY, value INTEGER NOT NULL) STRICT;CREATE TABLE materials (code TEXT NOT NULL PRIMARY KEY, kind INTEGER NOT NULL, kerf INTEGER NOT NULL, min_long INTEGER NOT NULL, min_short INTEGER NOT NULL) STRICT;CREATE TABLE parts (act INTEGER NOT NULL, node INTEGER NOT NULL, material TEXT NOT NULL REFERENCES materials (code), batch TEXT NOT NULL, root_act INTEGER NOT NULL, root_node INTEGER NOT NULL, x INTEGER NOT NULL, y INTEGER NOT NULL, w INTEGER NOT NULL, h INTEGER NOT NULL, state INTEGER NOT NULL, detail INTEGER NOT NULL, PRIMARY KEY (act, node)) STRICT;CREATE TABLE jobs (job INTEGER NOT NULL PRIMARY KEY, part_act INTEGER NOT NULL, part_node INTEGER NOT NULL, tree TEXT NOT NULL, state INTEGER NOT NULL, FOREIGN KEY (part_act, part_node) REFERENCES parts (act, node)) STRICT;CREATE TABLE orders (ord TEXT NOT NULL PRIMARY KEY) STRICT;CREATE TABLE demands (number INTEGER NOT NULL PRIMARY KEY, ord TEXT NOT NULL REFERENCES orders (ord), line INTEGER NOT NULL, material TEXT NOT NULL REFERENCES materials (code), w INTEGER NOT NULL, h INTEGER NOT NULL, turn INTEGER NOT NULL, worth INTEGER NOT NULL, wanted INTEGER NOT NULL, reserved INTEGER NOT NULL, made INTEGER NOT NULL, UNIQUE (ord, line), CHECK (reserved + made <= wanted)) STRICT;CREATE TABLE kept (terminal INTEGER NOT NULL, number INTEGER NOT NULL, command TEXT NOT NULL, reply TEXT NOT NULL, PRIMARY KEY (terminal, number)) STRICT;CREATE TABLE imports (ord TEXT NOT NULL PRIMARY KEY REFERENCES orders (ord), form INTEGER NOT NULL, material TEXT NOT NULL, body TEXT NOT NULL, reply TEXT NOT NULL) STRICT;CREATE TABLE totals (material TEXT NOT NULL PRIMARY KEY REFERENCES materials (code), received INTEGER NOT NULL, stock INTEGER NOT NULL, rack INTEGER NOT NULL, pieces INTEGER NOT NULL, kerf INTEGER NOT NULL, scrap INTEGER NOT NULL) STRICT;CREATE TABLE totals2 (material TEXT NOT NULL PRIMARY KEY REFERENCES materials (code), received INTEGER NOT NULL, stock INTEGER NOT NULL, rack INTEGER NOT NULL, pieces INTEGER NOT NULL, kerf INTEGER NOT NULL, scrap INTEGER NOT NULL, returned INTEGER NOT NULL) STRICT;INSERT INTO meta (name, value) VALUES ('version', 2), ('act', 0), ('demand', 0)"
+abbrev meta_text : List ℕ
+meta_text = codes "CREATE TABLE meta (name TEXT NOT NULL PRIMARY KEY, value INTEGER NOT NULL) STRICT;"
 
-abbrev one_text : List ℕ
-one_text = codes "CREATE TABLE meta (name TEXT NOT NULL PRIMARY KEY, value INTEGER NOT NULL) STRICT;"
+abbrev pub totals2_text : List ℕ
+totals2_text = codes "CREATE TABLE totals2 (material TEXT NOT NULL PRIMARY KEY REFERENCES materials (code), received INTEGER NOT NULL, stock INTEGER NOT NULL, rack INTEGER NOT NULL, pieces INTEGER NOT NULL, kerf INTEGER NOT NULL, scrap INTEGER NOT NULL, returned INTEGER NOT NULL) STRICT;"
 
-abbrev two_text : List ℕ
-two_text = codes "CREATE TABLE materials (code TEXT NOT NULL PRIMARY KEY, kind INTEGER NOT NULL, kerf INTEGER NOT NULL, min_long INTEGER NOT NULL, min_short INTEGER NOT NULL) STRICT;"
+abbrev rows_text : List ℕ
+rows_text = codes "INSERT INTO meta (name, value) VALUES ('version', 2), ('act', 0), ('demand', 0)"
 
-abbrev three_text : List ℕ
-three_text = codes "CREATE TABLE parts (act INTEGER NOT NULL, node INTEGER NOT NULL, material TEXT NOT NULL REFERENCES materials (code), batch TEXT NOT NULL, root_act INTEGER NOT NULL, root_node INTEGER NOT NULL, x INTEGER NOT NULL, y INTEGER NOT NULL, w INTEGER NOT NULL, h INTEGER NOT NULL, state INTEGER NOT NULL, detail INTEGER NOT NULL, PRIMARY KEY (act, node)) STRICT;"
+abbrev unplaced : Table → Table
+unplaced t = record t { tree = 0 }
 
-abbrev four_text : List ℕ
-four_text = codes "CREATE TABLE jobs (job INTEGER NOT NULL PRIMARY KEY, part_act INTEGER NOT NULL, part_node INTEGER NOT NULL, tree TEXT NOT NULL, state INTEGER NOT NULL, FOREIGN KEY (part_act, part_node) REFERENCES parts (act, node)) STRICT;"
+-- the tables, under the texts that make them
+abbrev steps : List (List ℕ × Table)
+steps =
+    (meta_text, unplaced meta_table)
+    ∷ (codes "CREATE TABLE materials (code TEXT NOT NULL PRIMARY KEY, kind INTEGER NOT NULL, kerf INTEGER NOT NULL, min_long INTEGER NOT NULL, min_short INTEGER NOT NULL) STRICT;", unplaced materials_table)
+    ∷ (codes "CREATE TABLE parts (act INTEGER NOT NULL, node INTEGER NOT NULL, material TEXT NOT NULL REFERENCES materials (code), batch TEXT NOT NULL, root_act INTEGER NOT NULL, root_node INTEGER NOT NULL, x INTEGER NOT NULL, y INTEGER NOT NULL, w INTEGER NOT NULL, h INTEGER NOT NULL, state INTEGER NOT NULL, detail INTEGER NOT NULL, PRIMARY KEY (act, node)) STRICT;", unplaced parts_table)
+    ∷ (codes "CREATE TABLE jobs (job INTEGER NOT NULL PRIMARY KEY, part_act INTEGER NOT NULL, part_node INTEGER NOT NULL, tree TEXT NOT NULL, state INTEGER NOT NULL, FOREIGN KEY (part_act, part_node) REFERENCES parts (act, node)) STRICT;", unplaced jobs_table)
+    ∷ (codes "CREATE TABLE orders (ord TEXT NOT NULL PRIMARY KEY) STRICT;", unplaced orders_table)
+    ∷ (codes "CREATE TABLE demands (number INTEGER NOT NULL PRIMARY KEY, ord TEXT NOT NULL REFERENCES orders (ord), line INTEGER NOT NULL, material TEXT NOT NULL REFERENCES materials (code), w INTEGER NOT NULL, h INTEGER NOT NULL, turn INTEGER NOT NULL, worth INTEGER NOT NULL, wanted INTEGER NOT NULL, reserved INTEGER NOT NULL, made INTEGER NOT NULL, UNIQUE (ord, line), CHECK (reserved + made <= wanted)) STRICT;", unplaced demands_table)
+    ∷ (codes "CREATE TABLE kept (terminal INTEGER NOT NULL, number INTEGER NOT NULL, command TEXT NOT NULL, reply TEXT NOT NULL, PRIMARY KEY (terminal, number)) STRICT;", unplaced kept_table)
+    ∷ (codes "CREATE TABLE imports (ord TEXT NOT NULL PRIMARY KEY REFERENCES orders (ord), form INTEGER NOT NULL, material TEXT NOT NULL, body TEXT NOT NULL, reply TEXT NOT NULL) STRICT;", unplaced imports_table)
+    ∷ (codes "CREATE TABLE totals (material TEXT NOT NULL PRIMARY KEY REFERENCES materials (code), received INTEGER NOT NULL, stock INTEGER NOT NULL, rack INTEGER NOT NULL, pieces INTEGER NOT NULL, kerf INTEGER NOT NULL, scrap INTEGER NOT NULL) STRICT;", unplaced totals_table)
+    ∷ (totals2_text, unplaced totals2_table)
+    ∷ []
 
-abbrev five_text : List ℕ
-five_text = codes "CREATE TABLE orders (ord TEXT NOT NULL PRIMARY KEY) STRICT;"
-
-abbrev six_text : List ℕ
-six_text = codes "CREATE TABLE demands (number INTEGER NOT NULL PRIMARY KEY, ord TEXT NOT NULL REFERENCES orders (ord), line INTEGER NOT NULL, material TEXT NOT NULL REFERENCES materials (code), w INTEGER NOT NULL, h INTEGER NOT NULL, turn INTEGER NOT NULL, worth INTEGER NOT NULL, wanted INTEGER NOT NULL, reserved INTEGER NOT NULL, made INTEGER NOT NULL, UNIQUE (ord, line), CHECK (reserved + made <= wanted)) STRICT;"
-
-abbrev seven_text : List ℕ
-seven_text = codes "CREATE TABLE kept (terminal INTEGER NOT NULL, number INTEGER NOT NULL, command TEXT NOT NULL, reply TEXT NOT NULL, PRIMARY KEY (terminal, number)) STRICT;"
-
-abbrev eight_text : List ℕ
-eight_text = codes "CREATE TABLE imports (ord TEXT NOT NULL PRIMARY KEY REFERENCES orders (ord), form INTEGER NOT NULL, material TEXT NOT NULL, body TEXT NOT NULL, reply TEXT NOT NULL) STRICT;"
-
-abbrev nine_text : List ℕ
-nine_text = codes "CREATE TABLE totals (material TEXT NOT NULL PRIMARY KEY REFERENCES materials (code), received INTEGER NOT NULL, stock INTEGER NOT NULL, rack INTEGER NOT NULL, pieces INTEGER NOT NULL, kerf INTEGER NOT NULL, scrap INTEGER NOT NULL) STRICT;"
-
-abbrev pub ten_text : List ℕ
-ten_text = codes "CREATE TABLE totals2 (material TEXT NOT NULL PRIMARY KEY REFERENCES materials (code), received INTEGER NOT NULL, stock INTEGER NOT NULL, rack INTEGER NOT NULL, pieces INTEGER NOT NULL, kerf INTEGER NOT NULL, scrap INTEGER NOT NULL, returned INTEGER NOT NULL) STRICT;"
-
-abbrev eleven_text : List ℕ
-eleven_text = codes "INSERT INTO meta (name, value) VALUES ('version', 2), ('act', 0), ('demand', 0)"
-
-meta_made : MakesAs no_schema one_text (record meta_table { tree = 0 })
+all_made : AreMade no_schema steps
 unfolding understood everything
-meta_made = record { command = refl; defines = refl; plain = (refl, refl); counts = refl }
+all_made = (
+  record { command = refl; defines = refl; plain = (refl, refl); counts = refl },
+  (
+    record { command = refl; defines = refl; plain = (refl, refl); counts = refl },
+    (
+      record { command = refl; defines = refl; plain = (refl, refl); counts = refl },
+      (
+        record { command = refl; defines = refl; plain = (refl, refl); counts = refl },
+        (
+          record { command = refl; defines = refl; plain = (refl, refl); counts = refl },
+          (
+            record { command = refl; defines = refl; plain = (refl, refl); counts = refl },
+            (
+              record { command = refl; defines = refl; plain = (refl, refl); counts = refl },
+              (
+                record { command = refl; defines = refl; plain = (refl, refl); counts = refl },
+                (
+                  record { command = refl; defines = refl; plain = (refl, refl); counts = refl },
+                  (
+                    record { command = refl; defines = refl; plain = (refl, refl); counts = refl },
+                    tt,
+                  ),
+                ),
+              ),
+            ),
+          ),
+        ),
+      ),
+    ),
+  ),
+)
 
-abbrev pub after_one : Schema
-after_one = created no_schema meta_table
+pub totals2_made : MakesAs earlier_schema totals2_text (record totals2_table { tree = 0 })
+totals2_made = all_made.1.1.1.1.1.1.1.1.1.0
 
-materials_made : MakesAs after_one two_text (record materials_table { tree = 0 })
-unfolding understood everything
-materials_made = record { command = refl; defines = refl; plain = (refl, refl); counts = refl }
-
-abbrev pub after_two : Schema
-after_two = created after_one materials_table
-
-parts_made : MakesAs after_two three_text (record parts_table { tree = 0 })
-unfolding understood everything
-parts_made = record { command = refl; defines = refl; plain = (refl, refl); counts = refl }
-
-abbrev pub after_three : Schema
-after_three = created after_two parts_table
-
-jobs_made : MakesAs after_three four_text (record jobs_table { tree = 0 })
-unfolding understood everything
-jobs_made = record { command = refl; defines = refl; plain = (refl, refl); counts = refl }
-
-abbrev pub after_four : Schema
-after_four = created after_three jobs_table
-
-orders_made : MakesAs after_four five_text (record orders_table { tree = 0 })
-unfolding understood everything
-orders_made = record { command = refl; defines = refl; plain = (refl, refl); counts = refl }
-
-abbrev pub after_five : Schema
-after_five = created after_four orders_table
-
-demands_made : MakesAs after_five six_text (record demands_table { tree = 0 })
-unfolding understood everything
-demands_made = record { command = refl; defines = refl; plain = (refl, refl); counts = refl }
-
-abbrev pub after_six : Schema
-after_six = created after_five demands_table
-
-kept_made : MakesAs after_six seven_text (record kept_table { tree = 0 })
-unfolding understood everything
-kept_made = record { command = refl; defines = refl; plain = (refl, refl); counts = refl }
-
-abbrev pub after_seven : Schema
-after_seven = created after_six kept_table
-
-imports_made : MakesAs after_seven eight_text (record imports_table { tree = 0 })
-unfolding understood everything
-imports_made = record { command = refl; defines = refl; plain = (refl, refl); counts = refl }
-
-abbrev pub after_eight : Schema
-after_eight = created after_seven imports_table
-
-totals_made : MakesAs after_eight nine_text (record totals_table { tree = 0 })
-unfolding understood everything
-totals_made = record { command = refl; defines = refl; plain = (refl, refl); counts = refl }
-
-abbrev pub after_nine : Schema
-after_nine = created after_eight totals_table
-
-pub totals2_made : MakesAs after_nine ten_text (record totals2_table { tree = 0 })
-unfolding understood everything
-totals2_made = record { command = refl; defines = refl; plain = (refl, refl); counts = refl }
-
-abbrev after_ten : Schema
-after_ten = created after_nine totals2_table
-
-same_schema : after_ten ≡ shop_schema
+same_schema : all_created no_schema steps ≡ shop_schema
 same_schema = refl
+
+-- all texts
+abbrev texts : List (List ℕ)
+texts = texts_of steps (rows_text ∷ [])
+
+abbrev pub tables_text : List ℕ
+tables_text = joined texts
+
+firsts : AreFirst texts
+unfolding everything
+firsts = (tt, refl, (tt, refl, (tt, refl, (tt, refl, (tt, refl, (tt, refl, (tt, refl, (tt, refl, (tt, refl, (tt, refl, (tt, refl, tt)))))))))))
 
 abbrev meta_terms : List Term
 meta_terms =
     lit Null ∷ lit (Text (codes "version")) ∷ lit (Int (pos 2)) ∷ lit Null ∷ lit (Text (codes "act")) ∷ lit (Int (pos 0)) ∷ lit Null ∷ lit (Text (codes "demand"))
     ∷ lit (Int (pos 0)) ∷ []
 
-fill_is : Writes shop_schema eleven_text (Insert 0 (Values meta_terms 3))
+fill_is : Writes shop_schema rows_text (Insert 0 (Values meta_terms 3))
 unfolding understood everything
 fill_is = record { command = refl; plain = (refl, refl) }
 
@@ -227,13 +197,13 @@ fresh_keyed = record {
 }
 
 module _ {S : Type 0} (g : Ghosts S) where
-  fills : (old new : Held S) (count : ℕ) → Blank shop_schema (state g old) → ExecutesIn true eleven_text [] (state g old) (state g new) (Ok count) → Shows (state g new) fresh_books × IsTrue (state g new).is_open × ((state g new).now.schema ≡ shop_schema)
+  fills : (old new : Held S) (count : ℕ) → Blank shop_schema (state g old) → ExecutesIn true rows_text [] (state g old) (state g new) (Ok count) → Shows (state g new) fresh_books × IsTrue (state g new).is_open × ((state g new).now.schema ≡ shop_schema)
   fills old new count blank h =
       let s = state g old in
       let t = state g new in
-      let w = runs_in true eleven_text [] s t shop_schema blank.schema_is (Insert 0 (Values meta_terms 3)) fill_is.command fill_is.plain count h in
+      let w = runs_in true rows_text [] s t shop_schema blank.schema_is (Insert 0 (Values meta_terms 3)) fill_is.command fill_is.plain count h in
       let it : IsShop s.now.schema = subst IsShop (sym blank.schema_is) shop_is_shop in
-      let e = inserted s.step_limit (mode_of s) [] s.now t.now w.tally 0 meta_table (ap (λ (c : Schema). slice_get c.tables 0) blank.schema_is) (statement_of eleven_text (understood shop_schema eleven_text)) meta_terms 3
+      let e = inserted s.step_limit (mode_of s) [] s.now t.now w.tally 0 meta_table (ap (λ (c : Schema). slice_get c.tables 0) blank.schema_is) (statement_of rows_text (understood shop_schema rows_text)) meta_terms 3
       (no_works s.now.schema it 0) w.changed in
       let far = it.bare in
       let no = blank.none in
@@ -259,80 +229,6 @@ module _ {S : Type 0} (g : Ghosts S) where
         e.schema_is ∙ blank.schema_is,
       )
 
-  abbrev rest_one : List ℕ
-  rest_one = drop (length one_text) tables_text
-
-  one_next : (old new : Held S) → IsBatch g (length tables_text) tables_text old new → Next g (length tables_text - 1) one_text rest_one old new
-  unfolding everything
-  one_next old new h = next g (length tables_text - 1) 67 (drop 1 tables_text) one_text rest_one old new refl refl h
-
-  abbrev rest_two : List ℕ
-  rest_two = drop (length two_text) rest_one
-
-  two_next : (old new : Held S) → IsBatch g (length tables_text - 1) rest_one old new → Next g (length tables_text - 2) two_text rest_two old new
-  unfolding everything
-  two_next old new h = next g (length tables_text - 2) 67 (drop 1 rest_one) two_text rest_two old new refl refl h
-
-  abbrev rest_three : List ℕ
-  rest_three = drop (length three_text) rest_two
-
-  three_next : (old new : Held S) → IsBatch g (length tables_text - 2) rest_two old new → Next g (length tables_text - 3) three_text rest_three old new
-  unfolding everything
-  three_next old new h = next g (length tables_text - 3) 67 (drop 1 rest_two) three_text rest_three old new refl refl h
-
-  abbrev rest_four : List ℕ
-  rest_four = drop (length four_text) rest_three
-
-  four_next : (old new : Held S) → IsBatch g (length tables_text - 3) rest_three old new → Next g (length tables_text - 4) four_text rest_four old new
-  unfolding everything
-  four_next old new h = next g (length tables_text - 4) 67 (drop 1 rest_three) four_text rest_four old new refl refl h
-
-  abbrev rest_five : List ℕ
-  rest_five = drop (length five_text) rest_four
-
-  five_next : (old new : Held S) → IsBatch g (length tables_text - 4) rest_four old new → Next g (length tables_text - 5) five_text rest_five old new
-  unfolding everything
-  five_next old new h = next g (length tables_text - 5) 67 (drop 1 rest_four) five_text rest_five old new refl refl h
-
-  abbrev rest_six : List ℕ
-  rest_six = drop (length six_text) rest_five
-
-  six_next : (old new : Held S) → IsBatch g (length tables_text - 5) rest_five old new → Next g (length tables_text - 6) six_text rest_six old new
-  unfolding everything
-  six_next old new h = next g (length tables_text - 6) 67 (drop 1 rest_five) six_text rest_six old new refl refl h
-
-  abbrev rest_seven : List ℕ
-  rest_seven = drop (length seven_text) rest_six
-
-  seven_next : (old new : Held S) → IsBatch g (length tables_text - 6) rest_six old new → Next g (length tables_text - 7) seven_text rest_seven old new
-  unfolding everything
-  seven_next old new h = next g (length tables_text - 7) 67 (drop 1 rest_six) seven_text rest_seven old new refl refl h
-
-  abbrev rest_eight : List ℕ
-  rest_eight = drop (length eight_text) rest_seven
-
-  eight_next : (old new : Held S) → IsBatch g (length tables_text - 7) rest_seven old new → Next g (length tables_text - 8) eight_text rest_eight old new
-  unfolding everything
-  eight_next old new h = next g (length tables_text - 8) 67 (drop 1 rest_seven) eight_text rest_eight old new refl refl h
-
-  abbrev rest_nine : List ℕ
-  rest_nine = drop (length nine_text) rest_eight
-
-  nine_next : (old new : Held S) → IsBatch g (length tables_text - 8) rest_eight old new → Next g (length tables_text - 9) nine_text rest_nine old new
-  unfolding everything
-  nine_next old new h = next g (length tables_text - 9) 67 (drop 1 rest_eight) nine_text rest_nine old new refl refl h
-
-  abbrev rest_ten : List ℕ
-  rest_ten = drop (length ten_text) rest_nine
-
-  ten_next : (old new : Held S) → IsBatch g (length tables_text - 9) rest_nine old new → Next g (length tables_text - 10) ten_text rest_ten old new
-  unfolding everything
-  ten_next old new h = next g (length tables_text - 10) 67 (drop 1 rest_nine) ten_text rest_ten old new refl refl h
-
-  eleven_next : (old new : Held S) → IsBatch g (length tables_text - 10) rest_ten old new → Next g (length tables_text - 11) eleven_text [] old new
-  unfolding everything
-  eleven_next old new h = next g (length tables_text - 11) 73 (drop 1 rest_ten) eleven_text [] old new refl refl h
-
   -- what the batch makes of an empty schema
   pub record Laid (old new : Held S) : Type 0 where
     pub was_open : IsTrue (state g old).is_open
@@ -345,29 +241,11 @@ module _ {S : Type 0} (g : Ghosts S) where
   unfolding ExecutesAllInside
   lays old new has h =
       let s0 : Blank no_schema (state g old) = record { schema_is = has; none = tt } in
-      let a1 = one_next old new h in
-      let w = runs_in true one_text [] (state g old) (state g a1.mid) no_schema has CreateTable meta_made.command meta_made.plain a1.count a1.runs in
-      let s1 = blank_then no_schema one_text (record meta_table { tree = 0 }) (state g old) (state g a1.mid) a1.count meta_made s0 a1.runs in
-      let a2 = two_next a1.mid new a1.later in
-      let s2 = blank_then after_one two_text (record materials_table { tree = 0 }) (state g a1.mid) (state g a2.mid) a2.count materials_made s1 a2.runs in
-      let a3 = three_next a2.mid new a2.later in
-      let s3 = blank_then after_two three_text (record parts_table { tree = 0 }) (state g a2.mid) (state g a3.mid) a3.count parts_made s2 a3.runs in
-      let a4 = four_next a3.mid new a3.later in
-      let s4 = blank_then after_three four_text (record jobs_table { tree = 0 }) (state g a3.mid) (state g a4.mid) a4.count jobs_made s3 a4.runs in
-      let a5 = five_next a4.mid new a4.later in
-      let s5 = blank_then after_four five_text (record orders_table { tree = 0 }) (state g a4.mid) (state g a5.mid) a5.count orders_made s4 a5.runs in
-      let a6 = six_next a5.mid new a5.later in
-      let s6 = blank_then after_five six_text (record demands_table { tree = 0 }) (state g a5.mid) (state g a6.mid) a6.count demands_made s5 a6.runs in
-      let a7 = seven_next a6.mid new a6.later in
-      let s7 = blank_then after_six seven_text (record kept_table { tree = 0 }) (state g a6.mid) (state g a7.mid) a7.count kept_made s6 a7.runs in
-      let a8 = eight_next a7.mid new a7.later in
-      let s8 = blank_then after_seven eight_text (record imports_table { tree = 0 }) (state g a7.mid) (state g a8.mid) a8.count imports_made s7 a8.runs in
-      let a9 = nine_next a8.mid new a8.later in
-      let s9 = blank_then after_eight nine_text (record totals_table { tree = 0 }) (state g a8.mid) (state g a9.mid) a9.count totals_made s8 a9.runs in
-      let a10 = ten_next a9.mid new a9.later in
-      let s10 = blank_then after_nine ten_text (record totals2_table { tree = 0 }) (state g a9.mid) (state g a10.mid) a10.count totals2_made s9 a10.runs in
-      let last = eleven_next a10.mid new a10.later in
-      let shown = fills a10.mid last.mid last.count s10 last.runs in
+      let one = next g (length tables_text) meta_text (texts_of (drop 1 steps) (rows_text ∷ [])) old new firsts h in
+      let w = runs_in true meta_text [] (state g old) (state g one.mid) no_schema has CreateTable all_made.0.command all_made.0.plain one.count one.runs in
+      let made = made_in_turn g steps (rows_text ∷ []) no_schema (length tables_text) old new all_made firsts s0 h in
+      let last = next g made.most rows_text [] made.mid new made.firsts made.later in
+      let shown = fills made.mid last.mid last.count (subst (λ s. Blank s (state g made.mid)) same_schema made.blank) last.runs in
       let same : last.mid ≡ new = sym last.later.1 in
       record {
         was_open = w.shown.was_open;

@@ -1,5 +1,7 @@
 -- What one statement of a batch makes.
-use Rattle.std.proofs.Common.{◌≡◌, ◌⊎◌, inl, inr, ℕ, suc, Bool, true, false, List, [], ◌∷◌, ◌++◌, take, drop, Some, None, Ok, Err, Result, IsTrue, sym, ap, subst, subst₂, ◌∙◌, append-nil}
+use Rattle.std.proofs.Common.{◌≡◌, ◌⊎◌, inl, inr, ℕ, zero, suc, length, Bool, true, false, List, [], ◌∷◌, ◌++◌, take, drop, Some, None, Ok, Err, Result, IsTrue, sym, ap, subst, subst₂, ◌∙◌, append-nil}
+use Rattle.std.specs.Prelude.{⊤}
+use Rattle.std.proofs.Math.Seq.{take-append_seam, drop-append_seam}
 use Rattle.std.specs.List.{AllByRecursion}
 use Rattle.std.proofs.lemmas.Bool.{cases_Bool}
 use Rattle.sqlite_value.specs.Order.{Row}
@@ -88,23 +90,74 @@ blank_then schema text table old new count facts blank h =
     let made = makes true schema text table old new count facts blank.schema_is h in
     record { schema_is = made.schema_is; none = none_behind new.now.trees schema.tables (record table { tree = next_tree schema }) (still_none old.now.trees new.now.trees schema.tables made.others blank.none) made.empty }
 
+-- ---- the statements of a batch
+
+-- their text
+abbrev pub joined : List (List ℕ) → List ℕ
+joined [] = []
+joined (x ∷ more) = x ++ joined more
+
+abbrev pub IsText : List ℕ → Type 0
+IsText [] = ⊥
+IsText (b ∷ more) = ⊤
+
+-- each is read first of those that are left
+abbrev pub AreFirst : List (List ℕ) → Type 0
+AreFirst [] = ⊤
+AreFirst (x ∷ more) = IsText x × (first_len (x ++ joined more) ≡ length x) × AreFirst more
+
+-- what the check computes of texts that each make a table, under the schema that those before it made
+abbrev pub AreMade : Schema → List (List ℕ × Table) → Type 0
+AreMade schema [] = ⊤
+AreMade schema (x ∷ more) = MakesAs schema x.0 x.1 × AreMade (created schema x.1) more
+
+abbrev pub all_created : Schema → List (List ℕ × Table) → Schema
+all_created schema [] = schema
+all_created schema (x ∷ more) = all_created (created schema x.1) more
+
+-- these texts, and others behind them
+abbrev pub texts_of : List (List ℕ × Table) → List (List ℕ) → List (List ℕ)
+texts_of [] last = last
+texts_of (x ∷ more) last = x.0 ∷ texts_of more last
+
 module _ {S : Type 0} (g : Ghosts S) where
   abbrev pub IsBatch : ℕ → List ℕ → Held S → Held S → Type 0
   IsBatch most text old new = RunInTurn g (Some 0) most text old new (Ok tt)
 
-  pub record Next (most : ℕ) (text rest : List ℕ) (old new : Held S) : Type 0 where
+  pub record Next (text rest : List ℕ) (old new : Held S) : Type 0 where
     pub mid : Held S
     pub count : ℕ
+    pub most : ℕ
     pub runs : ExecutesIn true text [] (state g old) (state g mid) (Ok count)
     pub inside : IsTrue mid.in_transaction
     pub later : IsBatch most rest mid new
 
-  pub next : (most b : ℕ) (more first rest : List ℕ) (old new : Held S) → take (first_len (b ∷ more)) (b ∷ more) ≡ first → drop (first_len (b ∷ more)) (b ∷ more) ≡ rest → IsBatch (suc most) (b ∷ more) old new → Next most first rest old new
-  next most b more first rest old new front back (inl h) = absurd (let e = h.1 in cc)
-  next most b more first rest old new front back (inr h) = record {
-    mid = h.0;
-    count = h.1;
-    runs = subst (λ t. ExecutesIn true t [] (state g old) (state g h.0) (Ok h.1)) front h.2.runs;
-    inside = h.4.0;
-    later = subst (λ t. IsBatch most t h.0 new) back h.3;
-  }
+  pub next : (most : ℕ) (text : List ℕ) (more : List (List ℕ)) (old new : Held S) → AreFirst (text ∷ more) → IsBatch most (joined (text ∷ more)) old new → Next text (joined more) old new
+  next most [] more old new firsts h = absurd firsts.0
+  next zero (b ∷ text) more old new firsts h = absurd h
+  next (suc most) (b ∷ text) more old new firsts (inl h) = absurd (let e = h.1 in cc)
+  next (suc most) (b ∷ text) more old new firsts (inr h) =
+      let all = (b ∷ text) ++ joined more in
+      record {
+        mid = h.0;
+        count = h.1;
+        most = most;
+        runs = subst (λ t. ExecutesIn true t [] (state g old) (state g h.0) (Ok h.1)) (ap (λ n. take n all) firsts.1 ∙ take-append_seam (b ∷ text) (joined more)) h.2.runs;
+        inside = h.4.0;
+        later = subst (λ t. IsBatch most t h.0 new) (ap (λ n. drop n all) firsts.1 ∙ drop-append_seam (b ∷ text) (joined more)) h.3;
+      }
+
+  -- the tables are made, and other statements are left
+  pub record Blanked (schema : Schema) (texts : List (List ℕ)) (new : Held S) : Type 0 where
+    pub mid : Held S
+    pub most : ℕ
+    pub blank : Blank schema (state g mid)
+    pub firsts : AreFirst texts
+    pub later : IsBatch most (joined texts) mid new
+
+  pub made_in_turn : (steps : List (List ℕ × Table)) (last : List (List ℕ)) (schema : Schema) (most : ℕ) (old new : Held S) → AreMade schema steps → AreFirst (texts_of steps last) → Blank schema (state g old) → IsBatch most (joined (texts_of steps last)) old new
+      → Blanked (all_created schema steps) last new
+  made_in_turn [] last schema most old new made firsts blank h = record { mid = old; most = most; blank = blank; firsts = firsts; later = h }
+  made_in_turn (x ∷ more) last schema most old new made firsts blank h =
+      let a = next most x.0 (texts_of more last) old new firsts h in
+      made_in_turn more last (created schema x.1) a.most a.mid new made.1 firsts.2 (blank_then schema x.0 x.1 (state g old) (state g a.mid) a.count made.0 blank a.runs) a.later

@@ -38,9 +38,9 @@ use Rattle.shop_tables.specs.Adopting.{Renews}
 use Rattle.shop_statements.specs.Earlier.{earlier_schema, earlier_entries, earlier_row, HasNoneReturned, ShowsEarlier}
 use Rattle.shop_statements.proofs.Finding.{is_word, word_tests, word_later}
 use Rattle.shop_statements.proofs.Keys.{cast-Int, cast-Null, located, news_again, shown_as}
-use Rattle.shop_tables.proofs.Lays.{ten_text, totals2_made, shop_is_shop}
+use Rattle.shop_tables.proofs.Lays.{totals2_text, totals2_made, shop_is_shop}
 use Rattle.shop_statements.proofs.Lists.{map-map, map-same}
-use Rattle.shop_tables.proofs.Making.{IsBatch, Next, makes, next, runs_in}
+use Rattle.shop_tables.proofs.Making.{AreFirst, Next, joined, makes, next, runs_in}
 use Rattle.shop_tables.proofs.Moved.{cleared, collated, filled_from, uncollated, unnumbered}
 use Rattle.shop_tables.proofs.Opened.{opened}
 use Rattle.shop_tables.proofs.Ordered.{filter_true}
@@ -49,9 +49,6 @@ use Rattle.shop_statements.proofs.Selects.{selects, selected}
 use Rattle.shop_statements.proofs.Terms.{Writes, from_table, same}
 use Rattle.shop_statements.proofs.Works.{no_works, not_taken, unlike}
 use Rattle.shop_statements.proofs.Writes.{IsEdited, bare, copied, deleted, updated}
-
-abbrev pub renew_text : List ℕ
-renew_text = codes "CREATE TABLE totals2 (material TEXT NOT NULL PRIMARY KEY REFERENCES materials (code), received INTEGER NOT NULL, stock INTEGER NOT NULL, rack INTEGER NOT NULL, pieces INTEGER NOT NULL, kerf INTEGER NOT NULL, scrap INTEGER NOT NULL, returned INTEGER NOT NULL) STRICT;INSERT INTO totals2 (material, received, stock, rack, pieces, kerf, scrap, returned) SELECT material, received, stock, rack, pieces, kerf, scrap, 0 FROM totals;DELETE FROM totals;UPDATE meta SET value = 2 WHERE name = 'version'"
 
 abbrev copy_text : List ℕ
 copy_text = codes "INSERT INTO totals2 (material, received, stock, rack, pieces, kerf, scrap, returned) SELECT material, received, stock, rack, pieces, kerf, scrap, 0 FROM totals;"
@@ -188,31 +185,20 @@ module _ (old new : State) (has : old.now.schema ≡ shop_schema) (count : ℕ) 
 
 -- ---- the batch
 
+abbrev texts : List (List ℕ)
+texts = totals2_text ∷ copy_text ∷ clear_text ∷ number_text ∷ []
+
+abbrev pub renew_text : List ℕ
+renew_text = joined texts
+
+firsts : AreFirst texts
+unfolding everything
+firsts = (tt, refl, (tt, refl, (tt, refl, (tt, refl, tt))))
+
 module _ {S : Type 0} (g : Ghosts S) where
-  abbrev rest_one : List ℕ
-  rest_one = drop (length ten_text) renew_text
-
-  one_next : (old new : Held S) → IsBatch g (length renew_text) renew_text old new → Next g (length renew_text - 1) ten_text rest_one old new
-  unfolding everything
-  one_next old new h = next g (length renew_text - 1) 67 (drop 1 renew_text) ten_text rest_one old new refl refl h
-
-  abbrev rest_two : List ℕ
-  rest_two = drop (length copy_text) rest_one
-
-  two_next : (old new : Held S) → IsBatch g (length renew_text - 1) rest_one old new → Next g (length renew_text - 2) copy_text rest_two old new
-  unfolding everything
-  two_next old new h = next g (length renew_text - 2) 73 (drop 1 rest_one) copy_text rest_two old new refl refl h
-
-  abbrev rest_three : List ℕ
-  rest_three = drop (length clear_text) rest_two
-
-  three_next : (old new : Held S) → IsBatch g (length renew_text - 2) rest_two old new → Next g (length renew_text - 3) clear_text rest_three old new
-  unfolding everything
-  three_next old new h = next g (length renew_text - 3) 68 (drop 1 rest_two) clear_text rest_three old new refl refl h
-
-  four_next : (old new : Held S) → IsBatch g (length renew_text - 3) rest_three old new → Next g (length renew_text - 4) number_text [] old new
-  unfolding everything
-  four_next old new h = next g (length renew_text - 4) 85 (drop 1 rest_three) number_text [] old new refl refl h
+  first : (old new : Held S) → ExecutesAllInside g 0 renew_text old new (Ok tt) → Next g totals2_text (joined (drop 1 texts)) old new
+  unfolding ExecutesAllInside
+  first old new h = next g (length renew_text) totals2_text (drop 1 texts) old new firsts h
 
   -- what the batch makes of tables of version 1
   record IsRenewed (old new : Held S) (b : Books) : Type 0 where
@@ -223,23 +209,22 @@ module _ {S : Type 0} (g : Ghosts S) where
     pub schema : (state g new).now.schema ≡ shop_schema
 
   renews : (old new : Held S) (b : Books) → ShowsEarlier (state g old) b → ExecutesAllInside g 0 renew_text old new (Ok tt) → IsRenewed old new b
-  unfolding ExecutesAllInside
   renews old new b has h =
       let s0 = state g old in
-      let a1 = one_next old new h in
+      let a1 = first old new h in
       let s1 = state g a1.mid in
-      let w = runs_in true ten_text [] s0 s1 earlier_schema has.schema CreateTable totals2_made.command totals2_made.plain a1.count a1.runs in
-      let made = makes true earlier_schema ten_text (record totals2_table { tree = 0 }) s0 s1 a1.count totals2_made has.schema a1.runs in
+      let w = runs_in true totals2_text [] s0 s1 earlier_schema has.schema CreateTable totals2_made.command totals2_made.plain a1.count a1.runs in
+      let made = makes true earlier_schema totals2_text (record totals2_table { tree = 0 }) s0 s1 a1.count totals2_made has.schema a1.runs in
       let was = made.others in
       let bare = shop_is_shop.bare in
-      let a2 = two_next a1.mid new a1.later in
+      let a2 = next g a1.most copy_text (drop 2 texts) a1.mid new firsts.2 a1.later in
       let s2 = state g a2.mid in
       let two = copies s1 s2 made.schema_is a2.count (entries b.totals) has.stands.returned (subst (AreRows 1 _) (sym was.1.1.1.1.1.1.1.1.0) has.stands.totals) made.empty a2.runs in
-      let a3 = three_next a2.mid new a2.later in
+      let a3 = next g a2.most clear_text (drop 3 texts) a2.mid new firsts.2.2 a2.later in
       let s3 = state g a3.mid in
       let old_totals : s2.now.trees 15 ≡ s0.now.trees 15 = two.0.others 15 refl bare.1.1.1.1.1.1.1.1.0 ∙ was.1.1.1.1.1.1.1.1.0 in
       let three = clears s2 s3 two.0.schema_is a3.count (subst (AllByRecursion (λ r. IsTrue (is_int (rowid r)))) (sym old_totals) has.stands.totals.keyed) a3.runs in
-      let a4 = four_next a3.mid new a3.later in
+      let a4 = next g a3.most number_text [] a3.mid new firsts.2.2.2 a3.later in
       let s4 = state g a4.mid in
       let old_meta : s3.now.trees 0 ≡ s0.now.trees 0 = three.0.others 0 refl bare.0 ∙ two.0.others 0 refl bare.0 ∙ was.0 in
       let four = numbers s3 s4 three.0.schema_is a4.count b.content (subst (AreRows 1 _) (sym old_meta) has.stands.meta) a4.runs in
@@ -272,8 +257,7 @@ module _ {S : Type 0} (g : Ghosts S) where
       }
 
   began : (old new : Held S) → ExecutesAllInside g 0 renew_text old new (Ok tt) → IsTrue (state g old).is_open
-  unfolding ExecutesAllInside
-  began old new h = let a1 = one_next old new h in opened (state g old) (state g a1.mid) a1.inside true ten_text [] a1.count a1.runs
+  began old new h = let a1 = first old new h in opened (state g old) (state g a1.mid) a1.inside true totals2_text [] a1.count a1.runs
 
   pub renews_when : (old new : Held S) (b : Books) (r : Result (Unit {0}) Error) → (HasCleanDisk (state g old) → IsTrue (state g old).is_open → ShowsEarlier (state g old) b) → (HasCleanDisk (state g new) → HasCleanDisk (state g old)) → (HasCleanDisk (state g new) → ExecutesAllInside g 0 renew_text old new r)
       → OnOk r (Renews (state g old) (state g new) b)

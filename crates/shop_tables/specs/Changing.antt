@@ -1,11 +1,12 @@
 -- What the rows of a change make of the books.
-use Rattle.std.specs.Prelude.{◌≡◌, ℕ, ⊤, List, [], ◌∷◌, Option, Some, None, unwrap_or}
+use Rattle.std.specs.Prelude.{◌≡◌, ℕ, ⊤, List, [], ◌∷◌, Option, Some, None, Result, OnOk, unwrap_or}
 use Rattle.std.specs.declared.cmp.Ordering.{Ordering}
-use Rattle.std.specs.Ordering.{nat_cmp}
 use Rattle.std.specs.FinMap.{FinMap, get, insert}
+use Rattle.sqlite.specs.State.{State}
 use Rattle.cut_measure.specs.Codes.{code_cmp}
 use Rattle.shop_records.specs.Content as content
-use Rattle.shop_records.specs.Content.{material_at, totals_of, no_totals, changed}
+use Rattle.shop_records.specs.Content.{Content, demand_at, totals_of, no_totals, changed}
+use Rattle.shop_records.specs.Soundness.{Fits}
 use Rattle.shop_records.specs.declared.changes.Change.{Change}
 use Rattle.shop_records.specs.declared.changes.MaterialTotals.{MaterialTotals}
 use Rattle.shop_records.specs.declared.imports.ImportRow.{ImportRow}
@@ -16,7 +17,9 @@ use Rattle.shop_records.specs.declared.records.Material.{Material}
 use Rattle.shop_records.specs.declared.records.Part.{Part}
 use Rattle.shop_records.specs.declared.records.Totals.{Totals}
 use Rattle.shop_tables.specs.Listing.{HaveTotals}
-use Rattle.shop_statements.specs.Shown.{Books}
+use Rattle.shop_statements.specs.declared.faults.TableFault.{TableFault}
+use Rattle.shop_statements.specs.Changes.{with_demand}
+use Rattle.shop_statements.specs.Shown.{Books, Makes, Went, Within}
 
 -- The rows of totals are those of the known materials, and a code's totals are the sums of its parts.
 pub record HasSums (b : Books) : Type 0 where
@@ -32,23 +35,45 @@ with_row (Some row) totals = insert totals row.material row.totals
 abbrev pub with_change : Change → Books → Books
 with_change change b = record { content = changed b.content change; totals = with_row change.totals b.totals }
 
+-- ---- a writing
+
+-- Steps inside a transaction. Of books with what they need they make these, and they commit nothing.
+pub record Writes (old new : State) (result : Result (Unit {0}) TableFault) (Needs : Books → Type 0) (makes : Books → Books) : Type 0 where
+  pub went : OnOk result (Went old new)
+  pub put : (b : Books) → Needs b → OnOk result (Makes old new b (makes b))
+  pub within : Within old new
+
+-- the books with a row, if there is one
+abbrev pub with_some : {X : Type 0} → (X → Books → Books) → Option X → Books → Books
+with_some with_one None b = b
+with_some with_one (Some x) b = with_one x b
+
+-- the books with rows, one after another
+abbrev pub with_all : {X : Type 0} → (X → Books → Books) → List X → Books → Books
+with_all with_one [] b = b
+with_all with_one (x ∷ more) b = with_all with_one more (with_one x b)
+
+-- each row finds what it needs when its turn comes
+abbrev pub AreInTurn : {X : Type 0} → (X → Books → Type 0) → (X → Books → Books) → List X → Books → Type 0
+AreInTurn Needs with_one [] b = ⊤
+AreInTurn Needs with_one (x ∷ more) b = Needs x b × AreInTurn Needs with_one more (with_one x b)
+
 -- ---- rows of one table
 
--- each row is new when its turn comes
-abbrev pub AreNew : {K X : Type 0} {R : K → K → Ordering} → (X → K) → List X → FinMap R X → Type 0
-AreNew key [] rows = ⊤
-AreNew key (x ∷ more) rows = (get rows (key x) ≡ None) × AreNew key more (insert rows (key x) x)
+-- a row stands under the key, of which this one is made
+pub record IsOver {K X : Type 0} {R : K → K → Ordering} (rows : FinMap R X) (key : K) (made : X → X) (row : X) : Type 0 where
+  pub before : X
+  pub found : get rows key ≡ Some before
+  pub is : row ≡ made before
 
--- a demand is there, the same but for its counts
-pub record IsCounted (demands : FinMap nat_cmp Demand) (demand : Demand) : Type 0 where
-  pub before : Demand
-  pub found : get demands demand.number ≡ Some before
-  pub is : demand ≡ record before { reserved = demand.reserved; made = demand.made }
+-- with the counts of the first
+abbrev pub recounted : Demand → Demand → Demand
+recounted counted demand = record demand { reserved = counted.reserved; made = counted.made }
 
--- each is when its turn comes
-abbrev pub AreCounted : List Demand → FinMap nat_cmp Demand → Type 0
-AreCounted [] demands = ⊤
-AreCounted (demand ∷ more) demands = IsCounted demands demand × AreCounted more (insert demands demand.number demand)
+-- an order's demands are new, and others are there, the same but for their counts
+abbrev pub AreDemandsFit : Option (List ℕ) → List Demand → Books → Type 0
+AreDemandsFit None demands b = AreInTurn (λ demand n. IsOver n.content.demands demand.number (recounted demand) demand) with_demand demands b
+AreDemandsFit (Some order) demands b = AreInTurn (λ demand n. demand_at n.content demand.number ≡ None) with_demand demands b
 
 abbrev pub with_materials : Option Material → Books → Books
 with_materials material b = record b { content = record b.content { materials = content.with_material material b.content.materials } }
@@ -94,3 +119,20 @@ with_work change b = with_demands change.demands (with_imports change.import (wi
 -- with the numbers that were given
 abbrev pub with_numbers : Change → Books → Books
 with_numbers change b = with_number change.demand (with_act change.act b)
+
+-- The books have the stock that a change was decided on.
+pub record HasStockOf (change : Change) (b : Books) : Type 0 where
+  pub decided : Books
+  pub sums : HasSums decided
+  pub fits : Fits decided.content change
+  pub materials : b.content.materials ≡ decided.content.materials
+  pub parts : b.content.parts ≡ decided.content.parts
+  pub totals : b.totals ≡ decided.totals
+
+-- And they have the orders, the imports and the demands.
+pub record HasWorkOf (change : Change) (b : Books) : Type 0 where
+  pub decided : Content
+  pub fits : Fits decided change
+  pub orders : b.content.orders ≡ decided.orders
+  pub imports : b.content.imports ≡ decided.imports
+  pub demands : b.content.demands ≡ decided.demands

@@ -16,6 +16,7 @@ mod renewing;
 mod reopening;
 mod strange;
 mod waiting_jobs;
+mod writing;
 
 pub use adopting::{AdoptFault, Adopted, adopt_tables};
 pub use committing::commit_change;

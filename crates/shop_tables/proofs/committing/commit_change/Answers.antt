@@ -17,7 +17,7 @@ returns-in_err-write_change-clause-err g c m was =
     let ends : c.drop-tx.new.self.0 ≡ c.conn-1.given.0 = sym (c.conn-1.given.1 (sym (c.write_change.ensures.same_reference ∙ c.transaction-tx.ensures.same_reference))) in
     let done = state g.S.Store c.write_change.new.tx.conn.now in
     let last = state g.S.Store c.drop-tx.new.self.0 in
-    let within = subst (λ h. Within (state g.S.Store h) done) c.transaction-tx.ensures.begun c.write_change.ensures.within in
+    let within = subst (λ h. Within (state g.S.Store h) done) c.transaction-tx.ensures.begun c.write_change.ensures.writes.within in
     let late : HasCleanDisk last → HasCleanDisk done = λ clean. let s = c.drop-tx.ensures.survives.clean in omega (arith, s, clean) in
     on_err _ (subst (λ h. HoldsContent (state g.S.Store h) m) ends (undone g.S.Store c.args.conn.now done last late m was within c.drop-tx.ensures.undone))
 
@@ -34,11 +34,11 @@ module _ (g : _) (c : After-commit g) where
   ran = subst (λ h. Ran (state g.S.Store h) done) c.transaction-tx.ensures.begun c.in_ok-write_change.ensures.ran
 
   within : Within (begun g.S.Store c.args.conn.now) done
-  within = subst (λ h. Within (state g.S.Store h) done) c.transaction-tx.ensures.begun c.write_change.ensures.within
+  within = subst (λ h. Within (state g.S.Store h) done) c.transaction-tx.ensures.begun c.write_change.ensures.writes.within
 
   made : (m : Content) (was : HoldsContent (state g.S.Store c.args.conn.now) m) → Fits m c.args.change.now
       → Makes (begun g.S.Store c.args.conn.now) done (books m was.totals) (with_change c.args.change.now (books m was.totals))
-  made m was fits = subst (λ h. Makes (state g.S.Store h) done (books m was.totals) (with_change c.args.change.now (books m was.totals))) c.transaction-tx.ensures.begun (c.in_ok-write_change.ensures.put (books m was.totals) was.sums fits)
+  made m was fits = subst (λ h. Makes (state g.S.Store h) done (books m was.totals) (with_change c.args.change.now (books m was.totals))) c.transaction-tx.ensures.begun (c.in_ok-write_change.ensures.writes.put (books m was.totals) (was.sums, fits))
 
   late : HasCleanDisk last → HasCleanDisk done
   late clean = let s = c.commit.ensures.survives.clean in omega (arith, s, clean)

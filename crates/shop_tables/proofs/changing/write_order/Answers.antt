@@ -1,8 +1,0 @@
-use Rattle.shop_statements.proofs.Steps.{within_itself}
-use Rattle.shop_tables.proofs.changing.write_order.Goals as goal
-
-pub returns-in-Some-clause-put : goal.returns-in-Some-clause-put
-returns-in-Some-clause-put g c b = rw c.in-Some.is (c.put_order.ensures.put b)
-
-pub returns-in-None-clause-within : goal.returns-in-None-clause-within
-returns-in-None-clause-within g c = within_itself _
