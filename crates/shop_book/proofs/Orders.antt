@@ -13,19 +13,17 @@ use Rattle.std.specs.Set.{remove_key}
 use Rattle.std.specs.Cmp.{tied_itself}
 use Rattle.std.specs.Cmp.Lexicographic.{nat_list_cmp_total, pointwise, bytes_decides}
 use Rattle.std.specs.Prelude.{nat_eq}
-use Rattle.std.specs.FinMap.{IsAntisymmetric, is_sorted, find, slice_cmp-IsAntisymmetric, nat_cmp-IsAntisymmetric}
+use Rattle.std.specs.FinMap.{is_sorted, find}
 use Rattle.std.specs.FinMap.Entries.{by_order, below_all, is_some-find, find-put, same_entries}
 use Rattle.std.specs.FinSet.{contains, insert, contains-from_list, contains-insert, same_set}
 use Rattle.std.proofs.lemmas.Bool.Decides.{Decides-like}
 use Rattle.std.proofs.lemmas.Slice.Eq.{slice_eq-Decides}
 use Rattle.cut_measure.specs.Codes.{code_cmp}
 use Rattle.shop_records.specs.Content.{with_order}
+use Rattle.shop_rows.specs.Keys.{codes_exact}
 use Rattle.shop_rows.specs.Rows.{entries_of, rise, row_at, IsPut, ArePut}
 use Rattle.shop_book.specs.Memory.{order_key, orders_in}
 use Rattle.shop_rows.proofs.Places.{tested, rise-put}
-
-one_code : IsAntisymmetric code_cmp
-one_code = slice_cmp-IsAntisymmetric nat_cmp-IsAntisymmetric
 
 firsts : (codes : List (List ℕ)) → map (λ (e : List ℕ × List ℕ). e.0) (entries_of order_key code_cmp codes) ≡ codes
 firsts [] = refl
@@ -44,7 +42,7 @@ either false x o = refl
 -- to put a code is to insert it
 pub code_put : (code : List ℕ) (old new : List (List ℕ)) → IsPut order_key code_cmp code old new → orders_in new ≡ insert (orders_in old) code
 code_put code old new is =
-    same_set nat_list_cmp_total one_code _ _
+    same_set nat_list_cmp_total codes_exact _ _
     (λ q.
     sym (code_found new q) ∙ ap (λ es. is_some (find code_cmp q es)) is
     ∙ ap is_some (find-put code_cmp nat_list_cmp_total q code code (entries_of order_key code_cmp old))
@@ -81,7 +79,7 @@ key_put code codes new is = ap (entries_of order_key code_cmp) is ∙ inserted c
     inserted : (codes : List (List ℕ)) → IsPut order_key code_cmp code codes (insert_key code_cmp codes code)
     inserted [] = refl
     inserted (x ∷ codes) =
-        placed (code_cmp code x) code x codes (insert_key code_cmp codes code) (one_code code x)
+        placed (code_cmp code x) code x codes (insert_key code_cmp codes code) (codes_exact code x)
         ∙ ap (λ es. by_order (code_cmp code x) ((code, code) ∷ entries_of order_key code_cmp (x ∷ codes)) ((x, code) ∷ entries_of order_key code_cmp codes) ((x, x) ∷ es)) (inserted codes)
 
 out_of : (r : Ordering) (code x : List ℕ) (codes more : List (List ℕ)) → r ≡ code_cmp code x → (is_eq r || list_any (is_at (code_cmp code)) codes) ≡ false → remove_key (is_at (code_cmp code)) more ≡ codes
@@ -139,7 +137,7 @@ one_list : (xs ys : List (List ℕ)) → rise order_key code_cmp xs ≡ true →
 one_list xs ys up vp e =
     sym (keys xs)
     ∙ ap (map (λ (m : List ℕ × Unit {0}). m.0))
-    (same_entries code_cmp nat_list_cmp_total one_code (places xs) (places ys) (tested _ (sym (in_order xs) ∙ up)) (tested _ (sym (in_order ys) ∙ vp))
+    (same_entries code_cmp nat_list_cmp_total codes_exact (places xs) (places ys) (tested _ (sym (in_order xs) ∙ up)) (tested _ (sym (in_order ys) ∙ vp))
     (λ code. one_mark _ _ (there xs code ∙ ap (λ codes. contains codes code) e ∙ sym (there ys code))))
     ∙ keys ys
 

@@ -7,7 +7,7 @@ use Rattle.std.specs.Cmp.{IsPartialEquivalence, unsigned_Decides, booleans_Decid
 use Rattle.std.specs.Cmp.Lexicographic.{pointwise, pointwise_decides, bytes_decides}
 use Rattle.std.proofs.lemmas.Bool.Decides.{Decides-and, Decides-like}
 use Rattle.std.specs.declared.cmp.Ordering.{Ordering}
-use Rattle.std.specs.FinMap.{FinMap, entries, same_entries_map, slice_cmp-IsAntisymmetric, nat_cmp-IsAntisymmetric}
+use Rattle.std.specs.FinMap.{FinMap, entries, same_entries_map}
 use Rattle.std.specs.FinSet.{FinSet, items, contains-items, same_set}
 use Rattle.std.specs.Cmp.Lexicographic.{nat_list_cmp_total}
 use Rattle.std.specs.List.{list_any}
@@ -37,6 +37,7 @@ use Rattle.cut_tree.specs.SamePatterns.{same_pattern_decides}
 use Rattle.shop_records.specs.contracts.texts.KeptPartialEq.TheImpl as kept_eq
 use Rattle.shop_records.specs.contracts.imports.FormPartialEq.TheImpl as form_eq
 use Rattle.shop_records.specs.contracts.imports.ImportRowPartialEq.TheImpl as import_eq
+use Rattle.shop_rows.specs.Keys.{codes_exact}
 use Rattle.shop_rows.specs.SameParts.{name_decides, part_decides, same_part, size_decides}
 use Rattle.shop_book.specs.Memory.{MemoryBook}
 
@@ -88,7 +89,7 @@ maps_decide keys values m n =
 
 one_set : (s t : FinSet code_cmp) → items s ≡ items t → s ≡ t
 one_set s t e =
-    same_set nat_list_cmp_total (slice_cmp-IsAntisymmetric nat_cmp-IsAntisymmetric) s t
+    same_set nat_list_cmp_total codes_exact s t
     (λ code. contains-items s code ∙ ap (list_any (eq_by_cmp code_cmp code)) e ∙ sym (contains-items t code))
 
 pub codes_decide : (s t : FinSet code_cmp) → Decides (same_codes s t) (s ≡ t)

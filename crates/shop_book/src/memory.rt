@@ -11,10 +11,9 @@ ghost use Rattle.shop_book.specs.declared.books.BookFault.{BookFault as Fault};
 use crate::books::{Book, BookFault};
 use crate::keeping::{KeptText, copy_kept, find_kept, last_kept};
 use crate::memory_lists::{
-    copy_imports, copy_jobs, find_import, find_job, first_asked, put_demands, put_job,
-    reserve_demands, reserve_numbers,
+    copy_imports, copy_jobs, find_import, find_job, first_asked, put_demands, put_job, reserve_both,
 };
-use crate::memory_parts::{listed, put_moved, put_parts, reserve, visit};
+use crate::memory_parts::{listed, put_stock, reserve_parts, visit};
 use crate::order_codes::{OrderCode, copy_orders, put_and_keep};
 use cut_measure::{Code, PartName};
 use shop_records::{
@@ -426,56 +425,36 @@ impl Book for MemBook {
         ensures memory { IfErr result (λ fault. fault ≡ NoMemory) }
         ensures failures { self.new.failures ≡ self.old.failures }
     {
-        let Change {
-            material,
-            parts,
-            moved,
-            job,
-            order,
-            demands,
-            totals: _,
-            act,
-            demand,
-            import,
-            kept,
-            reply: _,
-        } = change;
+        let parts = change.parts;
         let rows = parts.as_slice();
+        let demands = change.demands;
         let wanted = demands.as_slice();
-        reserve(
-            &mut self.materials,
-            &mut self.parts,
-            &mut self.totals,
-            rows.len() + 1,
-        )?;
-        reserve_names(&mut self.lists.parts, &moved, rows)?;
-        reserve_demands(
-            &mut self.jobs,
-            &mut self.demands,
-            &mut self.imports,
-            wanted.len(),
-        )?;
-        reserve_numbers(&mut self.lists.jobs, &mut self.lists.demands, wanted.len())?;
+        reserve_both(&mut self.materials, &mut self.imports, 1)?;
+        reserve_parts(&mut self.parts, &mut self.totals, rows.len() + 1)?;
+        reserve_names(&mut self.lists.parts, &change.moved, rows)?;
+        reserve_both(&mut self.jobs, &mut self.lists.jobs, 1)?;
+        reserve_both(&mut self.demands, &mut self.lists.demands, wanted.len())?;
         let alloc = *self.materials.allocator();
-        put_and_keep(alloc, &mut self.orders, &mut self.kept, order, kept)?;
-        put_some(&mut self.materials, material);
-        put_moved(
+        put_and_keep(
+            alloc,
+            &mut self.orders,
+            &mut self.kept,
+            change.order,
+            change.kept,
+        )?;
+        put_some(&mut self.materials, change.material);
+        put_stock(
             &mut self.parts,
             &mut self.totals,
             &mut self.lists.parts,
-            moved,
-        );
-        put_parts(
-            &mut self.parts,
-            &mut self.totals,
-            &mut self.lists.parts,
+            change.moved,
             rows,
         );
-        put_job(&mut self.jobs, &mut self.lists.jobs, job);
+        put_job(&mut self.jobs, &mut self.lists.jobs, change.job);
         put_demands(&mut self.demands, &mut self.lists.demands, wanted);
-        put_some(&mut self.imports, import);
-        self.last_act = act.unwrap_or(self.last_act);
-        self.last_demand = demand.unwrap_or(self.last_demand);
+        put_some(&mut self.imports, change.import);
+        self.last_act = change.act.unwrap_or(self.last_act);
+        self.last_demand = change.demand.unwrap_or(self.last_demand);
         Ok(())
     }
 

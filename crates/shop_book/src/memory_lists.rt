@@ -31,42 +31,20 @@ pub(crate) fn copy_imports(imports: &Vec<ImportRow>) -> Result<Vec<ImportRow>, A
     Ok(copy)
 }
 
-/// Makes room for a job, demands and an import.
-pub(crate) fn reserve_demands(
-    jobs: &mut Vec<Job>,
-    demands: &mut Vec<Demand>,
-    imports: &mut Vec<ImportRow>,
+/// Makes room in both for so many more.
+pub(crate) fn reserve_both<A, B>(
+    rows: &mut Vec<A>,
+    others: &mut Vec<B>,
     count: usize,
 ) -> Result<(), AllocError>
-    ensures jobs { jobs.new.items ≡ jobs.old.items }
-    ensures demands { demands.new.items ≡ demands.old.items }
-    ensures imports { imports.new.items ≡ imports.old.items }
+    ensures rows { rows.new.items ≡ rows.old.items }
+    ensures others { others.new.items ≡ others.old.items }
     ensures room { OnOk result
-        ((vec_len jobs.new < vec_capacity jobs.new)
-        × (vec_len demands.new + count ≤ vec_capacity demands.new)
-        × (vec_len imports.new < vec_capacity imports.new)) }
+        ((vec_len rows.new + count ≤ vec_capacity rows.new)
+        × (vec_len others.new + count ≤ vec_capacity others.new)) }
 {
-    jobs.reserve(1)?;
-    demands.reserve(count)?;
-    imports.reserve(1)?;
-    Ok(())
-}
-
-/// Makes room in the lists for a job's number and so many of demands.
-pub(crate) fn reserve_numbers(
-    jobs: &mut Vec<u32>,
-    demands: &mut Vec<u32>,
-    count: usize,
-) -> Result<(), AllocError>
-    ensures jobs { jobs.new.items ≡ jobs.old.items }
-    ensures demands { demands.new.items ≡ demands.old.items }
-    ensures room { OnOk result
-        ((vec_len jobs.new < vec_capacity jobs.new)
-        × (vec_len demands.new + count ≤ vec_capacity demands.new)) }
-{
-    jobs.reserve(1)?;
-    demands.reserve(count)?;
-    Ok(())
+    rows.reserve(count)?;
+    others.reserve(count)
 }
 
 // Whether a material is asked for.

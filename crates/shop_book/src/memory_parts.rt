@@ -14,32 +14,26 @@ ghost use Rattle.shop_book.specs.Tallies.{HaveRooms, Tallies};
 ghost use Rattle.shop_book.specs.declared.books.BookFault.{BookFault as Fault};
 
 use cut_measure::PartName;
-use shop_records::{Material, Part, PartList, PartVisitor};
+use shop_records::{Part, PartList, PartVisitor};
 use shop_rows::{
     NameList, PartRows, Sums, add_part, list_all, list_part, put, sums_of, take_replaced, with_all,
 };
 use std::alloc::{AllocError, Global};
 
-/// Makes room for the rows of a change.
-pub(crate) fn reserve(
-    materials: &mut Vec<Material>,
+/// Makes room for so many parts and their sums.
+pub(crate) fn reserve_parts(
     parts: &mut PartRows,
     totals: &mut Vec<Sums>,
     count: usize,
 ) -> Result<(), AllocError>
-    ensures materials { materials.new.items ≡ materials.old.items }
     ensures parts { parts_in parts.new ≡ parts_in parts.old }
     ensures known { AreKnown parts.old → AreKnown parts.new }
     ensures totals { totals.new.items ≡ totals.old.items }
     ensures room { OnOk result
-        ((vec_len materials.new < vec_capacity materials.new)
-        × HasRoom count parts.new
-        × (vec_len totals.new + count ≤ vec_capacity totals.new)) }
+        (HasRoom count parts.new × (vec_len totals.new + count ≤ vec_capacity totals.new)) }
 {
-    materials.reserve(1)?;
     parts.reserve(count)?;
-    totals.reserve(count)?;
-    Ok(())
+    totals.reserve(count)
 }
 
 // Appends a part that was found.
@@ -172,13 +166,8 @@ fn insert_run(
     true
 }
 
-/// Puts parts, as one after another.
-pub(crate) fn put_parts(
-    parts: &mut PartRows,
-    totals: &mut Vec<Sums>,
-    lists: &mut Vec<NameList>,
-    rows: &[Part],
-)
+// Puts parts, as one after another.
+fn put_parts(parts: &mut PartRows, totals: &mut Vec<Sums>, lists: &mut Vec<NameList>, rows: &[Part])
     requires known { AreKnown parts.old }
     requires tally { Tallies (parts_in parts.old) totals.old.items lists.old.items }
     requires rooms { HaveRooms (length rows.now) rows.now parts.old totals.old lists.old.items }
@@ -193,8 +182,8 @@ pub(crate) fn put_parts(
     put_one_by_one(parts, totals, lists, rows);
 }
 
-/// Puts a part that moves, if there is one.
-pub(crate) fn put_moved(
+// Puts a part that moves, if there is one.
+fn put_moved(
     parts: &mut PartRows,
     totals: &mut Vec<Sums>,
     lists: &mut Vec<NameList>,
@@ -214,4 +203,25 @@ pub(crate) fn put_moved(
     if let Some(row) = row {
         put_part(parts, totals, lists, &row);
     }
+}
+
+/// Puts a part that moves, if there is one, and parts behind it, as one after another.
+pub(crate) fn put_stock(
+    parts: &mut PartRows,
+    totals: &mut Vec<Sums>,
+    lists: &mut Vec<NameList>,
+    moved: Option<Part>,
+    rows: &[Part],
+)
+    requires known { AreKnown parts.old }
+    requires tally { Tallies (parts_in parts.old) totals.old.items lists.old.items }
+    requires moved { HaveRooms 1 (option_to_list moved) parts.old totals.old lists.old.items }
+    requires rooms { HaveRooms (length rows.now + 1) rows.now parts.old totals.old lists.old.items }
+    ensures put { map_of part_key name_cmp (parts_in parts.new)
+        ≡ with_parts rows.now (with_moved moved (map_of part_key name_cmp (parts_in parts.old))) }
+    ensures known { AreKnown parts.new }
+    ensures tally { Tallies (parts_in parts.new) totals.new.items lists.new.items }
+{
+    put_moved(parts, totals, lists, moved);
+    put_parts(parts, totals, lists, rows);
 }

@@ -1,16 +1,17 @@
 -- Lists of names, one of which changes.
 use Rattle.std.proofs.Common.{◌≡◌, ℕ, zero, suc, ◌+◌, ◌<◌, ◌≤◌, Bool, true, false, List, [], ◌∷◌, ◌++◌, length, map, take, get_or, refl, sym, ap, subst, ◌∙◌, add-one, arith, true≢false}
-use Rattle.std.specs.Prelude.{IsTrue, Option, Some, None, cond, ◌&&◌}
+use Rattle.std.specs.Prelude.{HoldsAt, IsTrue, Option, Some, None, cond, ◌&&◌}
 use Rattle.std.specs.declared.cmp.Ordering.{Ordering}
 use Rattle.std.specs.declared.cmp.Ordering.TheVariants.{Less, Equal, Greater}
 use Rattle.std.specs.Ordering.{eq_by_cmp, is_eq, is_lt, ordering_then}
 use Rattle.std.specs.Cmp.{tied_itself}
 use Rattle.std.specs.Cmp.Lexicographic.{nat_list_cmp_total}
-use Rattle.std.specs.FinMap.{IsAntisymmetric, find, slice_cmp-IsAntisymmetric, nat_cmp-IsAntisymmetric}
+use Rattle.std.specs.FinMap.{find}
 use Rattle.std.specs.FinMap.Entries.{below_all, find-put}
 use Rattle.std.proofs.Math.ListN.{set}
 use Rattle.cut_measure.specs.Codes.{code_cmp}
 use Rattle.cut_measure.specs.Names.{Name, name_cmp}
+use Rattle.shop_rows.specs.Keys.{codes_exact}
 use Rattle.shop_rows.specs.Open.{own_key, open_cmp, open_exact, list_key, listed_names, names_of, has, has_key, room_in, room_of, AreInOrder, IsKeySettled}
 use Rattle.shop_rows.specs.Rows.{entries_of, rise, row_at, IsPut, IsSettled}
 use Rattle.shop_rows.specs.declared.names.NameList.{NameList}
@@ -18,9 +19,6 @@ use Rattle.shop_rows.specs.declared.names.OpenPart.{OpenPart}
 use Rattle.shop_rows.proofs.Listed.{tie}
 use Rattle.std.proofs.lemmas.List.{map-append}
 use Rattle.shop_rows.proofs.Places.{put_found, rise-put, row_found, tested}
-
-pub codes_exact : IsAntisymmetric code_cmp
-codes_exact = slice_cmp-IsAntisymmetric nat_cmp-IsAntisymmetric
 
 far_material : (a b : Ordering) → is_eq a ≡ false → is_eq (ordering_then a b) ≡ false
 far_material Less b e = refl
@@ -87,46 +85,71 @@ room_there list old new is_put =
 
 -- ---- the list of a material is changed in its place
 
-module _ (xs : List NameList) (order : AreInOrder xs) (i : ℕ) (x list : NameList) (key : List ℕ) (within : i < length xs) (here : x ≡ get_or xs i x)
-    (holds : (d : NameList) → code_cmp (list_key (get_or xs i d)) key ≡ Equal) (same : list.material ≡ x.material) where
-  own_key_at : list.material ≡ key
-  own_key_at = same ∙ codes_exact x.material key (ap (λ (l : NameList). code_cmp l.material key) here ∙ holds x)
+-- the list of a material stands here
+pub record IsPlace (xs : List NameList) (i : ℕ) (x : NameList) (key : List ℕ) : Type 0 where
+  pub within : i < length xs
+  pub here : x ≡ get_or xs i x
+  pub holds : HoldsAt (λ l. code_cmp (list_key l) key ≡ Equal) xs i
+
+-- as a search of the same lists found it
+pub is_place : (ls xs : List NameList) (i : ℕ) (x : NameList) (key : List ℕ) → ls ≡ xs → i < length ls → HoldsAt (λ l. code_cmp (list_key l) key ≡ Equal) ls i → x ≡ get_or xs i x → IsPlace xs i x key
+is_place ls xs i x key same within holds here =
+    record {
+      within = subst (λ (l : List NameList). i < length l) same within;
+      here = here;
+      holds = λ d. subst (λ (l : List NameList). code_cmp (list_key (get_or l i d)) key ≡ Equal) same (holds d);
+    }
+
+-- the names stay, and the lists have as much room or more
+pub record AreWider (old new : List NameList) : Type 0 where
+  pub names : (code : List ℕ) → names_of code new ≡ names_of code old
+  pub order : AreInOrder new
+  pub more : (code : List ℕ) → room_of code old ≤ room_of code new
+
+module _ (xs : List NameList) (order : AreInOrder xs) (i : ℕ) (x : NameList) (key : List ℕ) (place : IsPlace xs i x key) where
+  key_at : x.material ≡ key
+  key_at = codes_exact x.material key (ap (λ (l : NameList). code_cmp l.material key) place.here ∙ place.holds x)
 
   found_at : row_at list_key code_cmp key xs ≡ Some x
-  found_at = row_found list_key code_cmp nat_list_cmp_total codes_exact xs (tested _ order.materials) i x key within here holds
+  found_at = row_found list_key code_cmp nat_list_cmp_total codes_exact xs (tested _ order.materials) i x key place.within place.here place.holds
 
-  put_at : IsPut list_key code_cmp list xs (set xs i list)
-  put_at = put_found list_key code_cmp nat_list_cmp_total codes_exact xs (tested _ order.materials) i x key within here holds list own_key_at
-
-  was_at : row_at list_key code_cmp list.material xs ≡ Some x
-  was_at = ap (λ code. row_at list_key code_cmp code xs) own_key_at ∙ found_at
-
-  pub set_names : list.names.items ≡ x.names.items → (code : List ℕ) → names_of code (set xs i list) ≡ names_of code xs
-  set_names = names_put list xs (set xs i list) put_at (Some x) was_at
-
-  pub set_order : IsTrue (rise own_key name_cmp list.names.items) → AreInOrder (set xs i list)
-  set_order = order_put list xs (set xs i list) put_at order
-
-  pub set_room : (n : ℕ) → room_in (Some x) ≤ room_in (Some list) + n → (code : List ℕ) → room_of code xs ≤ room_of code (set xs i list) + n
-  set_room = room_put list xs (set xs i list) put_at (Some x) was_at
-
-  pub set_own_room : room_of key (set xs i list) ≡ room_in (Some list)
-  set_own_room = ap (λ code. room_of code (set xs i list)) (sym own_key_at) ∙ room_there list xs (set xs i list) put_at
-
-  pub set_settled : (name : Name) (is_there : Bool) → IsSettled own_key name_cmp name is_there x.names.items list.names.items
-      → IsKeySettled (record { material = key; name = name }) is_there xs (set xs i list)
-  set_settled name is_there settled =
-      subst (λ (code : List ℕ). IsKeySettled (record { material = code; name = name }) is_there xs (set xs i list)) own_key_at
-      (settled_put list xs (set xs i list) put_at (Some x) was_at name is_there settled)
-
--- the list of a material that was found
-module _ (xs : List NameList) (order : AreInOrder xs) (i : ℕ) (x : NameList) (key : List ℕ) (within : i < length xs) (here : x ≡ get_or xs i x)
-    (holds : (d : NameList) → code_cmp (list_key (get_or xs i d)) key ≡ Equal) where
   pub rising_in : IsTrue (rise own_key name_cmp x.names.items)
-  rising_in = subst (λ row. IsTrue (rise own_key name_cmp (listed_names row))) (found_at xs order i x x key within here holds refl) (order.names key)
+  rising_in = subst (λ row. IsTrue (rise own_key name_cmp (listed_names row))) found_at (order.names key)
 
   pub room_found : room_of key xs ≡ room_in (Some x)
-  room_found = ap room_in (found_at xs order i x x key within here holds refl)
+  room_found = ap room_in found_at
+
+  module _ (list : NameList) (same : list.material ≡ x.material) where
+    own_key_at : list.material ≡ key
+    own_key_at = same ∙ key_at
+
+    put_at : IsPut list_key code_cmp list xs (set xs i list)
+    put_at = put_found list_key code_cmp nat_list_cmp_total codes_exact xs (tested _ order.materials) i x key place.within place.here place.holds list own_key_at
+
+    was_at : row_at list_key code_cmp list.material xs ≡ Some x
+    was_at = ap (λ code. row_at list_key code_cmp code xs) own_key_at ∙ found_at
+
+    pub set_order : IsTrue (rise own_key name_cmp list.names.items) → AreInOrder (set xs i list)
+    set_order = order_put list xs (set xs i list) put_at order
+
+    pub set_room : (n : ℕ) → room_in (Some x) ≤ room_in (Some list) + n → (code : List ℕ) → room_of code xs ≤ room_of code (set xs i list) + n
+    set_room = room_put list xs (set xs i list) put_at (Some x) was_at
+
+    pub set_own_room : room_of key (set xs i list) ≡ room_in (Some list)
+    set_own_room = ap (λ code. room_of code (set xs i list)) (sym own_key_at) ∙ room_there list xs (set xs i list) put_at
+
+    pub set_wider : list.names.items ≡ x.names.items → room_in (Some x) ≤ room_in (Some list) → AreWider xs (set xs i list)
+    set_wider names wide = record {
+      names = names_put list xs (set xs i list) put_at (Some x) was_at names;
+      order = set_order (subst (λ (own : List Name). IsTrue (rise own_key name_cmp own)) (sym names) rising_in);
+      more = λ code. let more = set_room 0 (omega (arith, wide)) code in omega (arith, more);
+    }
+
+    pub set_settled : (name : Name) (is_there : Bool) → IsSettled own_key name_cmp name is_there x.names.items list.names.items
+        → IsKeySettled (record { material = key; name = name }) is_there xs (set xs i list)
+    set_settled name is_there settled =
+        subst (λ (code : List ℕ). IsKeySettled (record { material = code; name = name }) is_there xs (set xs i list)) own_key_at
+        (settled_put list xs (set xs i list) put_at (Some x) was_at name is_there settled)
 
 -- ---- a key of a material without a list
 

@@ -6,7 +6,7 @@ use Rattle.std.specs.declared.cmp.Ordering.TheVariants.{Less, Equal, Greater}
 use Rattle.std.specs.Ordering.{is_eq, ordering_reverse}
 use Rattle.std.specs.Cmp.{tied_itself}
 use Rattle.std.specs.Cmp.Lexicographic.{nat_list_cmp_total}
-use Rattle.std.specs.FinMap.{find, slice_cmp-IsAntisymmetric, nat_cmp-IsAntisymmetric}
+use Rattle.std.specs.FinMap.{find}
 use Rattle.std.specs.FinMap.Entries.{find-put}
 use Rattle.std.proofs.lemmas.Bool.{leb-true, le-leb}
 use Rattle.std.proofs.lemmas.List.Folds.{list_all_more}
@@ -17,16 +17,13 @@ use Rattle.shop_records.specs.declared.records.Column.{Column}
 use Rattle.shop_records.specs.Columns.{is_counted}
 use Rattle.shop_records.specs.Content.{counts_for, cells_in}
 use Rattle.shop_rows.specs.declared.sums.Sums.{Sums}
+use Rattle.shop_rows.specs.Keys.{codes_exact}
 use Rattle.shop_rows.specs.Rows.{entries_of, row_at, IsPut}
 use Rattle.shop_rows.specs.Sums.{sum_in, sums_key, found_sum, sum_at, counted_cells, cells_for, most_cells, all_small}
-
-equal : (o : Ordering) → is_eq o ≡ true → o ≡ Equal
-equal Less e = cc
-equal Equal e = refl
-equal Greater e = cc
+use Rattle.shop_rows.proofs.Listed.{tie}
 
 pub same_code : (a b : List ℕ) → is_eq (code_cmp a b) ≡ true → a ≡ b
-same_code a b e = slice_cmp-IsAntisymmetric nat_cmp-IsAntisymmetric a b (equal (code_cmp a b) e)
+same_code a b e = codes_exact a b (tie _ e)
 
 turned : (o : Ordering) → is_eq (ordering_reverse o) ≡ is_eq o
 turned Less = refl

@@ -4,7 +4,7 @@ use Rattle.std.specs.Prelude.{◌≡◌, ◌≤◌, ◌-◌, ⊤, ℕ, List, [],
 use Rattle.std.proofs.Common.{ap}
 use Rattle.std.specs.declared.cmp.Ordering.{Ordering}
 use Rattle.std.specs.Ordering.{eq_by_cmp, nat_cmp, ordering_then}
-use Rattle.std.specs.FinMap.{IsAntisymmetric, slice_cmp-IsAntisymmetric, nat_cmp-IsAntisymmetric}
+use Rattle.std.specs.FinMap.{IsAntisymmetric}
 use Rattle.std.proofs.lemmas.Map.Lookups.{exact_pairs}
 use Rattle.cut_measure.specs.Codes.{code_cmp}
 use Rattle.cut_measure.specs.Names.{Name, name_cmp}
@@ -13,7 +13,7 @@ use Rattle.shop_records.specs.declared.records.Job.{Job}
 use Rattle.shop_records.specs.declared.records.Demand.{Demand}
 use Rattle.shop_records.specs.Columns.{is_waiting}
 use Rattle.shop_records.specs.Content.{is_listed}
-use Rattle.shop_rows.specs.Keys.{demand_key, part_key, names_exact}
+use Rattle.shop_rows.specs.Keys.{demand_key, part_key, codes_exact, names_exact}
 use Rattle.shop_rows.specs.Rows.{has_row, rise, row_at}
 use Rattle.shop_rows.specs.declared.names.OpenPart.{OpenPart}
 use Rattle.shop_rows.specs.declared.names.NameList.{NameList}
@@ -30,7 +30,7 @@ open_cmp a b = ordering_then (code_cmp a.material b.material) (name_cmp a.name b
 pub open_exact : IsAntisymmetric open_cmp
 open_exact a b h =
     ap (λ (p : List ℕ × Name). record { material = p.0; name = p.1 })
-    (exact_pairs code_cmp name_cmp (slice_cmp-IsAntisymmetric nat_cmp-IsAntisymmetric) names_exact (a.material, a.name) (b.material, b.name) h)
+    (exact_pairs code_cmp name_cmp codes_exact names_exact (a.material, a.name) (b.material, b.name) h)
 
 -- whether a list has a key
 abbrev pub has : {K : Type 0} → (K → K → Ordering) → K → List K → Bool

@@ -14,7 +14,8 @@ pub use names::{
 pub use open::{OpenRows, list_demands, list_job, numbers_behind};
 pub use part_rows::{Origin, PartRow, PartRows};
 pub use rows::{
-    Row, at, copy_rows, find, first_rows, put, put_all, put_run, put_some, rises, settle, take_row,
+    Row, RowKey, at, copy_rows, find, first_rows, put, put_all, put_run, put_some, rises, settle,
+    take_row,
 };
 pub use sums::{
     Sums, add_part, count_part, has_totals, no_sums, sums_of, take_replaced, totals_in, with_all,

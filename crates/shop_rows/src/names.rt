@@ -31,28 +31,15 @@ pub struct NameList {
 }
 
 impl Row for NameList {
-    ghost use Rattle.cut_measure.specs.Codes.{code_cmp};
-    ghost use Rattle.std.specs.Cmp.Lexicographic.{nat_list_cmp_total};
-    ghost use Rattle.std.specs.FinMap.{slice_cmp-IsAntisymmetric, nat_cmp-IsAntisymmetric};
     ghost use Rattle.shop_rows.specs.Open.{list_key};
 
     type Key = Code;
 
     ghost key_of = { list_key };
 
-    ghost cmp = { code_cmp };
-
-    fn compare(&self, key: Code) -> Ordering {
-        self.material.order(&key)
-    }
-
     fn key(&self) -> Code {
         self.material
     }
-
-    ghost total = { nat_list_cmp_total };
-
-    ghost exact = { slice_cmp-IsAntisymmetric nat_cmp-IsAntisymmetric };
 }
 
 impl OpenPart {

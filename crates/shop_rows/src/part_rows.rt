@@ -1,15 +1,15 @@
 //! Parts as rows that give the number of what each was received as: 44 bytes for each part.
 
 ghost use Rattle.std.specs.Prelude.{◌≡◌, ◌<◌, IsTrue, List, length};
+ghost use Rattle.std.specs.Option.{ForSome, option_map};
 ghost use Rattle.shop_rows.specs.declared.part_rows.Origin.{Origin as OriginOf};
 ghost use Rattle.shop_rows.specs.Keys.{part_key};
 ghost use Rattle.shop_rows.specs.PartRows.{part_of, row_key, IsNumbered};
 
-use crate::rows::{Row, at, ends, find, gap, move_back, put};
+use crate::rows::{Row, ends, find, gap, move_back, put};
 use cut_measure::{Code, PartName, Size};
 use shop_records::{Part, State};
 use std::alloc::{AllocError, Global};
-use std::cmp::Ordering;
 
 // The most origins, whose numbers 32 bits hold.
 const MOST_ORIGINS: usize = 4_294_967_296;
@@ -44,27 +44,15 @@ pub struct PartRows {
 }
 
 impl Row for PartRow {
-    ghost use Rattle.cut_measure.specs.Names.{name_cmp};
-    ghost use Rattle.shop_rows.specs.Keys.{names_total, names_exact};
     ghost use Rattle.shop_rows.specs.PartRows.{row_key};
 
     type Key = PartName;
 
     ghost key_of = { row_key };
 
-    ghost cmp = { name_cmp };
-
-    fn compare(&self, key: PartName) -> Ordering {
-        self.name.order(&key)
-    }
-
     fn key(&self) -> PartName {
         self.name
     }
-
-    ghost total = { names_total };
-
-    ghost exact = { names_exact };
 }
 
 // Whether this is the number of the part's origin.
@@ -110,6 +98,17 @@ fn unpack(origins: &[Origin], row: &PartRow) -> Part
         y: row.y,
         size: row.size,
         state: row.state,
+    }
+}
+
+// The same of a row that was found, if there is one.
+fn unpack_found(origins: &[Origin], row: Option<PartRow>) -> Option<Part>
+    requires { ForSome row (λ row. row.origin < length origins.now) }
+    ensures { result ≡ option_map (part_of origins.now) row }
+{
+    match row {
+        Some(row) => Some(unpack(origins, &row)),
+        None => None,
     }
 }
 
@@ -159,10 +158,8 @@ impl PartRows {
         requires known { AreKnown self.now }
         ensures { result ≡ row_at part_key name_cmp name (parts_in self.now) }
     {
-        match at(&self.rows, name) {
-            Some(row) => Some(unpack(&self.origins, row)),
-            None => None,
-        }
+        let row = find(&self.rows, name);
+        unpack_found(&self.origins, row)
     }
 
     // The part at a place.
@@ -272,10 +269,8 @@ impl PartRows {
         ensures room { (count : ℕ) → HasRoom (count + 1) self.old → HasRoom count self.new }
     {
         let number = self.number_of(part);
-        match put(&mut self.rows, pack(part, number)) {
-            Some(row) => Some(unpack(&self.origins, &row)),
-            None => None,
-        }
+        let replaced = put(&mut self.rows, pack(part, number));
+        unpack_found(&self.origins, replaced)
     }
 
     // Appends a part behind all others.

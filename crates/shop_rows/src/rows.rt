@@ -13,20 +13,26 @@ use std::alloc::{AllocError, Global};
 use std::cmp::Ordering;
 use std::mem::replace;
 
-/// Rows that are kept in the order of their keys.
-pub trait Row: Drop {
+/// A key, in whose order rows are kept.
+pub trait RowKey: Copy {
     ghost use Rattle.std.specs.Cmp.{IsTotalOrder};
     ghost use Rattle.std.specs.FinMap.{IsAntisymmetric};
 
-    type Key: Copy;
+    ghost cmp: { Self → Self → Ordering };
+
+    fn compare_to(self, other: Self) -> Ordering
+        ensures { result ≡ cmp self other };
+
+    ghost total: { IsTotalOrder cmp };
+
+    ghost exact: { IsAntisymmetric cmp };
+}
+
+/// Rows that are kept in the order of their keys.
+pub trait Row: Drop {
+    type Key: RowKey;
 
     ghost key_of: { Self → Self.Key };
-
-    ghost cmp: { Self.Key → Self.Key → Ordering };
-
-    /// The order of the row's key and another.
-    fn compare(&self, key: Self::Key) -> Ordering
-        ensures { result ≡ cmp (key_of self.now) key };
 
     fn key(&self) -> Self::Key
         ensures { result ≡ key_of self.now };
@@ -36,15 +42,18 @@ pub trait Row: Drop {
         len
     }
 
-    ghost total: { IsTotalOrder cmp };
-
-    ghost exact: { IsAntisymmetric cmp };
+    /// The order of the row's key and another.
+    final fn compare(&self, key: Self::Key) -> Ordering
+        ensures { result ≡ Self.Key.cmp (key_of self.now) key }
+    {
+        self.key().compare_to(key)
+    }
 }
 
 // Whether the row of a key stands at this place.
 fn stands_at<R: Row>(rows: &[R], key: R::Key, i: usize) -> bool
     ensures { IsTrue result → i < length rows.now
-        × HoldsAt (λ row. R.cmp (R.key_of row) key ≡ Equal) rows.now i }
+        × HoldsAt (λ row. R.Key.cmp (R.key_of row) key ≡ Equal) rows.now i }
 {
     match rows.get(i) {
         Some(row) => matches!(row.compare(key), Ordering::Equal),
@@ -54,7 +63,7 @@ fn stands_at<R: Row>(rows: &[R], key: R::Key, i: usize) -> bool
 
 // Whether a key comes behind the last row.
 fn is_behind<R: Row>(rows: &[R], key: R::Key) -> bool
-    ensures { IsTrue result → IsBinarySearchResult (λ row. R.cmp (R.key_of row) key) rows.now
+    ensures { IsTrue result → IsBinarySearchResult (λ row. R.Key.cmp (R.key_of row) key) rows.now
         (Err (length rows.now)) }
 {
     match rows.last() {
@@ -67,7 +76,7 @@ fn is_behind<R: Row>(rows: &[R], key: R::Key) -> bool
 /// row are the rows searched.
 pub(crate) fn place_near<R: Row>(rows: &[R], key: R::Key, near: usize) -> Result<usize, usize>
     ensures range { IsSearchInRange result (length rows.now) }
-    ensures position { IsBinarySearchResult (λ row. R.cmp (R.key_of row) key) rows.now result }
+    ensures position { IsBinarySearchResult (λ row. R.Key.cmp (R.key_of row) key) rows.now result }
 {
     if stands_at(rows, key, near) {
         return Ok(near);
@@ -81,14 +90,14 @@ pub(crate) fn place_near<R: Row>(rows: &[R], key: R::Key, near: usize) -> Result
 // Where the row of a key stands, or where it would.
 fn place<R: Row>(rows: &[R], key: R::Key) -> Result<usize, usize>
     ensures range { IsSearchInRange result (length rows.now) }
-    ensures position { IsBinarySearchResult (λ row. R.cmp (R.key_of row) key) rows.now result }
+    ensures position { IsBinarySearchResult (λ row. R.Key.cmp (R.key_of row) key) rows.now result }
 {
     place_near(rows, key, R::near(key, rows.len()))
 }
 
 /// Whether rows rise by their keys.
 pub fn rises<R: Row>(rows: &[R]) -> bool
-    ensures { IsTrue result → IsTrue (rise R.key_of R.cmp rows.now) }
+    ensures { IsTrue result → IsTrue (rise R.key_of R.Key.cmp rows.now) }
 {
     for i in 1..rows.len() {
         if !matches!(rows[i - 1].compare(rows[i].key()), Ordering::Less) {
@@ -101,7 +110,7 @@ pub fn rises<R: Row>(rows: &[R]) -> bool
 // Whether a key comes before the row at a place, or there is none.
 fn is_before<R: Row>(rows: &[R], i: usize, key: R::Key) -> bool
     ensures { IsTrue result → i < length rows.now
-        → HoldsAt (λ row. R.cmp (R.key_of row) key ≡ Greater) rows.now i }
+        → HoldsAt (λ row. R.Key.cmp (R.key_of row) key ≡ Greater) rows.now i }
 {
     match rows.get(i) {
         Some(row) => matches!(row.compare(key), Ordering::Greater),
@@ -111,7 +120,7 @@ fn is_before<R: Row>(rows: &[R], i: usize, key: R::Key) -> bool
 
 /// The keys of the first and the last of rows that rise.
 pub(crate) fn ends<R: Row>(rows: &[R]) -> Option<(R::Key, R::Key)>
-    ensures { IfSome result (λ keys. IsRun R.key_of R.cmp keys.0 keys.1 rows.now) }
+    ensures { IfSome result (λ keys. IsRun R.key_of R.Key.cmp keys.0 keys.1 rows.now) }
 {
     if !rises(rows) {
         return None;
@@ -121,14 +130,14 @@ pub(crate) fn ends<R: Row>(rows: &[R]) -> Option<(R::Key, R::Key)>
 
 /// Where rows that rise from one key to another would stand together between two others.
 pub(crate) fn gap<R: Row>(rows: &[R], first: R::Key, last: R::Key) -> Option<usize>
-    requires { IsTrue (rise R.key_of R.cmp rows.now) }
+    requires { IsTrue (rise R.key_of R.Key.cmp rows.now) }
     ensures range { IfSome result (λ i. i ≤ length rows.now) }
     ensures put { IfSome result
-        (λ i. (added : List R) → IsRun R.key_of R.cmp first last added
-        → ArePut R.key_of R.cmp added rows.now (insert_slice rows.now i added)) }
+        (λ i. (added : List R) → IsRun R.key_of R.Key.cmp first last added
+        → ArePut R.key_of R.Key.cmp added rows.now (insert_slice rows.now i added)) }
     ensures new { IfSome result
-        (λ i. (added : List R) → IsRun R.key_of R.cmp first last added
-        → All (λ row. row_at R.key_of R.cmp (R.key_of row) rows.now ≡ None) added) }
+        (λ i. (added : List R) → IsRun R.key_of R.Key.cmp first last added
+        → All (λ row. row_at R.key_of R.Key.cmp (R.key_of row) rows.now ≡ None) added) }
 {
     let Err(i) = place(rows, first) else {
         return None;
@@ -141,14 +150,14 @@ pub(crate) fn gap<R: Row>(rows: &[R], first: R::Key, last: R::Key) -> Option<usi
 
 // Where rows that rise would stand together between two others.
 fn run_place<R: Row>(rows: &[R], added: &[R]) -> Option<usize>
-    requires { IsTrue (rise R.key_of R.cmp rows.now) }
+    requires { IsTrue (rise R.key_of R.Key.cmp rows.now) }
     ensures range { IfSome result (λ i. i ≤ length rows.now) }
     ensures put { IfSome result
-        (λ i. ArePut R.key_of R.cmp added.now rows.now (insert_slice rows.now i added.now)) }
+        (λ i. ArePut R.key_of R.Key.cmp added.now rows.now (insert_slice rows.now i added.now)) }
     ensures new { IfSome result
-        (λ i. All (λ row. row_at R.key_of R.cmp (R.key_of row) rows.now ≡ None) added.now) }
+        (λ i. All (λ row. row_at R.key_of R.Key.cmp (R.key_of row) rows.now ≡ None) added.now) }
     ensures rising { IfSome result
-        (λ i. IsTrue (rise R.key_of R.cmp (insert_slice rows.now i added.now))) }
+        (λ i. IsTrue (rise R.key_of R.Key.cmp (insert_slice rows.now i added.now))) }
 {
     let (first, last) = ends(added)?;
     let i = gap(rows, first, last)?;
@@ -157,8 +166,8 @@ fn run_place<R: Row>(rows: &[R], added: &[R]) -> Option<usize>
 
 /// The row of a key, where it stands.
 pub fn at<R: Row>(rows: &[R], key: R::Key) -> Option<&R>
-    requires { IsTrue (rise R.key_of R.cmp rows.now) }
-    ensures row { option_copied result ≡ row_at R.key_of R.cmp key rows.now }
+    requires { IsTrue (rise R.key_of R.Key.cmp rows.now) }
+    ensures row { option_copied result ≡ row_at R.key_of R.Key.cmp key rows.now }
     ensures key { IfSome result (λ row. R.key_of row.now ≡ key) }
 {
     match place(rows, key) {
@@ -169,8 +178,8 @@ pub fn at<R: Row>(rows: &[R], key: R::Key) -> Option<&R>
 
 /// The row of a key.
 pub fn find<R: Row + Copy>(rows: &[R], key: R::Key) -> Option<R>
-    requires { IsTrue (rise R.key_of R.cmp rows.now) }
-    ensures row { result ≡ row_at R.key_of R.cmp key rows.now }
+    requires { IsTrue (rise R.key_of R.Key.cmp rows.now) }
+    ensures row { result ≡ row_at R.key_of R.Key.cmp key rows.now }
     ensures key { IfSome result (λ row. R.key_of row ≡ key) }
 {
     match at(rows, key) {
@@ -181,11 +190,11 @@ pub fn find<R: Row + Copy>(rows: &[R], key: R::Key) -> Option<R>
 
 /// Puts a row in its place, and gives the one that it replaced.
 pub fn put<R: Row>(rows: &mut Vec<R>, row: R) -> Option<R>
-    requires rising { IsTrue (rise R.key_of R.cmp rows.old.items) }
+    requires rising { IsTrue (rise R.key_of R.Key.cmp rows.old.items) }
     requires room { vec_len rows.old < vec_capacity rows.old }
-    ensures put { IsPut R.key_of R.cmp row rows.old.items rows.new.items }
-    ensures replaced { result ≡ row_at R.key_of R.cmp (R.key_of row) rows.old.items }
-    ensures rising { IsTrue (rise R.key_of R.cmp rows.new.items) }
+    ensures put { IsPut R.key_of R.Key.cmp row rows.old.items rows.new.items }
+    ensures replaced { result ≡ row_at R.key_of R.Key.cmp (R.key_of row) rows.old.items }
+    ensures rising { IsTrue (rise R.key_of R.Key.cmp rows.new.items) }
     ensures len { vec_len rows.new ≤ vec_len rows.old + 1 }
     ensures same_len { IsSome result → vec_len rows.new ≡ vec_len rows.old }
     ensures capacity { vec_capacity rows.old ≤ vec_capacity rows.new }
@@ -207,10 +216,10 @@ pub fn put<R: Row>(rows: &mut Vec<R>, row: R) -> Option<R>
 
 /// Takes the row of a key out, where it stands, and gives it.
 pub fn take_row<R: Row>(rows: &mut Vec<R>, key: R::Key) -> Option<R>
-    requires { IsTrue (rise R.key_of R.cmp rows.old.items) }
-    ensures taken { IsTaken R.key_of R.cmp key rows.old.items rows.new.items }
-    ensures row { result ≡ row_at R.key_of R.cmp key rows.old.items }
-    ensures rising { IsTrue (rise R.key_of R.cmp rows.new.items) }
+    requires { IsTrue (rise R.key_of R.Key.cmp rows.old.items) }
+    ensures taken { IsTaken R.key_of R.Key.cmp key rows.old.items rows.new.items }
+    ensures row { result ≡ row_at R.key_of R.Key.cmp key rows.old.items }
+    ensures rising { IsTrue (rise R.key_of R.Key.cmp rows.new.items) }
     ensures len { vec_len rows.new ≤ vec_len rows.old }
     ensures capacity { vec_capacity rows.new ≡ vec_capacity rows.old }
 {
@@ -222,11 +231,11 @@ pub fn take_row<R: Row>(rows: &mut Vec<R>, key: R::Key) -> Option<R>
 
 /// Has a row there, or none of its key.
 pub fn settle<R: Row>(rows: &mut Vec<R>, row: R, is_there: bool)
-    requires rising { IsTrue (rise R.key_of R.cmp rows.old.items) }
+    requires rising { IsTrue (rise R.key_of R.Key.cmp rows.old.items) }
     requires room { IsTrue is_there → vec_len rows.old < vec_capacity rows.old }
-    ensures settled { IsSettled R.key_of R.cmp
+    ensures settled { IsSettled R.key_of R.Key.cmp
         (R.key_of row) is_there rows.old.items rows.new.items }
-    ensures rising { IsTrue (rise R.key_of R.cmp rows.new.items) }
+    ensures rising { IsTrue (rise R.key_of R.Key.cmp rows.new.items) }
     ensures len { vec_len rows.new ≤ vec_len rows.old + 1 }
     ensures less { is_there ≡ false → vec_len rows.new ≤ vec_len rows.old }
     ensures capacity { vec_capacity rows.old ≤ vec_capacity rows.new }
@@ -240,10 +249,10 @@ pub fn settle<R: Row>(rows: &mut Vec<R>, row: R, is_there: bool)
 
 /// Puts a row in its place, if there is one.
 pub fn put_some<R: Row>(rows: &mut Vec<R>, row: Option<R>)
-    requires rising { IsTrue (rise R.key_of R.cmp rows.old.items) }
+    requires rising { IsTrue (rise R.key_of R.Key.cmp rows.old.items) }
     requires room { vec_len rows.old < vec_capacity rows.old }
-    ensures put { ArePut R.key_of R.cmp (option_to_list row) rows.old.items rows.new.items }
-    ensures rising { IsTrue (rise R.key_of R.cmp rows.new.items) }
+    ensures put { ArePut R.key_of R.Key.cmp (option_to_list row) rows.old.items rows.new.items }
+    ensures rising { IsTrue (rise R.key_of R.Key.cmp rows.new.items) }
 {
     if let Some(row) = row {
         let _ = put(rows, row);
@@ -274,14 +283,14 @@ pub(crate) fn move_back<R: Row>(rows: &mut Vec<R>, from: usize, i: usize)
 
 /// Puts rows that stand together between two others, all by one move, and tells whether they do; else nothing changes.
 pub fn put_run<R: Row + Copy>(rows: &mut Vec<R>, added: &[R]) -> bool
-    requires rising { IsTrue (rise R.key_of R.cmp rows.old.items) }
+    requires rising { IsTrue (rise R.key_of R.Key.cmp rows.old.items) }
     requires room { vec_len rows.old + length added.now ≤ vec_capacity rows.old }
-    ensures put { IsTrue result → ArePut R.key_of R.cmp added.now rows.old.items rows.new.items }
+    ensures put { IsTrue result → ArePut R.key_of R.Key.cmp added.now rows.old.items rows.new.items }
     ensures new { IsTrue result
-        → All (λ row. row_at R.key_of R.cmp (R.key_of row) rows.old.items ≡ None) added.now }
+        → All (λ row. row_at R.key_of R.Key.cmp (R.key_of row) rows.old.items ≡ None) added.now }
     ensures run { IsTrue result → (i : ℕ)
         × (rows.new.items ≡ insert_slice rows.old.items i added.now) }
-    ensures rising { IsTrue result → IsTrue (rise R.key_of R.cmp rows.new.items) }
+    ensures rising { IsTrue result → IsTrue (rise R.key_of R.Key.cmp rows.new.items) }
     ensures same { result ≡ false → rows.new ≡ rows.old }
 {
     let Some(i) = run_place(rows, added) else {
@@ -298,10 +307,10 @@ pub fn put_run<R: Row + Copy>(rows: &mut Vec<R>, added: &[R]) -> bool
 
 // Puts rows in their places, one after another.
 fn put_each<R: Row + Copy>(rows: &mut Vec<R>, added: &[R])
-    requires rising { IsTrue (rise R.key_of R.cmp rows.old.items) }
+    requires rising { IsTrue (rise R.key_of R.Key.cmp rows.old.items) }
     requires room { vec_len rows.old + length added.now ≤ vec_capacity rows.old }
-    ensures put { ArePut R.key_of R.cmp added.now rows.old.items rows.new.items }
-    ensures rising { IsTrue (rise R.key_of R.cmp rows.new.items) }
+    ensures put { ArePut R.key_of R.Key.cmp added.now rows.old.items rows.new.items }
+    ensures rising { IsTrue (rise R.key_of R.Key.cmp rows.new.items) }
 {
     for row in added {
         let _ = put(rows, *row);
@@ -310,10 +319,10 @@ fn put_each<R: Row + Copy>(rows: &mut Vec<R>, added: &[R])
 
 /// Puts rows in their places, as one after another.
 pub fn put_all<R: Row + Copy>(rows: &mut Vec<R>, added: &[R])
-    requires rising { IsTrue (rise R.key_of R.cmp rows.old.items) }
+    requires rising { IsTrue (rise R.key_of R.Key.cmp rows.old.items) }
     requires room { vec_len rows.old + length added.now ≤ vec_capacity rows.old }
-    ensures put { ArePut R.key_of R.cmp added.now rows.old.items rows.new.items }
-    ensures rising { IsTrue (rise R.key_of R.cmp rows.new.items) }
+    ensures put { ArePut R.key_of R.Key.cmp added.now rows.old.items rows.new.items }
+    ensures rising { IsTrue (rise R.key_of R.Key.cmp rows.new.items) }
 {
     if put_run(rows, added) {
         return;

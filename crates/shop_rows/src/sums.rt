@@ -15,7 +15,6 @@ ghost use Rattle.shop_rows.specs.Sums.{totals_from, sum_in, sums_key, sum_at, co
 use crate::rows::{Row, find, put};
 use cut_measure::Code;
 use shop_records::{Column, MaterialTotals, Part, State, Totals};
-use std::cmp::Ordering;
 
 // The least number that 64 bits don't hold.
 const TOO_LARGE: u128 = 18_446_744_073_709_551_616;
@@ -34,28 +33,15 @@ pub struct Sums {
 }
 
 impl Row for Sums {
-    ghost use Rattle.cut_measure.specs.Codes.{code_cmp};
-    ghost use Rattle.std.specs.Cmp.Lexicographic.{nat_list_cmp_total};
-    ghost use Rattle.std.specs.FinMap.{slice_cmp-IsAntisymmetric, nat_cmp-IsAntisymmetric};
     ghost use Rattle.shop_rows.specs.Sums.{sums_key};
 
     type Key = Code;
 
     ghost key_of = { sums_key };
 
-    ghost cmp = { code_cmp };
-
-    fn compare(&self, key: Code) -> Ordering {
-        self.code.order(&key)
-    }
-
     fn key(&self) -> Code {
         self.code
     }
-
-    ghost total = { nat_list_cmp_total };
-
-    ghost exact = { slice_cmp-IsAntisymmetric nat_cmp-IsAntisymmetric };
 }
 
 /// The sums of a material without parts.

@@ -1,60 +1,42 @@
-use Rattle.std.proofs.Common.{◌≡◌, ◌<◌, ◌≤◌, List, length, get_or, subst, arith}
-use Rattle.std.specs.declared.cmp.Ordering.TheVariants.{Less, Equal, Greater}
+use Rattle.std.proofs.Common.{◌≡◌, ◌≤◌, List, length, subst, arith}
+use Rattle.std.specs.declared.cmp.Ordering.TheVariants.{Less, Greater}
 use Rattle.std.specs.Ordering.{ordering_index}
 use Rattle.std.specs.List.Sorted.{IsPartitionPoint, IsNonDecreasingBy}
 use Rattle.std.specs.Cmp.Lexicographic.{nat_list_cmp_total}
 use Rattle.cut_measure.specs.Codes.{code_cmp}
+use Rattle.shop_rows.specs.Keys.{codes_exact}
 use Rattle.shop_rows.specs.Open.{list_key}
 use Rattle.shop_rows.specs.declared.names.NameList.{NameList}
-use Rattle.shop_rows.proofs.NameLists.{codes_exact, rising_in, room_found, set_order, set_room, set_settled, unsettled}
+use Rattle.shop_rows.proofs.NameLists.{is_place, rising_in, room_found, set_order, set_room, set_settled, unsettled}
 use Rattle.shop_rows.proofs.Places.{row_missed, tested}
 use Rattle.shop_rows.proofs.names.settle_key.Goals as goal
 
-pub settle_name-requires-clause-rising : goal.settle_name-requires-clause-rising
-settle_name-requires-clause-rising c =
-    rising_in c.args.lists.now.items c.requires.order c.in-Ok.i c.index_mut.result.now c.args.key.material
-    (subst (λ (ls : List NameList). c.in-Ok.i < length ls) c.deref.ensures.value c.in-Ok.ensures.range) c.index_mut.ensures.value
-    (λ d. subst (λ (ls : List NameList). code_cmp (list_key (get_or ls c.in-Ok.i d)) c.args.key.material ≡ Equal) c.deref.ensures.value (c.in-Ok.ensures.position d))
+pub settle_name-requires : goal.settle_name-requires
+settle_name-requires c =
+    let old = c.args.lists.now.items in
+    let list = c.index_mut.result.now in
+    let place = is_place c.deref.result.now old c.in-Ok.i list c.args.key.material c.deref.ensures.value c.in-Ok.ensures.range c.in-Ok.ensures.position c.index_mut.ensures.value in
+    let found = room_found old c.requires.order c.in-Ok.i list c.args.key.material place in
+    record {
+      rising = rising_in old c.requires.order c.in-Ok.i list c.args.key.material place;
+      room = λ there. let one = c.requires.room there in omega (arith, one, found);
+    }
 
-pub settle_name-requires-clause-room : goal.settle_name-requires-clause-room
-settle_name-requires-clause-room c = λ there.
-    let one = c.requires.room there in
-    let found =
-    room_found c.args.lists.now.items c.requires.order c.in-Ok.i c.index_mut.result.now c.args.key.material
-    (subst (λ (ls : List NameList). c.in-Ok.i < length ls) c.deref.ensures.value c.in-Ok.ensures.range) c.index_mut.ensures.value
-    (λ d. subst (λ (ls : List NameList). code_cmp (list_key (get_or ls c.in-Ok.i d)) c.args.key.material ≡ Equal) c.deref.ensures.value (c.in-Ok.ensures.position d)) in
-    omega (arith, one, found)
-
-pub returns-in-Ok-clause-settled : goal.returns-in-Ok-clause-settled
-returns-in-Ok-clause-settled c =
-    set_settled c.args.lists.now.items c.requires.order c.in-Ok.i c.index_mut.result.now c.settle_name.new.list c.args.key.material
-    (subst (λ (ls : List NameList). c.in-Ok.i < length ls) c.deref.ensures.value c.in-Ok.ensures.range) c.index_mut.ensures.value
-    (λ d. subst (λ (ls : List NameList). code_cmp (list_key (get_or ls c.in-Ok.i d)) c.args.key.material ≡ Equal) c.deref.ensures.value (c.in-Ok.ensures.position d)) c.settle_name.ensures.material
-    c.args.key.name c.args.is_there c.settle_name.ensures.settled
-
-pub returns-in-Ok-clause-order : goal.returns-in-Ok-clause-order
-returns-in-Ok-clause-order c =
-    set_order c.args.lists.now.items c.requires.order c.in-Ok.i c.index_mut.result.now c.settle_name.new.list c.args.key.material
-    (subst (λ (ls : List NameList). c.in-Ok.i < length ls) c.deref.ensures.value c.in-Ok.ensures.range) c.index_mut.ensures.value
-    (λ d. subst (λ (ls : List NameList). code_cmp (list_key (get_or ls c.in-Ok.i d)) c.args.key.material ≡ Equal) c.deref.ensures.value (c.in-Ok.ensures.position d)) c.settle_name.ensures.material
-    c.settle_name.ensures.rising
-
-pub returns-in-Ok-clause-room : goal.returns-in-Ok-clause-room
-returns-in-Ok-clause-room c =
-    set_room c.args.lists.now.items c.requires.order c.in-Ok.i c.index_mut.result.now c.settle_name.new.list c.args.key.material
-    (subst (λ (ls : List NameList). c.in-Ok.i < length ls) c.deref.ensures.value c.in-Ok.ensures.range) c.index_mut.ensures.value
-    (λ d. subst (λ (ls : List NameList). code_cmp (list_key (get_or ls c.in-Ok.i d)) c.args.key.material ≡ Equal) c.deref.ensures.value (c.in-Ok.ensures.position d)) c.settle_name.ensures.material 1
-    (omega (arith, c.settle_name.ensures.len, c.settle_name.ensures.capacity))
-
-pub returns-in-Ok-clause-less : goal.returns-in-Ok-clause-less
-returns-in-Ok-clause-less c = λ not code.
-    let less = c.settle_name.ensures.less not in
-    let more =
-    set_room c.args.lists.now.items c.requires.order c.in-Ok.i c.index_mut.result.now c.settle_name.new.list c.args.key.material
-    (subst (λ (ls : List NameList). c.in-Ok.i < length ls) c.deref.ensures.value c.in-Ok.ensures.range) c.index_mut.ensures.value
-    (λ d. subst (λ (ls : List NameList). code_cmp (list_key (get_or ls c.in-Ok.i d)) c.args.key.material ≡ Equal) c.deref.ensures.value (c.in-Ok.ensures.position d)) c.settle_name.ensures.material 0
-    (omega (arith, less, c.settle_name.ensures.capacity)) code in
-    omega (arith, more)
+pub returns-in-Ok : goal.returns-in-Ok
+returns-in-Ok c =
+    let old = c.args.lists.now.items in
+    let list = c.index_mut.result.now in
+    let new = c.settle_name.new.list in
+    let place = is_place c.deref.result.now old c.in-Ok.i list c.args.key.material c.deref.ensures.value c.in-Ok.ensures.range c.in-Ok.ensures.position c.index_mut.ensures.value in
+    record {
+      settled = set_settled old c.requires.order c.in-Ok.i list c.args.key.material place new c.settle_name.ensures.material c.args.key.name c.args.is_there c.settle_name.ensures.settled;
+      order = set_order old c.requires.order c.in-Ok.i list c.args.key.material place new c.settle_name.ensures.material c.settle_name.ensures.rising;
+      room = set_room old c.requires.order c.in-Ok.i list c.args.key.material place new c.settle_name.ensures.material 1 (omega (arith, c.settle_name.ensures.len, c.settle_name.ensures.capacity));
+      less = λ not code.
+          let less = c.settle_name.ensures.less not in
+          let more = set_room old c.requires.order c.in-Ok.i list c.args.key.material place new c.settle_name.ensures.material 0 (omega (arith, less, c.settle_name.ensures.capacity)) code in
+          omega (arith, more);
+    }
 
 pub returns-in-Err-clause-settled : goal.returns-in-Err-clause-settled
 returns-in-Err-clause-settled c =

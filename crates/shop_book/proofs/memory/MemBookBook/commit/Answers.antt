@@ -1,4 +1,4 @@
-use Rattle.std.proofs.Common.{◌≡◌, List, length, ap, ◌∙◌}
+use Rattle.std.proofs.Common.{◌≡◌, List, ap, ◌∙◌}
 use Rattle.std.specs.Ordering.{nat_cmp}
 use Rattle.std.specs.Option.{option_to_list}
 use Rattle.std.specs.Cmp.{nat_cmp_total}
@@ -21,8 +21,8 @@ pub invariant_of-self-2 : goal.invariant_of-self-2
 invariant_of-self-2 c =
     record {
       materials = c.put_some.ensures.rising;
-      known = c.put_parts.ensures.known;
-      tally = c.put_parts.ensures.tally;
+      known = c.put_stock.ensures.known;
+      tally = c.put_stock.ensures.tally;
       jobs = c.put_job.ensures.rising;
       orders = orders_rise c.args.change.order c.self.inside.orders.keys c.put_and_keep.new.orders.keys c.in_ok-put_and_keep.ensures.orders c.self.invariant.orders;
       demands = c.put_demands.ensures.rising;
@@ -34,39 +34,37 @@ invariant_of-self-2 c =
       open_demands = c.put_demands.ensures.listed;
     }
 
-pub put_parts-requires-clause-rooms : goal.put_parts-requires-clause-rooms
-put_parts-requires-clause-rooms c =
-    let rows = c.as_slice-rows.result.now in
-    let room = c.in_ok-reserve.ensures.room in
-    c.put_moved.ensures.rooms (length rows) rows (record { room = room.1; sums = room.2; names = c.in_ok-reserve_names.ensures.parts })
+pub put_stock-requires-clause-rooms : goal.put_stock-requires-clause-rooms
+put_stock-requires-clause-rooms c =
+    let room = c.in_ok-reserve_parts.ensures.room in
+    record { room = room.0; sums = room.1; names = c.in_ok-reserve_names.ensures.parts }
 
 pub returns-clause-ok : goal.returns-clause-ok
 returns-clause-ok c =
     let change = c.args.change in
     let old = c.self.inside in
     let materials : map_of material_key code_cmp c.put_some.new.rows.items ≡ with_material change.material (map_of material_key code_cmp old.materials.items) =
-    map_after material_key code_cmp nat_list_cmp_total (option_to_list change.material) old.materials.items c.reserve.new.materials.items c.put_some.new.rows.items
-    c.self.invariant.materials c.reserve.ensures.materials c.put_some.ensures.put
+    map_after material_key code_cmp nat_list_cmp_total (option_to_list change.material) old.materials.items c.reserve_both.new.rows.items c.put_some.new.rows.items
+    c.self.invariant.materials c.reserve_both.ensures.rows c.put_some.ensures.put
     ∙ material_after change.material (map_of material_key code_cmp old.materials.items) in
-    let parts : map_of part_key name_cmp (parts_in c.put_parts.new.parts) ≡ with_parts change.parts (with_moved change.moved (map_of part_key name_cmp (parts_in old.parts))) =
-    c.put_parts.ensures.put ∙ ap (λ (rows : List Part). with_parts rows (map_of part_key name_cmp (parts_in c.put_moved.new.parts))) c.as_slice-rows.ensures
-    ∙ ap (with_parts change.parts) c.put_moved.ensures.put
-    ∙ ap (λ (rows : List Part). with_parts change.parts (with_moved change.moved (map_of part_key name_cmp rows))) c.reserve.ensures.parts in
+    let parts : map_of part_key name_cmp (parts_in c.put_stock.new.parts) ≡ with_parts change.parts (with_moved change.moved (map_of part_key name_cmp (parts_in old.parts))) =
+    c.put_stock.ensures.put ∙ ap (λ (rows : List Part). with_parts rows (with_moved change.moved (map_of part_key name_cmp (parts_in c.reserve_parts.new.parts)))) c.as_slice-rows.ensures
+    ∙ ap (λ (rows : List Part). with_parts change.parts (with_moved change.moved (map_of part_key name_cmp rows))) c.reserve_parts.ensures.parts in
     let jobs : map_of job_key nat_cmp c.put_job.new.jobs.items ≡ with_job change.job (map_of job_key nat_cmp old.jobs.items) =
-    map_after job_key nat_cmp nat_cmp_total (option_to_list change.job) old.jobs.items c.reserve_demands.new.jobs.items c.put_job.new.jobs.items
-    c.self.invariant.jobs c.reserve_demands.ensures.jobs c.put_job.ensures.put
+    map_after job_key nat_cmp nat_cmp_total (option_to_list change.job) old.jobs.items c.reserve_both-2.new.rows.items c.put_job.new.jobs.items
+    c.self.invariant.jobs c.reserve_both-2.ensures.rows c.put_job.ensures.put
     ∙ job_after change.job (map_of job_key nat_cmp old.jobs.items) in
     let orders : orders_in c.put_and_keep.new.orders.keys ≡ with_order change.order (orders_in old.orders.keys) =
     order_after change.order old.orders.keys c.put_and_keep.new.orders.keys c.in_ok-put_and_keep.ensures.orders in
     let demands : map_of demand_key nat_cmp c.put_demands.new.demands.items ≡ with_demands change.demands (map_of demand_key nat_cmp old.demands.items) =
-    map_after demand_key nat_cmp nat_cmp_total change.demands old.demands.items c.reserve_demands.new.demands.items c.put_demands.new.demands.items c.self.invariant.demands c.reserve_demands.ensures.demands
-    (c.put_demands.ensures.put ∙ ap (λ (rows : List Demand). put_each demand_key nat_cmp rows (entries_of demand_key nat_cmp c.reserve_demands.new.demands.items)) c.as_slice-wanted.ensures)
+    map_after demand_key nat_cmp nat_cmp_total change.demands old.demands.items c.reserve_both-3.new.rows.items c.put_demands.new.demands.items c.self.invariant.demands c.reserve_both-3.ensures.rows
+    (c.put_demands.ensures.put ∙ ap (λ (rows : List Demand). put_each demand_key nat_cmp rows (entries_of demand_key nat_cmp c.reserve_both-3.new.rows.items)) c.as_slice-wanted.ensures)
     ∙ demands_after change.demands (map_of demand_key nat_cmp old.demands.items) in
     let kept : from_sorted {R = pair_cmp} c.put_and_keep.new.kept.entries ≡ with_kept change.kept (from_sorted old.kept.entries) =
     kept_after change.kept old.kept.entries c.put_and_keep.new.kept.entries c.self.invariant.kept c.in_ok-put_and_keep.ensures.kept in
     let imports : map_of import_key code_cmp c.put_some-2.new.rows.items ≡ with_import change.import (map_of import_key code_cmp old.imports.items) =
-    map_after import_key code_cmp nat_list_cmp_total (option_to_list change.import) old.imports.items c.reserve_demands.new.imports.items c.put_some-2.new.rows.items
-    c.self.invariant.imports c.reserve_demands.ensures.imports c.put_some-2.ensures.put
+    map_after import_key code_cmp nat_list_cmp_total (option_to_list change.import) old.imports.items c.reserve_both.new.others.items c.put_some-2.new.rows.items
+    c.self.invariant.imports c.reserve_both.ensures.others c.put_some-2.ensures.put
     ∙ import_after change.import (map_of import_key code_cmp old.imports.items) in
     let act : c.unwrap_or-self-inside.result ≡ with_number change.act old.last_act = c.unwrap_or-self-inside.ensures ∙ number_after change.act old.last_act in
     let demand : c.unwrap_or-self-inside-2.result ≡ with_number change.demand old.last_demand =
