@@ -1,5 +1,5 @@
 -- The transaction that makes the tables of an empty database.
-use Rattle.std.proofs.Common.{◌≡◌, inl, inr, true, false, true≢false, Ok, Err, Result, IsTrue, OnOk, sym, ap, subst, ◌∙◌}
+use Rattle.std.proofs.Common.{◌≡◌, inl, inr, true, false, true≢false, IsTrue, sym, ap, subst, ◌∙◌}
 use Rattle.sqlite_trees.specs.declared.store.Store.{Ghosts}
 use Rattle.sqlite.specs.Effect.{Database}
 use Rattle.sqlite.specs.State.{State, HasCleanDisk, IsRolledBack, Survives}
@@ -13,10 +13,6 @@ use Rattle.shop_tables.specs.Adopting.{IsVacant, Lays}
 use Rattle.shop_statements.specs.Layout.{no_schema}
 use Rattle.shop_statements.specs.Shown.{HasShopSchema, Holds, StandsIn, Within, fresh_books}
 use Rattle.shop_tables.proofs.Commits.{shows_along, stands_in}
-
-pub on_ok_from : {A B C X E : Type 0} (r : Result X E) → (C → OnOk r A) → ((C → A) → B) → OnOk r B
-on_ok_from (Ok x) h f = f h
-on_ok_from (Err e) h f = tt
 
 module _ {S : Type 0} (g : Ghosts S) (h : Held S) where
   abbrev old : State
