@@ -12,7 +12,7 @@ use Rattle.sqlite.proofs.Callers.{survives_begin}
 use Rattle.shop_tables.specs.Adopting.{IsVacant, MakesTables}
 use Rattle.shop_statements.specs.Layout.{no_schema}
 use Rattle.shop_statements.specs.Shown.{Books, HasShopSchema, Holds, StandsIn, Within}
-use Rattle.shop_tables.proofs.Commits.{old, begun, shows_along, stands_in}
+use Rattle.shop_tables.proofs.Commits.{old, begun, goes_back, shows_along, stands_in}
 
 module _ {S : Type 0} (g : Ghosts S) (h : Held S) where
   module _ (b : Books) (done last : State) (late : HasCleanDisk last → HasCleanDisk done) (made : MakesTables (begun g h) done b) where
@@ -40,9 +40,5 @@ module _ {S : Type 0} (g : Ghosts S) (h : Held S) where
   -- the transaction is undone, and nothing was there before it
   pub vacates : h.schema ≡ no_schema → (IsTrue (old g h).is_open → (old g h).now ≡ (old g h).committed) → (done last : State) → (HasCleanDisk last → HasCleanDisk done) → Within (begun g h) done → (HasCleanDisk last → IsRolledBack done last) → IsVacant last
   vacates has settled done last late within back clean up =
-      let b = back clean in
-      let k = within.kept (late clean) in
-      let was_up = b.was_open up in
-      let start = settled (k.was_open was_up) in
-      let now : last.now ≡ (old g h).now = (b.undone up).0 ∙ k.committed was_up ∙ sym start in
-      (ap (λ (x : Database). x.schema) now ∙ has, (b.undone up).0 ∙ sym (b.undone up).1)
+      let went = goes_back g h done last late within back clean up in
+      (ap (λ (x : Database). x.schema) (sym (settled went.was_open ∙ went.seen)) ∙ has, went.committed)
