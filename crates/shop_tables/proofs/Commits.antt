@@ -1,5 +1,5 @@
 -- The end of a transaction in which a change was written.
-use Rattle.std.proofs.Common.{◌≡◌, inl, inr, true, false, true≢false, refl, sym, subst, ◌∙◌, arith}
+use Rattle.std.proofs.Common.{◌≡◌, inl, inr, true, false, true≢false, IsTrue, refl, sym, subst, ◌∙◌, arith}
 use Rattle.sqlite_trees.specs.declared.store.Store.{Ghosts}
 use Rattle.sqlite_trees.specs.Tree.{Trees}
 use Rattle.sqlite.specs.Effect.{Database, IsDatabase}
@@ -41,16 +41,26 @@ module _ {S : Type 0} (g : Ghosts S) (h : Held S) where
   module _ (done last : State) (late : HasCleanDisk last → HasCleanDisk done) where
     -- ---- it is undone
 
-    undoes : (b : Books) → Holds old b → Within begun done → (HasCleanDisk last → IsRolledBack done last) → Holds last b
-    undoes b was within back clean up =
+    -- what was seen before is seen again
+    pub record GoesBack : Type 0 where
+      pub clean : HasCleanDisk old
+      pub was_open : IsTrue old.is_open
+      pub seen : old.committed ≡ last.now
+      pub committed : last.now ≡ last.committed
+
+    pub goes_back : Within begun done → (HasCleanDisk last → IsRolledBack done last) → HasCleanDisk last → IsTrue last.is_open → GoesBack
+    goes_back within back clean up =
         let undone = back clean in
         let kept = within.kept (late clean) in
         let was_up = undone.was_open up in
         let s = within.survives.clean in
-        let early : HasCleanDisk old = let now = late clean in omega (arith, s, now) in
-        let start = was early (kept.was_open was_up) in
-        let now : old.now ≡ last.now = start.committed ∙ sym ((undone.undone up).0 ∙ kept.committed was_up) in
-        record { shows = shows_along old last b now start.shows; committed = (undone.undone up).0 ∙ sym (undone.undone up).1 }
+        record { clean = let now = late clean in omega (arith, s, now); was_open = kept.was_open was_up; seen = sym ((undone.undone up).0 ∙ kept.committed was_up); committed = (undone.undone up).0 ∙ sym (undone.undone up).1 }
+
+    undoes : (b : Books) → Holds old b → Within begun done → (HasCleanDisk last → IsRolledBack done last) → Holds last b
+    undoes b was within back clean up =
+        let went = goes_back within back clean up in
+        let start = was went.clean went.was_open in
+        record { shows = shows_along old last b (start.committed ∙ went.seen) start.shows; committed = went.committed }
 
     pub undone : (m : Content) → HoldsContent old m → Within begun done → (HasCleanDisk last → IsRolledBack done last) → HoldsContent last m
     undone m was within back = record { totals = was.totals; sums = was.sums; holds = undoes (books m was.totals) was.holds within back }

@@ -38,10 +38,10 @@ use Rattle.shop_records.specs.declared.texts.Kept.{Kept}
 use Rattle.shop_statements.specs.Earlier.{earlier_schema}
 use Rattle.shop_statements.specs.Layout.{Loose, no_schema, shop_schema, IsShop, meta_table, materials_table, parts_table, jobs_table, orders_table, demands_table, kept_table, imports_table, totals_table, totals2_table}
 use Rattle.shop_statements.specs.Rows.{AreRows, IsKeyed, meta_row, meta_entries, material_row, part_row, job_row, order_row, demand_row, kept_row, import_row, totals_row}
-use Rattle.shop_tables.specs.Adopting.{Lays as LaysTables}
+use Rattle.shop_tables.specs.Adopting.{MakesTables}
 use Rattle.shop_statements.specs.Shown.{Shows, fresh_books}
 use Rattle.shop_statements.proofs.Keys.{cast-Int, cast-Null}
-use Rattle.shop_tables.proofs.Making.{AreFirst, AreMade, Blank, IsBatch, MakesAs, all_created, joined, made_in_turn, next, runs_in, texts_of}
+use Rattle.shop_tables.proofs.Making.{AreFirst, AreMade, Blank, IsMade, MakesAs, all_created, joined, made_in_turn, made_when, next, runs_in, texts_of}
 use Rattle.shop_statements.proofs.Terms.{Writes}
 use Rattle.shop_statements.proofs.Writes.{inserted}
 use Rattle.shop_statements.proofs.Works.{no_works, unlike}
@@ -229,15 +229,7 @@ module _ {S : Type 0} (g : Ghosts S) where
         e.schema_is ∙ blank.schema_is,
       )
 
-  -- what the batch makes of an empty schema
-  pub record Laid (old new : Held S) : Type 0 where
-    pub was_open : IsTrue (state g old).is_open
-    pub is_open : IsTrue (state g new).is_open
-    pub inside : IsTrue new.in_transaction
-    pub shows : Shows (state g new) fresh_books
-    pub schema : (state g new).now.schema ≡ shop_schema
-
-  pub lays : (old new : Held S) → old.schema ≡ no_schema → ExecutesAllInside g 0 tables_text old new (Ok tt) → Laid old new
+  lays : (old new : Held S) → old.schema ≡ no_schema → ExecutesAllInside g 0 tables_text old new (Ok tt) → IsMade g old new fresh_books
   unfolding ExecutesAllInside
   lays old new has h =
       let s0 : Blank no_schema (state g old) = record { schema_is = has; none = tt } in
@@ -246,21 +238,8 @@ module _ {S : Type 0} (g : Ghosts S) where
       let made = made_in_turn g steps (rows_text ∷ []) no_schema (length tables_text) old new all_made firsts s0 h in
       let last = next g made.most rows_text [] made.mid new made.firsts made.later in
       let shown = fills made.mid last.mid last.count (subst (λ s. Blank s (state g made.mid)) same_schema made.blank) last.runs in
-      let same : last.mid ≡ new = sym last.later.1 in
-      record {
-        was_open = w.shown.was_open;
-        is_open = subst (λ (x : Held S). IsTrue (state g x).is_open) same shown.1;
-        inside = subst (λ (x : Held S). IsTrue x.in_transaction) same last.inside;
-        shows = subst (λ (x : Held S). Shows (state g x) fresh_books) same shown.0;
-        schema = subst (λ (x : Held S). (state g x).now.schema ≡ shop_schema) same shown.2;
-      }
+      subst (λ (x : Held S). IsMade g old x fresh_books) (sym last.later.1) (record { was_open = w.shown.was_open; is_open = shown.1; inside = last.inside; shows = shown.0; schema = shown.2 })
 
   pub lays_when : (old new : Held S) (r : Result (Unit {0}) Error) → old.schema ≡ no_schema → (HasCleanDisk (state g new) → HasCleanDisk (state g old)) → (HasCleanDisk (state g new) → ExecutesAllInside g 0 tables_text old new r)
-      → OnOk r (LaysTables (state g old) (state g new))
-  lays_when old new (Ok x) has earlier ran = record {
-    earlier = earlier;
-    on = λ clean. let l = lays old new has (ran clean) in (l.was_open, l.is_open, l.inside);
-    shows = λ clean. (lays old new has (ran clean)).shows;
-    schema = λ clean. (lays old new has (ran clean)).schema;
-  }
-  lays_when old new (Err e) has earlier ran = tt
+      → OnOk r (MakesTables (state g old) (state g new) fresh_books)
+  lays_when old new r has earlier ran = made_when g tables_text old new fresh_books r earlier ran (λ clean. lays old new has)

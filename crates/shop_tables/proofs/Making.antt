@@ -1,5 +1,5 @@
 -- What one statement of a batch makes.
-use Rattle.std.proofs.Common.{◌≡◌, ◌⊎◌, inl, inr, ℕ, zero, suc, length, Bool, true, false, List, [], ◌∷◌, ◌++◌, take, drop, Some, None, Ok, Err, Result, IsTrue, sym, ap, subst, subst₂, ◌∙◌, append-nil}
+use Rattle.std.proofs.Common.{◌≡◌, ◌⊎◌, inl, inr, ℕ, zero, suc, length, Bool, true, false, List, [], ◌∷◌, ◌++◌, take, drop, Some, None, Ok, Err, Result, OnOk, IsTrue, sym, ap, subst, subst₂, ◌∙◌, append-nil}
 use Rattle.std.specs.Prelude.{⊤}
 use Rattle.std.proofs.Math.Seq.{take-append_seam, drop-append_seam}
 use Rattle.std.specs.List.{AllByRecursion}
@@ -17,9 +17,13 @@ use Rattle.sqlite.specs.Does.{Tally, lacks_sequence}
 use Rattle.sqlite.specs.Effect.{Database}
 use Rattle.sqlite.specs.Listing.{understood}
 use Rattle.sqlite.specs.Clock.{timed}
-use Rattle.sqlite.specs.State.{State, Runs, ExecutesIn, shows_rows, text_of}
+use Rattle.sqlite.specs.State.{State, HasCleanDisk, Runs, ExecutesIn, shows_rows, text_of}
 use Rattle.sqlite.specs.Held.{Held, state}
-use Rattle.sqlite.specs.Batch.{RunInTurn, first_len}
+use Rattle.sqlite.specs.Batch.{ExecutesAllInside, RunInTurn, first_len}
+use Rattle.sqlite.specs.declared.error.Error.{Error}
+use Rattle.shop_statements.specs.Layout.{shop_schema}
+use Rattle.shop_statements.specs.Shown.{Books, Shows}
+use Rattle.shop_tables.specs.Adopting.{MakesTables}
 use Rattle.sqlite.proofs.Callers.{IsPlain, command_of, statement_of}
 
 went : {B E R : Type 0} {b : B} {Stops : E → Type 0} → ((stop : E) × Stops stop × (Ok b ≡ Err stop)) ⊎ R → R
@@ -161,3 +165,21 @@ module _ {S : Type 0} (g : Ghosts S) where
   made_in_turn (x ∷ more) last schema most old new made firsts blank h =
       let a = next most x.0 (texts_of more last) old new firsts h in
       made_in_turn more last (created schema x.1) a.most a.mid new made.1 firsts.2 (blank_then schema x.0 x.1 (state g old) (state g a.mid) a.count made.0 blank a.runs) a.later
+
+  -- what a batch makes that leaves the tables of a shop
+  pub record IsMade (old new : Held S) (b : Books) : Type 0 where
+    pub was_open : IsTrue (state g old).is_open
+    pub is_open : IsTrue (state g new).is_open
+    pub inside : IsTrue new.in_transaction
+    pub shows : Shows (state g new) b
+    pub schema : (state g new).now.schema ≡ shop_schema
+
+  pub made_when : (text : List ℕ) (old new : Held S) (b : Books) (r : Result (Unit {0}) Error) → (HasCleanDisk (state g new) → HasCleanDisk (state g old)) → (HasCleanDisk (state g new) → ExecutesAllInside g 0 text old new r)
+      → (HasCleanDisk (state g new) → ExecutesAllInside g 0 text old new (Ok tt) → IsMade old new b) → OnOk r (MakesTables (state g old) (state g new) b)
+  made_when text old new b (Ok x) earlier ran made = record {
+    earlier = earlier;
+    on = λ clean. let l = made clean (ran clean) in (l.was_open, l.is_open, l.inside);
+    shows = λ clean. (made clean (ran clean)).shows;
+    schema = λ clean. (made clean (ran clean)).schema;
+  }
+  made_when text old new b (Err e) earlier ran made = tt

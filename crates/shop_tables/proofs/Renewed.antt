@@ -34,13 +34,13 @@ use Rattle.shop_records.specs.declared.records.Totals.{Totals}
 use Rattle.shop_statements.specs.Layout.{shop_schema, IsShop, meta_table, totals_table, totals2_table}
 use Rattle.shop_statements.specs.Rows.{AreOrders, AreRows, meta_row, meta_entries, totals_row}
 use Rattle.shop_statements.specs.Shown.{Books, Shows}
-use Rattle.shop_tables.specs.Adopting.{Renews}
+use Rattle.shop_tables.specs.Adopting.{MakesTables}
 use Rattle.shop_statements.specs.Earlier.{earlier_schema, earlier_entries, earlier_row, HasNoneReturned, ShowsEarlier}
 use Rattle.shop_statements.proofs.Finding.{is_word, word_tests, word_later}
 use Rattle.shop_statements.proofs.Keys.{cast-Int, cast-Null, located, news_again, shown_as}
 use Rattle.shop_tables.proofs.Lays.{totals2_text, totals2_made, shop_is_shop}
 use Rattle.shop_statements.proofs.Lists.{map-map, map-same}
-use Rattle.shop_tables.proofs.Making.{AreFirst, Next, joined, makes, next, runs_in}
+use Rattle.shop_tables.proofs.Making.{AreFirst, IsMade, Next, joined, made_when, makes, next, runs_in}
 use Rattle.shop_tables.proofs.Moved.{cleared, collated, filled_from, uncollated, unnumbered}
 use Rattle.shop_tables.proofs.Opened.{opened}
 use Rattle.shop_tables.proofs.Ordered.{filter_true}
@@ -200,15 +200,7 @@ module _ {S : Type 0} (g : Ghosts S) where
   unfolding ExecutesAllInside
   first old new h = next g (length renew_text) totals2_text (drop 1 texts) old new firsts h
 
-  -- what the batch makes of tables of version 1
-  record IsRenewed (old new : Held S) (b : Books) : Type 0 where
-    pub was_open : IsTrue (state g old).is_open
-    pub is_open : IsTrue (state g new).is_open
-    pub inside : IsTrue new.in_transaction
-    pub shows : Shows (state g new) b
-    pub schema : (state g new).now.schema ≡ shop_schema
-
-  renews : (old new : Held S) (b : Books) → ShowsEarlier (state g old) b → ExecutesAllInside g 0 renew_text old new (Ok tt) → IsRenewed old new b
+  renews : (old new : Held S) (b : Books) → ShowsEarlier (state g old) b → ExecutesAllInside g 0 renew_text old new (Ok tt) → IsMade g old new b
   renews old new b has h =
       let s0 = state g old in
       let a1 = first old new h in
@@ -247,24 +239,11 @@ module _ {S : Type 0} (g : Ghosts S) where
         };
         keyed = has.keyed;
       } in
-      let same : a4.mid ≡ new = sym a4.later.1 in
-      record {
-        was_open = w.shown.was_open;
-        is_open = subst (λ (x : Held S). IsTrue (state g x).is_open) same four.0.is_open;
-        inside = subst (λ (x : Held S). IsTrue x.in_transaction) same a4.inside;
-        shows = subst (λ (x : Held S). Shows (state g x) b) same shows;
-        schema = subst (λ (x : Held S). (state g x).now.schema ≡ shop_schema) same four.0.schema_is;
-      }
+      subst (λ (x : Held S). IsMade g old x b) (sym a4.later.1) (record { was_open = w.shown.was_open; is_open = four.0.is_open; inside = a4.inside; shows = shows; schema = four.0.schema_is })
 
   began : (old new : Held S) → ExecutesAllInside g 0 renew_text old new (Ok tt) → IsTrue (state g old).is_open
   began old new h = let a1 = first old new h in opened (state g old) (state g a1.mid) a1.inside true totals2_text [] a1.count a1.runs
 
   pub renews_when : (old new : Held S) (b : Books) (r : Result (Unit {0}) Error) → (HasCleanDisk (state g old) → IsTrue (state g old).is_open → ShowsEarlier (state g old) b) → (HasCleanDisk (state g new) → HasCleanDisk (state g old)) → (HasCleanDisk (state g new) → ExecutesAllInside g 0 renew_text old new r)
-      → OnOk r (Renews (state g old) (state g new) b)
-  renews_when old new b (Ok x) has earlier ran = record {
-    earlier = earlier;
-    on = λ clean. let l = renews old new b (has (earlier clean) (began old new (ran clean))) (ran clean) in (l.was_open, l.is_open, l.inside);
-    shows = λ clean. (renews old new b (has (earlier clean) (began old new (ran clean))) (ran clean)).shows;
-    schema = λ clean. (renews old new b (has (earlier clean) (began old new (ran clean))) (ran clean)).schema;
-  }
-  renews_when old new b (Err e) has earlier ran = tt
+      → OnOk r (MakesTables (state g old) (state g new) b)
+  renews_when old new b r has earlier ran = made_when g renew_text old new b r earlier ran (λ clean h. renews old new b (has (earlier clean) (began old new h)) h)

@@ -8,7 +8,7 @@ use Rattle.sqlite_schema.specs.Names.{table_named}
 use Rattle.sqlite_schema.specs.declared.schema.Schema.{Schema}
 use Rattle.shop_statements.specs.Found.{IsNumberRow}
 use Rattle.shop_statements.specs.Layout.{no_schema, shop_schema}
-use Rattle.shop_statements.specs.Shown.{Books, Shows, StandsIn, fresh_books}
+use Rattle.shop_statements.specs.Shown.{Books, Shows, StandsIn}
 
 abbrev pub is_table : Schema → List ℕ → Bool
 is_table schema name = is_some (table_named schema name)
@@ -41,15 +41,8 @@ HasVersion s version = IsNumberRow s (codes "version") (Int (pos version) ∷ []
 abbrev pub LeavesBooks : State → Books → Type 0
 LeavesBooks s b = HasCleanDisk s → (db : Trees) → s.may_leave db → StandsIn db b
 
--- the tables of a new shop were made inside a transaction, which goes on
-pub record Lays (old new : State) : Type 0 where
-  pub earlier : HasCleanDisk new → HasCleanDisk old
-  pub on : HasCleanDisk new → IsTrue old.is_open × IsTrue new.is_open × IsTrue new.in_transaction
-  pub shows : HasCleanDisk new → Shows new fresh_books
-  pub schema : HasCleanDisk new → new.now.schema ≡ shop_schema
-
--- The tables were brought to version 2 inside a transaction, which goes on, and stand for the same books.
-pub record Renews (old new : State) (b : Books) : Type 0 where
+-- The tables became those of a shop inside a transaction, which goes on, and stand for the books.
+pub record MakesTables (old new : State) (b : Books) : Type 0 where
   pub earlier : HasCleanDisk new → HasCleanDisk old
   pub on : HasCleanDisk new → IsTrue old.is_open × IsTrue new.is_open × IsTrue new.in_transaction
   pub shows : HasCleanDisk new → Shows new b

@@ -5,11 +5,9 @@ ghost use Rattle.sqlite.specs.State.{HasCleanDisk, Survives};
 ghost use Rattle.sqlite.specs.Held.{state};
 ghost use Rattle.sqlite_catalog.specs.Change.{is_used};
 ghost use Rattle.shop_tables.specs.Adopting.{HasVersion, IsVacant, LeavesBooks, first_are_tables, is_table, names_are_free, names_are_tables, names_are_earlier};
-ghost use Rattle.shop_statements.specs.Earlier.{HoldsEarlier, IsSettledEarlier, OnBooksEarlier, earlier_schema};
-ghost use Rattle.shop_tables.specs.Faults.{adopt_fault_of};
-ghost use Rattle.shop_statements.specs.Faults.{fault_of};
+ghost use Rattle.shop_statements.specs.Earlier.{HoldsEarlier, IsSettledEarlier, earlier_schema};
 ghost use Rattle.shop_statements.specs.Layout.{no_schema, IsShop};
-ghost use Rattle.shop_statements.specs.Shown.{Books, HasShopSchema, Holds, IsSettled, Leaves, OnBooks, StandsIn, fresh_books};
+ghost use Rattle.shop_statements.specs.Shown.{Books, HasShopSchema, Holds, IsSettled, Leaves, StandsIn, fresh_books};
 ghost use Rattle.shop_tables.specs.declared.adopting.Adopted.TheVariants.{Made, Found, Earlier};
 ghost use Rattle.shop_tables.specs.declared.adopting.AdoptFault.TheVariants.{WrongVersion};
 
@@ -39,6 +37,20 @@ pub enum AdoptFault {
     Store,
     /// The database has a table, an index or a view with one of the shop's names, and isn't the shop's.
     WrongVersion,
+}
+
+impl From<Error> for AdoptFault {
+    ghost use Rattle.shop_statements.specs.Faults.{fault_of};
+    ghost use Rattle.shop_tables.specs.Faults.{adopt_fault_of};
+
+    ghost from_gives = { λ error fault. fault ≡ adopt_fault_of (fault_of error) };
+
+    fn from(error: Error) -> AdoptFault {
+        match TableFault::from(error) {
+            TableFault::NoMemory => AdoptFault::NoMemory,
+            TableFault::Store => AdoptFault::Store,
+        }
+    }
 }
 
 fn is_used(schema: &Schema, name: &[u8]) -> bool
@@ -100,85 +112,7 @@ fn are_earlier(schema: &Schema) -> bool
     first_are_tables(schema) && !is_used(schema, b"totals2")
 }
 
-// Makes the tables, in one transaction.
-fn lay<S: Alter>(conn: &mut Connection<S>) -> Result<(), Error>
-    requires outside { conn.old.in_transaction ≡ false }
-    requires settled { IsTrue (state S.Store conn.old).is_open
-        → (state S.Store conn.old).now ≡ (state S.Store conn.old).committed }
-    ensures mode { conn.new.in_transaction ≡ false }
-    ensures earlier { HasCleanDisk (state S.Store conn.new)
-        → HasCleanDisk (state S.Store conn.old) }
-    ensures fresh { conn.old.schema ≡ no_schema
-        → OnOk result (Holds (state S.Store conn.new) fresh_books) }
-    ensures vacant { conn.old.schema ≡ no_schema
-        → OnErr result (IsVacant (state S.Store conn.new)) }
-    ensures crash { conn.old.schema ≡ no_schema
-        → Survives (state S.Store conn.old) (state S.Store conn.new)
-        (λ db. StandsIn db fresh_books) }
-    ensures after { conn.old.schema ≡ no_schema
-        → OnOk result (LeavesBooks (state S.Store conn.new) fresh_books) }
-    ensures schema { conn.old.schema ≡ no_schema
-        → OnOk result (HasShopSchema (state S.Store conn.new)) }
-{
-    let mut tx = conn.transaction();
-    lay_tables(&mut tx)?;
-    tx.commit()
-}
-
-// Whether the tables say that they are of this version.
-fn has_version<S: Alter>(conn: &mut Connection<S>, wanted: u32) -> Result<bool, TableFault>
-    ensures ours { wanted ≡ 2
-        → OnBooks (state S.Store conn.old) (state S.Store conn.new)
-        (λ books. IfOk result (λ is. is ≡ true)) }
-    ensures one { wanted ≡ 1 → OnBooksEarlier (state S.Store conn.old) (state S.Store conn.new)
-        (λ books. IfOk result (λ is. is ≡ true)) }
-    ensures named { HasCleanDisk (state S.Store conn.new) → IsShop conn.old.schema
-        ⊎ (conn.old.schema ≡ earlier_schema)
-        → IfOk result (λ is. IsTrue is → HasVersion (state S.Store conn.old) wanted) }
-    ensures leaves { Leaves (state S.Store conn.old) (state S.Store conn.new) }
-    ensures mode { conn.old.in_transaction ≡ false → conn.new.in_transaction ≡ false }
-{
-    let Some(row) = number_row(conn, "version")? else {
-        return Ok(false);
-    };
-    Ok(has_number(&row, 0, wanted, wanted))
-}
-
-fn fault_of_store(error: Error) -> AdoptFault
-    ensures never { result ≢ WrongVersion }
-    ensures is { result ≡ adopt_fault_of (fault_of error) }
-{
-    fault_of_tables(TableFault::from(error))
-}
-
-fn fault_of_tables(fault: TableFault) -> AdoptFault
-    ensures never { result ≢ WrongVersion }
-    ensures is { result ≡ adopt_fault_of fault }
-{
-    match fault {
-        TableFault::NoMemory => AdoptFault::NoMemory,
-        TableFault::Store => AdoptFault::Store,
-    }
-}
-
-// Over tables with the names of version 1.
-fn adopt_earlier<S: Alter>(conn: &mut Connection<S>) -> Result<Adopted, AdoptFault>
-    ensures mode { conn.old.in_transaction ≡ false → conn.new.in_transaction ≡ false }
-    ensures only { IfOk result (λ how. how ≡ Earlier) }
-    ensures leaves { Leaves (state S.Store conn.old) (state S.Store conn.new) }
-    ensures neither { result ≡ Err WrongVersion → HasCleanDisk (state S.Store conn.new)
-        → (b : Books) → HoldsEarlier (state S.Store conn.old) b → ⊥ }
-    ensures named { conn.old.schema ≡ earlier_schema → HasCleanDisk (state S.Store conn.new)
-        → OnOk result (HasVersion (state S.Store conn.old) 1) }
-{
-    match has_version(conn, 1) {
-        Ok(true) => Ok(Adopted::Earlier),
-        Ok(false) => Err(AdoptFault::WrongVersion),
-        Err(fault) => Err(fault_of_tables(fault)),
-    }
-}
-
-// Over a database in which no name of ours is taken.
+// Over a database in which no name of ours is taken: makes the tables, in one transaction.
 fn adopt_new<S: Alter>(conn: &mut Connection<S>) -> Result<Adopted, AdoptFault>
     requires outside { conn.old.in_transaction ≡ false }
     requires settled { IsTrue (state S.Store conn.old).is_open
@@ -200,26 +134,38 @@ fn adopt_new<S: Alter>(conn: &mut Connection<S>) -> Result<Adopted, AdoptFault>
     ensures only { IfOk result (λ how. how ≡ Made) }
     ensures never { result ≢ Err WrongVersion }
 {
-    match lay(conn) {
-        Ok(()) => Ok(Adopted::Made),
-        Err(error) => Err(fault_of_store(error)),
-    }
+    let mut tx = conn.transaction();
+    lay_tables(&mut tx)?;
+    tx.commit()?;
+    Ok(Adopted::Made)
 }
 
-// Over tables with the names of version 2.
-fn adopt_found<S: Alter>(conn: &mut Connection<S>) -> Result<Adopted, AdoptFault>
+// Over tables with the names of a version.
+fn adopt_version<S: Alter>(
+    conn: &mut Connection<S>,
+    version: u32,
+    how: Adopted,
+) -> Result<Adopted, AdoptFault>
     ensures mode { conn.old.in_transaction ≡ false → conn.new.in_transaction ≡ false }
-    ensures only { IfOk result (λ how. how ≡ Found) }
+    ensures only { IfOk result (λ told. told ≡ how) }
     ensures leaves { Leaves (state S.Store conn.old) (state S.Store conn.new) }
-    ensures neither { result ≡ Err WrongVersion → HasCleanDisk (state S.Store conn.new)
+    ensures two { version ≡ 2 → result ≡ Err WrongVersion → HasCleanDisk (state S.Store conn.new)
         → (b : Books) → Holds (state S.Store conn.old) b → ⊥ }
-    ensures named { IsShop conn.old.schema → HasCleanDisk (state S.Store conn.new)
-        → OnOk result (HasVersion (state S.Store conn.old) 2) }
+    ensures one { version ≡ 1 → result ≡ Err WrongVersion → HasCleanDisk (state S.Store conn.new)
+        → (b : Books) → HoldsEarlier (state S.Store conn.old) b → ⊥ }
+    ensures named { IsShop conn.old.schema ⊎ (conn.old.schema ≡ earlier_schema)
+        → HasCleanDisk (state S.Store conn.new)
+        → OnOk result (HasVersion (state S.Store conn.old) version) }
 {
-    match has_version(conn, 2) {
-        Ok(true) => Ok(Adopted::Found),
-        Ok(false) => Err(AdoptFault::WrongVersion),
-        Err(fault) => Err(fault_of_tables(fault)),
+    match number_row(conn, "version")? {
+        Some(row) => {
+            if has_number(&row, 0, version, version) {
+                Ok(how)
+            } else {
+                Err(AdoptFault::WrongVersion)
+            }
+        }
+        None => Err(AdoptFault::WrongVersion),
     }
 }
 
@@ -241,12 +187,12 @@ fn adopt_taken<S: Alter>(conn: &mut Connection<S>) -> Result<Adopted, AdoptFault
         → OnOk result (HasVersion (state S.Store conn.old) 1) }
 {
     if are_earlier(conn.schema()) {
-        return adopt_earlier(conn);
+        return adopt_version(conn, 1, Adopted::Earlier);
     }
     if !are_tables(conn.schema()) {
         return Err(AdoptFault::WrongVersion);
     }
-    adopt_found(conn)
+    adopt_version(conn, 2, Adopted::Found)
 }
 
 /// Makes the tables where none of their names is taken, in one transaction, goes on with tables of version 2, and tells where

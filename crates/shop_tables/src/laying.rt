@@ -4,7 +4,7 @@ ghost use Rattle.std.specs.Prelude.{◌≡◌, IsTrue, OnOk};
 ghost use Rattle.sqlite.specs.State.{HasCleanDisk};
 ghost use Rattle.sqlite.specs.Held.{state};
 ghost use Rattle.shop_statements.specs.Layout.{no_schema};
-ghost use Rattle.shop_tables.specs.Adopting.{Lays};
+ghost use Rattle.shop_tables.specs.Adopting.{MakesTables};
 ghost use Rattle.shop_statements.specs.Shown.{fresh_books, Within};
 
 use sqlite::{Alter, Error, Transaction};
@@ -13,7 +13,8 @@ use sqlite::{Alter, Error, Transaction};
 pub(crate) fn lay_tables<S: Alter>(tx: &mut Transaction<'_, S>) -> Result<(), Error>
     ensures same_reference { tx.new.conn.ghost_name ≡ tx.old.conn.ghost_name }
     ensures laid { tx.old.conn.now.schema ≡ no_schema
-        → OnOk result (Lays (state S.Store tx.old.conn.now) (state S.Store tx.new.conn.now)) }
+        → OnOk result (MakesTables (state S.Store tx.old.conn.now) (state S.Store tx.new.conn.now)
+        fresh_books) }
     ensures within { Within (state S.Store tx.old.conn.now) (state S.Store tx.new.conn.now) }
 {
     tx.execute_batch(

@@ -4,7 +4,7 @@ ghost use Rattle.std.specs.Prelude.{◌≡◌, false, map, IfOk, IsTrue, OnErr, 
 ghost use Rattle.std.specs.FinMap.{entries};
 ghost use Rattle.sqlite.specs.State.{HasCleanDisk, Survives};
 ghost use Rattle.sqlite.specs.Held.{state};
-ghost use Rattle.shop_tables.specs.Adopting.{LeavesBooks, Renews};
+ghost use Rattle.shop_tables.specs.Adopting.{LeavesBooks, MakesTables};
 ghost use Rattle.shop_statements.specs.Earlier.{HoldsEarlier, OnBooksEarlier, ShowsEarlier};
 ghost use Rattle.shop_tables.specs.Listing.{AreAllTotals, listed_row};
 ghost use Rattle.shop_statements.specs.Shown.{Books, HasShopSchema, Holds, Leaves, StandsIn, Within};
@@ -51,7 +51,8 @@ pub(crate) fn renew_tables<S: Alter>(tx: &mut Transaction<'_, S>) -> Result<(), 
         → (HasCleanDisk (state S.Store tx.old.conn.now)
         → IsTrue (state S.Store tx.old.conn.now).is_open
         → ShowsEarlier (state S.Store tx.old.conn.now) b)
-        → OnOk result (Renews (state S.Store tx.old.conn.now) (state S.Store tx.new.conn.now) b) }
+        → OnOk result
+        (MakesTables (state S.Store tx.old.conn.now) (state S.Store tx.new.conn.now) b) }
     ensures within { Within (state S.Store tx.old.conn.now) (state S.Store tx.new.conn.now) }
 {
     tx.execute_batch(

@@ -19,9 +19,10 @@ returns-clause-writes g c =
         ),
         parts_new has.decided.content change has.fits (with_moved change.moved (with_materials change.material b)) (λ i. content.with_moved change.moved (has.parts i)),
       ),
-      subst (λ ts. IfSome change.totals (λ row. is_some (get ts row.material) ≡ not (is_some change.material))) (sym has.totals) (totals_fit has.decided change has.sums has.fits),
+      subst (λ is. IfSome change.totals (λ row. is_some (get b.totals row.material) ≡ not is)) (sym c.is_some.ensures)
+          (subst (λ ts. IfSome change.totals (λ row. is_some (get ts row.material) ≡ not (is_some change.material))) (sym has.totals) (totals_fit has.decided change has.sums has.fits)),
     )) (λ b. refl)
     (writes_then
     (writes_then (writes_then (of_some with_materials (λ b. refl) (λ x b. refl) change.material c.in_ok-write_some.ensures.writes) (of_some with_moved (λ b. refl) (λ x b. refl) change.moved c.in_ok-write_some-2.ensures.writes))
     (of_all with_parts (λ b. refl) (λ x rows b. refl) change.parts (rw c.as_slice.ensures at c.in_ok-write_all.ensures.writes)))
-    (rw c.is_some.ensures at c.write_totals.ensures.writes))
+    c.write_totals.ensures.writes)

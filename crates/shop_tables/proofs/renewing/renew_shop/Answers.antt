@@ -2,11 +2,12 @@ use Rattle.std.proofs.Common.{◌≡◌, ◌∙◌, IsTrue, sym, subst, ap, arit
 use Rattle.sqlite.specs.State.{State, HasCleanDisk, Survives}
 use Rattle.sqlite.specs.Held.{state}
 use Rattle.sqlite.specs.Effect.{Database}
-use Rattle.shop_tables.specs.Adopting.{LeavesBooks, Renews}
+use Rattle.shop_tables.specs.Adopting.{LeavesBooks, MakesTables}
 use Rattle.shop_statements.specs.Earlier.{HoldsEarlier, ShowsEarlier}
 use Rattle.shop_statements.specs.Shown.{Books, HasShopSchema, Holds, StandsIn, Within}
 use Rattle.shop_tables.proofs.Commits.{begun, stands_in}
-use Rattle.shop_tables.proofs.RenewedTables.{begins, undone_earlier, renewal_commits, renewal_failed, renewal_schema, renewal_survives}
+use Rattle.shop_tables.proofs.LaidTables.{tables_committed, tables_schema, tables_survive, tables_undone}
+use Rattle.shop_tables.proofs.RenewedTables.{begins, undone_earlier}
 use Rattle.shop_statements.proofs.Steps.{on_err}
 use Rattle.shop_tables.proofs.renewing.renew_shop.Goals as goal
 use Rattle.shop_tables.proofs.renewing.renew_shop.Goals.{After-commit}
@@ -32,8 +33,8 @@ module _ (g : _) (c : After-commit g) where
   within : Within (begun g.S.Store c.args.conn.now) done
   within = subst (λ h. Within (state g.S.Store h) done) c.transaction-tx.ensures.begun c.renew_tables.ensures.within
 
-  renewed : (b : Books) → HoldsEarlier (state g.S.Store c.args.conn.now) b → Renews (begun g.S.Store c.args.conn.now) done b
-  renewed b was = subst (λ h. (HasCleanDisk (state g.S.Store h) → IsTrue (state g.S.Store h).is_open → ShowsEarlier (state g.S.Store h) b) → Renews (state g.S.Store h) done b) c.transaction-tx.ensures.begun (c.in_ok-renew_tables.ensures.renewed b) (begins g.S.Store c.args.conn.now b was)
+  renewed : (b : Books) → HoldsEarlier (state g.S.Store c.args.conn.now) b → MakesTables (begun g.S.Store c.args.conn.now) done b
+  renewed b was = subst (λ h. (HasCleanDisk (state g.S.Store h) → IsTrue (state g.S.Store h).is_open → ShowsEarlier (state g.S.Store h) b) → MakesTables (state g.S.Store h) done b) c.transaction-tx.ensures.begun (c.in_ok-renew_tables.ensures.renewed b) (begins g.S.Store c.args.conn.now b was)
 
   late : HasCleanDisk last → HasCleanDisk done
   late clean = let s = c.commit.ensures.survives.clean in omega (arith, s, clean)
@@ -43,31 +44,31 @@ returns-in_err-commit-clause-as_before g c b was =
     let a = (goal.at.returns-in_err-commit-clause-as_before g c).After-commit in
     let ends : c.commit.new.self.0 ≡ c.conn-2-1.given.0 = sym (c.conn-2-1.given.1 (sym (c.renew_tables.ensures.same_reference ∙ c.transaction-tx.ensures.same_reference))) in
     on_err _ (subst (λ h. HoldsEarlier (state g.S.Store h) b) ends
-    (undone_earlier g.S.Store c.args.conn.now b was (done g a) (last g a) (late g a) (within g a) (renewal_failed g.S.Store c.args.conn.now b was (done g a) (last g a) (late g a) (within g a) (renewed g a b was) _ c.in_err-commit.ensures.err)))
+    (undone_earlier g.S.Store c.args.conn.now b was (done g a) (last g a) (late g a) (within g a) (tables_undone g.S.Store c.args.conn.now b (done g a) (last g a) (late g a) (renewed g a b was) _ c.in_err-commit.ensures.err)))
 
 pub returns-in_err-commit-clause-crash : goal.returns-in_err-commit-clause-crash
 returns-in_err-commit-clause-crash g c b was =
     let a = (goal.at.returns-in_err-commit-clause-crash g c).After-commit in
     let ends : c.commit.new.self.0 ≡ c.conn-2-1.given.0 = sym (c.conn-2-1.given.1 (sym (c.renew_tables.ensures.same_reference ∙ c.transaction-tx.ensures.same_reference))) in
-    subst (λ h. Survives (state g.S.Store c.args.conn.now) (state g.S.Store h) (λ db. StandsIn db b)) ends (renewal_survives g.S.Store c.args.conn.now b was (done g a) (last g a) (late g a) (within g a) (renewed g a b was) c.commit.ensures.survives)
+    subst (λ h. Survives (state g.S.Store c.args.conn.now) (state g.S.Store h) (λ db. StandsIn db b)) ends (tables_survive g.S.Store c.args.conn.now b (done g a) (last g a) (late g a) (renewed g a b was) (within g a) c.commit.ensures.survives)
 
 pub returns-clause-crash : goal.returns-clause-crash
 returns-clause-crash g c b was =
     let a = (goal.at.returns-clause-crash g c).After-commit in
     let ends : c.commit.new.self.0 ≡ c.conn-2-1.given.0 = sym (c.conn-2-1.given.1 (sym (c.renew_tables.ensures.same_reference ∙ c.transaction-tx.ensures.same_reference))) in
-    subst (λ h. Survives (state g.S.Store c.args.conn.now) (state g.S.Store h) (λ db. StandsIn db b)) ends (renewal_survives g.S.Store c.args.conn.now b was (done g a) (last g a) (late g a) (within g a) (renewed g a b was) c.commit.ensures.survives)
+    subst (λ h. Survives (state g.S.Store c.args.conn.now) (state g.S.Store h) (λ db. StandsIn db b)) ends (tables_survive g.S.Store c.args.conn.now b (done g a) (last g a) (late g a) (renewed g a b was) (within g a) c.commit.ensures.survives)
 
 pub returns-clause-renewed : goal.returns-clause-renewed
 returns-clause-renewed g c b was =
     let a = (goal.at.returns-clause-renewed g c).After-commit in
     let ends : c.commit.new.self.0 ≡ c.conn-2-1.given.0 = sym (c.conn-2-1.given.1 (sym (c.renew_tables.ensures.same_reference ∙ c.transaction-tx.ensures.same_reference))) in
-    subst (λ h. Holds (state g.S.Store h) b) ends (renewal_commits g.S.Store c.args.conn.now b was (done g a) (last g a) (late g a) (within g a) (renewed g a b was) (λ clean. (c.in_ok-commit.ensures.ok clean).1))
+    subst (λ h. Holds (state g.S.Store h) b) ends (tables_committed g.S.Store c.args.conn.now b (done g a) (last g a) (late g a) (renewed g a b was) (λ clean. (c.in_ok-commit.ensures.ok clean).1))
 
 pub returns-clause-schema : goal.returns-clause-schema
 returns-clause-schema g c b was =
     let a = (goal.at.returns-clause-schema g c).After-commit in
     let ends : c.commit.new.self.0 ≡ c.conn-2-1.given.0 = sym (c.conn-2-1.given.1 (sym (c.renew_tables.ensures.same_reference ∙ c.transaction-tx.ensures.same_reference))) in
-    subst (λ h. HasShopSchema (state g.S.Store h)) ends (renewal_schema g.S.Store c.args.conn.now b was (done g a) (last g a) (late g a) (within g a) (renewed g a b was) (λ clean. (c.in_ok-commit.ensures.ok clean).1))
+    subst (λ h. HasShopSchema (state g.S.Store h)) ends (tables_schema g.S.Store c.args.conn.now b (done g a) (last g a) (late g a) (renewed g a b was) (λ clean. (c.in_ok-commit.ensures.ok clean).1))
 
 pub returns-clause-after : goal.returns-clause-after
 returns-clause-after g c b was =

@@ -1,5 +1,0 @@
-use Rattle.std.proofs.Common.{◌∙◌, refl, sym, true≢false}
-use Rattle.shop_tables.proofs.adopting.adopt_earlier.Goals as goal
-
-pub returns-in-Ok-false-clause-neither : goal.returns-in-Ok-false-clause-neither
-returns-in-Ok-false-clause-neither g c is clean b was = absurd (true≢false (sym (c.in-Ok-false.ensures.one refl clean b was) ∙ c.in-Ok-false.field-0-test))
