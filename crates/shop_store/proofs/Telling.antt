@@ -11,7 +11,7 @@ use Rattle.shop_book.specs.Books.{Keeps}
 use Rattle.shop_book.specs.declared.books.BookFault.{BookFault}
 use Rattle.shop_store.specs.OpenWork.{HoldsListed, KnowsWork}
 use Rattle.shop_store.specs.SqlBooks.{told}
-use Rattle.shop_store.specs.declared.open_work.OpenWork.{OpenWork}
+use Rattle.shop_store.specs.declared.listed_work.OpenWork.{OpenWork}
 
 pub if_ok_told : {T : Type 0} (P : T → Type 0) (r : Result T TableFault) → IfOk r P → IfOk (told r) P
 if_ok_told P (Ok x) h = h

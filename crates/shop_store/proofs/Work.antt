@@ -31,7 +31,7 @@ use Rattle.shop_rows.proofs.Named.{same_keys}
 use Rattle.shop_tables.proofs.Firsts.{rekeyed}
 use Rattle.shop_store.specs.OpenWork.{FindsOpen, HasNoNumber0, HasWork, ListsRows}
 use Rattle.shop_tables.specs.RowsShown.{SeesCommit}
-use Rattle.shop_store.specs.declared.open_work.OpenWork.{OpenWork}
+use Rattle.shop_store.specs.declared.listed_work.OpenWork.{OpenWork}
 use Rattle.shop_store.proofs.Whole.{open_by}
 use Rattle.shop_store.proofs.PassingRows.{has_keys, is_found_filter, passing_at, passing_rise, same_rows}
 

@@ -1,5 +1,5 @@
 -- The waiting jobs and the open demands of a content, as they are listed beside the tables.
-use Rattle.std.specs.Prelude.{◌≡◌, ℕ, List, map as map_list, filter, Option, Some, None, true, false, IsTrue}
+use Rattle.std.specs.Prelude.{◌≡◌, ℕ, List, map as map_list, filter, Option, Some, None, true, false}
 use Rattle.std.proofs.lemmas.Map.Entries.{option_filter}
 use Rattle.std.specs.FinMap as map
 use Rattle.std.specs.Ordering.{nat_cmp}
@@ -9,15 +9,15 @@ use Rattle.shop_records.specs.declared.records.Demand.{Demand}
 use Rattle.shop_records.specs.Content.{Content, job_at, demand_at}
 use Rattle.shop_records.specs.Lists.{is_open, job_numbers}
 use Rattle.shop_rows.specs.Keys.{demand_key}
-use Rattle.shop_rows.specs.Open.{own_key, waits}
-use Rattle.shop_rows.specs.Rows.{rise, row_at}
+use Rattle.shop_rows.specs.Open.{waits}
+use Rattle.shop_rows.specs.Rows.{row_at}
 use Rattle.sqlite_trees.specs.Tree.{Trees}
 use Rattle.shop_statements.specs.Layout.{IsShop}
 use Rattle.shop_tables.specs.Held.{HoldsContent}
 use Rattle.shop_tables.specs.ListedRows.{listed_demand, number_row}
 use Rattle.shop_tables.specs.RowsShown.{AreDemandRows, AreJobRows, SeesCommit}
 use Rattle.shop_store.specs.declared.open_work.TheConstants.{TOO_MANY}
-use Rattle.shop_store.specs.declared.open_work.OpenWork.{OpenWork}
+use Rattle.shop_store.specs.declared.listed_work.OpenWork.{OpenWork}
 
 -- The numbers are those of all jobs that wait, the rows are all open demands, and each job and demand stands under its own
 -- number.
@@ -48,10 +48,6 @@ IsReadFrom db work =
 pub record ListsRows (old new : State) (before after : OpenWork) : Type 0 where
   pub kept : before.is_listed ≡ true → after ≡ before
   pub read : HasCleanDisk new → IsShop old.now.schema → SeesCommit old → before.is_listed ≡ false → after.is_listed ≡ true → IsReadFrom old.now.trees after
-
--- both lists rise by their numbers
-abbrev pub WorkRises : OpenWork → Type 0
-WorkRises work = IsTrue (rise own_key nat_cmp work.jobs.items) × IsTrue (rise demand_key nat_cmp work.demands.items)
 
 -- the connection holds the content, and what is listed beside it is the content's
 abbrev pub HoldsListed : State → OpenWork → Content → Type 0

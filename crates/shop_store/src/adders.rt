@@ -3,7 +3,6 @@
 ghost use Rattle.std.specs.Prelude.{◌<◌, ◌^◌, ℕ, List, IsTrue, vec_len, vec_capacity};
 ghost use Rattle.cut_measure.specs.Codes.{code_cmp};
 ghost use Rattle.shop_records.specs.declared.records.Column.{Column};
-ghost use Rattle.shop_rows.specs.Open.{AreInOrder};
 ghost use Rattle.shop_rows.specs.Rows.{rise};
 ghost use Rattle.shop_rows.specs.Sums.{sum_at, sums_key};
 
@@ -17,7 +16,6 @@ pub struct PartAdder {
     pub sums: Vec<Sums>,
     pub names: PartNames,
     ghost rising: { IsTrue (rise sums_key code_cmp sums.items) },
-    ghost names_order: { AreInOrder names.lists.items },
     ghost room: { vec_len sums < vec_capacity sums },
     ghost small: { (column : Column) (code : List ℕ) → sum_at column code sums.items < 2 ^ 64 },
 }

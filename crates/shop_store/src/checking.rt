@@ -10,7 +10,6 @@ ghost use Rattle.shop_statements.specs.Earlier.{OnBooksEarlier};
 ghost use Rattle.shop_statements.specs.Shown.{Leaves, OnBooks};
 ghost use Rattle.shop_rows.specs.Adding.{has_sums};
 ghost use Rattle.shop_store.specs.Checking.{AddsPart, AreNarrow, AreSumsIn, IsListOf, are_totals_for};
-ghost use Rattle.shop_rows.specs.Open.{AreInOrder};
 ghost use Rattle.shop_rows.specs.Rows.{rise};
 ghost use Rattle.shop_rows.specs.Sums.{sum_at, sums_key, total_in};
 
@@ -76,8 +75,7 @@ fn are_sums(sums: &[Sums], totals: &[MaterialTotals]) -> bool
 
 // Whether these are the sums of all parts, whose names are handed over.
 fn conclude(adder: PartAdder, totals: &[MaterialTotals], names: &mut PartNames) -> bool
-    ensures sums { Decides result (AreSumsIn adder.sums.items totals.now) }
-    ensures order { AreInOrder names.new.lists.items }
+    ensures { Decides result (AreSumsIn adder.sums.items totals.now) }
 {
     let PartAdder { sums, names: found } = adder;
     *names = found;
@@ -91,8 +89,6 @@ fn are_sums_of_parts<S: Alter>(
     totals: &[MaterialTotals],
     names: &mut PartNames,
 ) -> Result<bool, TableFault>
-    requires order { AreInOrder names.old.lists.items }
-    ensures order { AreInOrder names.new.lists.items }
     ensures sums { OnBooks (state S.Store conn.old) (state S.Store conn.new)
         (λ books. IsListOf books totals.now → IfOk result (λ good. Decides good (HasSums books))) }
     ensures earlier { OnBooksEarlier (state S.Store conn.old) (state S.Store conn.new)
@@ -115,8 +111,6 @@ pub fn have_sums<S: Alter>(
     conn: &mut Connection<S>,
     names: &mut PartNames,
 ) -> Result<bool, TableFault>
-    requires order { AreInOrder names.old.lists.items }
-    ensures order { AreInOrder names.new.lists.items }
     ensures sums { OnBooks (state S.Store conn.old) (state S.Store conn.new)
         (λ books. IfOk result (λ good. Decides good (HasSums books))) }
     ensures leaves { Leaves (state S.Store conn.old) (state S.Store conn.new) }
@@ -134,8 +128,6 @@ pub fn have_earlier_sums<S: Alter>(
     conn: &mut Connection<S>,
     names: &mut PartNames,
 ) -> Result<bool, TableFault>
-    requires order { AreInOrder names.old.lists.items }
-    ensures order { AreInOrder names.new.lists.items }
     ensures sums { OnBooksEarlier (state S.Store conn.old) (state S.Store conn.new)
         (λ books. IfOk result (λ good. Decides good (HasSums books))) }
     ensures leaves { Leaves (state S.Store conn.old) (state S.Store conn.new) }

@@ -3,6 +3,7 @@
 
 mod adders;
 mod checking;
+mod listed_work;
 mod named_parts;
 mod names;
 mod open_work;

@@ -28,16 +28,15 @@ const ROWS_A_LOOK: usize = 32;
 pub struct PartNames {
     pub lists: Vec<NameList>,
     pub rows: usize,
+    ghost order: { AreInOrder lists.items },
 }
 
 impl PartNames {
     ghost use Rattle.std.specs.Prelude.{◌≡◌, []};
-    ghost use Rattle.shop_rows.specs.Open.{AreInOrder};
 
     /// No part is there.
     pub fn new(alloc: Global) -> PartNames
-        ensures none { result.lists.items ≡ [] }
-        ensures order { AreInOrder result.lists.items }
+        ensures { result.lists.items ≡ [] }
     {
         PartNames {
             lists: Vec::new(alloc),
@@ -46,9 +45,7 @@ impl PartNames {
     }
 
     /// The names of a material's standing parts, where to look them up takes less time than to go through all rows.
-    pub fn few_of(&self, material: Code) -> Option<&[PartName]>
-        requires { AreInOrder self.now.lists.items }
-    {
+    pub fn few_of(&self, material: Code) -> Option<&[PartName]> {
         let names = names_behind(&self.lists, material, None);
         if names.len() > self.rows / ROWS_A_LOOK {
             return None;
@@ -72,10 +69,7 @@ fn list_found(lists: &mut Vec<NameList>, part: &Part)
 }
 
 /// Notes a part that is there.
-pub fn note_part(names: &mut PartNames, part: &Part)
-    requires { AreInOrder names.old.lists.items }
-    ensures { AreInOrder names.new.lists.items }
-{
+pub fn note_part(names: &mut PartNames, part: &Part) {
     names.rows = names.rows.saturating_add(1);
     list_found(&mut names.lists, part);
 }
@@ -120,9 +114,7 @@ pub fn commit_listed<S: Alter>(
     names: &mut PartNames,
     change: &Change,
 ) -> Result<(), TableFault>
-    requires outside { conn.old.in_transaction ≡ false }
-    requires order { AreInOrder names.old.lists.items }
-    ensures order { AreInOrder names.new.lists.items }
+    requires { conn.old.in_transaction ≡ false }
     ensures mode { conn.new.in_transaction ≡ false }
     ensures ok { (m : Content) → HoldsContent (state S.Store conn.old) m → Fits m change.now
         → OnOk result (HoldsContent (state S.Store conn.new) (changed m change.now)) }

@@ -11,16 +11,17 @@ ghost use Rattle.shop_records.specs.Soundness.{Fits};
 ghost use Rattle.shop_records.specs.declared.records.Demand.{Demand as DemandOf};
 ghost use Rattle.shop_records.specs.declared.records.Job.{Job as JobOf};
 ghost use Rattle.shop_rows.specs.Keys.{demand_key, job_key};
-ghost use Rattle.shop_rows.specs.Open.{own_key, finds_with, finds_with_all, waits, AreInOrder, ListsNumbers};
+ghost use Rattle.shop_rows.specs.Open.{own_key, finds_with, finds_with_all, waits, ListsNumbers};
 ghost use Rattle.shop_rows.specs.Rows.{rise};
 ghost use Rattle.shop_tables.specs.Held.{HoldsContent, LeavesOnly, StandsFor};
 ghost use Rattle.shop_statements.specs.Layout.{IsShop};
 ghost use Rattle.shop_statements.specs.Shown.{Leaves, OnBooks};
 ghost use Rattle.shop_tables.specs.ListedRows.{listed_demand, number_row};
 ghost use Rattle.shop_tables.specs.RowsShown.{AreDemandRows, AreJobRows, SeesCommit};
-ghost use Rattle.shop_store.specs.OpenWork.{FindsOpen, HasNoNumber0, HasWork, IsReadFrom, KnowsWork, ListsRows, WorkRises};
+ghost use Rattle.shop_store.specs.OpenWork.{FindsOpen, HasNoNumber0, HasWork, IsReadFrom, KnowsWork, ListsRows};
 ghost use Rattle.shop_store.specs.declared.open_work.TheConstants.{TOO_MANY};
 
+use crate::listed_work::OpenWork;
 use crate::names::{PartNames, commit_listed};
 use crate::passing::{Test, first_passing};
 use cut_measure::Code;
@@ -33,31 +34,6 @@ use std::cmp::Ordering;
 
 // More rows than are ever listed.
 const TOO_MANY: usize = 4294967295;
-
-/// The numbers of all waiting jobs and all open demands, both by rising number, once they were listed.
-#[derive(Drop)]
-pub struct OpenWork {
-    pub is_listed: bool,
-    pub jobs: Vec<u32>,
-    pub demands: Vec<Demand>,
-}
-
-impl OpenWork {
-    ghost use Rattle.std.specs.Prelude.{◌≡◌, false};
-    ghost use Rattle.shop_store.specs.OpenWork.{WorkRises};
-
-    /// Nothing is listed yet.
-    pub fn new(alloc: Global) -> OpenWork
-        ensures listed { result.is_listed ≡ false }
-        ensures rising { WorkRises result }
-    {
-        OpenWork {
-            is_listed: false,
-            jobs: Vec::new(alloc),
-            demands: Vec::new(alloc),
-        }
-    }
-}
 
 // ---- they are listed
 
@@ -81,7 +57,6 @@ fn copy_work(
     jobs: &[u32],
     demands: &[Demand],
 ) -> Result<Option<OpenWork>, AllocError>
-    ensures rising { IfOk result (λ found. IfSome found WorkRises) }
     ensures same { IfOk result
         (λ found. IfSome found (λ work. (work.jobs.items ≡ jobs.now)
         × (work.demands.items ≡ demands.now))) }
@@ -109,7 +84,6 @@ fn find_work<S: Alter>(
     alloc: Global,
     conn: &mut Connection<S>,
 ) -> Result<Option<OpenWork>, TableFault>
-    ensures rising { IfOk result (λ found. IfSome found WorkRises) }
     ensures work { HasCleanDisk (state S.Store conn.new) → (m : Content)
         → HoldsContent (state S.Store conn.old) m
         → IfOk result (λ found. IfSome found
@@ -132,8 +106,6 @@ fn find_work<S: Alter>(
 // Lists the waiting jobs and the open demands, unless they are listed, by going once through the rows of all that ever
 // were. Where they can't be listed, since memory is wanting or a row stands for none, nothing changes.
 fn list_work<S: Alter>(alloc: Global, conn: &mut Connection<S>, work: &mut OpenWork)
-    requires rising { WorkRises work.old }
-    ensures rising { WorkRises work.new }
     ensures work { HasCleanDisk (state S.Store conn.new) → (m : Content)
         → HoldsContent (state S.Store conn.old) m → KnowsWork work.old m → KnowsWork work.new m }
     ensures lists { ListsRows (state S.Store conn.old) (state S.Store conn.new) work.old work.new }
@@ -199,8 +171,6 @@ pub fn first_waiting<S: Alter>(
     after: u32,
     most: usize,
 ) -> Result<NumberList, TableFault>
-    requires rising { WorkRises work.old }
-    ensures rising { WorkRises work.new }
     ensures numbers { HasCleanDisk (state S.Store conn.new) → (m : Content)
         → HoldsContent (state S.Store conn.old) m → KnowsWork work.old m
         → IfOk result (λ numbers. numbers
@@ -234,8 +204,6 @@ pub fn first_open<S: Alter>(
     material: Option<Code>,
     most: usize,
 ) -> Result<DemandList, TableFault>
-    requires rising { WorkRises work.old }
-    ensures rising { WorkRises work.new }
     ensures rows { HasCleanDisk (state S.Store conn.new) → (m : Content)
         → HoldsContent (state S.Store conn.old) m → KnowsWork work.old m
         → IfOk result (λ rows. rows ≡ take most (open_demands m after material)) }
@@ -308,11 +276,9 @@ fn follow_job(jobs: &mut Vec<u32>, job: &Option<Job>)
 
 // Lists what a change makes of jobs and demands.
 fn follow_change(work: &mut OpenWork, job: &Option<Job>, demands: &[Demand])
-    requires rising { WorkRises work.old }
     requires jobs { vec_len work.old.jobs < vec_capacity work.old.jobs }
     requires demands { vec_len work.old.demands + length demands.now
         ≤ vec_capacity work.old.demands }
-    ensures rising { WorkRises work.new }
     ensures listed { work.new.is_listed ≡ work.old.is_listed }
     ensures jobs { (find : ℕ → Option JobOf) → ListsNumbers waits find work.old.jobs.items
         → ListsNumbers waits (finds_with_all job_key nat_cmp (option_to_list job.now) find)
@@ -347,11 +313,7 @@ pub fn commit_open<S: Alter>(
     work: &mut OpenWork,
     change: &Change,
 ) -> Result<(), TableFault>
-    requires outside { conn.old.in_transaction ≡ false }
-    requires order { AreInOrder names.old.lists.items }
-    requires work_rising { WorkRises work.old }
-    ensures order { AreInOrder names.new.lists.items }
-    ensures work_rising { WorkRises work.new }
+    requires { conn.old.in_transaction ≡ false }
     ensures mode { conn.new.in_transaction ≡ false }
     ensures ok { (m : Content) → HoldsContent (state S.Store conn.old) m → Fits m change.now
         → OnOk result (HoldsContent (state S.Store conn.new) (changed m change.now)) }

@@ -13,16 +13,15 @@ ghost use Rattle.shop_statements.specs.Layout.{no_schema, IsShop};
 ghost use Rattle.shop_tables.specs.Changing.{HasSums};
 ghost use Rattle.shop_statements.specs.Shown.{Books, HasShopSchema, Holds, IsSettled, Leaves, OnBooks};
 ghost use Rattle.shop_store.specs.EarlierBooks.{HoldsEarlierContent, IsSettledEarlierAt};
-ghost use Rattle.shop_rows.specs.Open.{AreInOrder};
 ghost use Rattle.shop_book.specs.Failures.{CountsFailure};
-ghost use Rattle.shop_store.specs.OpenWork.{WorkRises};
 ghost use Rattle.shop_store.specs.SqlBooks.{adopt_fault, book_fault, told as as_told, EitherWay};
 ghost use Rattle.shop_book.specs.declared.books.BookFault.TheVariants.{WrongVersion};
 
 use crate::checking::{have_earlier_sums, have_sums};
+use crate::listed_work::OpenWork;
 use crate::named_parts::{first_listed, listed_parts, visit_listed};
 use crate::names::PartNames;
-use crate::open_work::{OpenWork, commit_open, first_open, first_waiting};
+use crate::open_work::{commit_open, first_open, first_waiting};
 use cut_measure::{Code, PartName};
 use shop_book::{Book, BookFault};
 use shop_records::{
@@ -46,8 +45,6 @@ pub struct SqlBook<S: Alter> {
     names: PartNames,
     work: OpenWork,
     ghost outside: { conn.in_transaction ≡ false },
-    ghost order: { AreInOrder names.lists.items },
-    ghost work_rising: { WorkRises work },
 }
 
 // The number behind the last act's.
@@ -135,9 +132,7 @@ fn renew<S: Alter>(
     conn: &mut Connection<S>,
     names: &mut PartNames,
 ) -> Result<(), BookFault>
-    requires outside { conn.old.in_transaction ≡ false }
-    requires order { AreInOrder names.old.lists.items }
-    ensures order { AreInOrder names.new.lists.items }
+    requires { conn.old.in_transaction ≡ false }
     ensures mode { conn.new.in_transaction ≡ false }
     ensures earlier { HasCleanDisk (state S.Store conn.new)
         → HasCleanDisk (state S.Store conn.old) }
@@ -333,8 +328,7 @@ impl<S: Alter> SqlBook<S> {
 
     // Over a connection outside a transaction; no failure is counted yet.
     fn over(alloc: Global, conn: Connection<S>, names: PartNames) -> SqlBook<S>
-        requires outside { conn.in_transaction ≡ false }
-        requires order { AreInOrder names.lists.items }
+        requires { conn.in_transaction ≡ false }
         ensures conn { result.conn ≡ conn }
         ensures failures { result.failures ≡ 0 }
         ensures unlisted { result.work.is_listed ≡ false }

@@ -14,14 +14,14 @@ returns-in-All-clause-sums g c clean b was list =
     let v = c.lend_all_parts.ensures.visit in
     added_all b c.args.totals.now c.in_ok-adder.adder c.lend_all_parts.new.visitor (gone_through c.lend_all_parts.result) c.conclude.result list c.in_ok-adder.ensures.none c.in_ok-adder.ensures.there
     (ap gone_through (c.in_ok-lend_all_parts.was ∙ ap Ok c.in-All.is)) (record { parts = v.parts; on = v.on; visitor = v.visitor; answer = v.answer; begins = v.begins clean b was })
-    c.conclude.ensures.sums
+    c.conclude.ensures
 
 pub returns-in-All-clause-earlier : goal.returns-in-All-clause-earlier
 returns-in-All-clause-earlier g c clean b was list =
     let v = c.lend_all_parts.ensures.earlier in
     added_all b c.args.totals.now c.in_ok-adder.adder c.lend_all_parts.new.visitor (gone_through c.lend_all_parts.result) c.conclude.result list c.in_ok-adder.ensures.none c.in_ok-adder.ensures.there
     (ap gone_through (c.in_ok-lend_all_parts.was ∙ ap Ok c.in-All.is)) (record { parts = v.parts; on = v.on; visitor = v.visitor; answer = v.answer; begins = v.begins clean b was })
-    c.conclude.ensures.sums
+    c.conclude.ensures
 
 pub returns-in-Stopped-clause-sums : goal.returns-in-Stopped-clause-sums
 returns-in-Stopped-clause-sums g c clean b was list =

@@ -17,5 +17,5 @@ returns-clause-work g c m knows listed =
     let was = knows (sym same.0 ∙ sym c.follow_change.ensures.listed ∙ listed) in
     let held : HasWork m room.jobs.items room.demands.items =
     subst (λ (ns : List ℕ). HasWork m ns room.demands.items) (sym same.1) (subst (λ (ds : List Demand). HasWork m c.args.work.now.jobs.items ds) (sym same.2) was) in
-    work_after m change room.jobs.items new.jobs.items room.demands.items new.demands.items held (tested _ c.follow_change.ensures.rising.0) (tested _ c.follow_change.ensures.rising.1) c.follow_change.ensures.jobs
+    work_after m change room.jobs.items new.jobs.items room.demands.items new.demands.items held (tested _ c.follow_change.new.work.jobs_rising) (tested _ c.follow_change.new.work.demands_rising) c.follow_change.ensures.jobs
     (λ find finds. subst (λ (ds : List Demand). FindsOpen (finds_with_all demand_key nat_cmp ds find) new.demands.items) c.as_slice-demands.ensures (c.follow_change.ensures.demands find finds))
