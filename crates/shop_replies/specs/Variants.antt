@@ -1,4 +1,4 @@
--- Which reply it is, of those with three fields and more.
+-- Which reply it is, of those that are handed on whole.
 use Rattle.std.specs.Prelude.{◌≡◌, ℕ, List, Bool}
 use Rattle.cut_measure.specs.Names.{Name}
 use Rattle.shop_records.specs.declared.messages.Reply.{Reply}
@@ -8,40 +8,40 @@ use Rattle.shop_records.specs.declared.records.Part.{Part}
 use Rattle.shop_records.specs.declared.records.StateWord.{StateWord}
 
 -- about an order that was added, and one that was imported
-abbrev pub IsOrder : Reply → Type 0
-IsOrder reply = (count first : ℕ) × (order : List ℕ) × (reply ≡ answer.AddOrder count first order)
+abbrev pub TellsOrder : Reply → Type 0
+TellsOrder reply = (count first : ℕ) × (order : List ℕ) × (reply ≡ answer.AddOrder count first order)
 
-abbrev pub IsImport : Reply → Type 0
-IsImport reply = (act count first : ℕ) × (order : List ℕ) × (reply ≡ answer.Import act count first order)
+abbrev pub TellsImport : Reply → Type 0
+TellsImport reply = (act count first : ℕ) × (order : List ℕ) × (reply ≡ answer.Import act count first order)
 
 -- about a material's cells
-abbrev pub IsTotals : Reply → Type 0
-IsTotals reply =
+abbrev pub TellsTotals : Reply → Type 0
+TellsTotals reply =
     (material : List ℕ) × (received stock rack pieces kerf scrap returned : ℕ)
     × (reply ≡ answer.Totals material received stock rack pieces kerf scrap returned)
 
 -- about a part
-abbrev pub IsTrace : Reply → Type 0
-IsTrace reply =
+abbrev pub TellsTrace : Reply → Type 0
+TellsTrace reply =
     (batch : List ℕ) × (h of : ℕ) × (part root : Name) × (state : StateWord) × (w x y : ℕ)
     × (reply ≡ answer.Trace batch h of part root state w x y)
 
 -- about a demand
-abbrev pub IsDemand : Reply → Type 0
-IsDemand reply =
+abbrev pub TellsDemand : Reply → Type 0
+TellsDemand reply =
     (demand line made : ℕ) × (material order : List ℕ) × (reserved wanted : ℕ)
     × (reply ≡ answer.Demand demand line made material order reserved wanted)
 
 -- a plan
-abbrev pub IsPlan : Reply → Type 0
-IsPlan reply = (ceiling dropped : ℕ) × (tree : List ℕ) × (worth : ℕ) × (reply ≡ answer.Plan ceiling dropped tree worth)
+abbrev pub TellsPlan : Reply → Type 0
+TellsPlan reply = (ceiling dropped : ℕ) × (tree : List ℕ) × (worth : ℕ) × (reply ≡ answer.Plan ceiling dropped tree worth)
 
 -- parts behind a name
-abbrev pub IsParts : Reply → Type 0
-IsParts reply = (material : List ℕ) × (more : Bool) × (parts : List Part) × (reply ≡ answer.Parts material more parts)
+abbrev pub TellsParts : Reply → Type 0
+TellsParts reply = (material : List ℕ) × (more : Bool) × (parts : List Part) × (reply ≡ answer.Parts material more parts)
 
 -- about a job
-abbrev pub IsJob : Reply → Type 0
-IsJob reply =
+abbrev pub TellsJob : Reply → Type 0
+TellsJob reply =
     (cuts h job kerf : ℕ) × (material : List ℕ) × (part : Name) × (state : JobState) × (tree : List ℕ) × (w : ℕ)
     × (reply ≡ answer.Job cuts h job kerf material part state tree w)

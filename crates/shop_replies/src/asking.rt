@@ -5,7 +5,7 @@ ghost use Rattle.shop_records.specs.declared.messages.Reply.TheVariants as answe
 ghost use Rattle.shop_forms.specs.Forms.{reply_data};
 ghost use Rattle.shop_forms.specs.Told.{HasWideNumbers};
 ghost use Rattle.shop_forms.specs.Tokens.{AddsValue};
-ghost use Rattle.shop_replies.specs.Variants.{IsTotals, IsTrace, IsDemand, IsPlan};
+ghost use Rattle.shop_replies.specs.Variants.{TellsTotals, TellsTrace, TellsDemand, TellsPlan};
 
 use cut_measure::Code;
 use json::Writer;
@@ -15,7 +15,7 @@ use std::alloc::{AllocError, Global};
 
 // Writes the reply about a material's cells.
 pub(crate) fn tell_totals(writer: &mut Writer, reply: &Reply) -> Result<(), AllocError>
-    requires { IsTotals reply.now }
+    requires { TellsTotals reply.now }
     ensures value { OnOk result (AddsValue writer.old writer.new (reply_data reply.now)) }
     ensures wide { OnOk result (HasWideNumbers reply.now) }
 {
@@ -74,7 +74,7 @@ pub(crate) fn tell_trace(
     writer: &mut Writer,
     reply: &Reply,
 ) -> Result<(), AllocError>
-    requires { IsTrace reply.now }
+    requires { TellsTrace reply.now }
     ensures value { OnOk result (AddsValue writer.old writer.new (reply_data reply.now)) }
     ensures wide { OnOk result (HasWideNumbers reply.now) }
 {
@@ -111,7 +111,7 @@ pub(crate) fn tell_trace(
 
 // Writes the reply about a demand.
 pub(crate) fn tell_demand(writer: &mut Writer, reply: &Reply) -> Result<(), AllocError>
-    requires { IsDemand reply.now }
+    requires { TellsDemand reply.now }
     ensures value { OnOk result (AddsValue writer.old writer.new (reply_data reply.now)) }
     ensures wide { OnOk result (HasWideNumbers reply.now) }
 {
@@ -144,7 +144,7 @@ pub(crate) fn tell_demand(writer: &mut Writer, reply: &Reply) -> Result<(), Allo
 
 // Writes the reply that is a plan.
 pub(crate) fn tell_plan(writer: &mut Writer, reply: &Reply) -> Result<(), AllocError>
-    requires { IsPlan reply.now }
+    requires { TellsPlan reply.now }
     ensures value { OnOk result (AddsValue writer.old writer.new (reply_data reply.now)) }
     ensures wide { OnOk result (HasWideNumbers reply.now) }
 {

@@ -7,7 +7,7 @@ ghost use Rattle.shop_forms.specs.Forms as forms;
 ghost use Rattle.shop_forms.specs.Forms.{reply_data};
 ghost use Rattle.shop_forms.specs.Told.{HasWideNumbers};
 ghost use Rattle.shop_forms.specs.Tokens.{AddsValue};
-ghost use Rattle.shop_replies.specs.Variants.{IsImport};
+ghost use Rattle.shop_replies.specs.Variants.{TellsImport};
 
 use json::Writer;
 use serde_json::Value;
@@ -36,7 +36,7 @@ pub(crate) fn import_made(value: &Value) -> Option<Reply>
 
 // Writes the reply about an order that was imported.
 pub(crate) fn tell_import(writer: &mut Writer, reply: &Reply) -> Result<(), AllocError>
-    requires { IsImport reply.now }
+    requires { TellsImport reply.now }
     ensures value { OnOk result (AddsValue writer.old writer.new (reply_data reply.now)) }
     ensures wide { OnOk result (HasWideNumbers reply.now) }
 {

@@ -6,7 +6,7 @@ ghost use Rattle.shop_forms.specs.Forms as form;
 ghost use Rattle.shop_forms.specs.Forms.{reply_data};
 ghost use Rattle.shop_forms.specs.Told.{HasWideNumbers};
 ghost use Rattle.shop_forms.specs.Tokens.{AddsValue};
-ghost use Rattle.shop_replies.specs.Variants.{IsParts, IsJob};
+ghost use Rattle.shop_replies.specs.Variants.{TellsParts, TellsJob};
 
 use json::Writer;
 use shop_forms::{
@@ -39,7 +39,7 @@ pub(crate) fn tell_parts(
     writer: &mut Writer,
     reply: &Reply,
 ) -> Result<(), AllocError>
-    requires { IsParts reply.now }
+    requires { TellsParts reply.now }
     ensures value { OnOk result (AddsValue writer.old writer.new (reply_data reply.now)) }
     ensures wide { OnOk result (HasWideNumbers reply.now) }
 {
@@ -84,7 +84,7 @@ pub(crate) fn tell_behind<T: Listed>(
 
 // Writes the reply about a job.
 pub(crate) fn tell_job(alloc: Global, writer: &mut Writer, reply: &Reply) -> Result<(), AllocError>
-    requires { IsJob reply.now }
+    requires { TellsJob reply.now }
     ensures value { OnOk result (AddsValue writer.old writer.new (reply_data reply.now)) }
     ensures wide { OnOk result (HasWideNumbers reply.now) }
 {

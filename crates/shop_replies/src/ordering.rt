@@ -7,7 +7,7 @@ ghost use Rattle.shop_forms.specs.Forms as form;
 ghost use Rattle.shop_forms.specs.Forms.{reply_data};
 ghost use Rattle.shop_forms.specs.Told.{HasWideNumbers};
 ghost use Rattle.shop_forms.specs.Tokens.{AddsValue};
-ghost use Rattle.shop_replies.specs.Variants.{IsOrder};
+ghost use Rattle.shop_replies.specs.Variants.{TellsOrder};
 
 use json::Writer;
 use serde_json::Value;
@@ -34,7 +34,7 @@ pub(crate) fn order_made(value: &Value) -> Option<Reply>
 
 // Writes the reply about an order that was added.
 pub(crate) fn tell_order(writer: &mut Writer, reply: &Reply) -> Result<(), AllocError>
-    requires { IsOrder reply.now }
+    requires { TellsOrder reply.now }
     ensures value { OnOk result (AddsValue writer.old writer.new (reply_data reply.now)) }
     ensures wide { OnOk result (HasWideNumbers reply.now) }
 {
