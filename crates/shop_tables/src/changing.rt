@@ -56,7 +56,7 @@ fn write_job<S: Alter>(
     match act {
         None => move_job(tx, job),
         Some(_) => {
-            let _cuts = job.plan.cuts();
+            job.plan.see();
             put_job(alloc, tx, job)
         }
     }

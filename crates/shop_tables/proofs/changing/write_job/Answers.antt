@@ -8,7 +8,7 @@ returns-in-None-clause-writes g c = rw (c.in-Some.is, c.in-None.is) (ran_writes 
 pub returns-in-Some-act-clause-writes : goal.returns-in-Some-act-clause-writes
 returns-in-Some-act-clause-writes g c =
     rw (c.in-Some.is, c.in-Some-act.is)
-    (ran_writes c.put_job.ensures.ran (λ b fits. c.put_job.ensures.put b fits.new (record { numbered = refl; kerf = fits.kerf; plan = c.cuts-cuts.ensures.kept; on = fits.on })) c.put_job.ensures.within)
+    (ran_writes c.put_job.ensures.ran (λ b fits. c.put_job.ensures.put b fits.new (record { numbered = refl; kerf = fits.kerf; plan = c.see.ensures.kept; on = fits.on })) c.put_job.ensures.within)
 
 pub returns-in_default-clause-writes : goal.returns-in_default-clause-writes
 returns-in_default-clause-writes g c = rw c.in_default.is (writes_nothing (λ b. refl))
