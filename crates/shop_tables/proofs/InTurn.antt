@@ -1,6 +1,7 @@
 -- Writings, one after another.
-use Rattle.std.proofs.Common.{◌≡◌, ◌≤◌, ◌-◌, List, [], ◌∷◌, Option, length, take, drop, get_or, refl, sym, Some, None, Ok, Result, OnOk, ap, ◌∙◌, subst, arith}
+use Rattle.std.proofs.Common.{◌≡◌, ◌≤◌, ◌-◌, List, [], ◌∷◌, Option, length, take, drop, get_or, refl, sym, Some, None, Ok, Result, OnOk, ◌∙◌, subst, arith}
 use Rattle.std.specs.Result.{IsErr}
+use Rattle.std.proofs.lemmas.List.{take_all}
 use Rattle.std.proofs.lemmas.Result.{IfOk-from_err}
 use Rattle.sqlite.specs.State.{State}
 use Rattle.shop_statements.specs.declared.faults.TableFault.{TableFault}
@@ -53,12 +54,8 @@ module _ {X : Type 0} {with_one : X → Books → Books} (with_list : List X →
   pub of_all : {a b : State} {r : Result (Unit {0}) TableFault} {Needs : Books → Type 0} (rows : List X) → Writes a b r Needs (with_all with_one rows) → Writes a b r Needs (with_list rows)
   of_all rows w = writes_so (λ x needs. needs) (list_is rows) w
 
-take_all : {A : Type 0} (xs : List A) → take (length xs) xs ≡ xs
-take_all [] = refl
-take_all (x ∷ xs) = ap (λ l. x ∷ l) (take_all xs)
-
 behind : {A : Type 0} (x : A) (xs : List A) → take (length (x ∷ xs) - 1) (drop 1 (x ∷ xs)) ≡ xs
-behind x xs = ap (λ n. take n xs) (let e : length (x ∷ xs) - 1 ≡ length xs = omega arith in e) ∙ take_all xs
+behind x xs = take_all (length (x ∷ xs) - 1) xs (omega arith)
 
 module _ {X : Type 0} {a b c : State} {r : Result (Unit {0}) TableFault} (Needs : X → Books → Type 0) (with_one : X → Books → Books) where
   pub first_then : (rows : List X) (row : X) → 1 ≤ length rows → row ≡ get_or rows 0 row → Writes a b (Ok tt) (Needs row) (with_one row)
