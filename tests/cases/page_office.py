@@ -206,7 +206,7 @@ def twice(trial):
                 it.value(shown),
                 [
                     ["3", "1", "GLASS", "400.5", "300.0", "no", "3", "12015"],
-                    ["6", "4", "STEEL", "1200.5 ← “1.200,5”", "0.1 ← empty", "no ← “nein”", "2", "1201 ← empty"],
+                    ["6", "4", "STEEL", "1200.5← “1.200,5”", "0.1← empty", "no← “nein”", "2", "1201← empty"],
                 ],
             )
             trial.holds("1 empty row left out." in it.text("csvPreview"), "the empty row isn't told")
@@ -275,3 +275,53 @@ def left_out(trial):
         it.call("Page.reload")
         it.until("document.readyState === 'complete' && document.querySelector('#wanted [data-key=d2]')")
         trial.equal(it.value(ticks), [True, True], "another store's demand is left out")
+
+
+@case(
+    "whose piece it is, and whether its order is finished",
+    "A trace of a piece tells its order and line, and leads to the order; any order that this browser saw open is shown by "
+    "its code, another by the number of a demand, with all its lines, and whether all pieces are made.",
+)
+def finished(trial):
+    line = {"line": 7, "material": "STEEL", "w": 10000, "h": 1, "turn": False, "count": 1, "worth": 1}
+    with Terminal(trial, open_shop(trial)) as it:
+        number = iter(range(99))
+        send = lambda **keys: exchange(it.shop, "/message", {"number": next(number), "terminal": 8, **keys})
+        send(do="receive", material="STEEL", batch="S-1", w=60000, h=1, count=2)
+        for code in ("A-1", "B-1", "C-1"):
+            send(do="order", order=code, lines=[line, {**line, "line": 9, "count": 2}])
+        trial.equal(send(do="reserve", part="1/0", tree="x10000 p5 x10000 p6 x10000 p6 r")["job"], 2)
+        send(do="done", job=2)
+        it.begin(7)
+        it.view("stock")
+        it.type(by_id("tracePart"), "2/3")
+        it.key("Enter")
+        it.until(f"{by_id('traceWords')}.textContent.includes('a piece of order C-1, line 9 (demand 6).')")
+        it.click(f"{by_id('traceWords')}.querySelector('button')")
+        shown = f"{by_id('foundOrder')}.innerText"
+        it.until(f"{shown}.startsWith('Order C-1 is finished')")
+        rows = f"[...{by_id('foundOrder')}.querySelectorAll('tr')].map(row => [...row.cells].map(cell => cell.textContent))"
+        made = "{0} made · 0 reserved · {1} left of {2}"
+        done = [["line 7", "demand 5", "STEEL", made.format(1, 0, 1)], ["line 9", "demand 6", "STEEL", made.format(2, 0, 2)]]
+        trial.equal(it.value(rows), done)
+        it.until("seenOrders.has('B-1')")
+        for text in ("b-1", "4"):
+            it.type(by_id("findOrder"), text)
+            it.key("Enter")
+            it.until(f"{shown}.startsWith('Order B-1 is open')")
+            trial.equal([row[:2] for row in it.value(rows)], [["line 7", "demand 3"], ["line 9", "demand 4"]])
+        send(do="reserve", part="1/1", tree="x10000 p3 x10000 p4 x10000 p4 r")
+        send(do="done", job=3)
+        it.call("Page.reload")
+        it.until(f"document.readyState === 'complete' && {by_id('openOrders')}.textContent.includes('A-1')")
+        it.type(by_id("findOrder"), "B-1")
+        it.key("Enter")
+        it.until(f"{shown}.startsWith('Order B-1 is finished')")
+        it.type(by_id("findOrder"), "C-2")
+        it.key("Enter")
+        unseen = "order “C-2” wasn't seen open in this browser: write the number of one of its demands"
+        faulty(it, by_id("findOrder"), unseen)
+        it.type(by_id("findOrder"), "7")
+        it.key("Enter")
+        it.until(f"{shown}.includes('there is no such demand (42 NoDemand)')")
+        is_quiet(it)
