@@ -34,6 +34,7 @@ TURNED = (
 )
 BAD = (
     (HEADER + '""\n' + GOOD + "1,GLASS,1,1,no,1,1\n", ["4: line 1: line numbers have to rise"]),
+    (HEADER + '1,GLASS,"1,200",1,no,1,1\n', ["2: length “1,200”: write millimetres with at most one decimal, like 1250.5"]),
     (HEADER + "\n1,GLASS,400.5,300.0,no,3,12015,soon\n", [
         "3: the row has not seven fields; write seven with a comma between each two, and a point before a tenth"
     ]),
@@ -71,16 +72,16 @@ def mutants(text, number):
     chance = random.Random(1)
     for _ in range(number):
         chars = list(text)
-        for _ in range(chance.randint(1, 3)):
+        for _ in range(chance.randint(1, 2)):
             place = chance.randrange(len(chars))
-            chars[place : place + chance.randint(0, 1)] = chance.choice(['"', ",", " ", "\r", "\n", "0", "1", ".", "-", "a", ""])
+            chars[place : place + chance.randint(0, 1)] = chance.choice(['"', ",", " ", "\r", "\n", "0", "1", "7", ".", "a", ""])
         yield "".join(chars)
 
 
 @case(
     "an order file that is good to the letter",
     "What the page calls good the shop accepts as the page sends it: a file with commas as it stands where the shop accepts "
-    "it so, among 200 changed ones too; else the text that is shown, made of the turned fields.",
+    "it so, among 150 changed ones too; else the text that is shown, made of the turned fields.",
 )
 def letter(trial):
     with Terminal(trial, open_shop(trial)) as it:
@@ -94,7 +95,7 @@ def letter(trial):
             trial.equal(it.value(f"{READ}({json.dumps(text)})")["bad"], bad)
         long = "\n" * 65440 + HEADER + GOOD
         trial.equal(it.value(f"{READ}({json.dumps(long)})"), {"fault": "", "text": HEADER + GOOD, "bad": []})
-        texts = [*WHOLE, *(text for text, _ in TURNED), *mutants(HEADER + GOOD + "2,STEEL,7,0.1,no,1,1\n", 200)]
+        texts = [*WHOLE, *(text for text, _ in TURNED), *mutants(HEADER + GOOD + "2,STEEL,7,0.1,no,1,1\n", 150)]
         files = it.value(f"{json.dumps(texts)}.map({READ})")
         whole = 0
         for number, (text, file) in enumerate(zip(texts, files)):
@@ -104,7 +105,7 @@ def letter(trial):
             if isgood and not accepts:
                 trial.equal(imported(it, 2 * number + 1, file["text"]).get("ok"), "import", repr(text))
             whole += accepts
-        trial.holds(20 < whole < 480, f"{whole} of {len(texts)} are accepted as they stand")
+        trial.holds(len(WHOLE) + 5 < whole < 100, f"{whole} of {len(texts)} are accepted as they stand")
 
 
 FAULT = (
@@ -206,7 +207,7 @@ def twice(trial):
                 it.value(shown),
                 [
                     ["3", "1", "GLASS", "400.5", "300.0", "no", "3", "12015"],
-                    ["6", "4", "STEEL", "1200.5← “1.200,5”", "0.1← empty", "no← “nein”", "2", "1201← empty"],
+                    ["6", "4", "STEEL", "1200.5← 1.200,5", "0.1← empty", "no← nein", "2", "1201← empty"],
                 ],
             )
             trial.holds("1 empty row left out." in it.text("csvPreview"), "the empty row isn't told")
@@ -302,14 +303,14 @@ def finished(trial):
         it.until(f"{shown}.startsWith('Order C-1 is finished')")
         rows = f"[...{by_id('foundOrder')}.querySelectorAll('tr')].map(row => [...row.cells].map(cell => cell.textContent))"
         made = "{0} made · 0 reserved · {1} left of {2}"
-        done = [["line 7", "demand 5", "STEEL", made.format(1, 0, 1)], ["line 9", "demand 6", "STEEL", made.format(2, 0, 2)]]
+        done = [["line 7", "STEEL", "demand 5", made.format(1, 0, 1)], ["line 9", "STEEL", "demand 6", made.format(2, 0, 2)]]
         trial.equal(it.value(rows), done)
         it.until("seenOrders.has('B-1')")
         for text in ("b-1", "4"):
             it.type(by_id("findOrder"), text)
             it.key("Enter")
             it.until(f"{shown}.startsWith('Order B-1 is open')")
-            trial.equal([row[:2] for row in it.value(rows)], [["line 7", "demand 3"], ["line 9", "demand 4"]])
+            trial.equal([row[2] for row in it.value(rows)], ["demand 3", "demand 4"])
         send(do="reserve", part="1/1", tree="x10000 p3 x10000 p4 x10000 p4 r")
         send(do="done", job=3)
         it.call("Page.reload")
