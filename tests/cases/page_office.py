@@ -9,6 +9,7 @@ from kit.case import case
 
 HEADER = "line,material,length,width,turn,count,worth\n"
 GOOD = "1,GLASS,400.5,300.0,no,3,12015\n"
+LINE = {"line": 7, "material": "STEEL", "w": 10000, "h": 1, "turn": False, "count": 1, "worth": 1}
 
 # Texts with commas: those that the shop reads as they stand, and those that the page turns or calls bad.
 WHOLE = (
@@ -32,28 +33,33 @@ TURNED = (
     (HEADER.replace(",", ";").strip() + ";;\r\n1;GLASS;400,5;300,0;nein;3;12015;;\r\n;;;;;;\r\n", GOOD),
     (HEADER.replace(",", "\t") + "1\tGLASS\t400,50\t300\tJa\t3\t5\n", "1,GLASS,400.5,300,yes,3,5\n"),
 )
+MILLIMETRES = "write millimetres with at most one decimal, like 1250.5"
+SEVEN = "the row has not seven fields; write seven with a"
+# (text, line of the file and fault)
 BAD = (
     (HEADER + '""\n' + GOOD + "1,GLASS,1,1,no,1,1\n", ["4: line 1: line numbers have to rise"]),
-    (HEADER + '1,GLASS,"1,200",1,no,1,1\n', ["2: length “1,200”: write millimetres with at most one decimal, like 1250.5"]),
-    (HEADER + "\n1,GLASS,400.5,300.0,no,3,12015,soon\n", [
-        "3: the row has not seven fields; write seven with a comma between each two, and a point before a tenth"
-    ]),
-    (HEADER.replace(",", ";") + "1;GLASS;1;1;no;1;1;soon\n", [
-        "2: the row has not seven fields; write seven with a semicolon between each two"
-    ]),
-    (HEADER + "1,GLASS,0,7000,true,0,\n", [
-        "2: length 0 mm: write 0.1 to 20000.0 mm",
-        "2: width 7000 mm: write 0.1 to 6000.0 mm",
-        "2: turn “true”: write yes or no",
-        "2: count “0”: write a whole number from 1 to 1\u202f000\u202f000",
-    ]),
-    (HEADER + "1,STEEL,1.0,2.0,yes,1,1\n\n,WOOD,,1,no,1,1\n", [
-        "2: width 2.0 mm: a bar's is 0.1 mm",
-        "2: turn yes: a bar can't turn, write no",
-        "4: line is empty: write a whole number from 1 to 4\u202f294\u202f967\u202f295",
-        "4: material “WOOD”: no such material",
-        "4: length is empty: write millimetres with at most one decimal, like 1250.5",
-    ]),
+    (HEADER + '1,GLASS,"1,200",1,no,1,1\n', [f"2: length “1,200”: {MILLIMETRES}"]),
+    (HEADER + "\n1,GLASS,1,1,no,1,1,soon\n", [f"3: {SEVEN} comma between each two, and a point before a tenth"]),
+    (HEADER.replace(",", ";") + "1;GLASS;1;1;no;1;1;soon\n", [f"2: {SEVEN} semicolon between each two"]),
+    (
+        HEADER + "1,GLASS,0,7000,true,0,\n",
+        [
+            "2: length 0 mm: write 0.1 to 20000.0 mm",
+            "2: width 7000 mm: write 0.1 to 6000.0 mm",
+            "2: turn “true”: write yes or no",
+            "2: count “0”: write a whole number from 1 to 1\u202f000\u202f000",
+        ],
+    ),
+    (
+        HEADER + "1,STEEL,1.0,2.0,yes,1,1\n\n,WOOD,,1,no,1,1\n",
+        [
+            "2: width 2.0 mm: a bar's is 0.1 mm",
+            "2: turn yes: a bar can't turn, write no",
+            "4: line is empty: write a whole number from 1 to 4\u202f294\u202f967\u202f295",
+            "4: material “WOOD”: no such material",
+            f"4: length is empty: {MILLIMETRES}",
+        ],
+    ),
 )
 READ = (
     "(text => { const file = readOrderFile(text); return { fault: file.fault, text: file.text, bad: file.bad.flatMap(row => "
@@ -74,14 +80,14 @@ def mutants(text, number):
         chars = list(text)
         for _ in range(chance.randint(1, 2)):
             place = chance.randrange(len(chars))
-            chars[place : place + chance.randint(0, 1)] = chance.choice(['"', ",", " ", "\r", "\n", "0", "1", "7", ".", "a", ""])
+            chars[place : place + chance.randint(0, 1)] = chance.choice('", \r\n017.a')
         yield "".join(chars)
 
 
 @case(
     "an order file that is good to the letter",
-    "What the page calls good the shop accepts as the page sends it: a file with commas as it stands where the shop accepts "
-    "it so, among 150 changed ones too; else the text that is shown, made of the turned fields.",
+    "What the page calls good the shop accepts as the page sends it: a file with commas as it stands where the shop "
+    "accepts it so, among 150 changed ones too; else the text that is shown, made of the turned fields.",
 )
 def letter(trial):
     with Terminal(trial, open_shop(trial)) as it:
@@ -127,15 +133,14 @@ def faulty(it, field, words):
 )
 def at_fields(trial):
     long, sides = "COIL-2026-000000117", ": write 0.1 to 20000.0 mm"
-    millimetres = ": write millimetres with at most one decimal, like 1250.5"
     with Terminal(trial, open_shop(trial)) as it:
         it.begin(7)
         for batch, length, width, units, name, words in (
             (long, "2400", "1300", "1", "receiveBatch", f"batch “{long}” has 19 characters: write at most 16"),
             ("Straße", "2400", "1300", "1", "receiveBatch", "batch “STRAßE” has “ß”: write A–Z, 0–9 and - alone"),
             ("", "2400", "1300", "1", "receiveBatch", "batch is empty: write 1 to 16 of A–Z, 0–9 and -"),
-            ("g-8", "", "1300", "1", "receiveW", f"length is empty{millimetres}"),
-            ("g-8", "2.400,5", "1300", "1", "receiveW", f"length “2.400,5”{millimetres}"),
+            ("g-8", "", "1300", "1", "receiveW", f"length is empty: {MILLIMETRES}"),
+            ("g-8", "2.400,5", "1300", "1", "receiveW", f"length “2.400,5”: {MILLIMETRES}"),
             ("g-8", "0", "1300", "1", "receiveW", f"length 0 mm{sides}"),
             ("g-8", "1234567", "1300", "1", "receiveW", f"length 1234567 mm{sides}"),
             ("g-8", "2400,5", "6000.1", "1", "receiveH", "width 6000.1 mm: write 0.1 to 6000.0 mm"),
@@ -200,7 +205,8 @@ def twice(trial):
         it.order_file("a-1", "bad.csv", text.format("x"))
         bad = "Line 6 of the file can't be ordered. Mend the file and pick it again."
         it.until(f"{by_id('csvPreview')}.textContent.includes({json.dumps(bad)})")
-        for said in ("A-1 from a file: 2 lines ordered, demands from 1 on", "was ordered already, demands from 1 on: nothing was done"):
+        done = "was ordered already, demands from 1 on: nothing was done"
+        for said in ("A-1 from a file: 2 lines ordered, demands from 1 on", done):
             it.order_file("a-1", "good.csv", text.format(""))
             it.until("imports.last !== null && document.querySelector('#csvPreview tbody').rows.length === 2")
             trial.equal(
@@ -217,7 +223,14 @@ def twice(trial):
         it.until("imports.last === 2")
         it.click(by_id("sendCsv"))
         it.says("B-1 from a file: 2 lines ordered, demands from 3 on")
-        trial.equal([row["demand"] for row in it.ask("/demands/0")["demands"]], [1, 2, 3, 4])
+        for said in ("1 line ordered, demands from 5 on, unit 1/0 received", "already, demands from 5 on: nothing was done"):
+            it.type(by_id("fileCode"), "P-1")
+            it.choose(by_id("problemMaterial"), "GLASS")
+            it.pick(by_id("problemFile"), trial.write("sheet.txt", "1\n6000 4000\n1500 1000 4 150\n"))
+            it.until(f"imports.last !== null && {by_id('sendProblem')}")
+            it.click(by_id("sendProblem"))
+            it.says(said)
+        trial.equal([row["demand"] for row in it.ask("/demands/0")["demands"]], [1, 2, 3, 4, 5])
 
 
 @case(
@@ -230,18 +243,19 @@ def names(trial):
         send = lambda **keys: exchange(it.shop, "/message", {"number": next(number), "terminal": 8, **keys})
         for count in (5, 1, 2):
             send(do="receive", material="STEEL", batch="S-1", w=60000, h=1, count=count)
-        send(do="order", order="A-1", lines=[{"line": 1, "material": "STEEL", "w": 10000, "h": 1, "turn": False, "count": 1, "worth": 1}])
+        send(do="order", order="A-1", lines=[LINE])
         send(do="reserve", part="1/2", tree="x10000 p1 r")
         send(do="scrap", part="3/0")
         it.begin(7)
         it.view("stock")
         it.material("stock", "STEEL")
         it.until("document.querySelectorAll('#stockList > .stocked').length === 2")
-        told = it.value("[...document.querySelectorAll('#stockList > .stocked > div:first-child')].map(e => e.innerText.split('\\n'))")
-        trial.equal(sorted(told), [
+        shown = "[...document.querySelectorAll('#stockList > .stocked > div:first-child')]"
+        wanted = [
             ["6000.0\u00a0mm", "6 units, standing", "1/0 to 1/1, 1/3 to 1/4, 2/0, 3/1, batch S-1"],
             ["6000.0\u00a0mm", "unit, reserved, job 4", "1/2, batch S-1"],
-        ])
+        ]
+        trial.equal(sorted(it.value(f"{shown}.map(e => e.innerText.split('\\n'))")), wanted)
 
 
 @case(
@@ -284,13 +298,12 @@ def left_out(trial):
     "its code, another by the number of a demand, with all its lines, and whether all pieces are made.",
 )
 def finished(trial):
-    line = {"line": 7, "material": "STEEL", "w": 10000, "h": 1, "turn": False, "count": 1, "worth": 1}
     with Terminal(trial, open_shop(trial)) as it:
         number = iter(range(99))
         send = lambda **keys: exchange(it.shop, "/message", {"number": next(number), "terminal": 8, **keys})
         send(do="receive", material="STEEL", batch="S-1", w=60000, h=1, count=2)
         for code in ("A-1", "B-1", "C-1"):
-            send(do="order", order=code, lines=[line, {**line, "line": 9, "count": 2}])
+            send(do="order", order=code, lines=[LINE, {**LINE, "line": 9, "count": 2}])
         trial.equal(send(do="reserve", part="1/0", tree="x10000 p5 x10000 p6 x10000 p6 r")["job"], 2)
         send(do="done", job=2)
         it.begin(7)
