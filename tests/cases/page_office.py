@@ -335,6 +335,7 @@ def finished(trial):
         it.key("Enter")
         unseen = "order “C-2” wasn't seen open in this browser: write the number of one of its demands"
         faulty(it, by_id("findOrder"), unseen)
+        trial.equal(it.text("foundOrder"), "", "another order is shown below the fault")
         it.type(by_id("findOrder"), "7")
         it.key("Enter")
         it.until(f"{shown}.includes('there is no such demand (42 NoDemand)')")
