@@ -161,7 +161,7 @@ def at_fields(trial):
         for name, text in (("length", "20000,1"), ("width", "1"), ("count", "1")):
             it.type(field.format(name), text)
         it.key("Enter")
-        faulty(it, field.format("length"), f"length 20000.1 mm{sides}")
+        faulty(it, field.format("length"), f"length 20000,1 mm{sides}")
         it.order_file(long, "good.csv", HEADER + GOOD)
         it.click(by_id("sendCsv"))
         faulty(it, by_id("fileCode"), f"code “{long}” has 19 characters: write at most 16")
