@@ -55,7 +55,7 @@ def is_quiet(terminal):
 def alone(trial):
     with open(PAGE, encoding="utf-8") as file:
         text = file.read()
-    trial.holds(len(text.encode()) < 150000, "the page is over 150 KB")
+    trial.holds(len(text.encode()) < 160000, "the page is over 160 KB")
     addresses = set(re.findall(r"https?://[^\s\"'`]+", text))
     trial.equal(addresses, {"http://www.w3.org/2000/svg"})
     trial.equal(re.findall(r"innerHTML|outerHTML|insertAdjacentHTML|document\.write|eval\(|srcdoc|\son\w+=\"", text), [])
