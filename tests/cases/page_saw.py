@@ -102,6 +102,7 @@ def outcome(trial):
         it.until("atSaw && document.readyState === 'complete' && shop.materials.length")
         for job, made in ((bar, 1), (wire, 2), (other, 2)):
             open_job(it, job)
+            it.until(f"{by_id('jobWords')}.textContent.endsWith('what was left.')")
             trial.equal(figures(it)[2:4], [f"{made} of 4 cuts made", "1 piece" if made == 1 else f"{made} pieces"])
             classes = it.value("[...document.querySelectorAll('#cutList .cut')].map(it => it.classList.contains('made'))")
             trial.equal(classes, [place < made for place in range(4)])
@@ -116,7 +117,7 @@ def outcome(trial):
         trial.equal((asked, again), (3, 3), "one trace for each cut that was begun, once")
         open_job(it, sheet)
         it.shot("saw-released")
-        trial.equal(figures(it)[2:], ["0 of 2 cuts made", "0 pieces", "released state"])
+        trial.equal(figures(it)[2:], ["0 of 2 cuts made", "released state"])
         trial.equal(it.value("document.querySelectorAll('#jobPicture > svg > rect:is(.piece, .kept, .scrap, .kerf)').length"), 0)
         trial.holds("nothing was cut" in it.text("jobWords"), it.text("jobWords"))
         panel = it.value("document.getElementById('jobPanel').innerText")
@@ -235,7 +236,8 @@ def begun(trial):
 @case(
     "a job's end at the page by Enter",
     "Enter, pressed again and again at *Done*, ends the job once and no other; the focus is at the result. While the shop is "
-    "silent what was sent can't be followed by another end. A dialog has its question as its name.",
+    "silent what was sent can't be followed by another end. Where a scrapped part's row is gone the focus is at the list's "
+    "heading. A dialog has its question as its name.",
 )
 def ended(trial):
     shop = open_shop(trial)
@@ -270,6 +272,13 @@ def ended(trial):
         shop.process.send_signal(signal.SIGCONT)
         it.says(f"Release job {second}: done")
         it.until(f"{by_id('jobTitle')}.textContent.startsWith('Job {second}, released:')")
+        it.view("stock")
+        it.material("stock", "STEEL")
+        it.value("document.querySelector('#stockList [data-key=\"s1/0\"]').focus()")
+        it.key("Enter")
+        it.confirm()
+        it.says("Scrap 1/0: done")
+        it.until("document.activeElement.id === 'stockTitle'")
         trial.equal(it.faults, [])
 
 
