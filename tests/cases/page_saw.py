@@ -274,7 +274,9 @@ def ended(trial):
         it.until(f"{by_id('jobTitle')}.textContent.startsWith('Job {second}, released:')")
         it.view("stock")
         it.material("stock", "STEEL")
-        it.value("document.querySelector('#stockList [data-key=\"s1/0\"]').focus()")
+        row_of = "document.querySelector('#stockList [data-key=\"s1/0\"]')"
+        it.until(row_of)
+        it.value(f"{row_of}.focus()")
         it.key("Enter")
         it.confirm()
         it.says("Scrap 1/0: done")
