@@ -112,7 +112,9 @@ def outcome(trial):
         asked = len([address for address in it.requests if f"/trace/{other}/" in address])
         it.view("stock")
         it.view("saw")
-        it.until("refresh.passes > 3")
+        for _ in range(2):
+            it.value("refreshNow()")
+            it.until("!refresh.running && !queue.busy")
         again = len([address for address in it.requests if f"/trace/{other}/" in address])
         trial.equal((asked, again), (3, 3), "one trace for each cut that was begun, once")
         open_job(it, sheet)
