@@ -1,6 +1,8 @@
 """What the page sends and tells: messages of several tabs, notices, what waits, and how often it asks."""
 
 import json
+import os
+import signal
 import time
 
 from browser.terminal import Terminal, by_id, exchange, open_shop
@@ -103,14 +105,40 @@ def at_once(trial):
         for tab in tabs:
             it.session = tab
             reach(it, True)
-        for place, tab in enumerate(tabs):
+        for tab in tabs:
             turn_to(it, tab)
             it.until("terminal.kept().length === 0 && whenAccepted.size === 0")
-            it.says(f"Receive {10 * place + 5}: 1 unit received")
         parts = it.ask("/parts/STEEL")["parts"]
         trial.equal(sorted(row["w"] for row in parts), sorted(60000 + 10 * tab + i for tab in range(2) for i in range(6)))
         numbers = it.value("terminal.answered().map(message => message.number).sort((a, b) => a - b)")
         trial.equal((numbers, it.ask("/terminal/7")["last"]), (list(range(1, 13)), 12))
+        is_quiet(it)
+
+
+@case(
+    "a message of a tab that is closed",
+    "What waits of a closed tab is sent by another that is open; and what waits in the list of an earlier page is sent under "
+    "its number.",
+)
+def closed(trial):
+    with Terminal(trial, open_shop(trial)) as it:
+        it.begin(7)
+        stock(it)
+        first = it.session
+        open_tab(it, "stock")
+        reach(it, False)
+        it.value("send({batch: 'S-2', count: 1, do: 'receive', h: 1, material: 'STEEL', w: 60000}, 'Receive S-2')")
+        it.until("terminal.kept().length === 1")
+        it.call("Page.close")
+        it.session = first
+        it.says("Receive S-2: 1 unit received, 3/0")
+        command = {"batch": "S-3", "count": 1, "do": "receive", "h": 1, "material": "STEEL", "w": 60000}
+        waits = {"command": command, "what": "Receive S-3", "mark": "1700000000000.0.5", "number": 9}
+        it.value(f"storage.write('cutshop.kept.7', [{json.dumps(waits)}])")
+        it.call("Page.reload")
+        it.says("Receive S-3: 1 unit received, 4/0")
+        trial.equal(it.value("[terminal.kept().length, localStorage.getItem('cutshop.kept.7')]"), [0, None])
+        trial.equal((bars(it.shop), it.ask("/terminal/7")["last"]), (7, 9))
         is_quiet(it)
 
 
@@ -151,8 +179,8 @@ def refusals(trial):
 
 @case(
     "a message at the page is dropped",
-    "Of what waits only a message that was surely not sent can be dropped: the one with a number can't, nor any where "
-    "tabs can't take turns; what was dropped is never done.",
+    "Of what waits only a message that was surely not sent can be dropped, also while the shop hangs: the one with a number "
+    "can't, nor any where tabs can't take turns; what was dropped is never done.",
 )
 def dropped(trial):
     with Terminal(trial, open_shop(trial)) as it:
@@ -172,13 +200,18 @@ def dropped(trial):
         it.call("Fetch.disable")
         it.on_paused = None
         it.says("1 unit received, 3/0")
+        os.kill(it.shop.process.pid, signal.SIGSTOP)
+        it.receive("STEEL", "S-3", "6000", None, 10)
+        it.click(f"{WAITING}[0].querySelector('button')")
+        it.until(f"{WAITING}[0].textContent.endsWith('(not sent yet)Dropping…')")
+        os.kill(it.shop.process.pid, signal.SIGCONT)
         it.until(f"!{by_id('keptNotice')}.textContent")
         trial.equal((bars(it.shop), it.ask("/terminal/7")["last"]), (6, 3))
         it.value("Object.defineProperty(navigator, 'locks', { value: undefined }) && 0")
         reach(it, False)
         it.receive("STEEL", "S-4", "6000", None, 1)
         it.until(f"{WAITING}.length === 1")
-        trial.equal(it.value(f"{WAITING}[0].textContent.endsWith('(not sent yet)')"), True, "it can be dropped")
+        trial.equal(it.value(f"{WAITING}[0].querySelector('button')"), None)
         reach(it, True)
         it.says("1 unit received, 4/0")
         is_quiet(it)
