@@ -24,7 +24,7 @@ def open_tab(it, view):
         it.call(f"{domain}.enable")
     it.size(1280, 800)
     it.go(f"{it.address}#{view}")
-    it.until("shop.materials.length && terminal.number")
+    it.until("shop.materials.length && terminal.number && !refresh.running")
     return it.session
 
 
@@ -69,11 +69,11 @@ def two_tabs(trial):
         turn_to(it, first)
         reach(it, False)
         it.receive("STEEL", "T-1", "6000", None, 2)
-        it.until(f"{by_id('keptNotice')}.textContent.includes('T-1') || {WAITING}.length === 1")
+        it.until("terminal.kept().length === 1")
         trial.equal(it.value(RECEIPT), ["T-1", "6000", "", "2"], "the form is cleared before the answer")
         turn_to(it, other)
         type_order(it, "A-1")
-        it.until(f"{WAITING}.length === 2")
+        it.until("terminal.kept().length === 2")
         reach(it, True)
         it.says("Order A-1: 1 line ordered")
         it.until("terminal.kept().length === 0")
@@ -159,7 +159,7 @@ def refusals(trial):
             it.value(
                 f"send({{batch: 'S-{place}', count: 1, do: 'receive', h: 1, material: 'STEEL', w: 60000}}, 'Receive S-{place}')"
             )
-        it.until(f"{WAITING}.length === 7")
+        it.until("terminal.kept().length === 7")
         reach(it, True)
         it.says("Receive S-5: 1 unit received")
         refused = "Refused: Order A-1: an order with this code is there already (40 OrderExists)"
