@@ -295,8 +295,8 @@ def tablet(trial):
     shop = open_shop(trial)
     send = sender(shop)
     stock(send)
-    send(do="receive", material="STEEL", batch="S-2", w=6000, h=1, count=30)
-    jobs = [send(do="reserve", part=f"3/{place}", tree="x1000 p1 r")["job"] for place in range(30)]
+    send(do="receive", material="STEEL", batch="S-2", w=6000, h=1, count=12)
+    jobs = [send(do="reserve", part=f"3/{place}", tree="x1000 p1 r")["job"] for place in range(12)]
     with Terminal(trial, shop) as it:
         it.begin(7)
         it.view("saw")
