@@ -50,6 +50,16 @@ def type_order(it, code):
     it.key("Enter")
 
 
+def bar(batch):
+    """A receipt of a bar of 6000.0 mm."""
+    return {"batch": batch, "count": 1, "do": "receive", "h": 1, "material": "STEEL", "w": 60000}
+
+
+def send_bar(batch):
+    """The call by which the page sends such a receipt."""
+    return f"send({json.dumps(bar(batch))}, 'Receive {batch}')"
+
+
 def bars(shop):
     return exchange(shop, "/totals/STEEL")["received"] // 60000
 
@@ -93,14 +103,11 @@ def at_once(trial):
     with Terminal(trial, open_shop(trial)) as it:
         it.begin(7)
         tabs = [it.session, open_tab(it, "stock")]
-        script = (
-            "for (let i = 0; i < 6; i++) send({batch: 'TAB-' + i, count: 1, do: 'receive', h: 1, material: 'STEEL', "
-            "w: 60000 + WIDE + i}, 'Receive ' + (WIDE + i))"
-        )
         for place, tab in enumerate(tabs):
             it.session = tab
             reach(it, False)
-            it.value(script.replace("WIDE", str(10 * place)))
+            for batch in range(6):
+                it.value(send_bar(f"{place}-{batch}"))
         it.until("terminal.kept().length === 12")
         for tab in tabs:
             it.session = tab
@@ -109,7 +116,7 @@ def at_once(trial):
             turn_to(it, tab)
             it.until("terminal.kept().length === 0 && whenAccepted.size === 0")
         parts = it.ask("/parts/STEEL")["parts"]
-        trial.equal(sorted(row["w"] for row in parts), sorted(60000 + 10 * tab + i for tab in range(2) for i in range(6)))
+        trial.equal(sorted(row["batch"] for row in parts), sorted(f"{tab}-{batch}" for tab in range(2) for batch in range(6)))
         numbers = it.value("terminal.answered().map(message => message.number).sort((a, b) => a - b)")
         trial.equal((numbers, it.ask("/terminal/7")["last"]), (list(range(1, 13)), 12))
         is_quiet(it)
@@ -127,13 +134,12 @@ def closed(trial):
         first = it.session
         open_tab(it, "stock")
         reach(it, False)
-        it.value("send({batch: 'S-2', count: 1, do: 'receive', h: 1, material: 'STEEL', w: 60000}, 'Receive S-2')")
+        it.value(send_bar("S-2"))
         it.until("terminal.kept().length === 1")
         it.call("Page.close")
         it.session = first
         it.says("Receive S-2: 1 unit received, 3/0")
-        command = {"batch": "S-3", "count": 1, "do": "receive", "h": 1, "material": "STEEL", "w": 60000}
-        waits = {"command": command, "what": "Receive S-3", "mark": "1700000000000.0.5", "number": 9}
+        waits = {"command": bar("S-3"), "what": "Receive S-3", "mark": "1700000000000.0.5", "number": 9}
         it.value(f"storage.write('cutshop.kept.7', [{json.dumps(waits)}])")
         it.call("Page.reload")
         it.says("Receive S-3: 1 unit received, 4/0")
@@ -156,9 +162,7 @@ def refusals(trial):
         reach(it, False)
         type_order(it, "A-1")
         for place in range(6):
-            it.value(
-                f"send({{batch: 'S-{place}', count: 1, do: 'receive', h: 1, material: 'STEEL', w: 60000}}, 'Receive S-{place}')"
-            )
+            it.value(send_bar(f"S-{place}"))
         it.until("terminal.kept().length === 7")
         reach(it, True)
         it.says("Receive S-5: 1 unit received")
@@ -339,7 +343,7 @@ def header(trial):
     with Terminal(trial, open_shop(trial)) as it:
         it.begin(4294967295)
         stock(it)
-        for words in ("", "showLink(false), document.querySelector('#jobCount').textContent = '100+', jobCount.hidden = false"):
+        for words in ("", "showLink(false), jobCount.textContent = '100+', jobCount.hidden = false"):
             for view in ("tocut", "saw", "orders", "stock", "yield"):
                 it.view(view)
                 for width in (360, 400, 600, 700, 701, 720, 768, 800, 820, 860, 861, 900, 1000, 1280):
