@@ -89,7 +89,7 @@ class Terminal(Browser):
         self.until(f"{find}.getAttribute('aria-pressed') === 'true' && shop.partsOf === '{code}'")
 
     def says(self, words):
-        """Waits until the notice has these words."""
+        """Waits until a notice has these words."""
         self.until(f"{by_id('lastNotice')}.textContent.includes({json.dumps(words)})")
 
     def text(self, name):
@@ -126,10 +126,12 @@ class Terminal(Browser):
 
     def reserve(self):
         """Reserves the plan that is shown, goes to the saw, and gives the job's number."""
+        part = self.value("chosenPlan().part")
         self.click(by_id("reserve"))
-        self.says(": job ")
-        job = int(re.search(r": job (\d+),", self.told())[1])
-        self.click("[...document.querySelectorAll('#lastNotice button')].find(it => it.textContent === 'To the saw')")
+        self.says(f"Reserve {part}: job ")
+        job = int(re.search(rf"Reserve {part}: job (\d+),", self.told())[1])
+        notice = f"[...document.querySelectorAll('#lastNotice .notice')].find(it => it.textContent.includes(': job {job},'))"
+        self.click(f"{notice}.querySelector('button')")
         self.until(f"atSaw.told && atSaw.told.job === {job} && document.querySelector('#jobPicture svg')")
         return job
 

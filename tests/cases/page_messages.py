@@ -1,0 +1,356 @@
+"""What the page sends and tells: messages of several tabs, notices, what waits, and how often it asks."""
+
+import json
+import os
+import signal
+import time
+
+from browser.terminal import Terminal, by_id, exchange, open_shop
+from cases.page import is_quiet, stock
+from kit.case import case
+
+FIELDS = ("receiveBatch", "receiveW", "receiveH", "receiveCount")
+RECEIPT = f"{json.dumps(FIELDS)}.map(id => document.getElementById(id).value)"
+EMPTY = ["", "", "", "1"]
+WAITING = "[...document.querySelectorAll('#keptNotice .waiting')]"
+
+
+def open_tab(it, view):
+    """Opens the page in another tab of the browser, and gives the tab's session."""
+    it.session = None
+    target = it.call("Target.createTarget", url="about:blank")["targetId"]
+    it.session = it.call("Target.attachToTarget", targetId=target, flatten=True)["sessionId"]
+    for domain in ("Page", "Runtime", "Log", "DOM", "Network"):
+        it.call(f"{domain}.enable")
+    it.size(1280, 800)
+    it.go(f"{it.address}#{view}")
+    it.until("shop.materials.length && terminal.number && !refresh.running")
+    return it.session
+
+
+def turn_to(it, tab):
+    it.session = tab
+    it.call("Page.bringToFront")
+
+
+def reach(it, is_reached):
+    """Lets the page of this tab reach the shop, or not."""
+    it.call("Network.emulateNetworkConditions", offline=not is_reached, latency=0, downloadThroughput=-1, uploadThroughput=-1)
+
+
+def type_order(it, code):
+    """An order by hand of two sheets."""
+    it.view("orders")
+    it.until("document.querySelector('#orderLines .orderline') && shop.materials.length")
+    it.type(by_id("orderCode"), code)
+    field = "document.querySelector('#orderLines [data-field={}]')"
+    it.choose(field.format("material"), "GLASS")
+    for name, text in (("length", "500"), ("width", "400"), ("count", "2")):
+        it.type(field.format(name), text)
+    it.key("Enter")
+
+
+def bar(batch):
+    """A receipt of a bar of 6000.0 mm."""
+    return {"batch": batch, "count": 1, "do": "receive", "h": 1, "material": "STEEL", "w": 60000}
+
+
+def send_bar(batch):
+    """The call by which the page sends such a receipt."""
+    return f"send({json.dumps(bar(batch))}, 'Receive {batch}')"
+
+
+def bars(shop):
+    return exchange(shop, "/totals/STEEL")["received"] // 60000
+
+
+@case(
+    "two tabs of a browser are one terminal",
+    "What was typed in a tab that can't reach the shop is sent by another: the first shows its answer and clears its form; "
+    "each message is done once, under a number of its own; a refusal stays beside the success behind it.",
+)
+def two_tabs(trial):
+    with Terminal(trial, open_shop(trial)) as it:
+        it.begin(7)
+        stock(it)
+        first = it.session
+        other = open_tab(it, "orders")
+        reach(it, False)
+        turn_to(it, first)
+        reach(it, False)
+        it.receive("STEEL", "T-1", "6000", None, 2)
+        it.until("terminal.kept().length === 1")
+        trial.equal(it.value(RECEIPT), ["T-1", "6000", "", "2"], "the form is cleared before the answer")
+        turn_to(it, other)
+        type_order(it, "A-1")
+        it.until("terminal.kept().length === 2")
+        reach(it, True)
+        it.says("Order A-1: 1 line ordered")
+        it.until("terminal.kept().length === 0")
+        turn_to(it, first)
+        it.says("2 units received, 3/0 to 3/1")
+        it.until(f"JSON.stringify({RECEIPT}) === JSON.stringify({json.dumps(EMPTY)})")
+        trial.equal((bars(it.shop), it.ask("/terminal/7")["last"]), (7, 4))
+        trial.equal([row["order"] for row in it.ask("/demands/0")["demands"]], ["A-1"])
+        is_quiet(it)
+
+
+@case(
+    "tabs that send at once",
+    "Twelve receipts that two tabs keep at the same time are numbered one behind the other, and each is done once.",
+)
+def at_once(trial):
+    with Terminal(trial, open_shop(trial)) as it:
+        it.begin(7)
+        tabs = [it.session, open_tab(it, "stock")]
+        for place, tab in enumerate(tabs):
+            it.session = tab
+            reach(it, False)
+            for batch in range(6):
+                it.value(send_bar(f"{place}-{batch}"))
+        it.until("terminal.kept().length === 12")
+        for tab in tabs:
+            it.session = tab
+            reach(it, True)
+        for tab in tabs:
+            turn_to(it, tab)
+            it.until("terminal.kept().length === 0 && whenAccepted.size === 0")
+        parts = it.ask("/parts/STEEL")["parts"]
+        trial.equal(sorted(row["batch"] for row in parts), sorted(f"{tab}-{batch}" for tab in range(2) for batch in range(6)))
+        numbers = it.value("terminal.answered().map(message => message.number).sort((a, b) => a - b)")
+        trial.equal((numbers, it.ask("/terminal/7")["last"]), (list(range(1, 13)), 12))
+        is_quiet(it)
+
+
+@case(
+    "a message of a tab that is closed",
+    "What waits of a closed tab is sent by another that is open; and what waits in the list of an earlier page is sent under "
+    "its number.",
+)
+def closed(trial):
+    with Terminal(trial, open_shop(trial)) as it:
+        it.begin(7)
+        stock(it)
+        first = it.session
+        open_tab(it, "stock")
+        reach(it, False)
+        it.value(send_bar("S-2"))
+        it.until("terminal.kept().length === 1")
+        it.call("Page.close")
+        it.session = first
+        it.says("Receive S-2: 1 unit received, 3/0")
+        waits = {"command": bar("S-3"), "what": "Receive S-3", "mark": "1700000000000.0.5", "number": 9}
+        it.value(f"storage.write('cutshop.kept.7', [{json.dumps(waits)}])")
+        it.call("Page.reload")
+        it.says("Receive S-3: 1 unit received, 4/0")
+        trial.equal(it.value("[terminal.kept().length, localStorage.getItem('cutshop.kept.7')]"), [0, None])
+        trial.equal((bars(it.shop), it.ask("/terminal/7")["last"]), (7, 9))
+        is_quiet(it)
+
+
+@case(
+    "refusals at the page stay",
+    "A refusal stays beside later successes until it is closed, of which the oldest go where over five notices stand; the "
+    "log of the terminal's dialog has its words.",
+)
+def refusals(trial):
+    with Terminal(trial, open_shop(trial)) as it:
+        it.begin(7)
+        stock(it)
+        type_order(it, "A-1")
+        it.says("Order A-1: 1 line ordered")
+        reach(it, False)
+        type_order(it, "A-1")
+        for place in range(6):
+            it.value(send_bar(f"S-{place}"))
+        it.until("terminal.kept().length === 7")
+        reach(it, True)
+        it.says("Receive S-5: 1 unit received")
+        refused = "Refused: Order A-1: an order with this code is there already (40 OrderExists)"
+        shown = "[...document.querySelectorAll('#lastNotice .notice span')].map(e => e.textContent)"
+        told = [f"✗ {refused}", *[f"✓ Receive S-{place}: 1 unit received, {place + 3}/0" for place in (5, 4, 3, 2)]]
+        trial.equal(it.value(shown), told)
+        it.view("yield")
+        it.click(by_id("terminalButton"))
+        it.until(f"{by_id('messageLog')}.textContent.includes({json.dumps(refused)})")
+        it.key("Escape")
+        it.until(f"!{by_id('terminalDialog')}.open")
+        trial.holds(refused in it.told(), "the refusal is gone")
+        it.click("document.querySelector('#refusals button')")
+        it.until("!document.querySelector('#refusals .notice')")
+        is_quiet(it)
+
+
+@case(
+    "a message at the page is dropped",
+    "Of what waits only a message that was surely not sent can be dropped, also while the shop hangs: the one with a number "
+    "can't, nor any where tabs can't take turns; what was dropped is never done.",
+)
+def dropped(trial):
+    with Terminal(trial, open_shop(trial)) as it:
+        it.begin(7)
+        stock(it)
+        it.on_paused = lambda paused: it.post(
+            "Fetch.failRequest", requestId=paused["requestId"], errorReason="ConnectionReset"
+        )
+        it.call("Fetch.enable", patterns=[{"urlPattern": "*/message", "requestStage": "Response"}])
+        it.receive("STEEL", "S-2", "6000", None, 1)
+        it.until(f"{by_id('keptNotice')}.textContent.includes('(number 3)')")
+        it.receive("STEEL", "S-3", "6000", None, 10)
+        it.until(f"{WAITING}.length === 2")
+        trial.equal(it.value(f"{WAITING}.map(row => Boolean(row.querySelector('button')))"), [False, True])
+        it.click(f"{WAITING}[1].querySelector('button')")
+        it.until("terminal.kept().length === 1")
+        it.call("Fetch.disable")
+        it.on_paused = None
+        it.says("1 unit received, 3/0")
+        os.kill(it.shop.process.pid, signal.SIGSTOP)
+        it.receive("STEEL", "S-3", "6000", None, 10)
+        it.click(f"{WAITING}[0].querySelector('button')")
+        it.until(f"{WAITING}[0].textContent.endsWith('(not sent yet)Dropping…')")
+        os.kill(it.shop.process.pid, signal.SIGCONT)
+        it.until(f"!{by_id('keptNotice')}.textContent")
+        trial.equal((bars(it.shop), it.ask("/terminal/7")["last"]), (6, 3))
+        it.value("Object.defineProperty(navigator, 'locks', { value: undefined }) && 0")
+        reach(it, False)
+        it.receive("STEEL", "S-4", "6000", None, 1)
+        it.until(f"{WAITING}.length === 1")
+        trial.equal(it.value(f"{WAITING}[0].querySelector('button')"), None)
+        reach(it, True)
+        it.says("1 unit received, 4/0")
+        is_quiet(it)
+
+
+# Of an order with ten lines, whose button lies far below the header.
+LONG_ORDER = """
+while (document.querySelectorAll('#orderLines .orderline').length < 10) addOrderLine();
+for (const line of document.querySelectorAll('#orderLines .orderline'))
+  for (const [name, text] of [['material', 'STEEL'], ['length', '500'], ['count', '2']])
+    line.querySelector(`[data-field=${name}]`).value = text;
+adaptLines();
+"""
+
+
+def press(it, button, words, role):
+    """Presses a button. The notice with these words is to stand in the window, over all else there and not over the
+    button, within a region of this role."""
+    it.click(button)
+    notice = f"[...document.querySelectorAll('#lastNotice .notice')].find(e => e.textContent.includes({json.dumps(words)}))"
+    it.until(notice)
+    time.sleep(0.3)
+    on_top = "(e => { const r = e.getBoundingClientRect(), x = r.left + r.width / 2; return "
+    on_top += "[r.top + 2, r.bottom - 2].every(y => e.contains(document.elementFromPoint(x, y))); })"
+    for find in (notice, button):
+        it.trial.holds(it.value(f"{on_top}({find})"), f"{find} can't be seen at {it.value('innerWidth')} pixels")
+    it.trial.equal(it.value(f"{notice}.closest('[role]').getAttribute('role')"), role)
+
+
+def name_of_dialog(it):
+    nodes = it.call("Accessibility.getFullAXTree")["nodes"]
+    return [node["name"]["value"] for node in nodes if node.get("role", {}).get("value") == "dialog"]
+
+
+@case(
+    "notices of the page in sight",
+    "At 400, 768 and 1280 pixels a success and a refusal stand in the window where one presses, in regions that are read "
+    "out, and not over the button; both dialogs have names.",
+)
+def in_sight(trial):
+    with Terminal(trial, open_shop(trial)) as it:
+        it.begin(7)
+        stock(it)
+        type_order(it, "A-1")
+        it.says("Order A-1")
+        for width, height in ((400, 800), (768, 1000), (1280, 800)):
+            it.size(width, height)
+            it.view("stock")
+            it.choose(by_id("receiveMaterial"), "STEEL")
+            it.type(by_id("receiveBatch"), f"W-{width}")
+            it.type(by_id("receiveW"), "100")
+            press(it, "document.querySelector('#receiveForm button')", f"Receive 1 × STEEL 100.0\u00a0mm: 1 unit", "status")
+            it.view("orders")
+            it.value(LONG_ORDER)
+            it.type(by_id("orderCode"), "A-1")
+            press(it, "document.querySelector('#orderForm .act')", "an order with this code is there already", "alert")
+            it.click("document.querySelector('#refusals button')")
+        it.size(1280, 800)
+        it.click(by_id("terminalButton"))
+        trial.equal(name_of_dialog(it), ["Which terminal is this?"])
+        it.key("Escape")
+        it.value("void confirmed('Scrap 1/0?', 'Scrap')")
+        trial.equal(name_of_dialog(it), ["Scrap 1/0?"])
+        is_quiet(it)
+
+
+def requests_in(it, seconds):
+    """How many requests the page makes in so many seconds."""
+    it.requests.clear()
+    time.sleep(seconds)
+    it.value("0")
+    return len(it.requests)
+
+
+@case(
+    "an idle page asks seldom",
+    "After a minute without anything done or changed the page asks every 15 seconds, after an hour every minute, hidden not "
+    "at all; at once when something is pressed or it is shown again; and a job that waits or is over isn't asked anew.",
+)
+def idle(trial):
+    with Terminal(trial, open_shop(trial)) as it:
+        it.begin(7)
+        stock(it)
+        quiet = lambda minutes: it.value(f"refresh.lively = performance.now() - {minutes} * 60000, pauseOf()")
+        trial.equal([quiet(minutes) for minutes in (0, 0.9, 1.1, 59, 61)], [4000, 4000, 15000, 15000, 60000])
+        it.view("tocut")
+        it.until("!refresh.running")
+        quiet(2)
+        it.value("waitForPass()")
+        trial.equal(requests_in(it, 6), 0)
+        it.click(by_id("planTitle"))
+        it.until("refresh.running || performance.now() - refresh.ended < 1000", 2)
+        it.until("!refresh.running")
+        trial.equal(it.value("pauseOf()"), 4000)
+        line = {"count": 2, "h": 1, "line": 1, "material": "STEEL", "turn": False, "w": 10000, "worth": 100}
+        reserve = {"do": "reserve", "part": "2/0", "tree": "x10000 p1 r"}
+        for number, keys in enumerate(({"do": "order", "lines": [line], "order": "A-1"}, reserve)):
+            trial.holds("ok" in exchange(it.shop, "/message", {**keys, "number": number, "terminal": 8}), keys)
+        it.view("saw")
+        it.until("atSaw.told && !refresh.running")
+        it.requests.clear()
+        it.value("refreshPass()")
+        trial.equal([address.removeprefix(it.address) for address in it.requests], ["jobs/0"])
+        first = it.session
+        open_tab(it, "stock")
+        it.call("Page.bringToFront")
+        it.session = first
+        it.until("document.hidden")
+        it.until("!refresh.running")
+        asked = it.value("performance.getEntriesByType('resource').length")
+        it.value("refreshPass()")
+        trial.equal(it.value("performance.getEntriesByType('resource').length"), asked, "a hidden page asks")
+        it.value("refresh.ended = 0")
+        it.call("Page.bringToFront")
+        it.until("refresh.ended > 0", 2)
+        is_quiet(it)
+
+
+@case(
+    "the page's header at ten widths",
+    "From 360 to 1280 pixels no view is scrolled sideways, and the header's buttons can be reached, also with a long number "
+    "of the terminal, many jobs and no connection.",
+)
+def header(trial):
+    with Terminal(trial, open_shop(trial)) as it:
+        it.begin(4294967295)
+        stock(it)
+        for words in ("", "showLink(false), jobCount.textContent = '100+', jobCount.hidden = false"):
+            for view in ("tocut", "saw", "orders", "stock", "yield"):
+                it.view(view)
+                for width in (360, 400, 600, 700, 701, 720, 768, 800, 820, 860, 861, 900, 1000, 1280):
+                    it.size(width)
+                    it.value(words)
+                    fits = "document.documentElement.scrollWidth <= document.documentElement.clientWidth"
+                    fits += " && [...document.querySelectorAll('header button, #link')].every(e => {"
+                    fits += " const r = e.getBoundingClientRect(); return r.left >= 0 && r.right <= innerWidth; })"
+                    trial.holds(it.value(fits), f"{view} doesn't fit at {width} pixels {words}")
+        is_quiet(it)

@@ -1,0 +1,333 @@
+"""The page's view of the saw, in a real browser where one is installed."""
+
+import re
+import shutil
+import signal
+import subprocess
+
+from browser.terminal import SHOP_FILE, Terminal, by_id, exchange, open_shop
+from kit.case import case
+
+# Four pieces of 100.0 mm of a bar of 600.0 mm, whose saw takes 2.5 mm; a piece of 400.0 by 300.0 mm of a sheet of 1200.0 by
+# 800.0 mm, whose saw takes 3.0 mm. Rests of a bar are kept from 300.0 mm, those of the sheet both.
+BAR = "x1000 p1 x1000 p1 x1000 p1 x1000 p1 r"
+SHEET = "x4000 y3000 p2 r r"
+LINES = [
+    {"line": 1, "material": "STEEL", "w": 1000, "h": 1, "turn": False, "count": 40, "worth": 1000},
+    {"line": 2, "material": "GLASS", "w": 4000, "h": 3000, "turn": False, "count": 9, "worth": 12000},
+]
+
+
+def sender(shop, first=1):
+    """Sends messages of a terminal of its own, each of which has to be accepted; gives the reply."""
+    last = iter(range(first, first + 1000))
+
+    def send(**keys):
+        reply = exchange(shop, "/message", {**keys, "number": next(last), "terminal": 8})
+        assert "ok" in reply, (keys, reply)
+        return reply
+
+    return send
+
+
+def stock(send):
+    """Three bars, three sheets and an order."""
+    send(do="receive", material="STEEL", batch="S-1", w=6000, h=1, count=3)
+    send(do="receive", material="GLASS", batch="G-1", w=12000, h=8000, count=3)
+    send(do="order", order="A-1", lines=LINES)
+
+
+def open_job(it, job):
+    """Opens any job by its number, by keys."""
+    it.type(by_id("jobNumber"), str(job))
+    it.key("Enter")
+    it.until(f"atSaw.told && atSaw.told.job === {job} && document.querySelector('#jobPicture svg')")
+
+
+def row(cut):
+    return f"document.querySelectorAll('#cutList .cut')[{cut}]"
+
+
+def says_what_is(it, job):
+    """Each part that the ticket names stands, and each that stands of the job is named."""
+    names = re.findall(rf"(?:kept|kept as|label it)\s({job}/\d+)", it.value("document.getElementById('jobPanel').innerText"))
+    standing = [f"{job}/{node}" for node in range(9) if it.ask(f"/trace/{job}/{node}").get("state") == "standing"]
+    it.trial.equal(sorted(set(names)), standing)
+
+
+def figures(it):
+    return it.value("[...document.querySelectorAll('#jobFigures div')].map(it => it.innerText.replace('\\n', ' '))")
+
+
+@case(
+    "what a job at the page came to",
+    "Of a job that was broken off the ticket tells the cuts that were made, the pieces and the rests that there are, in the "
+    "visit that broke it off, and in another by traces, also where the saw takes nothing; of one that was released that "
+    "nothing was cut.",
+)
+def outcome(trial):
+    free = '\n[[material]]\ncode = "WIRE"\nkind = "bar"\nkerf = "0.0"\nmin_long = "10.0"\nmin_short = "0.1"\n'
+    shop = open_shop(trial, SHOP_FILE + free)
+    send = sender(shop)
+    stock(send)
+    send(do="receive", material="WIRE", batch="W-1", w=6000, h=1, count=1)
+    send(do="order", order="B-1", lines=[{**LINES[0], "material": "WIRE"}])
+    bar, sheet, wire, other = [
+        send(do="reserve", part=part, tree=tree)["job"]
+        for part, tree in (("1/0", BAR), ("2/0", SHEET), ("3/0", BAR.replace("p1", "p3")), ("1/1", BAR))
+    ]
+    with Terminal(trial, shop) as it:
+        it.begin(7)
+        it.view("saw")
+        open_job(it, bar)
+        trial.equal(figures(it)[2:4], ["4 cuts", "4 pieces"])
+        it.click(by_id("startBreak"))
+        it.click(row(0))
+        trial.holds("uncut 497.5\u00a0mm, kept as" in it.text("cutList"), "what isn't cut further is kept whole")
+        it.click("document.querySelector('[name=breakMode][value=lost]')")
+        it.click(row(1))
+        trial.equal(it.value(f"{row(3)}.innerText.includes('kept as')"), False, "a cut that wasn't made keeps nothing")
+        trial.equal(figures(it)[2:4], ["1 of 4 cuts made", "1 piece"])
+        it.click(by_id("sendBreak"))
+        it.says(f"Break off job {bar}")
+        it.until(f"{by_id('jobTitle')}.textContent.includes('broken off')")
+        trial.equal(figures(it)[2:], ["1 of 4 cuts made", "1 piece", "broken off state"])
+        trial.holds("✗ went wrong" in it.value(f"{row(1)}.innerText"), "the cut that went wrong isn't told")
+        says_what_is(it, bar)
+        it.shot("saw-broken")
+        send(do="break", job=wire, cuts=2, lost=False)
+        send(do="break", job=other, cuts=[0, 1], lost=2)
+        send(do="release", job=sheet)
+        it.call("Page.reload")
+        it.until("atSaw && document.readyState === 'complete' && shop.materials.length")
+        for job, made in ((bar, 1), (wire, 2), (other, 2)):
+            open_job(it, job)
+            it.until(f"{by_id('jobWords')}.textContent.endsWith('what was left.')")
+            trial.equal(figures(it)[2:4], [f"{made} of 4 cuts made", "1 piece" if made == 1 else f"{made} pieces"])
+            classes = it.value("[...document.querySelectorAll('#cutList .cut')].map(it => it.classList.contains('made'))")
+            trial.equal(classes, [place < made for place in range(4)])
+            drawn = it.value("document.querySelectorAll('#jobPicture > svg > rect.piece').length")
+            trial.equal(drawn, made, "pieces in the picture")
+            says_what_is(it, job)
+        asked = len([address for address in it.requests if f"/trace/{other}/" in address])
+        it.view("stock")
+        it.view("saw")
+        for _ in range(2):
+            it.value("refreshNow()")
+            it.until("!refresh.running && !queue.busy")
+        again = len([address for address in it.requests if f"/trace/{other}/" in address])
+        trial.equal((asked, again), (3, 3), "one trace for each cut that was begun, once")
+        open_job(it, sheet)
+        it.shot("saw-released")
+        trial.equal(figures(it)[2:], ["0 of 2 cuts made", "released state"])
+        trial.equal(it.value("document.querySelectorAll('#jobPicture > svg > rect:is(.piece, .kept, .scrap, .kerf)').length"), 0)
+        trial.holds("nothing was cut" in it.text("jobWords"), it.text("jobWords"))
+        panel = it.value("document.getElementById('jobPanel').innerText")
+        trial.equal(re.findall(r"kept|label|scrap", panel), [])
+        trial.equal(it.faults, [])
+
+
+@case(
+    "a job's number at the page that isn't there",
+    "A number without a job is told beside its field; the ticket that was shown stays, and the waiting jobs are drawn on.",
+)
+def unknown(trial):
+    shop = open_shop(trial)
+    send = sender(shop)
+    stock(send)
+    first = send(do="reserve", part="1/0", tree=BAR)["job"]
+    with Terminal(trial, shop) as it:
+        it.begin(7)
+        it.view("saw")
+        it.until(f"atSaw.told && atSaw.told.job === {first}")
+        for text, wanted in (("999", "There is no job 999."), ("x", "A job's number is a whole number from 1 on.")):
+            it.type(by_id("jobNumber"), text)
+            it.key("Enter")
+            it.until(f"{by_id('jobFault')}.textContent === \"{wanted}\"")
+            trial.equal(it.value("document.activeElement.id"), "jobNumber")
+        trial.holds(f"Job {first}:" in it.text("jobTitle") and it.value(f"!{by_id('jobPanel')}.hidden"), "the ticket is gone")
+        second = send(do="reserve", part="1/1", tree=BAR)["job"]
+        it.until(f"document.querySelector('#jobList [data-key=j{second}]')")
+        it.value("VIEWS.saw.read.unshift(() => ask('/job/999'))")
+        third = send(do="reserve", part="1/2", tree=BAR)["job"]
+        it.until(f"document.querySelector('#jobList [data-key=j{third}]')")
+        open_job(it, second)
+        trial.equal(it.text("jobFault"), "")
+        trial.equal(it.faults, [])
+
+
+@case(
+    "ticks of another plan at the page",
+    "A store of before takes a job's place by one of the same number with another plan: none of its cuts is ticked, and "
+    "nothing is offered as broken off; ticks of the same plan stay over a reload.",
+)
+def other_plan(trial):
+    shop = open_shop(trial)
+    send = sender(shop)
+    stock(send)
+    shop.kill(signal.SIGKILL)
+    for end in ("", "-wal"):
+        shutil.copy(shop.store + end, f"{shop.store}.before{end}")
+    port, command = shop.port, shop.process.args
+
+    def start():
+        shop.process = subprocess.Popen(command, stdin=subprocess.DEVNULL, stdout=subprocess.PIPE, stderr=subprocess.PIPE)
+        trial.equal(shop.process.stdout.readline(), f"listening on 127.0.0.1:{port}\n".encode())
+
+    start()
+    job = sender(shop, 101)(do="reserve", part="1/0", tree=BAR)["job"]
+    with Terminal(trial, shop) as it:
+        it.begin(7)
+        it.view("saw")
+        it.until(f"atSaw.told && atSaw.told.job === {job}")
+        it.click(row(2))
+        made = "[...document.querySelectorAll('#cutList .cut')].map(it => it.classList.contains('made'))"
+        trial.equal(it.value(made), [True, True, True, False])
+        it.call("Page.reload")
+        it.until("document.readyState === 'complete' && document.querySelectorAll('#cutList .cut').length === 4")
+        trial.equal(it.value(made), [True, True, True, False])
+        shop.kill(signal.SIGKILL)
+        for end in ("", "-wal"):
+            shutil.copy(f"{shop.store}.before{end}", shop.store + end)
+        start()
+        trial.equal(sender(shop, 101)(do="reserve", part="1/1", tree="x1000 p1 x1000 p1 r")["job"], job)
+        it.until("document.querySelectorAll('#cutList .cut').length === 2")
+        trial.equal(it.value(made), [False, False])
+        it.click(by_id("startBreak"))
+        trial.holds("No cut is marked yet" in it.text("breakWords"), it.text("breakWords"))
+        trial.holds(it.value(f"{by_id('sendBreak')}.disabled"), "a break that nobody marked can be sent")
+        for cut in range(2):
+            it.click(row(cut))
+        trial.holds("All cuts are marked as made" in it.text("breakWords"), it.text("breakWords"))
+        trial.holds(it.value(f"{by_id('sendBreak')}.disabled"), "work that is done can be sent as broken off")
+
+
+@case(
+    "a release at the page of a job that was begun",
+    "Where cuts are ticked, *Release* says so, names what is for that, and takes no Enter for a yes; where none is, the part "
+    "stands again.",
+)
+def begun(trial):
+    shop = open_shop(trial)
+    send = sender(shop)
+    stock(send)
+    job = send(do="reserve", part="1/0", tree=BAR)["job"]
+    with Terminal(trial, shop) as it:
+        it.begin(7)
+        it.view("saw")
+        it.until(f"atSaw.told && atSaw.told.job === {job}")
+        for cut, wanted in ((1, "2 of 4 cuts are marked as made, and “Broken off…” is for that."), (3, "“Done” is for that.")):
+            it.click(row(cut))
+            it.click(by_id("release"))
+            it.until(f"{by_id('confirm')}.open")
+            trial.holds(wanted in it.text("confirmWords"), it.text("confirmWords"))
+            it.key("Enter")
+            it.until(f"!{by_id('confirm')}.open")
+            trial.equal(it.ask(f"/job/{job}")["state"], "waiting")
+        it.click(row(0))
+        it.click(by_id("release"))
+        it.until(f"{by_id('confirm')}.open")
+        trial.equal(it.text("confirmWords"), f"Release job {job}, of which no cut was made? Its part 1/0 stands again, as it was.")
+        it.confirm()
+        it.says(f"Release job {job}: done")
+        trial.equal(it.ask("/trace/1/0")["state"], "standing")
+        trial.equal(it.value("document.activeElement.id"), "jobTitle")
+        trial.equal(it.faults, [])
+
+
+@case(
+    "a job's end at the page by Enter",
+    "Enter, pressed again and again at *Done*, ends the job once and no other; the focus is at the result. While the shop is "
+    "silent what was sent can't be followed by another end. Where a scrapped part's row is gone the focus is at the list's "
+    "heading. A dialog has its question as its name.",
+)
+def ended(trial):
+    shop = open_shop(trial)
+    send = sender(shop)
+    stock(send)
+    first, second = [send(do="reserve", part=part, tree=tree)["job"] for part, tree in (("2/0", SHEET), ("1/0", BAR))]
+    with Terminal(trial, shop) as it:
+        it.begin(7)
+        it.view("saw")
+        it.until(f"atSaw.told && atSaw.told.job === {first}")
+        it.value(f"{by_id('done')}.focus()")
+        for _ in range(8):
+            it.key("Enter")
+        it.says(f"Job {first} done: pieces")
+        it.until(f"{by_id('jobTitle')}.textContent.startsWith('Job {first}, done')")
+        trial.equal(it.value("document.activeElement.id"), "jobTitle")
+        trial.holds("Label what is kept" in it.told() and "refused" not in it.told(), it.told())
+        trial.equal((it.ask("/terminal/7")["last"], it.ask(f"/job/{second}")["state"]), (1, "waiting"))
+        names = it.value(
+            "[...document.querySelectorAll('dialog')].map(it => document.getElementById(it.getAttribute('aria-labelledby'))"
+            ".textContent.includes('?'))"
+        )
+        trial.equal(names, [True, True])
+        it.click(by_id("nextJob"))
+        it.until(f"atSaw.told.job === {second}")
+        shop.process.send_signal(signal.SIGSTOP)
+        it.click(by_id("release"))
+        it.confirm()
+        it.until(f"{by_id('jobTitle')}.textContent.startsWith('Job {second}, released, unanswered')")
+        hidden = "['done', 'startBreak', 'release'].every(id => document.getElementById(id).hidden)"
+        trial.holds(it.value(hidden), "a job whose end was sent can be ended again")
+        shop.process.send_signal(signal.SIGCONT)
+        it.says(f"Release job {second}: done")
+        it.until(f"{by_id('jobTitle')}.textContent.startsWith('Job {second}, released:')")
+        it.view("stock")
+        it.material("stock", "STEEL")
+        row_of = "document.querySelector('#stockList [data-key=\"s1/0\"]')"
+        it.until(row_of)
+        it.value(f"{row_of}.focus()")
+        it.key("Enter")
+        it.confirm()
+        it.says("Scrap 1/0: done")
+        it.until("document.activeElement.id === 'stockTitle'")
+        trial.equal(it.faults, [])
+
+
+@case(
+    "the saw at the page of a tablet",
+    "At 1280, 768 and 400 pixels Tab goes as the eye does, from the jobs to the ticket; a job that is chosen from a long list "
+    "has its ticket's head in sight and the focus there.",
+)
+def tablet(trial):
+    shop = open_shop(trial)
+    send = sender(shop)
+    stock(send)
+    send(do="receive", material="STEEL", batch="S-2", w=6000, h=1, count=12)
+    jobs = [send(do="reserve", part=f"3/{place}", tree="x1000 p1 r")["job"] for place in range(12)]
+    with Terminal(trial, shop) as it:
+        it.begin(7)
+        it.view("saw")
+        for width, height in ((1280, 800), (768, 1000), (400, 800)):
+            it.size(width, height)
+            for job in (jobs[1], jobs[-1]):
+                it.click(f"document.querySelector('#jobList [data-key=j{job}]')")
+                it.until(f"atSaw.told && atSaw.told.job === {job}")
+                it.until("document.activeElement.id === 'jobTitle'")
+                top, high = it.value("[document.getElementById('jobTitle').getBoundingClientRect().top, innerHeight]")
+                trial.holds(60 < top < high / 2 + 1, f"{width}: the ticket of job {job} begins at {top} of {high}")
+            it.shot(f"{width}-saw-of-many")
+            it.value("scrollTo(0, 0)")
+            trial.equal(tab_order(it), ["jobMaterial", "jobNumber", "jobList", "done", "cutList"], width)
+            trial.holds(it.value("document.documentElement.scrollWidth <= innerWidth") or width == 768, f"wider than {width}")
+        trial.equal(it.faults, [])
+
+
+def tab_order(it):
+    """Where Tab leads in the view, holder by holder, each of which lies below or right of the one before."""
+    it.value("document.getElementById('jobMaterial').focus()")
+    came, last = [], None
+    for _ in range(80):
+        name, top, left = it.value(
+            "(() => { const at = document.activeElement, holder = at.closest('#jobList, #cutList') || at, "
+            "box = holder.getBoundingClientRect(); return [holder.id, box.top + scrollY, box.left]; })()"
+        )
+        if name and name not in came:
+            it.trial.holds(last is None or top >= last[0] or left > last[1], f"{name} stands above what came before: {came}")
+            came, last = [*came, name], (top, left)
+        if name == "cutList":
+            break
+        it.key("Tab")
+    return [name for name in came if name in ("jobMaterial", "jobNumber", "jobList", "done", "cutList")]
