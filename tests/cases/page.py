@@ -49,7 +49,7 @@ def is_quiet(terminal):
 
 @case(
     "the page stands alone",
-    "`page/terminal.html` is under 150 KB, names no other address, and builds nothing out of data but by `textContent` and "
+    "`page/terminal.html` is under 160 KB, names no other address, and builds nothing out of data but by `textContent` and "
     "attributes.",
 )
 def alone(trial):
