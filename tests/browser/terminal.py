@@ -75,6 +75,17 @@ class Terminal(Browser):
         self.key("Enter")
         self.until(f"!{by_id('terminalDialog')}.open")
 
+    @contextmanager
+    def losing_answers(self):
+        """The shop's answers to messages are lost on their way to the page."""
+        self.on_paused = lambda paused: self.post(
+            "Fetch.failRequest", requestId=paused["requestId"], errorReason="ConnectionReset"
+        )
+        self.call("Fetch.enable", patterns=[{"urlPattern": "*/message", "requestStage": "Response"}])
+        yield
+        self.call("Fetch.disable")
+        self.on_paused = None
+
     def ask(self, path):
         """What the shop answers to a GET, asked beside the page."""
         return exchange(self.shop, path)

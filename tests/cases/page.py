@@ -335,17 +335,12 @@ def unheard(trial):
     with Terminal(trial, open_shop(trial)) as it:
         it.begin(7)
         stock(it)
-        it.on_paused = lambda paused: it.post(
-            "Fetch.failRequest", requestId=paused["requestId"], errorReason="ConnectionReset"
-        )
-        it.call("Fetch.enable", patterns=[{"urlPattern": "*/message", "requestStage": "Response"}])
-        it.receive("STEEL", "s-2", "3000,5", None, 2)
-        it.until(f"{by_id('keptNotice')}.textContent.includes('(number 3)')")
-        it.call("Page.reload")
-        it.until(f"document.readyState === 'complete' && {by_id('keptNotice')}.textContent.includes('without an answer')")
-        trial.equal(it.value("terminal.kept()[0].number"), 3)
-        it.call("Fetch.disable")
-        it.on_paused = None
+        with it.losing_answers():
+            it.receive("STEEL", "s-2", "3000,5", None, 2)
+            it.until(f"{by_id('keptNotice')}.textContent.includes('(number 3)')")
+            it.call("Page.reload")
+            it.until(f"document.readyState === 'complete' && {by_id('keptNotice')}.textContent.includes('without an answer')")
+            trial.equal(it.value("terminal.kept()[0].number"), 3)
         it.says("2 units received, 3/0 to 3/1")
         trial.equal(it.ask("/totals/STEEL")["received"], 5 * 60000 + 2 * 30005)
         trial.equal((it.value("terminal.kept().length"), it.ask("/terminal/7")["last"]), (0, 3))

@@ -190,19 +190,14 @@ def dropped(trial):
     with Terminal(trial, open_shop(trial)) as it:
         it.begin(7)
         stock(it)
-        it.on_paused = lambda paused: it.post(
-            "Fetch.failRequest", requestId=paused["requestId"], errorReason="ConnectionReset"
-        )
-        it.call("Fetch.enable", patterns=[{"urlPattern": "*/message", "requestStage": "Response"}])
-        it.receive("STEEL", "S-2", "6000", None, 1)
-        it.until(f"{by_id('keptNotice')}.textContent.includes('(number 3)')")
-        it.receive("STEEL", "S-3", "6000", None, 10)
-        it.until(f"{WAITING}.length === 2")
-        trial.equal(it.value(f"{WAITING}.map(row => Boolean(row.querySelector('button')))"), [False, True])
-        it.click(f"{WAITING}[1].querySelector('button')")
-        it.until("terminal.kept().length === 1")
-        it.call("Fetch.disable")
-        it.on_paused = None
+        with it.losing_answers():
+            it.receive("STEEL", "S-2", "6000", None, 1)
+            it.until(f"{by_id('keptNotice')}.textContent.includes('(number 3)')")
+            it.receive("STEEL", "S-3", "6000", None, 10)
+            it.until(f"{WAITING}.length === 2")
+            trial.equal(it.value(f"{WAITING}.map(row => Boolean(row.querySelector('button')))"), [False, True])
+            it.click(f"{WAITING}[1].querySelector('button')")
+            it.until("terminal.kept().length === 1")
         it.says("1 unit received, 3/0")
         os.kill(it.shop.process.pid, signal.SIGSTOP)
         it.receive("STEEL", "S-3", "6000", None, 10)
