@@ -155,14 +155,22 @@ class Browser:
             return self.value("document.getElementById('notices').textContent")
 
     def click(self, find):
-        """A click in the middle of what an expression finds, once it can be clicked."""
+        """A click in the middle of what an expression finds, once it can be clicked and stays where it is."""
         self.until(f"(() => {{ const e = {find}; return e && !e.disabled && e.getBoundingClientRect().width > 0; }})()")
-        x, y = self.value(
+        before, place = None, self.place(find)
+        while place != before:
+            time.sleep(0.02)
+            before, place = place, self.place(find)
+        x, y = place
+        for kind in ("mousePressed", "mouseReleased"):
+            self.call("Input.dispatchMouseEvent", type=kind, x=x, y=y, button="left", clickCount=1)
+
+    def place(self, find):
+        """The middle of what an expression finds, brought in sight."""
+        return self.value(
             f"(() => {{ const e = {find}; e.scrollIntoView({{ block: 'center' }}); "
             "const r = e.getBoundingClientRect(); return [r.x + r.width / 2, r.y + r.height / 2]; })()"
         )
-        for kind in ("mousePressed", "mouseReleased"):
-            self.call("Input.dispatchMouseEvent", type=kind, x=x, y=y, button="left", clickCount=1)
 
     def type(self, find, text):
         """Types a text into a field, over what it holds."""
