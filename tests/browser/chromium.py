@@ -126,7 +126,9 @@ class Browser:
             self.on_paused(params)
 
     def size(self, width, height=800):
+        """Gives the window this size, and waits until the page is drawn in it: a click before goes astray."""
         self.call("Emulation.setDeviceMetricsOverride", width=width, height=height, deviceScaleFactor=1, mobile=False)
+        self.value("new Promise(done => requestAnimationFrame(() => requestAnimationFrame(() => done(true))))")
 
     def go(self, address):
         self.call("Page.navigate", url=address)
