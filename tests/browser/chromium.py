@@ -33,7 +33,7 @@ def program():
 class Browser:
     """A Chromium with one page. Messages are JSON texts that end in NUL, on its descriptors 3 and 4."""
 
-    def __init__(self):
+    def __init__(self, language="en"):
         path = program()
         self.home = tempfile.mkdtemp(prefix="cutshop-browser-")
         down, self.write_end = os.pipe()
@@ -46,7 +46,8 @@ class Browser:
             os.dup2(high[1], 4)
 
         words = ["--headless=new", "--no-sandbox", "--disable-gpu", "--disable-dev-shm-usage", "--no-first-run"]
-        words += ["--disable-background-networking", "--disable-component-update", "--disable-sync", "--lang=en"]
+        words += ["--disable-background-networking", "--disable-component-update", "--disable-sync"]
+        words += [f"--lang={language}", f"--accept-lang={language}"]
         words += ["--remote-debugging-pipe", f"--user-data-dir={self.home}", "about:blank"]
         self.process = subprocess.Popen(
             [path, *words], preexec_fn=wire, close_fds=False, stdout=subprocess.DEVNULL, stderr=subprocess.DEVNULL
@@ -198,6 +199,20 @@ class Browser:
         """Picks a file for a file field."""
         found = self.call("Runtime.evaluate", expression=find)["result"]["objectId"]
         self.call("DOM.setFileInputFiles", files=[os.path.realpath(path)], objectId=found)
+
+    def downloaded(self, find, folder):
+        """Clicks what saves a file, and gives the path of the file in this folder, once it is whole."""
+        before = set(os.listdir(folder))
+        self.call("Page.setDownloadBehavior", behavior="allow", downloadPath=folder)
+        self.click(find)
+        end = time.monotonic() + SECONDS
+        while time.monotonic() < end:
+            fresh = [it for it in os.listdir(folder) if it not in before]
+            if fresh and not fresh[0].endswith(".crdownload"):
+                return os.path.join(folder, fresh[0])
+            self.value("0")
+            time.sleep(0.05)
+        raise Failed(f"\n  nothing was saved by {find}\n  told: {self.told()}")
 
     def shot(self, name):
         """Leaves a picture of the whole page in OUT."""

@@ -62,8 +62,8 @@ def other_site(page):
 class Terminal(Browser):
     """A browser with the page of a shop, as one terminal."""
 
-    def __init__(self, trial, shop):
-        super().__init__()
+    def __init__(self, trial, shop, language="en"):
+        super().__init__(language)
         self.trial, self.shop = trial, shop
         self.address = f"http://127.0.0.1:{shop.port}/"
 

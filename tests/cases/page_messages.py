@@ -349,3 +349,78 @@ def header(trial):
                     fits += " const r = e.getBoundingClientRect(); return r.left >= 0 && r.right <= innerWidth; })"
                     trial.holds(it.value(fits), f"{view} doesn't fit at {width} pixels {words}")
         is_quiet(it)
+
+
+@case(
+    "a terminal at the page whose numbers are spent",
+    "Where another program sent a message under the last number as this terminal, the page says so and what to do; under "
+    "another number what waits is done once, and the spent number isn't taken again.",
+)
+def spent(trial):
+    last = 4294967295
+    with Terminal(trial, open_shop(trial)) as it:
+        it.begin(7)
+        trial.equal(exchange(it.shop, "/message", {**bar("B-1"), "number": last, "terminal": 7}).get("ok"), "receive")
+        it.receive("STEEL", "B-2", "6000", None, 1)
+        words = f"The numbers of terminal 7 are spent, as a message was sent under the last one, {last}."
+        it.until(f"{by_id('keptNotice')}.textContent.startsWith({json.dumps(words)})")
+        trial.holds("Choose another number: what waits is sent under it." in it.text("keptNotice"), it.text("keptNotice"))
+        it.click(f"[...{by_id('keptNotice')}.querySelectorAll('button')].find(e => e.textContent === 'Another number')")
+        it.until(f"{by_id('terminalDialog')}.open && {by_id('terminalNumber')}.value === '1'")
+        trial.equal(it.text("terminalFault"), words)
+        it.type(by_id("terminalNumber"), "7")
+        it.key("Enter")
+        it.until(f"{by_id('terminalFault')}.textContent === {json.dumps(words + ' Choose another number.')}")
+        it.type(by_id("terminalNumber"), "9")
+        it.key("Enter")
+        it.says("1 unit received, 2/0")
+        trial.equal((bars(it.shop), it.ask("/terminal/9")["last"], it.text("keptNotice")), (2, 1, ""))
+        it.receive("STEEL", "B-3", "6000", None, 1)
+        it.says("1 unit received, 3/0")
+        trial.equal((bars(it.shop), it.ask("/terminal/9")["last"]), (3, 2))
+        is_quiet(it)
+
+
+@case(
+    "the shop's name at the page",
+    "The window's title is the shop's name, which is written once and kept in the browser, for all its tabs; what is done is "
+    "said in a live region.",
+)
+def shop_name(trial):
+    with Terminal(trial, open_shop(trial)) as it:
+        it.begin(7)
+        it.until("document.title === 'cutshop'")
+        it.click(by_id("terminalButton"))
+        it.type(by_id("shopName"), "  Glaserei <b>Huber</b> & Töchter, Werkstatt am Fluss ")
+        it.key("Enter")
+        name = "Glaserei <b>Huber</b> & Töchter, Werkstatt am Fluss"
+        it.until(f"document.title === {json.dumps(name)}")
+        trial.equal(it.text("shopTitle"), name)
+        it.at_widths("shop-name")
+        open_tab(it, "stock")
+        it.until(f"document.title === {json.dumps(name)}")
+        said = f"{by_id('said')}.closest('[role=status]') && {by_id('said')}.textContent"
+        for view, words in (("yield", "Yield"), ("tocut", "To cut")):
+            it.view(view)
+            it.until(f"{said} === {json.dumps(words)}")
+        it.receive("STEEL", "S-1", "6000", None, 1)
+        it.says("1 unit received")
+        type_bars(it)
+        it.propose("STEEL")
+        it.until(f"{said} === 'Plan of 1/0: 2 pieces, 2 cuts'")
+        it.click(by_id("reserve"))
+        it.until(f"{said} === 'Reserve 1/0: sent'")
+        is_quiet(it)
+
+
+def type_bars(it):
+    """An order by hand of two bars."""
+    it.view("orders")
+    it.until("document.querySelector('#orderLines .orderline')")
+    it.type(by_id("orderCode"), "A-1")
+    field = "document.querySelector('#orderLines [data-field={}]')"
+    it.choose(field.format("material"), "STEEL")
+    for name, text in (("length", "500"), ("count", "2")):
+        it.type(field.format(name), text)
+    it.key("Enter")
+    it.says("Order A-1: 1 line ordered")

@@ -1,7 +1,14 @@
 """The office and the stock at the terminal's page, in a real browser where one is installed."""
 
+import csv
+import datetime
 import json
+import os
 import random
+import shutil
+import signal
+import subprocess
+import xml.etree.ElementTree
 
 from browser.terminal import Terminal, by_id, exchange, open_shop
 from cases.page import is_quiet, order, stock
@@ -34,13 +41,14 @@ TURNED = (
     (HEADER.replace(",", "\t") + "1\tGLASS\t400,50\t300\tJa\t3\t5\n", "1,GLASS,400.5,300,yes,3,5\n"),
 )
 MILLIMETRES = "write millimetres with at most one decimal, like 1250.5"
-SEVEN = "the row has not seven fields; write seven with a"
+WIDE = "the row has 8 fields and the first row 7: write a {} between each two"
 # (text, line of the file and fault)
 BAD = (
     (HEADER + '""\n' + GOOD + "1,GLASS,1,1,no,1,1\n", ["4: line 1: line numbers have to rise"]),
-    (HEADER + '1,GLASS,"1,200",1,no,1,1\n', [f"2: length “1,200”: {MILLIMETRES}"]),
-    (HEADER + "\n1,GLASS,1,1,no,1,1,soon\n", [f"3: {SEVEN} comma between each two, and a point before a tenth"]),
-    (HEADER.replace(",", ";") + "1;GLASS;1;1;no;1;1;soon\n", [f"2: {SEVEN} semicolon between each two"]),
+    (HEADER + '1,GLASS,"1,200",1,no,1,1\n', ["2: length “1,200”: say above what it is"]),
+    (HEADER + "1,GLASS,1.25,1,no,1,1\n", [f"2: length “1.25”: {MILLIMETRES}"]),
+    (HEADER + "\n1,GLASS,1,1,no,1,1,soon\n", [f"3: {WIDE.format('comma')}, and a point before a tenth"]),
+    (HEADER.replace(",", ";") + "1;GLASS;1;1;no;1;1;soon\n", [f"2: {WIDE.format('semicolon')}"]),
     (
         HEADER + "1,GLASS,0,7000,true,0,\n",
         [
@@ -205,8 +213,8 @@ def twice(trial):
         it.order_file("a-1", "bad.csv", text.format("x"))
         bad = "Line 6 of the file can't be ordered. Mend the file and pick it again."
         it.until(f"{by_id('csvPreview')}.textContent.includes({json.dumps(bad)})")
-        done = "was ordered already, demands from 1 on: nothing was done"
-        for said in ("A-1 from a file: 2 lines ordered, demands from 1 on", done):
+        done = "was ordered already, pieces wanted from no. 1 on: nothing was done"
+        for said in ("A-1 from a file: 2 lines ordered, pieces wanted from no. 1 on", done):
             it.order_file("a-1", "good.csv", text.format(""))
             it.until("imports.last !== null && document.querySelector('#csvPreview tbody').rows.length === 2")
             trial.equal(
@@ -222,8 +230,8 @@ def twice(trial):
         it.order_file("b-1", "good.csv", text.format(""))
         it.until("imports.last === 2")
         it.click(by_id("sendCsv"))
-        it.says("B-1 from a file: 2 lines ordered, demands from 3 on")
-        for said in ("1 line ordered, demands from 5 on, unit 1/0 received", "already, demands from 5 on: nothing was done"):
+        it.says("B-1 from a file: 2 lines ordered, pieces wanted from no. 3 on")
+        for said in ("1 line ordered, pieces wanted from no. 5 on, unit 1/0 received", "already, pieces wanted from no. 5 on: nothing was done"):
             it.type(by_id("fileCode"), "P-1")
             it.choose(by_id("problemMaterial"), "GLASS")
             it.pick(by_id("problemFile"), trial.write("sheet.txt", "1\n6000 4000\n1500 1000 4 150\n"))
@@ -249,8 +257,8 @@ def names(trial):
         it.begin(7)
         it.view("stock")
         it.material("stock", "STEEL")
-        it.until("document.querySelectorAll('#stockList > .stocked').length === 2")
-        shown = "[...document.querySelectorAll('#stockList > .stocked > div:first-child')]"
+        it.until("document.querySelectorAll('#stockList .fold > div > .stocked').length === 2")
+        shown = "[...document.querySelectorAll('#stockList .fold > div > .stocked > div:first-child')]"
         wanted = [
             ["6000.0\u00a0mm", "6 units, standing", "1/0 to 1/1, 1/3 to 1/4, 2/0, 3/1, batch S-1"],
             ["6000.0\u00a0mm", "unit, reserved, job 4", "1/2, batch S-1"],
@@ -264,7 +272,7 @@ def names(trial):
     "another order doesn't; how many are left out is told, and a button puts all back.",
 )
 def left_out(trial):
-    ticks = "[...document.querySelectorAll('#wanted .row input')].map(it => it.checked)"
+    ticks = "[...document.querySelectorAll('#wanted .demand input')].map(it => it.checked)"
     with Terminal(trial, open_shop(trial)) as it:
         it.begin(7)
         stock(it)
@@ -272,12 +280,12 @@ def left_out(trial):
         it.view("tocut")
         it.material("tocut", "GLASS")
         it.click("document.querySelector('#wanted [data-key=d2]')")
-        it.until(f"{by_id('wanted')}.textContent.startsWith('1 demand left out')")
+        it.until(f"{by_id('wanted')}.textContent.startsWith('1 kind of pieces left out')")
         it.material("tocut", "STEEL")
         it.until("document.querySelector('#wanted [data-key=d3]')")
         trial.equal(it.value(ticks), [True, True])
         it.click("document.querySelector('#wanted [data-key=\"oA-1\"]')")
-        it.until(f"{by_id('wanted')}.textContent.startsWith('2 demands left out')")
+        it.until(f"{by_id('wanted')}.textContent.startsWith('2 kinds of pieces left out')")
         it.click(by_id("putBack"))
         it.until(f"!{by_id('putBack')}")
         it.material("tocut", "GLASS")
@@ -310,20 +318,20 @@ def finished(trial):
         it.view("stock")
         it.type(by_id("tracePart"), "2/3")
         it.key("Enter")
-        it.until(f"{by_id('traceWords')}.textContent.includes('a piece of order C-1, line 9 (demand 6).')")
+        it.until(f"{by_id('traceWords')}.textContent.includes('a piece of order C-1, line 9 (no. 6).')")
         it.click(f"{by_id('traceWords')}.querySelector('button')")
         shown = f"{by_id('foundOrder')}.innerText"
         it.until(f"{shown}.startsWith('Order C-1 is finished')")
         rows = f"[...{by_id('foundOrder')}.querySelectorAll('tr')].map(row => [...row.cells].map(cell => cell.textContent))"
         made = "{0} made · 0 reserved · {1} left of {2}"
-        done = [["line 7", "STEEL", "demand 5", made.format(1, 0, 1)], ["line 9", "STEEL", "demand 6", made.format(2, 0, 2)]]
+        done = [["line 7", "STEEL", "pieces no. 5", made.format(1, 0, 1)], ["line 9", "STEEL", "pieces no. 6", made.format(2, 0, 2)]]
         trial.equal(it.value(rows), done)
         it.until("seenOrders.has('B-1')")
         for text in ("b-1", "4"):
             it.type(by_id("findOrder"), text)
             it.key("Enter")
             it.until(f"{shown}.startsWith('Order B-1 is open')")
-            trial.equal([row[2] for row in it.value(rows)], ["demand 3", "demand 4"])
+            trial.equal([row[2] for row in it.value(rows)], ["pieces no. 3", "pieces no. 4"])
         send(do="reserve", part="1/1", tree="x10000 p3 x10000 p4 x10000 p4 r")
         send(do="done", job=3)
         it.call("Page.reload")
@@ -333,10 +341,359 @@ def finished(trial):
         it.until(f"{shown}.startsWith('Order B-1 is finished')")
         it.type(by_id("findOrder"), "C-2")
         it.key("Enter")
-        unseen = "order “C-2” wasn't seen open in this browser: write the number of one of its demands"
+        unseen = "order “C-2” wasn't seen open in this browser: write the number of pieces wanted of it"
         faulty(it, by_id("findOrder"), unseen)
         trial.equal(it.text("foundOrder"), "", "another order is shown below the fault")
         it.type(by_id("findOrder"), "7")
         it.key("Enter")
-        it.until(f"{shown}.includes('there is no such demand (42 NoDemand)')")
+        it.until(f"{shown}.includes('there are no such pieces wanted (42 NoDemand)')")
         is_quiet(it)
+
+
+@case(
+    "many units at the page at once",
+    "40 bars are returned by one press and one question, each by a message of its own; how far they are is told, and the one "
+    "that another terminal took is told as refused, with its name, while the others go on. A bad number is told.",
+)
+def many_units(trial):
+    with Terminal(trial, open_shop(trial)) as it:
+        send = lambda number, **keys: exchange(it.shop, "/message", {"number": number, "terminal": 8, **keys})
+        send(1, do="receive", material="STEEL", batch="S-1", w=60000, h=1, count=42)
+        send(2, do="order", order="A-1", lines=[LINE])
+        it.begin(7)
+        it.view("stock")
+        it.material("stock", "STEEL")
+        button = "document.querySelector('#stockList [data-key=\"mr1/0\"]')"
+        field = "document.querySelector('#stockList [data-count=\"1/0\"]')"
+        for text in ("43", "0", "x"):
+            it.type(field, text)
+            it.click(button)
+            it.says("Return: write how many, a whole number from 1 to 42")
+            trial.equal(it.value(f"[document.activeElement === {field}, {field}.getAttribute('aria-invalid')]"), [True, "true"])
+        it.type(field, "40")
+        it.until("!refresh.running")
+        it.value("clearTimeout(refresh.timer)")
+        trial.equal(send(3, do="reserve", part="1/7", tree="x10000 p1 r").get("job"), 2)
+        it.click(button)
+        it.until(f"{by_id('confirm')}.open")
+        asked = "Return 40 × STEEL 6000.0\u00a0mm (1/0 to 1/39)? This can't be taken back."
+        trial.equal(it.text("confirmWords"), asked)
+        it.shop.process.send_signal(signal.SIGSTOP)
+        it.click(by_id("confirmYes"))
+        it.until(f"/Return 40 × STEEL 6000.0.mm: [0-9]+ of 40 answered/.test({by_id('keptNotice')}.textContent)")
+        trial.equal(it.value(f"{by_id('keptNotice')}.querySelectorAll('.waiting, progress').length"), 2, "one row and its bar")
+        it.at_widths("stock-many")
+        it.shop.process.send_signal(signal.SIGCONT)
+        it.says(
+            "Refused: Return 40 × STEEL 6000.0\u00a0mm: 39 of 40 done; 1 refused (1/7): the part doesn't stand any more: it is "
+            "reserved, cut, scrap or returned (51 NotStanding)"
+        )
+        trial.equal(it.value("document.querySelectorAll('#successes .notice').length"), 0, "each is told by itself")
+        names = [row["part"] for row in it.ask("/parts/STEEL")["parts"]]
+        trial.equal((names, it.ask("/terminal/7")["last"]), (["1/7", "1/40", "1/41"], 39))
+        it.until("document.querySelectorAll('#stockList .fold > div > .stocked').length === 2")
+        it.type("document.querySelector('#stockList [data-count=\"1/40\"]')", "2")
+        it.click("document.querySelector('#stockList [data-key=\"ms1/40\"]')")
+        it.confirm()
+        it.says("Scrap 2 × STEEL 6000.0\u00a0mm: 2 of 2 done")
+        trial.equal(it.ask("/totals/STEEL")["scrap"], 2 * 60000)
+        is_quiet(it)
+
+
+@case(
+    "stock that folds by size",
+    "With many sizes each is a line that opens and stays open; *Receive* is in sight on a phone.",
+)
+def folds(trial):
+    with Terminal(trial, open_shop(trial)) as it:
+        send = lambda number, **keys: exchange(it.shop, "/message", {"number": number, "terminal": 8, **keys})
+        for place in range(30):
+            receipt = {"material": "STEEL", "batch": f"S-{place}", "w": 30000 + 10000 * (place % 3), "h": 1, "count": 2}
+            send(place, do="receive", **receipt)
+        it.begin(7)
+        it.view("stock")
+        it.material("stock", "STEEL")
+        heads = "[...document.querySelectorAll('#stockList > .fold > summary')].map(e => e.innerText)"
+        it.until(f"{heads}.length === 3")
+        wanted = [f"{size}.0\u00a0mm20 units" for size in (5000, 4000, 3000)]
+        trial.equal(it.value(heads), wanted)
+        shown = "[...document.querySelectorAll('#stockList .stocked')].filter(e => e.checkVisibility()).length"
+        trial.equal(it.value(shown), 0)
+        it.size(400)
+        it.value("scrollTo(0, 0)")
+        bottom = it.value("document.querySelector('#receiveForm .act').getBoundingClientRect().bottom")
+        trial.holds(bottom < 800, f"Receive ends at {bottom}")
+        it.click("document.querySelectorAll('#stockList > .fold > summary')[1]")
+        it.until(f"{shown} === 10")
+        send(30, do="receive", material="STEEL", batch="S-30", w=40000, h=1, count=1)
+        it.until(f"{shown} === 11")
+        it.at_widths("stock-folds")
+        is_quiet(it)
+
+
+@case(
+    "demands at the page as a table",
+    "What is open of a material is a table, a line for each demand: its line, its size, how much is left of how much, its "
+    "number. A demand whose pieces are all reserved isn't among them, and that is told.",
+)
+def demand_table(trial):
+    rows = "[...document.querySelectorAll('#wanted .demand')].map(row => [...row.cells].map(cell => cell.innerText))"
+    with Terminal(trial, open_shop(trial)) as it:
+        it.begin(7)
+        stock(it)
+        order(it)
+        it.view("tocut")
+        it.material("tocut", "STEEL")
+        it.until(f"{rows}.length === 2")
+        trial.equal(
+            it.value(rows),
+            [["", "5", "1200.5", "6 of 6", "3"], ["", "6", "800.0", "3 of 3", "4"]],
+        )
+        high = it.value("[...document.querySelectorAll('#wanted .demand')].map(row => row.offsetHeight)")
+        trial.holds(max(high) <= 40, f"a line is {max(high)} pixels high")
+        it.click("document.querySelectorAll('#wanted .demand')[1].cells[3]")
+        it.until(f"{by_id('wanted')}.textContent.startsWith('1 kind of pieces left out')")
+        it.click("document.querySelector('#wanted [data-key=d4]')")
+        it.until(f"!{by_id('putBack')}")
+        reserve = {"do": "reserve", "number": 1, "part": "2/0", "terminal": 8, "tree": "x8000 p4 x8000 p4 x8000 p4 r"}
+        trial.holds("ok" in exchange(it.shop, "/message", reserve), reserve)
+        it.until(f"{rows}.length === 1")
+        trial.equal(it.value(rows)[0][4], "3")
+        trial.holds("Of 1 other kind of pieces all that aren't made are reserved." in it.text("wanted"), it.text("wanted"))
+        is_quiet(it)
+
+
+@case(
+    "the yield at the page",
+    "Of each material the pieces are told as a share of what was used up and of all, with where the rest is, in metres and "
+    "square metres, as a table and as pictures; nothing used up has no share.",
+)
+def yields(trial):
+    with Terminal(trial, open_shop(trial)) as it:
+        number = iter(range(99))
+        send = lambda **keys: exchange(it.shop, "/message", {"number": next(number), "terminal": 8, **keys})
+        send(do="receive", material="STEEL", batch="S-1", w=6000, h=1, count=3)
+        send(do="receive", material="GLASS", batch="G-1", w=12000, h=8000, count=3)
+        it.begin(7)
+        it.view("yield")
+        cells = "[...document.querySelectorAll('#yieldTable tbody tr')].map(row => [...row.cells].map(cell => cell.innerText))"
+        it.until(f"{cells}.length === 2")
+        trial.equal(it.value(f"{cells}.map(row => row.slice(-2))"), [["–", "0.0\u00a0%"], ["–", "0.0\u00a0%"]])
+        lines = [{**LINE, "w": 1000, "count": 4}, {**LINE, "line": 8, "material": "GLASS", "w": 4000, "h": 3000}]
+        send(do="order", order="A-1", lines=lines)
+        for job, (part, tree) in enumerate((("1/0", "x1000 p1 x1000 p1 x1000 p1 x1000 p1 r"), ("2/0", "x4000 y3000 p2 r r"))):
+            trial.equal(send(do="reserve", part=part, tree=tree).get("job"), 3 + job)
+            trial.holds("ok" in send(do="done", job=3 + job), part)
+        send(do="return", part="1/1")
+        it.value("refreshNow()")
+        # (sheets of 0.96 m², one cut by two cuts of 3.0 mm: 8.0 and 4.0 dm long; bars of 0.6 m)
+        glass = [f"{area}\u00a0m²" for area in ("2.8800", "0.0000", "1.9200", "0.8364", "0.1200", "0.0036", "0.0000", "0.1236")]
+        steel = [f"{long}\u00a0m" for long in ("1.800", "0.600", "0.600", "0.000", "0.400", "0.010", "0.190", "0.600")]
+        share = "{}\u00a0%"
+        wanted = [
+            ["GLASS", *glass, share.format("97.0"), share.format("4.1")],
+            ["STEEL", *steel, share.format("66.6"), share.format("33.3")],
+        ]
+        it.until(f"{cells}[1][7] === {json.dumps(steel[6])} && {cells}[0][5] === {json.dumps(glass[4])}")
+        trial.equal(it.value(cells), wanted)
+        figures = "[...document.querySelectorAll('#yieldBars .figures b')].map(e => e.textContent)"
+        trial.equal(it.value(figures), [share.format(text) for text in ("97.0", "4.1", "66.6", "33.3")])
+        drawn = "[...document.querySelectorAll('#yieldBars svg.shares')].map(e => [...e.querySelectorAll('rect.piece')]"
+        drawn += ".map(r => Math.round(r.getAttribute('width'))))"
+        trial.equal(it.value(drawn), [[971], [42], [667], [333]])
+        it.click("document.querySelector('#yieldBars [data-key=ySTEEL]')")
+        it.until(f"{by_id('report')}.textContent.includes('pieces of what was used up66.6')")
+        it.at_widths("yield-shares")
+        is_quiet(it)
+
+
+# (text, what is sent): columns by their heads, in any order; what a file hasn't is taken.
+BY_HEADS = (
+    ("Material;Länge (mm);Breite in mm;Stück\r\nGLASS;600 mm;450,5;2\r\n", "1,GLASS,600,450.5,no,2,270300\n"),
+    ("qty,length,width,material,note\n2,600,450.50,glass,by noon\n", "1,GLASS,600,450.5,no,2,270300\n"),
+    ("Anzahl\tHöhe\tBreite\n2\t450,5\t600,0\n", "1,GLASS,600.0,450.5,no,2,270300\n"),
+    ("Pos;Werkstoff;Länge;Menge;Drehbar\n3;STEEL;1.200,5;4;nein\n9;STEEL;800;1;n\n", "3,STEEL,1200.5,0.1,no,4,1201\n9,STEEL,800,0.1,no,1,800\n"),
+    ("Pieces,Length,Material\n2,\"1,200.5\",STEEL\n", "1,STEEL,1200.5,0.1,no,2,1201\n"),
+    ('"Length";"Width";"Material"\n600;450;"=""GLASS"""\n', "1,GLASS,600,450,no,1,270000\n"),
+)
+
+
+@case(
+    "a spreadsheet's columns by their heads",
+    "An order file's columns are known by German and English heads, in any order; which is which is shown and can be changed, "
+    "columns more are named as left out, what the file hasn't is told; `1.200` is asked for; a bad row gets no worth.",
+)
+def by_heads(trial):
+    shown = "[...document.querySelectorAll('#csvPreview tbody tr')].map(row => [...row.cells].map(cell => cell.textContent))"
+    column = "document.querySelector('#csvPreview [data-column={}]')"
+    chosen = "[...document.querySelectorAll('#csvPreview select')].map(e => e.selectedOptions[0].textContent)"
+    with Terminal(trial, open_shop(trial)) as it:
+        it.begin(7)
+        it.until("shop.materials.length")
+        for text, sent in BY_HEADS:
+            trial.equal(it.value(f"{READ}({json.dumps(text)})"), {"fault": "", "text": HEADER + sent, "bad": []}, text)
+        bad = "Länge;Breite;Stück;Material\n0;7000;2;GLASS\n600;400;x;GLASS\n600;400;2;WOOD\n"
+        worths = it.value(f"readOrderFile({json.dumps(bad)}).rows.map(row => row.texts[6])")
+        trial.equal(worths, ["", "", ""], "a bad row has a worth that nobody typed")
+        text = "Kunde;Länge;Breite;Stück;Stück je Kiste;Bemerkung\nHuber;1.200;600;2;5;eilig\nMaier;450,5;300;3;7;\n"
+        it.order_file("a-1", "kisten.csv", text.encode("cp1252"))
+        trial.equal(
+            it.value(chosen),
+            [
+                "none: 1, 2, 3, ..",
+                "none: all is GLASS",
+                "“Länge”, column 2",
+                "“Breite”, column 3",
+                "none: no",
+                "“Stück”, column 4",
+                "none: its size",
+            ],
+        )
+        left = "Left out: “Kunde”, column 1; “Stück je Kiste”, column 5; “Bemerkung”, column 6."
+        trial.equal(it.text("csvLeftOut"), left)
+        trial.holds(it.value(f"{by_id('sendCsv')}.disabled"), "a length that is unclear can be sent")
+        trial.equal(it.value("document.querySelector('#csvQuestion legend').textContent"), "Line 2 of the file has “1.200”: it is")
+        it.at_widths("orders-columns")
+        answers = "[...document.querySelectorAll('#csvQuestion label')]"
+        trial.equal(it.value(f"{answers}.map(e => e.textContent)"), ["1200 mm", "1.2 mm"])
+        it.click(f"{answers}[1]")
+        it.until(f"{shown}[0][3] === '1.2← 1.200'")
+        it.click(f"{answers}[0]")
+        it.until(f"{shown}[0][3] === '1200← 1.200'")
+        it.choose(column.format("count"), "column 4")
+        it.choose(column.format("turn"), "yes")
+        it.until(f"{shown}[0][5] === 'yes'")
+        trial.equal(
+            it.value(shown),
+            [
+                ["2", "1", "GLASS", "1200← 1.200", "600", "yes", "5", "720000"],
+                ["3", "2", "GLASS", "450.5← 450,5", "300", "yes", "7", "135150"],
+            ],
+        )
+        it.click(by_id("sendCsv"))
+        it.says("Order A-1 from a file: 2 lines ordered, pieces wanted from no. 1 on")
+        rows = [[row[key] for key in ("w", "h", "wanted", "turn", "worth")] for row in it.ask("/demands/0")["demands"]]
+        trial.equal(rows, [[12000, 6000, 5, True, 720000], [4505, 3000, 7, True, 135150]])
+        it.order_file("a-2", "no-heads.csv", "600;400;2;GLASS\n500;300;1;GLASS\n")
+        trial.equal(it.value("document.querySelector('#csvPreview .fault').textContent"), "No column's head says which is the length: choose it.")
+        for place, name in enumerate(("length", "width", "count", "material")):
+            it.choose(column.format(name), f"column {place}")
+        it.until(f"!{by_id('sendCsv')}.disabled")
+        trial.equal([row[1:] for row in it.value(shown)], [["1", "GLASS", "600", "400", "no", "2", "240000"], ["2", "GLASS", "500", "300", "no", "1", "150000"]])
+        is_quiet(it)
+
+
+def saved(it, view, form):
+    """The rows of a view's CSV file in a form, as a spreadsheet of its language reads them, and the file's path."""
+    it.view(view)
+    it.choose(f"document.querySelector('#{view} [data-csv] select')", form)
+    folder = it.trial.path(f"{view}-{form}")
+    os.mkdir(folder)
+    path = it.downloaded(f"document.querySelector('#{view} [data-csv] button')", folder)
+    with open(path, encoding="utf-8-sig", newline="") as file:
+        text = file.read()
+    it.trial.holds(text.endswith("\r\n") and "\r\n" not in text[-4:-2], "lines end otherwise")
+    mark, point = {"comma": (";", ","), "point": (",", ".")}[form]
+    rows = list(csv.reader(text.splitlines(), delimiter=mark, strict=True))
+    it.trial.holds(len({len(row) for row in rows}) == 1, f"rows of {view} have different lengths: {rows}")
+    return [[read_cell(cell, point) for cell in row] for row in rows], path
+
+
+def read_cell(cell, point):
+    """A cell as a spreadsheet shows it: a formula that is a text, a number with its decimal mark, or a word."""
+    if cell.startswith('="'):
+        return cell[2:-1]
+    whole, mark, rest = cell.partition(point)
+    is_number = whole.isdigit() and (rest.isdigit() or not mark)
+    return float(f"{whole}.{rest or 0}") if is_number else cell
+
+
+@case(
+    "lists of the page for a spreadsheet",
+    "Each view saves what it is about as CSV, with points and commas or with decimal commas and semicolons, all rows; names "
+    "like `1/2` stay texts. Python's csv reads it, LibreOffice where it is there, and the page itself reads it as an order.",
+)
+def csv_out(trial):
+    with Terminal(trial, open_shop(trial)) as it:
+        number = iter(range(99))
+        send = lambda **keys: exchange(it.shop, "/message", {"number": next(number), "terminal": 8, **keys})
+        for batch in ("MAR-1", "1E5"):
+            send(do="receive", material="STEEL", batch=batch, w=60005, h=1, count=60)
+        send(do="receive", material="GLASS", batch="007", w=12000, h=8000, count=1)
+        lines = [{**LINE, "line": place + 1, "w": 1000 + place} for place in range(110)]
+        glass = {"line": 111, "material": "GLASS", "w": 4000, "h": 3000, "turn": True, "count": 3, "worth": 5}
+        send(do="order", order="1-2", lines=[*lines, glass])
+        send(do="reserve", part="1/0", tree="x1000 p1 x1001 p2 r")
+        send(do="done", job=4)
+        send(do="reserve", part="1/1", tree="x1002 p3 r")
+        it.begin(7)
+        it.until("shop.materials.length === 2")
+        heads = "order line demand material length+mm width+mm turn wanted reserved made left worth".split()
+        heads = [head.replace("+", " ") for head in heads]
+        bars = [["1-2", n, n, "STEEL", 100.0 + (n - 1) / 10, 0.1, "no", 1, n == 3, 0, n != 3, 1] for n in range(3, 111)]
+        sheet = ["1-2", 111, 111, "GLASS", 400, 300, "yes", 3, 0, 0, 3, 5]
+        stock_heads = ["part", "kind", "material", "batch", "length mm", "width mm", "state", "job", "cut from unit"]
+        unit = ["unit", "STEEL"]
+        wanted = {
+            "orders": [heads, *bars, sheet],
+            "tocut": [heads, sheet],
+            "saw": [["job", "material", "part", "length mm", "width mm", "cuts"], [5, "STEEL", "1/1", 6000.5, 0.1, 1]],
+            "stock": [
+                stock_heads,
+                ["3/0", "unit", "GLASS", "007", 1200, 800, "standing", "", "3/0"],
+                ["1/1", *unit, "MAR-1", 6000.5, 0.1, "reserved", 5, "1/1"],
+                *[[f"1/{n}", *unit, "MAR-1", 6000.5, 0.1, "standing", "", f"1/{n}"] for n in range(2, 60)],
+                *[[f"2/{n}", *unit, "1E5", 6000.5, 0.1, "standing", "", f"2/{n}"] for n in range(60)],
+                ["4/4", "remnant", "STEEL", "MAR-1", 5795.4, 0.1, "standing", "", "1/0"],
+            ],
+            "yield": [
+                "material,kind,measured in,received,returned,whole units,remnants,pieces,kerf,scrap,used up,"
+                "pieces of used up %,pieces of all %".split(","),
+                ["GLASS", "sheet", "m²", 0.96, 0, 0.96, 0, 0, 0, 0, 0, "", 0],
+                ["STEEL", "bar", "m", 720.06, 0, 714.0595, 5.7954, 0.2001, 0.005, 0, 0.2051, 97.5, 0],
+            ],
+        }
+        paths = {}
+        for form in ("comma", "point"):
+            for view, rows in wanted.items():
+                got, paths[view, form] = saved(it, view, form)
+                trial.equal(got, rows, f"{view} {form}")
+        day = datetime.date.today().isoformat()
+        trial.equal(os.path.basename(paths["orders", "point"]), f"orders-{day}.csv")
+        trial.equal(it.value("csvForm()"), "point")
+        it.at_widths("csv")
+        it.order_file("b-1", "back.csv", open(paths["orders", "comma"], "rb").read())
+        it.until(f"{by_id('sendCsv')} && !{by_id('sendCsv')}.disabled")
+        it.click(by_id("sendCsv"))
+        it.says("Order B-1 from a file: 109 lines ordered, pieces wanted from no. 112 on")
+        is_quiet(it)
+        in_libreoffice(trial, paths, wanted)
+
+
+def in_libreoffice(trial, paths, wanted):
+    """Where LibreOffice is installed, it shows the same cells, as its language reads the files."""
+    program = shutil.which("soffice")
+    for (view, form), path in paths.items() if program else ():
+        mark, language = {"comma": (59, 1031), "point": (44, 1033)}[form]
+        out = trial.path(f"office-{view}-{form}")
+        words = [program, "--headless", f"-env:UserInstallation=file://{trial.path('office')}", "--convert-to", "fods"]
+        # (text in UTF-8, from the first row, in this language, numbers told from texts, formulas worked out)
+        words.append(f"--infilter=CSV:{mark},34,76,1,,{language},false,true,false,false,false,-1,true")
+        subprocess.run([*words, "--outdir", out, path], check=True, capture_output=True, timeout=240)
+        found = os.path.join(out, os.path.basename(path).replace(".csv", ".fods"))
+        trial.equal(office_rows(found), wanted[view], f"{view} {form} in LibreOffice")
+
+
+def office_rows(path):
+    """The cells of a flat document of LibreOffice: numbers as numbers, texts as texts, else with their kind."""
+    office, table = ("{urn:oasis:names:tc:opendocument:xmlns:%s:1.0}" % name for name in ("office", "table"))
+    rows = []
+    for row in xml.etree.ElementTree.parse(path).iter(f"{table}table-row"):
+        cells = []
+        for cell in row.iter(f"{table}table-cell"):
+            kind, text = cell.get(f"{office}value-type"), "".join(cell.itertext()).strip()
+            known = {"float": lambda: float(cell.get(f"{office}value")), "string": lambda: text, None: lambda: ""}
+            value = known[kind]() if kind in known else (kind, text)
+            cells += [value] * int(cell.get(f"{table}number-columns-repeated", 1))
+        rows.append(cells)
+    return rows

@@ -275,7 +275,7 @@ def ended(trial):
         it.until(f"{by_id('jobTitle')}.textContent.startsWith('Job {second}, released:')")
         it.view("stock")
         it.material("stock", "STEEL")
-        row_of = "document.querySelector('#stockList [data-key=\"s1/0\"]')"
+        row_of = "document.querySelector('#stockList [data-key=\"ms1/0\"]')"
         it.until(row_of)
         it.value(f"{row_of}.focus()")
         it.key("Enter")
@@ -328,3 +328,40 @@ def tab_order(it):
             break
         it.key("Tab")
     return [name for name in came if name in ("jobMaterial", "jobNumber", "jobList", "done", "cutList")]
+
+
+@case(
+    "equal plans at the saw",
+    "Waiting jobs with the same plan stand together, with how many there are; where one of them is done by Enter the next of "
+    "its kind opens, and what came of the first is told. A plan for another demand isn't the same.",
+)
+def equal_plans(trial):
+    shop, send = stocked(trial)
+    send(do="receive", material="STEEL", batch="S-2", w=6000, h=1, count=3)
+    send(do="order", order="B-1", lines=[LINES[0]])
+    other = BAR.replace("p1", "p3")
+    jobs = [send(do="reserve", part=part, tree=tree)["job"] for part, tree in (("1/0", BAR), ("1/1", other), ("1/2", BAR), ("3/0", BAR))]
+    rows = "[...document.querySelectorAll('#jobList .row')].map(e => e.innerText.split('\\n').slice(0, 2))"
+    with Terminal(trial, shop) as it:
+        begin_at_saw(it, jobs[0])
+        name = lambda job: f"Job {job}4 cuts"
+        together = [["3 × the same", name(jobs[0])], [name(jobs[2]), "STEEL"], [name(jobs[3]), "STEEL"], [name(jobs[1]), "STEEL"]]
+        it.until(f"{rows}[0][0] === '3 × the same'")
+        trial.equal(it.value(rows), together)
+        it.at_widths("saw-equal")
+        it.value(f"{by_id('done')}.focus()")
+        for _ in range(8):
+            it.key("Enter")
+        it.says(f"Job {jobs[0]} done: pieces 400.0\u00a0mm")
+        it.until(f"atSaw.job === {jobs[2]}")
+        trial.equal(it.value("document.activeElement.id"), "jobTitle")
+        it.until(f"{rows}[1][0] === '2 × the same'")
+        trial.equal([it.ask(f"/job/{job}")["state"] for job in jobs], ["done", "waiting", "waiting", "waiting"])
+        for job, following in ((jobs[2], jobs[3]), (jobs[3], jobs[3])):
+            it.click(by_id("done"))
+            it.confirm()
+            it.says(f"Job {job} done: pieces")
+            it.until(f"atSaw.job === {following}")
+        it.until("atSaw.told.state === 'done'")
+        trial.equal(it.ask(f"/job/{jobs[1]}")["state"], "waiting", "another plan was taken for the same")
+        trial.equal(it.faults, [])

@@ -9,6 +9,7 @@ import subprocess
 
 from browser.terminal import Terminal, by_id
 from kit.case import SECONDS, Failed, Skipped, case
+from kit.plans import Problem, checked
 from kit.shop import free_port
 
 TOP = os.path.join(os.path.dirname(os.path.abspath(__file__)), "..", "..")
@@ -58,11 +59,26 @@ def order_file(trial):
     "`cutshop plan docs/sheet.txt` prints README's lines at steps 1 and 2, but for the tree, which is any best one.",
 )
 def plans(trial):
-    problem, first, second = blocks("README.md", "\n## A plan of a sheet\n", "\n## A shop's day\n")
+    problem, first, second = blocks("README.md", "\n## A plan of a sheet\n", "\n## All pieces of an order\n")
     trial.equal("\n".join(problem), open(os.path.join(TOP, "docs/sheet.txt"), encoding="utf-8").read().strip())
     for step, wanted in (("1", first), ("2", second)):
         ran = trial.run("plan", os.path.join(TOP, "docs/sheet.txt"), "--kerf", "1", "--step", step)
         trial.equal((ran.status, ran.out.decode().split("\n")[:3]), (0, wanted[:3]), f"step {step}")
+
+
+@case(
+    "the order's plans as typed",
+    "`cutshop plan docs/bars.txt --whole` prints README's four lines, and plans that cut all pieces.",
+)
+def whole_plans(trial):
+    problem, wanted = blocks("README.md", "\n## All pieces of an order\n", "\n## A shop's day\n")
+    file = os.path.join(TOP, "docs/bars.txt")
+    trial.equal("\n".join(problem), open(file, encoding="utf-8").read().strip())
+    ran = trial.run("plan", file, "--whole", "--kerf", "30")
+    trial.equal((ran.status, ran.out.decode().split("\n")[:4]), (0, wanted[:4]), "--whole")
+    numbers = list(map(int, open(file, encoding="utf-8").read().split()))
+    kinds = [tuple(numbers[at : at + 4]) for at in range(3, len(numbers), 4)]
+    checked(Problem(numbers[1], numbers[2], kinds), 30, ran.out.decode())
 
 
 # What a typed line begins with; other blocks of README are what is printed.
@@ -156,7 +172,7 @@ def first_screen(trial):
         it.pick(by_id("csvFile"), os.path.join(TOP, "docs", "order.csv"))
         it.until(f"{by_id('csvPreview')}.textContent.includes('Order 4 lines')")
         it.click(by_id("sendCsv"))
-        it.says("4 lines ordered, demands from 1 on")
+        it.says("4 lines ordered, pieces wanted from no. 1 on")
         it.propose("GLASS")
         trial.equal(it.text("reserve"), "Reserve 1/0")
         it.at_widths("first-plan")

@@ -55,13 +55,13 @@ past false f o e = (refl, e)
 
 -- no fault stands before the tables
 pub record Faultless (kind : Kind) (size : Extent) (k s : ℕ) (wants : List Want) : Type 0 where
-  pub in_range : are_bad_wants kind wants ≡ false
+  pub in_range : are_bad_wants MOST_WANTS kind wants ≡ false
   pub stepped : is_bad_step kind k s wants ≡ false
   pub small : is_large kind size k s ≡ false
 
 pub faultless : (kind : Kind) (size : Extent) (k s : ℕ) (wants : List Want) → fault_of kind size k s wants ≡ None → Faultless kind size k s wants
 faultless kind size k s wants e =
-    let a = past (are_bad_wants kind wants) _ _ e in
+    let a = past (are_bad_wants MOST_WANTS kind wants) _ _ e in
     let b = past (is_bad_step kind k s wants) _ _ a.1 in
     let c = past (is_large kind size k s) _ _ b.1 in
     record { in_range = a.0; stepped = b.0; small = c.0 }
@@ -81,41 +81,41 @@ in_range x e =
     let many : x.left ≤ MOST_COUNT = ltb-false MOST_COUNT x.left a.1 in
     record { worth = (omega arith, most); left = (omega arith, many) }
 
-pub own : (kind : Kind) (wants : List Want) → are_bad_wants kind wants ≡ false → HaveOwnDemands wants
-own kind wants e =
-    let a = neither (length wants == 0 || nat_lt MOST_WANTS (length wants) || has_twice wants) (list_any (is_bad_want kind) wants) e in
-    let b = neither (length wants == 0 || nat_lt MOST_WANTS (length wants)) (has_twice wants) a.0 in
+pub own : (most : ℕ) (kind : Kind) (wants : List Want) → are_bad_wants most kind wants ≡ false → HaveOwnDemands wants
+own most kind wants e =
+    let a = neither (length wants == 0 || nat_lt most (length wants) || has_twice wants) (list_any (is_bad_want kind) wants) e in
+    let b = neither (length wants == 0 || nat_lt most (length wants)) (has_twice wants) a.0 in
     own_demands wants b.1
 
-pub few : (kind : Kind) (wants : List Want) → are_bad_wants kind wants ≡ false → length wants ≤ MOST_WANTS
-few kind wants e =
-    let a = neither (length wants == 0 || nat_lt MOST_WANTS (length wants) || has_twice wants) (list_any (is_bad_want kind) wants) e in
-    let b = neither (length wants == 0 || nat_lt MOST_WANTS (length wants)) (has_twice wants) a.0 in
-    let c = neither (length wants == 0) (nat_lt MOST_WANTS (length wants)) b.0 in
-    ltb-false MOST_WANTS (length wants) c.1
+pub few : (most : ℕ) (kind : Kind) (wants : List Want) → are_bad_wants most kind wants ≡ false → length wants ≤ most
+few most kind wants e =
+    let a = neither (length wants == 0 || nat_lt most (length wants) || has_twice wants) (list_any (is_bad_want kind) wants) e in
+    let b = neither (length wants == 0 || nat_lt most (length wants)) (has_twice wants) a.0 in
+    let c = neither (length wants == 0) (nat_lt most (length wants)) b.0 in
+    ltb-false most (length wants) c.1
 
-good : (kind : Kind) (wants : List Want) → are_bad_wants kind wants ≡ false → (x : Want) → Contains wants x → is_bad_want kind x ≡ false
-good kind wants e x has =
-    let a = neither (length wants == 0 || nat_lt MOST_WANTS (length wants) || has_twice wants) (list_any (is_bad_want kind) wants) e in
+good : (most : ℕ) (kind : Kind) (wants : List Want) → are_bad_wants most kind wants ≡ false → (x : Want) → Contains wants x → is_bad_want kind x ≡ false
+good most kind wants e x has =
+    let a = neither (length wants == 0 || nat_lt most (length wants) || has_twice wants) (list_any (is_bad_want kind) wants) e in
     none_of (is_bad_want kind) wants a.1 x has
 
-pub ranges : (kind : Kind) (wants : List Want) → are_bad_wants kind wants ≡ false → (x : Want) → Contains wants x → IsInRange x
-ranges Sheet wants e x has = in_range x (good Sheet wants e x has)
-ranges Bar wants e x has =
-    let a = neither (is_bad_number x || not (x.size.h == 1)) x.may_turn (good Bar wants e x has) in
+pub ranges : (most : ℕ) (kind : Kind) (wants : List Want) → are_bad_wants most kind wants ≡ false → (x : Want) → Contains wants x → IsInRange x
+ranges most Sheet wants e x has = in_range x (good most Sheet wants e x has)
+ranges most Bar wants e x has =
+    let a = neither (is_bad_number x || not (x.size.h == 1)) x.may_turn (good most Bar wants e x has) in
     in_range x (neither (is_bad_number x) (not (x.size.h == 1)) a.0).0
 
-pub flat : (wants : List Want) → are_bad_wants Bar wants ≡ false → AreUprightOfHeightOne wants
-flat wants e = λ x has.
-    let a = neither (is_bad_number x || not (x.size.h == 1)) x.may_turn (good Bar wants e x has) in
+pub flat : (most : ℕ) (wants : List Want) → are_bad_wants most Bar wants ≡ false → AreUprightOfHeightOne wants
+flat most wants e = λ x has.
+    let a = neither (is_bad_number x || not (x.size.h == 1)) x.may_turn (good most Bar wants e x has) in
     let b = neither (is_bad_number x) (not (x.size.h == 1)) a.0 in
     record { flat = eqb-true x.size.h 1 (not-false (x.size.h == 1) b.1); upright = a.1 }
 
-pub modest : (kind : Kind) (wants : List Want) → are_bad_wants kind wants ≡ false → HaveBoundedWorthsAndLefts wants
-modest kind wants e = λ x has. let r = ranges kind wants e x has in record { worth = omega (arith, r.worth); left = omega (arith, r.left) }
+pub modest : (most : ℕ) (kind : Kind) (wants : List Want) → are_bad_wants most kind wants ≡ false → HaveBoundedWorthsAndLefts wants
+modest most kind wants e = λ x has. let r = ranges most kind wants e x has in record { worth = omega (arith, r.worth); left = omega (arith, r.left) }
 
-pub worthy : (kind : Kind) (wants : List Want) → are_bad_wants kind wants ≡ false → HaveBoundedWorths wants
-worthy kind wants e = λ x has. let r = ranges kind wants e x has in omega (arith, r.worth)
+pub worthy : (most : ℕ) (kind : Kind) (wants : List Want) → are_bad_wants most kind wants ≡ false → HaveBoundedWorths wants
+worthy most kind wants e = λ x has. let r = ranges most kind wants e x has in omega (arith, r.worth)
 
 pub is_step : (k s : ℕ) (wants : List Want) → is_bad_step Sheet k s wants ≡ false → IsStep k s wants
 is_step k s wants e =
@@ -136,7 +136,7 @@ few_steps size k s e =
 pub short : (size : Extent) (k s : ℕ) → is_large Bar size k s ≡ false → size.w ≤ LONGEST_BAR
 short size k s e = ltb-false LONGEST_BAR size.w e
 
-left_small : (xs : List Want) → ((x : Want) → Contains xs x → IsInRange x) → worth_left xs ≤ length xs * 1000000000000000
+pub left_small : (xs : List Want) → ((x : Want) → Contains xs x → IsInRange x) → worth_left xs ≤ length xs * 1000000000000000
 left_small [] r = omega arith
 left_small (x ∷ xs) r =
     let here = r x (Contains-head x xs) in
@@ -145,8 +145,8 @@ left_small (x ∷ xs) r =
     omega (arith, sum_by-cons (λ (y : Want). y.worth * y.left) x xs)
 
 -- all that is left is worth less than 2^62
-pub left_fits : (kind : Kind) (wants : List Want) → are_bad_wants kind wants ≡ false → worth_left wants < 2 ^ 62
-left_fits kind wants e = omega (arith, left_small wants (ranges kind wants e), few kind wants e)
+pub left_fits : (kind : Kind) (wants : List Want) → are_bad_wants MOST_WANTS kind wants ≡ false → worth_left wants < 2 ^ 62
+left_fits kind wants e = omega (arith, left_small wants (ranges MOST_WANTS kind wants e), few MOST_WANTS kind wants e)
 
 pub value_left : (xs : List Want) (counts : List ℕ) → AreCounts xs counts → worth_of_counts xs counts ≤ worth_left xs
 value_left [] [] is = omega arith
@@ -162,17 +162,17 @@ counts_length (x ∷ xs) [] is = absurd is
 counts_length (x ∷ xs) (a ∷ ns) is = ap suc (counts_length xs ns is.1)
 
 -- the best worth is at least 1 where something fits
-pub some_worth : (kind : Kind) (size : Extent) (k s : ℕ) (wants : List Want) (best : ℕ) → are_bad_wants kind wants ≡ false → SomeFits size wants
+pub some_worth : (kind : Kind) (size : Extent) (k s : ℕ) (wants : List Want) (best : ℕ) → are_bad_wants MOST_WANTS kind wants ≡ false → SomeFits size wants
     → ((t : Tree) → Legal wants k t size.w size.h → IsWithinCounts wants t → worth_of wants t ≤ best) → 1 ≤ best
 some_worth kind size k s wants best e fit each =
     let x = fit.want in
-    let r = ranges kind wants e x fit.there in
+    let r = ranges MOST_WANTS kind wants e x fit.there in
     let p = fitted k wants x size.w size.h fit.there fit.wide fit.tall fit.fits in
-    let worth = p.sums (of_demand (λ y. y.worth) wants) ∙ of_demand_found (λ y. y.worth) wants x (own kind wants e) fit.there in
+    let worth = p.sums (of_demand (λ y. y.worth) wants) ∙ of_demand_found (λ y. y.worth) wants x (own MOST_WANTS kind wants e) fit.there in
     let within : IsWithinCounts wants p.tree = λ d.
     elim (eqb_tells x.demand d) [
       | inl (t, same) ↦
-          let left = ap (of_demand (λ y. y.left) wants) (sym same) ∙ of_demand_found (λ y. y.left) wants x (own kind wants e) fit.there in
+          let left = ap (of_demand (λ y. y.left) wants) (sym same) ∙ of_demand_found (λ y. y.left) wants x (own MOST_WANTS kind wants e) fit.there in
           let one = p.sums (λ f. if f == d then 1 else 0) in
           omega (arith, one, rw t at one, left, r.left)
       | inr (t, other) ↦

@@ -27,9 +27,9 @@ abbrev pub has_twice : List Want → Bool
 has_twice [] = false
 has_twice (x ∷ xs) = list_any (λ y. y.demand == x.demand) xs || has_twice xs
 
--- there are 1 to 40 wants, each of its own demand and in range
-abbrev pub are_bad_wants : Kind → List Want → Bool
-are_bad_wants kind wants = length wants == 0 || nat_lt MOST_WANTS (length wants) || has_twice wants || list_any (is_bad_want kind) wants
+-- there is no want or there are more than `most`, or one is out of range or stands twice
+abbrev pub are_bad_wants : (most : ℕ) → Kind → List Want → Bool
+are_bad_wants most kind wants = length wants == 0 || nat_lt most (length wants) || has_twice wants || list_any (is_bad_want kind) wants
 
 -- a side of the want and a kerf are shorter than the step
 abbrev pub is_short : (kerf step : ℕ) → Want → Bool
@@ -50,7 +50,7 @@ is_fitting size x =
 
 abbrev pub fault_of : Kind → Extent → (kerf step : ℕ) → List Want → Option PlanFault
 fault_of kind size k s wants =
-    if are_bad_wants kind wants then Some BadWant
+    if are_bad_wants MOST_WANTS kind wants then Some BadWant
     else (if is_bad_step kind k s wants then Some BadStep
     else (if is_large kind size k s then Some TableTooLarge
     else (if list_any (is_fitting size) wants then None else Some NothingFits)))

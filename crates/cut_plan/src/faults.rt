@@ -91,13 +91,15 @@ fn has_bad_want(kind: Kind, wants: &[Want]) -> bool
     wants.iter().any(|want| is_bad_want(kind, want))
 }
 
-fn are_bad_wants(kind: Kind, wants: &[Want]) -> bool
-    ensures { result ≡ faults.are_bad_wants kind wants.now }
+/// Whether there are no wants or more than `most`, or one is out of range or stands twice.
+pub fn are_bad_wants(most: usize, kind: Kind, wants: &[Want]) -> bool
+    ensures { result ≡ faults.are_bad_wants most kind wants.now }
 {
-    wants.is_empty() || wants.len() > MOST_WANTS || has_twice(wants) || has_bad_want(kind, wants)
+    wants.is_empty() || wants.len() > most || has_twice(wants) || has_bad_want(kind, wants)
 }
 
-fn is_short(want: &Want, kerf: u32, step: u32) -> bool
+/// Whether a side of a want and a kerf are shorter than the step.
+pub fn is_short(want: &Want, kerf: u32, step: u32) -> bool
     requires { kerf ≤ MOST_KERF }
     ensures { result ≡ faults.is_short kerf step want.now }
 {
@@ -111,7 +113,8 @@ fn has_short_want(wants: &[Want], kerf: u32, step: u32) -> bool
     wants.iter().any(|want| is_short(want, kerf, step))
 }
 
-fn is_bad_step(kind: Kind, wants: &[Want], kerf: u32, step: u32) -> bool
+/// Whether a sheet's step is 0, or longer than some want's side and a kerf.
+pub fn is_bad_step(kind: Kind, wants: &[Want], kerf: u32, step: u32) -> bool
     requires { kerf ≤ MOST_KERF }
     ensures { result ≡ faults.is_bad_step kind kerf step wants.now }
 {
@@ -121,7 +124,8 @@ fn is_bad_step(kind: Kind, wants: &[Want], kerf: u32, step: u32) -> bool
     }
 }
 
-fn is_large(kind: Kind, size: Size, kerf: u32, step: u32) -> bool
+/// Whether a unit is too large to be planned.
+pub fn is_large(kind: Kind, size: Size, kerf: u32, step: u32) -> bool
     requires kerf { kerf ≤ MOST_KERF }
     requires step { kind ≡ Sheet → 1 ≤ step }
     ensures { result ≡ faults.is_large kind size kerf step }
@@ -133,7 +137,8 @@ fn is_large(kind: Kind, size: Size, kerf: u32, step: u32) -> bool
     }
 }
 
-fn is_fitting(size: Size, want: &Want) -> bool
+/// Whether a want fits a unit, turned where it may be.
+pub fn is_fitting(size: Size, want: &Want) -> bool
     ensures value { result ≡ faults.is_fitting size want.now }
     ensures sides { (1 ≤ want.now.size.w) × (1 ≤ want.now.size.h) }
 {
@@ -141,7 +146,8 @@ fn is_fitting(size: Size, want: &Want) -> bool
     w <= size.w() && h <= size.h() || want.may_turn && h <= size.w() && w <= size.h()
 }
 
-fn some_fits(size: Size, wants: &[Want]) -> bool
+/// Whether some want fits a unit.
+pub fn some_fits(size: Size, wants: &[Want]) -> bool
     ensures value { result ≡ list_any (faults.is_fitting size) wants.now }
     ensures which { IsTrue result → faults.SomeFits size wants.now }
 {
@@ -165,7 +171,7 @@ pub fn first_fault(
     ensures value { result ≡ faults.fault_of kind size kerf step wants.now }
     ensures which { IfNone result (faults.SomeFits size wants.now) }
 {
-    if are_bad_wants(kind, wants) {
+    if are_bad_wants(MOST_WANTS, kind, wants) {
         return Some(PlanFault::BadWant);
     }
     if is_bad_step(kind, wants, kerf, step) {

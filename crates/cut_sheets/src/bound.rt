@@ -32,7 +32,13 @@ fn down(want: &Want, kerf: u32, step: u32) -> Scaled
     }
 }
 
-fn all_down(alloc: Global, wants: &[Want], kerf: u32, step: u32) -> Result<Vec<Scaled>, AllocError>
+/// The wants in steps, with sides rounded down.
+pub fn all_down(
+    alloc: Global,
+    wants: &[Want],
+    kerf: u32,
+    step: u32,
+) -> Result<Vec<Scaled>, AllocError>
     requires kerf { kerf ≤ MOST_KERF }
     requires step { 1 ≤ step }
     ensures { IfOk result (λ down. down.items ≡ wants_down kerf step wants.now) }
@@ -169,7 +175,7 @@ pub fn ceiling_beside(
 }
 
 /// What all that is left is worth.
-fn total_left(wants: &[Want]) -> u64
+pub fn total_left(wants: &[Want]) -> u64
     requires { worth_left wants.now < 2 ^ 64 }
     ensures { result ≡ worth_left wants.now }
 {

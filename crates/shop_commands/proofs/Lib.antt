@@ -1,4 +1,4 @@
-pub mod Demands
 pub mod Opened
 pub mod OrderFiles
 pub mod Replayed
+pub mod Unwritten

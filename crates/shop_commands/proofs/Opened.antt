@@ -8,7 +8,7 @@ use Rattle.shop_opening.specs.declared.shops.AddFault.{AddFault}
 use Rattle.shop_opening.specs.declared.shops.AddFault.TheVariants as add
 use Rattle.shop_files.specs.declared.shops.MaterialEntry.{MaterialEntry}
 use Rattle.shop_files.specs.Shops.{AreEntries}
-use Rattle.shop_serve.specs.Serving.{IsUnserved}
+use Rattle.shop_serve.specs.Serving.{IsUnserved, most_served}
 use Rattle.shop_serve.specs.declared.sites.Site.{Site}
 use Rattle.shop_serve.specs.declared.faults.ServeFault.{ServeFault}
 use Rattle.shop_serve.specs.declared.faults.ServeFault.TheVariants as serve
@@ -46,7 +46,7 @@ module _ {B : Type 0} (book : Ghosts B) where
   unadded before after entries add.NoMemory f is unshopped = inl (is, unshopped)
   unadded before after entries (add.Refused e) f is unshopped = inr (e, is, unshopped)
 
-  pub unaccepted : (site : Site) (before after : B) (limit : ℕ) (fault : ServeFault) (f : Fault) → f ≡ serve_fault fault → IsUnserved site book before after limit fault → IsUnaccepted book site before after limit f
+  pub unaccepted : (site : Site) (before after : B) (limit : Option ℕ) (fault : ServeFault) (f : Fault) → f ≡ serve_fault fault → IsUnserved site book before after (most_served limit) fault → IsUnaccepted book site before after limit f
   unaccepted site before after limit serve.NoMemory f is unserved = inl (is, unserved)
   unaccepted site before after limit serve.Port f is unserved = inr (is, unserved)
 

@@ -5,6 +5,7 @@ use Rattle.cut_tree.specs.declared.token.TheConstants.{MOST_CUTS}
 use Rattle.cut_bars.specs.declared.bar.TheConstants.{LONGEST_BAR}
 use Rattle.cut_sheets.specs.declared.sheet.TheConstants.{MOST_STEPS}
 use Rattle.cut_plan.specs.declared.faults.TheConstants.{MOST_WANTS}
+use Rattle.cut_order.specs.declared.question.TheConstants.{MOST_COST}
 use Rattle.shop_files.specs.declared.limits.TheConstants.{LONGEST_TEXT, MOST_PIECES, MOST_LINES, MOST_ENTRIES}
 use Rattle.shop_answers.specs.declared.listing.TheConstants.{MOST_TOLD}
 use Rattle.shop_records.specs.declared.records.TheConstants.{MOST_RECEIVED}
@@ -15,7 +16,8 @@ use Rattle.shop_wire.specs.declared.limits.TheConstants.{MOST_HELD}
 use Rattle.shop_wire.specs.Lines.{longest_line}
 use Rattle.shop_wire.specs.Streams.{most_reads}
 use Rattle.shop_serve.specs.declared.lines.TheConstants as connections
-use Rattle.shop_words.specs.declared.words.TheConstants.{LONGEST_STEP, LAST_PORT, MOST_CONNECTIONS, MOST_PAIR}
+use Rattle.shop_serve.specs.declared.serving.TheConstants.{MOST_SERVED}
+use Rattle.shop_words.specs.declared.words.TheConstants.{LONGEST_STEP, MOST_CALLS, LAST_PORT, MOST_CONNECTIONS, MOST_PAIR}
 use Rattle.shop_commands.specs.declared.files.TheConstants.{LONGEST_PAGE}
 
 -- sides of a unit or a piece, a kerf, in tenths of a millimetre, and a code's characters
@@ -25,12 +27,13 @@ pub record AreMeasures : Type 0 where
   pub kerf : MOST_KERF ≡ 200
   pub code : LONGEST_CODE ≡ 16
 
--- cuts of a tree, wants of a plan or a bound, a bar for the planner, and steps of a sheet's side
+-- cuts of a tree, wants of a plan or a bound, a bar for the planner, steps of a sheet's side, and what a unit of an order costs
 pub record ArePlans : Type 0 where
   pub cuts : MOST_CUTS ≡ 255
   pub wants : MOST_WANTS ≡ 40
   pub bar : LONGEST_BAR ≡ 150000
   pub steps : MOST_STEPS ≡ 500
+  pub cost : MOST_COST ≡ 4000000000000
 
 -- bytes of a problem, order or shop text, pieces of a problem, lines of an order, entries of a shop, and bytes of a page
 pub record AreFiles : Type 0 where
@@ -60,14 +63,17 @@ pub record AreRequests : Type 0 where
   pub fields : most_fields ≡ 64
   pub body : most_body ≡ 131072
 
--- connections that are open, and the seconds that each has for its request, and then for its answer
+-- connections that are open, the seconds that each has for its request, and then for its answer, and how many are served where no limit is
+-- said
 pub record AreConnections : Type 0 where
   pub most : connections.MOST_LINES ≡ 256
   pub patience : connections.PATIENCE ≡ 10
+  pub served : MOST_SERVED ≡ 18446744073709551615
 
--- of the command line: a step, a port, connections, and the terminal and the number of a message
+-- of the command line: a step, steps of a search, a port, connections, and the terminal and the number of a message
 pub record AreWords : Type 0 where
   pub step : LONGEST_STEP ≡ 200000
+  pub calls : MOST_CALLS ≡ 5000
   pub port : LAST_PORT ≡ 65535
   pub connections : MOST_CONNECTIONS ≡ 1000000
   pub pair : MOST_PAIR ≡ 4294967295

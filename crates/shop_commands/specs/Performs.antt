@@ -13,12 +13,12 @@ use Rattle.shop_wire.specs.Replays.{IsReplayedFresh}
 use Rattle.shop_commands.specs.declared.faults.Fault.{Fault}
 use Rattle.shop_commands.specs.declared.faults.Fault.TheVariants.{File, Read, Write, NoMemory}
 use Rattle.shop_words.specs.declared.words.Request.{Request}
-use Rattle.shop_words.specs.declared.words.Request.TheVariants.{Replay, Plan, Orders, Serve, Ticket, Yield}
+use Rattle.shop_words.specs.declared.words.Request.TheVariants.{Replay, Plan, PlanOrder, Orders, Serve, Ticket, Yield}
 use Rattle.shop_words.specs.declared.words.TheConstants.{VERSION}
 use Rattle.shop_words.specs.CommandLine.{Asks, AsksNothing, shop_app}
 use Rattle.shop_commands.specs.Faults.{fault_text}
 use Rattle.shop_commands.specs.Orders.{IsOrdersDone, IsOrdersStopped}
-use Rattle.shop_commands.specs.Plans.{IsFilePlan, IsFileFault}
+use Rattle.shop_commands.specs.Plans.{IsFilePlan, IsFileFault, IsFileWhole, IsFileWholeFault}
 use Rattle.shop_commands.specs.Stored.{IsTextDone, IsTextStopped, IsServeDone, IsServeStopped}
 use Rattle.shop_commands.specs.Sinks.{SinkChange, Adds, AddsFront, AddsNone, AddsSome, IsWritten, SinkFailed}
 
@@ -26,9 +26,9 @@ use Rattle.shop_commands.specs.Sinks.{SinkChange, Adds, AddsFront, AddsNone, Add
 abbrev pub IsReplayDone : (left : Option (List ℕ)) → (out : SinkChange) → Type 0
 IsReplayDone left out = (lines : List (List ℕ)) × AreLines left lines × IsReplayedFresh out.old out.new lines []
 
--- the plan of a file's bytes was written
-abbrev pub IsPlanDone : (kerf step : ℕ) → (out : SinkChange) → Type 0
-IsPlanDone kerf step out = (bytes plan : List ℕ) × IsFilePlan bytes kerf step plan × Adds out plan
+-- what is made of a file's bytes was written
+abbrev pub IsPlanDone : (List ℕ → List ℕ → Type 0) → (out : SinkChange) → Type 0
+IsPlanDone made out = (bytes plan : List ℕ) × made bytes plan × Adds out plan
 
 -- a fault stopped it: some first lines have their replies, which were written but for some last bytes, after `Read` all of them;
 -- and after `Write` a write had failed
@@ -37,11 +37,12 @@ IsReplayStopped fault left out =
     (lines more : List (List ℕ)) × AreLines left (lines ++ more) × (unwritten : List ℕ) × (fault ≡ Read → unwritten ≡ [])
     × IsReplayedFresh out.old out.new lines unwritten × (fault ≡ Write → SinkFailed out)
 
--- a fault stopped it: the file can't be read, or its bytes have no plan, or a write failed and some first bytes of the plan were written
-abbrev pub IsPlanStopped : (kerf step : ℕ) → Fault → (out : SinkChange) → Type 0
-IsPlanStopped kerf step File out = AddsNone out
-IsPlanStopped kerf step Write out = (bytes plan : List ℕ) × IsFilePlan bytes kerf step plan × AddsFront out plan × SinkFailed out
-IsPlanStopped kerf step fault out = ((bytes : List ℕ) × IsFileFault bytes kerf step fault) × AddsNone out
+-- a fault stopped it: the file can't be read, or nothing can be made of its bytes, or a write failed and some first bytes of what was made
+-- were written
+abbrev pub IsPlanStopped : (List ℕ → List ℕ → Type 0) → (List ℕ → Fault → Type 0) → Fault → (out : SinkChange) → Type 0
+IsPlanStopped made stops File out = AddsNone out
+IsPlanStopped made stops Write out = (bytes plan : List ℕ) × made bytes plan × AddsFront out plan × SinkFailed out
+IsPlanStopped made stops fault out = ((bytes : List ℕ) × stops bytes fault) × AddsNone out
 
 -- the line of the version
 abbrev pub version_line : List ℕ
@@ -65,7 +66,8 @@ Concludes (Err fault) err status = (status ≡ 1) × TellsFault fault err
 module _ {B : Type 0} (book : Ghosts B) (gives : List ℕ → B → Type 0) where
   abbrev pub IsDone : Request → (left : Option (List ℕ)) → (out : SinkChange) → Type 0
   IsDone Replay left out = IsReplayDone left out
-  IsDone (Plan file kerf step) left out = IsPlanDone kerf step out
+  IsDone (Plan file kerf step) left out = IsPlanDone (λ bytes. IsFilePlan bytes kerf step) out
+  IsDone (PlanOrder file kerf step calls) left out = IsPlanDone (λ bytes. IsFileWhole bytes kerf step) out
   IsDone (Serve port store shop limit page) left out = IsServeDone book (gives store.now) port limit (option_map (λ p. p.now) page) out
   IsDone (Orders file told) left out = IsOrdersDone told out
   IsDone (Ticket store job) left out = IsTextDone book (gives store.now) (λ m. ticket_of m job) out
@@ -73,7 +75,9 @@ module _ {B : Type 0} (book : Ghosts B) (gives : List ℕ → B → Type 0) wher
 
   abbrev pub IsStopped : Request → Fault → (left : Option (List ℕ)) → (out : SinkChange) → Type 0
   IsStopped Replay fault left out = IsReplayStopped fault left out
-  IsStopped (Plan file kerf step) fault left out = IsPlanStopped kerf step fault out
+  IsStopped (Plan file kerf step) fault left out = IsPlanStopped (λ bytes. IsFilePlan bytes kerf step) (λ bytes. IsFileFault bytes kerf step) fault out
+  IsStopped (PlanOrder file kerf step calls) fault left out =
+      IsPlanStopped (λ bytes. IsFileWhole bytes kerf step) (λ bytes. IsFileWholeFault bytes kerf step) fault out
   IsStopped (Serve port store shop limit page) fault left out = IsServeStopped book (gives store.now) port limit (option_map (λ p. p.now) page) fault out
   IsStopped (Orders file told) fault left out = IsOrdersStopped told fault out
   IsStopped (Ticket store job) fault left out = IsTextStopped book (gives store.now) (λ m. ticket_of m job) fault out

@@ -1,10 +1,9 @@
 -- Plans of problem files.
-use Rattle.std.specs.Prelude.{◌≡◌, ℕ, suc, List, [], ◌∷◌, ◌++◌, ◌⊎◌, codes, false, None, Some}
+use Rattle.std.specs.Prelude.{◌≡◌, ℕ, List, ◌++◌, ◌⊎◌, codes, None, Option, Some}
 use Rattle.std.specs.Fmt.{decimal}
 use Rattle.cut_measure.specs.Measures.{Extent}
 use Rattle.cut_measure.specs.declared.sizes.Kind.TheVariants.{Sheet}
 use Rattle.cut_tree.specs.Spelling.{text_of}
-use Rattle.cut_wants.specs.declared.wants.Want.{Want}
 use Rattle.cut_plan.specs.declared.faults.PlanFault.{PlanFault}
 use Rattle.cut_plan.specs.declared.faults.PlanFault.TheVariants.{TableTooLarge}
 use Rattle.cut_plan.specs.declared.sheets.SheetProposal.{SheetProposal}
@@ -12,22 +11,11 @@ use Rattle.cut_plan.specs.Faults.{fault_of}
 use Rattle.cut_plan.specs.Sheets.{IsSheetProposal, HasManyKept}
 use Rattle.shop_files.specs.declared.problems.Piece.{Piece}
 use Rattle.shop_files.specs.Problems.{IsProblem, IsProblemFault}
+use Rattle.shop_problems.specs.Wants.{wants_of}
+use Rattle.shop_problems.specs.Wholes.{IsWholeText, IsWholeFault}
 use Rattle.shop_commands.specs.declared.faults.Fault.{Fault}
 use Rattle.shop_commands.specs.declared.faults.Fault.TheVariants.{Text, NoMemory}
 use Rattle.shop_commands.specs.Faults.{planner_fault}
-
--- the want for a piece: it isn't turned
-abbrev pub want_of : ℕ → Piece → Want
-want_of demand p = record { demand = demand; size = record { w = p.w; h = p.h }; may_turn = false; left = p.most; worth = p.worth }
-
--- the wants for pieces, their demands numbered from this one on
-abbrev pub wants_from : ℕ → List Piece → List Want
-wants_from demand [] = []
-wants_from demand (p ∷ ps) = want_of demand p ∷ wants_from (suc demand) ps
-
--- the wants of a problem: the demand of its first piece is 1
-abbrev pub wants_of : List Piece → List Want
-wants_of pieces = wants_from 1 pieces
 
 -- the four lines of a plan
 abbrev pub plan_lines : SheetProposal → List ℕ
@@ -60,3 +48,17 @@ IsFilePlan bytes kerf step lines = (size : Extent) × (pieces : List Piece) × I
 abbrev pub IsFileFault : List ℕ → (kerf step : ℕ) → Fault → Type 0
 IsFileFault bytes kerf step (Text fault) = IsProblemFault bytes fault.offset fault.cause
 IsFileFault bytes kerf step fault = (fault ≡ NoMemory) ⊎ ((size : Extent) × (pieces : List Piece) × IsProblem bytes size pieces × IsPlanless size pieces kerf step fault)
+
+-- a file's bytes spell a problem, and these are the lines of the plans of all its pieces
+abbrev pub IsFileWhole : List ℕ → (kerf : ℕ) → (step : Option ℕ) → List ℕ → Type 0
+IsFileWhole bytes kerf step lines = (size : Extent) × (pieces : List Piece) × IsProblem bytes size pieces × IsWholeText size pieces kerf step lines
+
+-- all pieces can't be planned, and that is told by its number and name
+abbrev pub IsWholeless : Extent → List Piece → (kerf : ℕ) → (step : Option ℕ) → Fault → Type 0
+IsWholeless size pieces kerf step fault = (cause : PlanFault) × (fault ≡ planner_fault cause) × IsWholeFault size pieces kerf step cause
+
+-- memory ran out, the bytes have a fault, or they spell a problem whose pieces can't be planned
+abbrev pub IsFileWholeFault : List ℕ → (kerf : ℕ) → (step : Option ℕ) → Fault → Type 0
+IsFileWholeFault bytes kerf step (Text fault) = IsProblemFault bytes fault.offset fault.cause
+IsFileWholeFault bytes kerf step fault =
+    (fault ≡ NoMemory) ⊎ ((size : Extent) × (pieces : List Piece) × IsProblem bytes size pieces × IsWholeless size pieces kerf step fault)

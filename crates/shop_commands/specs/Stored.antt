@@ -7,7 +7,7 @@ use Rattle.shop_files.specs.declared.shops.MaterialEntry.{MaterialEntry}
 use Rattle.shop_files.specs.declared.shops.ShopFault.{ShopFault}
 use Rattle.shop_records.specs.Content.{Content}
 use Rattle.shop_records.specs.declared.refusals.Refusal.{Refusal}
-use Rattle.shop_serve.specs.Serving.{HasServed}
+use Rattle.shop_serve.specs.Serving.{HasServed, most_served}
 use Rattle.shop_serve.specs.Sites.{HasPage}
 use Rattle.shop_serve.specs.declared.sites.Site.{Site}
 use Rattle.shop_commands.specs.declared.files.TheConstants.{LONGEST_PAGE}
@@ -97,12 +97,12 @@ module _ {B : Type 0} (book : Ghosts B) where
   abbrev pub IsShopped : B → B → List MaterialEntry → Type 0
   IsShopped before after entries = HasShop book before after entries (All IsAccepted)
 
-  -- the entries are there, the port was told, and at most so many requests were served
-  pub record IsBookServed (site : Site) (before after : B) (entries : List MaterialEntry) (port count : ℕ) (out : SinkChange) : Type 0 where
+  -- the entries are there, the port was told, and at most as many requests were served as the limit says
+  pub record IsBookServed (site : Site) (before after : B) (entries : List MaterialEntry) (port : ℕ) (limit : Option ℕ) (out : SinkChange) : Type 0 where
     pub mid : B
     pub shop : IsShopped before mid entries
     pub told : Adds out (listening_line port)
-    pub served : HasServed site book mid after count
+    pub served : HasServed site book mid after (most_served limit)
 
   -- memory was wanting, and nothing was done, or an entry was refused
   abbrev pub AddFailed : B → B → List MaterialEntry → Fault → Type 0
@@ -110,31 +110,31 @@ module _ {B : Type 0} (book : Ghosts B) where
       ((fault ≡ NoMemory) × (after ≡ before)) ⊎ ((e : EntryRefused) × (fault ≡ Entry e) × HasShop book before after entries (λ replies. IsFirstRefused replies e))
 
   -- memory was wanting before the first connection, or no more could be accepted
-  abbrev pub IsUnaccepted : Site → B → B → ℕ → Fault → Type 0
-  IsUnaccepted site before after limit fault = ((fault ≡ NoMemory) × (after ≡ before)) ⊎ ((fault ≡ Port) × HasServed site book before after limit)
+  abbrev pub IsUnaccepted : Site → B → B → Option ℕ → Fault → Type 0
+  IsUnaccepted site before after limit fault = ((fault ≡ NoMemory) × (after ≡ before)) ⊎ ((fault ≡ Port) × HasServed site book before after (most_served limit))
 
   -- the entries are there, the port was told, and then serving stopped
-  pub record IsBookLeft (site : Site) (before after : B) (entries : List MaterialEntry) (port limit : ℕ) (fault : Fault) (out : SinkChange) : Type 0 where
+  pub record IsBookLeft (site : Site) (before after : B) (entries : List MaterialEntry) (port : ℕ) (limit : Option ℕ) (fault : Fault) (out : SinkChange) : Type 0 where
     pub mid : B
     pub shop : IsShopped before mid entries
     pub told : Adds out (listening_line port)
     pub left : IsUnaccepted site mid after limit fault
 
   -- the entries aren't all there; or they are, and the port isn't told; or it is, and serving stopped
-  abbrev pub IsBookUnserved : Site → (before after : B) → List MaterialEntry → (port limit : ℕ) → Fault → (out : SinkChange) → Type 0
+  abbrev pub IsBookUnserved : Site → (before after : B) → List MaterialEntry → (port : ℕ) → Option ℕ → Fault → (out : SinkChange) → Type 0
   IsBookUnserved site before after entries port limit fault out =
       (AddFailed before after entries fault × AddsNone out)
       ⊎ ((IsShopped before after entries × IsUnannounced port fault out) ⊎ IsBookLeft site before after entries port limit fault out)
 
   -- a shop file's entries were added to the book of a store, which was served
-  abbrev pub IsServeDone : (B → Type 0) → (port limit : ℕ) → (page : Option (List ℕ)) → (out : SinkChange) → Type 0
+  abbrev pub IsServeDone : (B → Type 0) → (port : ℕ) → (limit : Option ℕ) → (page : Option (List ℕ)) → (out : SinkChange) → Type 0
   IsServeDone gives port limit page out =
       (entries : List MaterialEntry) × IsShopRead entries × (site : Site) × IsSite port page site
       × (before after : B) × gives before × IsBookServed site before after entries port limit out
 
   -- the shop file's fault; or its entries were read, and then the page's fault came, or the store's, or what stopped the serving
   -- of its book
-  abbrev pub IsServeStopped : (B → Type 0) → (port limit : ℕ) → (page : Option (List ℕ)) → Fault → (out : SinkChange) → Type 0
+  abbrev pub IsServeStopped : (B → Type 0) → (port : ℕ) → (limit : Option ℕ) → (page : Option (List ℕ)) → Fault → (out : SinkChange) → Type 0
   IsServeStopped gives port limit page fault out =
       (IsUnread fault × AddsNone out)
       ⊎ ((entries : List MaterialEntry) × IsShopRead entries

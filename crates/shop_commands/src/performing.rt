@@ -8,28 +8,30 @@ ghost use Rattle.shop_wire.specs.Streams.{most_reads};
 ghost use Rattle.shop_words.specs.CommandLine.{HasKerf};
 ghost use Rattle.shop_commands.specs.Performs as spec;
 ghost use Rattle.shop_commands.specs.Performs.{Concludes, IsDone, IsHelped, IsPerformed, IsPlanDone, IsPlanStopped, IsStopped, IsTold, TellsFault};
+ghost use Rattle.shop_commands.specs.Plans.{IsFileFault, IsFilePlan, IsFileWhole, IsFileWholeFault};
 ghost use Rattle.shop_commands.specs.Sinks.{change_of};
 
 use crate::faults::Fault;
 use crate::files::{read_file, write_text};
 use crate::orders::check_orders;
-use crate::plans::plan_file;
+use crate::plans::{plan_file, plan_whole_file};
 use crate::replays::replay_fresh;
 use crate::stored::{StoreText, print_stored, serve};
 use clap::Error;
 use clap::error::ErrorKind;
 use shop_opening::Opens;
+use shop_problems::{USUAL_CALLS, WholePlan};
 use shop_store::Book;
 use shop_text::{Sink, Source};
 use shop_words::{Request, VERSION, request_of};
 use std::alloc::{AllocError, Global};
 use std::fs::Files;
-use std::net::{Net, TcpListener, TcpStream};
+use std::net::Net;
 use std::time::Clock;
 
 // What is told where words that `clap` takes ask for nothing.
 const NOTHING_ASKED: &str =
-    "error: MATERIAL and --order are codes, 1 to 16 of A-Z, 0-9 and -; --order, --terminal and --number of orders stand together; try '--help'\n";
+    "error: MATERIAL and --order are codes, 1 to 16 of A-Z, 0-9 and -; --order, --terminal and --number of orders stand together; plan wants --step or --whole, and --calls only with --whole; try '--help'\n";
 
 fn fault_line(alloc: Global, fault: Fault) -> Result<String, AllocError>
     ensures { IfOk result (λ text. string_bytes text ≡ spec.fault_line fault) }
@@ -61,23 +63,40 @@ fn plan<R: Files, W: Sink>(
     sink: &mut W,
 ) -> Result<(), Fault>
     requires { kerf ≤ MOST_KERF }
-    ensures ok { OnOk result (IsPlanDone kerf step (change_of W.Sink sink.old sink.new)) }
-    ensures err { IfErr result
-        (λ f. IsPlanStopped kerf step f (change_of W.Sink sink.old sink.new)) }
+    ensures ok { OnOk result (IsPlanDone (λ bytes. IsFilePlan bytes kerf step)
+        (change_of W.Sink sink.old sink.new)) }
+    ensures err { IfErr result (λ f. IsPlanStopped (λ bytes. IsFilePlan bytes kerf step)
+        (λ bytes. IsFileFault bytes kerf step) f (change_of W.Sink sink.old sink.new)) }
 {
     let bytes = read_file(rt, alloc, file)?;
     let lines = plan_file(alloc, &bytes, kerf, step)?;
     write_text(sink, lines.as_str())
 }
 
+// Writes the plans of all pieces of a problem file.
+fn plan_order<R: Files, W: Sink>(
+    rt: &R,
+    alloc: Global,
+    file: &str,
+    kerf: u32,
+    step: Option<u32>,
+    calls: Option<u32>,
+    sink: &mut W,
+) -> Result<(), Fault>
+    requires { kerf ≤ MOST_KERF }
+    ensures ok { OnOk result (IsPlanDone (λ bytes. IsFileWhole bytes kerf step)
+        (change_of W.Sink sink.old sink.new)) }
+    ensures err { IfErr result (λ f. IsPlanStopped (λ bytes. IsFileWhole bytes kerf step)
+        (λ bytes. IsFileWholeFault bytes kerf step) f (change_of W.Sink sink.old sink.new)) }
+{
+    let calls = calls.unwrap_or(USUAL_CALLS);
+    let bytes = read_file(rt, alloc, file)?;
+    let lines = plan_whole_file(alloc, &bytes, WholePlan { kerf, step, calls })?;
+    write_text(sink, lines.as_str())
+}
+
 // Does what is asked, or stops.
-fn do_request<
-    R: Files + Net<Listener = TcpListener, Stream = TcpStream> + Clock,
-    B: Book + Drop,
-    O: Opens<B>,
-    S: Source,
-    W: Sink,
->(
+fn do_request<R: Files + Net + Clock, B: Book + Drop, O: Opens<B>, S: Source, W: Sink>(
     rt: &R,
     stores: &O,
     alloc: Global,
@@ -97,6 +116,12 @@ fn do_request<
     match request {
         Request::Replay => replay_fresh(alloc, source, sink),
         Request::Plan { file, kerf, step } => plan(rt, alloc, file, *kerf, *step, sink),
+        Request::PlanOrder {
+            file,
+            kerf,
+            step,
+            calls,
+        } => plan_order(rt, alloc, file, *kerf, *step, *calls, sink),
         Request::Orders { file, told } => check_orders(rt, alloc, file, *told, sink),
         Request::Serve {
             port,
@@ -184,14 +209,7 @@ fn explain<W: Sink, E: Sink>(alloc: Global, error: &Error, sink: &mut W, errors:
 
 /// Does what the words ask for, the program's own name before them, and gives the status: 0 where it was done and for
 /// help, 2 for a mistake in the words, and else 1, with the fault as one line of `errors`.
-pub fn perform<
-    R: Files + Net<Listener = TcpListener, Stream = TcpStream> + Clock,
-    B: Book + Drop,
-    O: Opens<B>,
-    S: Source,
-    W: Sink,
-    E: Sink,
->(
+pub fn perform<R: Files + Net + Clock, B: Book + Drop, O: Opens<B>, S: Source, W: Sink, E: Sink>(
     rt: &R,
     stores: &O,
     alloc: Global,

@@ -2,45 +2,15 @@
 
 ghost use Rattle.std.specs.Prelude.{◌≡◌, ◌+◌, ◌≤◌, ℕ, IfOk, IfErr, string_bytes, length};
 ghost use Rattle.cut_measure.specs.declared.ranges.TheConstants.{MOST_KERF, MOST_NUMBERS};
-ghost use Rattle.shop_files.specs.Problems.{ArePieces, IsPiece};
+ghost use Rattle.shop_files.specs.Problems.{ArePieces};
+ghost use Rattle.shop_problems.specs.Wholes.{IsWholeText};
 ghost use Rattle.shop_commands.specs.Plans as spec;
 
 use crate::faults::Fault;
-use cut_measure::{Kind, Size};
-use cut_plan::{SheetProposal, Want, plan_sheet};
-use shop_files::{Piece, Problem, read_cgcut};
+use cut_plan::{SheetProposal, plan_sheet};
+use shop_files::{Problem, read_cgcut};
+use shop_problems::{WholePlan, plan_whole, wants_of};
 use std::alloc::{AllocError, Global};
-
-// The want for a piece: it isn't turned.
-fn want_of(demand: u32, piece: &Piece) -> Want
-    requires { IsPiece piece.now }
-    ensures { result ≡ spec.want_of demand piece.now }
-{
-    match Size::new(Kind::Sheet, piece.w, piece.h) {
-        Some(size) => Want {
-            demand,
-            size,
-            may_turn: false,
-            left: piece.most,
-            worth: piece.worth,
-        },
-        None => unreachable!(),
-    }
-}
-
-// The wants for a problem's pieces, the demands numbered from 1 on.
-fn wants_of(alloc: Global, pieces: &[Piece]) -> Result<Vec<Want>, AllocError>
-    requires { ArePieces pieces.now }
-    ensures { IfOk result (λ wants. wants.items ≡ spec.wants_of pieces.now) }
-{
-    let mut wants = Vec::new(alloc);
-    let mut demand = 1u32;
-    for piece in pieces {
-        wants.push(want_of(demand, piece))?;
-        demand += 1;
-    }
-    Ok(wants)
-}
 
 // The four lines of a plan.
 fn plan_lines(alloc: Global, proposal: &SheetProposal) -> Result<String, AllocError>
@@ -82,4 +52,31 @@ pub fn plan_file(alloc: Global, bytes: &[u8], kerf: u32, step: u32) -> Result<St
 {
     let problem = read_cgcut(alloc, bytes)?;
     plan_problem(alloc, &problem, kerf, step)
+}
+
+fn plan_whole_problem(alloc: Global, problem: &Problem, how: WholePlan) -> Result<String, Fault>
+    requires pieces { ArePieces problem.now.pieces }
+    requires kerf { how.kerf ≤ MOST_KERF }
+    ensures ok { IfOk result (λ text. IsWholeText problem.now.size problem.now.pieces how.kerf
+        how.step (string_bytes text)) }
+    ensures err { IfErr result
+        (spec.IsWholeless problem.now.size problem.now.pieces how.kerf how.step) }
+{
+    let lines = plan_whole(alloc, problem, how)?;
+    Ok(lines)
+}
+
+/// The lines of the plans of all pieces of the problem that a file's bytes spell, from as many of its rectangles as it
+/// takes.
+///
+/// The text's first fault, or the order's; a problem of over 100 pieces is a `BadWant`. Want of memory may come at any
+/// point. The kerf is at most 200.
+pub fn plan_whole_file(alloc: Global, bytes: &[u8], how: WholePlan) -> Result<String, Fault>
+    requires { how.kerf ≤ MOST_KERF }
+    ensures ok { IfOk result
+        (λ text. spec.IsFileWhole bytes.now how.kerf how.step (string_bytes text)) }
+    ensures err { IfErr result (spec.IsFileWholeFault bytes.now how.kerf how.step) }
+{
+    let problem = read_cgcut(alloc, bytes)?;
+    plan_whole_problem(alloc, &problem, how)
 }

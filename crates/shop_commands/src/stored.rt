@@ -8,7 +8,7 @@ ghost use Rattle.shop_commands.specs.Stored as spec;
 ghost use Rattle.shop_commands.specs.Stored.{Prints, text_of, IsTextDone, IsTextStopped, IsShopRead, IsUnread, IsUnopened, IsShopped, AddFailed, IsUnannounced, IsUnaccepted, IsBookServed, IsBookUnserved, IsPageRead, IsPageUnread, IsServeDone, IsServeStopped, IsSite};
 ghost use Rattle.shop_files.specs.Shops.{IsShop, IsShopFault};
 ghost use Rattle.shop_files.specs.declared.shops.ShopFault.{ShopFault as ShopFaultOf};
-ghost use Rattle.shop_serve.specs.Serving.{HasServed};
+ghost use Rattle.shop_serve.specs.Serving.{HasServed, most_served};
 ghost use Rattle.shop_commands.specs.Sinks.{Adds, change_of};
 
 use crate::faults::Fault;
@@ -16,12 +16,12 @@ use crate::files::{read_file, read_page, write_text};
 use cut_measure::Code;
 use shop_files::{MaterialEntry, RowList, read_shop};
 use shop_opening::{Opens, add_shop};
-use shop_serve::{Site, serve_on};
+use shop_serve::{Listener, Site, listen, serve_on};
 use shop_store::Book;
 use shop_text::{PrintFault, Sink, ticket, yield_report};
 use std::alloc::{AllocError, Global};
 use std::fs::Files;
-use std::net::{Ipv4Addr, Net, TcpListener, TcpStream};
+use std::net::Net;
 use std::time::Clock;
 
 // Opens the book of a store.
@@ -158,48 +158,42 @@ fn listening_line(alloc: Global, port: u32) -> Result<String, AllocError>
 }
 
 // Listens on a port of this machine alone.
-fn listen<R: Net<Listener = TcpListener, Stream = TcpStream>>(
-    rt: &R,
-    port: u32,
-) -> Result<TcpListener, Fault>
+fn bind<R: Net>(rt: &R, port: u32) -> Result<Listener, Fault>
     ensures { IfErr result (λ f. f ≡ fault.Port) }
 {
-    let Ok(number) = u16::try_from(port) else {
-        return Err(Fault::Port);
-    };
-    match TcpListener::bind(rt, (Ipv4Addr::LOCALHOST, number)) {
+    match listen(rt, port) {
         Ok(listener) => Ok(listener),
         Err(_) => Err(Fault::Port),
     }
 }
 
 // Tells the port, once it is listened to.
-fn bind_and_announce<R: Net<Listener = TcpListener, Stream = TcpStream>, W: Sink>(
+fn bind_and_announce<R: Net, W: Sink>(
     rt: &R,
     alloc: Global,
     port: u32,
     sink: &mut W,
-) -> Result<TcpListener, Fault>
+) -> Result<Listener, Fault>
     ensures ok { OnOk result (Adds (change_of W.Sink sink.old sink.new)
         (spec.listening_line port)) }
     ensures err { IfErr result (λ f. IsUnannounced port f (change_of W.Sink sink.old sink.new)) }
 {
-    let listener = listen(rt, port)?;
+    let listener = bind(rt, port)?;
     let line = listening_line(alloc, port)?;
     write_text(sink, line.as_str())?;
     Ok(listener)
 }
 
 // Serves connections.
-fn serve_connections<R: Net<Listener = TcpListener, Stream = TcpStream> + Clock, B: Book>(
+fn serve_connections<R: Net + Clock, B: Book>(
     rt: &R,
     alloc: Global,
-    listener: &TcpListener,
-    limit: u32,
+    listener: &Listener,
+    limit: Option<u32>,
     site: &Site,
     book: &mut B,
 ) -> Result<(), Fault>
-    ensures ok { OnOk result (HasServed site.now B.Book book.old book.new limit) }
+    ensures ok { OnOk result (HasServed site.now B.Book book.old book.new (most_served limit)) }
     ensures err { IfErr result (IsUnaccepted B.Book site.now book.old book.new limit) }
 {
     match serve_on(rt, alloc, listener, limit, site, book) {
@@ -209,11 +203,11 @@ fn serve_connections<R: Net<Listener = TcpListener, Stream = TcpStream> + Clock,
 }
 
 // Adds the shop's entries to a book and serves it on a port.
-fn serve_book<R: Net<Listener = TcpListener, Stream = TcpStream> + Clock, B: Book, W: Sink>(
+fn serve_book<R: Net + Clock, B: Book, W: Sink>(
     rt: &R,
     alloc: Global,
     port: u32,
-    limit: u32,
+    limit: Option<u32>,
     site: &Site,
     entries: &[MaterialEntry],
     sink: &mut W,
@@ -236,19 +230,14 @@ fn serve_book<R: Net<Listener = TcpListener, Stream = TcpStream> + Clock, B: Boo
 }
 
 /// Adds the materials of a shop file to the book of a store, tells the port, and serves connections on it.
-pub fn serve<
-    R: Files + Net<Listener = TcpListener, Stream = TcpStream> + Clock,
-    B: Book + Drop,
-    O: Opens<B>,
-    W: Sink,
->(
+pub fn serve<R: Files + Net + Clock, B: Book + Drop, O: Opens<B>, W: Sink>(
     rt: &R,
     stores: &O,
     alloc: Global,
     port: u32,
     store: &str,
     shop: &str,
-    limit: u32,
+    limit: Option<u32>,
     page: Option<&str>,
     sink: &mut W,
 ) -> Result<(), Fault>

@@ -5,6 +5,8 @@ ghost use Rattle.std.specs.Prelude.{◌≡◌, IfErr};
 use shop_store::{BookFault, SqlBook};
 use sqlite::{Connection, Error, ErrorCode, File, FileStore};
 use std::alloc::Global;
+use std::fs::OpenOptions;
+use std::os::unix::fs::OpenOptionsExt;
 
 /// A book in the SQL tables of a file.
 pub type StoreBook = SqlBook<FileStore<File>>;
@@ -36,8 +38,20 @@ fn open_fault(error: &Error) -> BookFault {
     }
 }
 
+// Makes the file of a store, which its owner alone may read and write, where there is none. The log beside it gets the same
+// mode when it is made. Names that no file of a store has are left to the open.
+fn make_private(rt: &HostRuntime, path: &str) {
+    if path == ":memory:" || path.starts_with("file:") {
+        return;
+    }
+    let mut options = OpenOptions::new();
+    options.write(true).create_new(true).mode(0o600);
+    let _ = options.open(rt, path);
+}
+
 // Opens the book of a store file.
 fn open_file(rt: &HostRuntime, alloc: Global, path: &str) -> Result<StoreBook, BookFault> {
+    make_private(rt, path);
     let conn = match Connection::open(rt, path) {
         Ok(conn) => conn,
         Err(error) => return Err(open_fault(&error)),

@@ -14,10 +14,11 @@ use Rattle.shop_serve.specs.declared.lines.Fate.TheVariants.{NoMemory}
 use Rattle.shop_serve.specs.declared.lines.Line.{Line}
 use Rattle.shop_serve.specs.declared.sites.Site.{Site}
 use Rattle.shop_serve.specs.Known.{TellsAll, BringsRequest, HasOwnAnswer}
+use Rattle.shop_serve.specs.Times.{Times}
 use Rattle.shop_serve.specs.Lines.{AwaitsMore, IsAnsweredWhole, IsAttended, IsAttendedAt, IsClosedBy, IsFresh, IsHeard, IsSpoiled}
 
 module _ {C : Type 0} (connection : ConnectionGhosts C) (site : Site) {B : Type 0} (book : Ghosts B)
-    (now : Instant) (stream : C) (input : List ℕ) (line : Line C) (before after : B)
+    (now : Instant) (stream : C) (input : List ℕ) (line : Line C) (before after : B) (seen seeing : Times)
     (tells : TellsAll connection) (brings : BringsRequest connection stream input) (fresh : IsFresh now stream line) where
   comes : connection.remaining line.stream ≡ Some input
   comes = ap connection.remaining fresh.own ∙ brings.comes
@@ -56,10 +57,10 @@ module _ {C : Type 0} (connection : ConnectionGhosts C) (site : Site) {B : Type 
   took None bytes is = absurd is
   took (Some ys) bytes is = ap Some is
 
-  answered : (left : Line C) → IsAttended connection site book line left before after → HasOwnAnswer connection site book input before after
+  answered : (left : Line C) → IsAttended connection site book line left before after seen seeing → HasOwnAnswer connection site book input before after
   answered left attended = by_answer left.answer refl
     where
-      heard : IsHeard connection site book line left before after
+      heard : IsHeard connection site book line left before after seen seeing
       heard = attended.1 fresh.waits
 
       by_answer : (o : Option _) → left.answer ≡ o → HasOwnAnswer connection site book input before after
@@ -67,7 +68,7 @@ module _ {C : Type 0} (connection : ConnectionGhosts C) (site : Site) {B : Type 
           let w = heard.waits e in
           absurd (not_waiting left.came.items left.needed left.stream w.read w.drained (w.awaits awaits))
       by_answer (Some a) e =
-          let whole = subst (λ o. IfSome o (λ answer. IsAnsweredWhole connection site book line left heard.rest before after answer.items)) e heard.answered in
+          let whole = subst (λ o. IfSome o (λ answer. IsAnsweredWhole connection site book line left heard.rest before after seen seeing answer.items)) e heard.answered in
           let part = first_part heard.rest left.came.items (read_of heard.rest left.came.items heard.read) in
           let first : connection.contents line.stream ≡ Some [] = ap connection.contents fresh.own ∙ brings.took in
           record {
@@ -83,14 +84,14 @@ module _ {C : Type 0} (connection : ConnectionGhosts C) (site : Site) {B : Type 
           }
 
   pub whole_is_answered : (fate : Fate) (key : ℕ) (old new : Slab (Line C)) → get old key ≡ Some line → fate ≢ NoMemory
-      → IsAttendedAt connection site book fate key old new before after → HasOwnAnswer connection site book input before after
+      → IsAttendedAt connection site book fate key old new before after seen seeing → HasOwnAnswer connection site book input before after
   whole_is_answered fate key old new is known attended = by_slot (get new key) refl
     where
-      by_reason : IsClosedBy connection site book fate line before after → HasOwnAnswer connection site book input before after
+      by_reason : IsClosedBy connection site book fate line before after seen seeing → HasOwnAnswer connection site book input before after
       by_reason (inl wanting) = absurd (known wanting)
       by_reason (inr (left, inl spent)) = answered left spent.0
       by_reason (inr (left, inr spoiled)) = absurd (not_spoiled left spoiled)
 
       by_slot : (slot : Option (Line C)) → get new key ≡ slot → HasOwnAnswer connection site book input before after
       by_slot None e = by_reason (attended.closed line is e)
-      by_slot (Some left) e = answered left (subst (λ slot. IfSome slot (λ left. IsAttended connection site book line left before after)) e (attended.there line is))
+      by_slot (Some left) e = answered left (subst (λ slot. IfSome slot (λ left. IsAttended connection site book line left before after seen seeing)) e (attended.there line is))

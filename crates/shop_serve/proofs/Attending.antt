@@ -15,6 +15,7 @@ use Rattle.shop_serve.specs.declared.transfers.Given.{Given}
 use Rattle.shop_serve.specs.declared.transfers.Given.TheVariants as given
 use Rattle.shop_serve.specs.Lines.{unanswered, TakesAnswer, IsHandedOn, IsAnsweredWhole, IsHeard, IsAttended, IsAttendedAt, IsClosedBy, IsSpent, IsSpoiled}
 use Rattle.shop_serve.specs.Serving.{Advances, HasServed, IsAnswered}
+use Rattle.shop_serve.specs.Times.{Times, Tells}
 use Rattle.shop_serve.proofs.Slots.{one_of, unanswered-updates}
 use Rattle.shop_serve.proofs.Turns.{stays, one_advances}
 
@@ -30,13 +31,15 @@ module _ {C : Type 0} (connection : ConnectionGhosts C) (site : Site) {B : Type 
       (subst (λ n. Appends before (connection.contents mid) (take n answer)) (sym same) (takes before first))
 
   -- the connection was ended, and what still came was dropped
-  pub attended-ended : (old mid new : Line C) (before after : B)
-      → (new.came ≡ mid.came) × (new.answer ≡ mid.answer) × (new.sent ≡ mid.sent) → connection.contents new.stream ≡ connection.contents mid.stream
+  pub attended-ended : (old mid new : Line C) (before after : B) (seen seeing : Times)
+      → (new.came ≡ mid.came) × (new.answer ≡ mid.answer) × (new.sent ≡ mid.sent) → new.since ≡ mid.since → connection.contents new.stream ≡ connection.contents mid.stream
       → IsSomeAnd mid.answer (λ answer. mid.sent ≡ length answer.items)
-      → IsAttended connection site book old mid before after → IsAttended connection site book old new before after
-  attended-ended old mid new before after kept contents whole attended = (
+      → IsAttended connection site book old mid before after seen seeing → IsAttended connection site book old new before after seen seeing
+  attended-ended old mid new before after seen seeing kept since contents whole attended = (
     if_some_at old.answer _ _ (λ answer is handed. record {
       same = handed.same;
+      unread = handed.unread;
+      since = since ∙ handed.since;
       came = kept.0 ∙ handed.came;
       kept = kept.1 ∙ handed.kept;
       takes = takes-ended answer.items old.stream mid.stream new.stream old.sent mid.sent new.sent kept.2 contents handed.takes;
@@ -47,26 +50,27 @@ module _ {C : Type 0} (connection : ConnectionGhosts C) (site : Site) {B : Type 
       read = subst (λ came. IsReadOn (connection.remaining old.stream) heard.rest old.came.items came.items) (sym kept.0) heard.read;
       waits = λ waits. absurd (subst (λ o. IsSomeAnd o (λ a. mid.sent ≡ length a.items)) (sym kept.1 ∙ waits) whole);
       answered = if_some_at new.answer _ _ (λ answer is whole_answer. record {
+        since = subst (Tells seen seeing) (sym since) whole_answer.since;
         whole = subst (λ came. IsSettled came.items ⊎ IsAtEnd heard.rest) (sym kept.0) whole_answer.whole;
         answered = subst (λ came. IsAnswered site book before after came.items answer.items) (sym kept.0) whole_answer.answered;
         takes = takes-ended answer.items old.stream mid.stream new.stream 0 mid.sent new.sent kept.2 contents whole_answer.takes;
         stops = inl (kept.2 ∙ subst (λ o. IsSomeAnd o (λ a. mid.sent ≡ length a.items)) (sym kept.1 ∙ is) whole);
-      }) (subst (λ o. IfSome o (λ answer. IsAnsweredWhole connection site book old mid heard.rest before after answer.items)) (sym kept.1) heard.answered);
+      }) (subst (λ o. IfSome o (λ answer. IsAnsweredWhole connection site book old mid heard.rest before after seen seeing answer.items)) (sym kept.1) heard.answered);
     },
   )
 
   -- it was answered, and its answer handed over as far as that went
-  pub attended-first : (old mid new : Line C) (before after : B) (r : Given) → old.answer ≡ None
+  pub attended-first : (old mid new : Line C) (before after : B) (seen seeing : Times) (r : Given) → old.answer ≡ None
       → IsReadOn (connection.remaining old.stream) (connection.remaining mid.stream) old.came.items mid.came.items
       → connection.contents mid.stream ≡ connection.contents old.stream → IsSome mid.answer × (mid.sent ≡ 0)
       → IsSettled mid.came.items ⊎ IsAtEnd (connection.remaining mid.stream)
       → IfSome mid.answer (λ answer. IsAnswered site book before after mid.came.items answer.items)
-      → (new.came ≡ mid.came) × (new.answer ≡ mid.answer) → r ≢ given.Lost → r ≢ given.NoMemory
+      → Tells seen seeing mid.since → (new.came ≡ mid.came) × (new.answer ≡ mid.answer) → new.since ≡ mid.since → r ≢ given.Lost → r ≢ given.NoMemory
       → (r ≢ given.Lost → IfSome mid.answer (λ answer. TakesAnswer connection answer.items mid.stream mid.sent new.stream new.sent))
       → (r ≡ given.Whole → IsSomeAnd new.answer (λ answer. new.sent ≡ length answer.items))
-      → (r ≡ given.Waits → IsSome mid.answer → connection.is_full new.stream) → IsAttended connection site book old new before after
-  attended-first old mid new before after r none read contents begins whole own kept stays known takes ends full = (
-    subst (λ o. IfSome o (λ answer. IsHandedOn connection site book old new before after answer.items)) (sym none) tt,
+      → (r ≡ given.Waits → IsSome mid.answer → connection.is_full new.stream) → IsAttended connection site book old new before after seen seeing
+  attended-first old mid new before after seen seeing r none read contents begins whole own timed kept since stays known takes ends full = (
+    subst (λ o. IfSome o (λ answer. IsHandedOn connection site book old new before after seen seeing answer.items)) (sym none) tt,
     λ none. heard mid.answer refl,
   )
     where
@@ -77,7 +81,7 @@ module _ {C : Type 0} (connection : ConnectionGhosts C) (site : Site) {B : Type 
       stop given.Lost stays known n ends full = absurd (stays refl)
       stop given.NoMemory stays known n ends full = absurd (known refl)
 
-      heard : (o : Option _) → mid.answer ≡ o → IsHeard connection site book old new before after
+      heard : (o : Option _) → mid.answer ≡ o → IsHeard connection site book old new before after seen seeing
       heard None e = absurd (cc (subst IsSome e begins.0))
       heard (Some a) e =
           let there = kept.1 ∙ e in
@@ -86,7 +90,8 @@ module _ {C : Type 0} (connection : ConnectionGhosts C) (site : Site) {B : Type 
             rest = connection.remaining mid.stream;
             read = subst (λ came. IsReadOn (connection.remaining old.stream) (connection.remaining mid.stream) old.came.items came.items) (sym kept.0) read;
             waits = λ waits. absurd (cc (waits, there));
-            answered = subst (λ o. IfSome o (λ answer. IsAnsweredWhole connection site book old new (connection.remaining mid.stream) before after answer.items)) (sym there) (record {
+            answered = subst (λ o. IfSome o (λ answer. IsAnsweredWhole connection site book old new (connection.remaining mid.stream) before after seen seeing answer.items)) (sym there) (record {
+              since = subst (Tells seen seeing) (sym since) timed;
               whole = subst (λ came. IsSettled came.items ⊎ IsAtEnd (connection.remaining mid.stream)) (sym kept.0) whole;
               answered = subst (λ came. IsAnswered site book before after came.items a.items) (sym kept.0)
                   (subst (λ o. IfSome o (λ answer. IsAnswered site book before after mid.came.items answer.items)) e own);
@@ -128,10 +133,10 @@ module _ {C : Type 0} (connection : ConnectionGhosts C) (site : Site) {B : Type 
   answered-of line answer e = rw e refl
 
   -- as many fewer have no answer as were served
-  fewer : (before after : B) (line : Line C) (left : Option (Line C)) (from to : ℕ) → to + one_of (Some line) ≡ from + one_of left
-      → (IsSome line.answer → after ≡ before) → IfSome left (λ l. IsAttended connection site book line l before after) → HasServed site book before after 1
+  fewer : (before after : B) (seen seeing : Times) (line : Line C) (left : Option (Line C)) (from to : ℕ) → to + one_of (Some line) ≡ from + one_of left
+      → (IsSome line.answer → after ≡ before) → IfSome left (λ l. IsAttended connection site book line l before after seen seeing) → HasServed site book before after 1
       → Advances site book before after from to
-  fewer before after line left from to sum once attended one = by_answer line.answer refl
+  fewer before after seen seeing line left from to sum once attended one = by_answer line.answer refl
     where
       stayed : to ≤ from → after ≡ before → Advances site book before after from to
       stayed within same = subst (λ b. Advances site book before b from to) (sym same) (stays site book before from to within)
@@ -140,8 +145,8 @@ module _ {C : Type 0} (connection : ConnectionGhosts C) (site : Site) {B : Type 
       by_left None is none = one_advances site book before after from to (omega (arith, sum, unanswered-of line none, ap one_of is)) one
       by_left (Some l) is none = by_new l.answer refl
         where
-          heard : IsHeard connection site book line l before after
-          heard = (subst (λ slot. IfSome slot (λ l. IsAttended connection site book line l before after)) is attended).1 none
+          heard : IsHeard connection site book line l before after seen seeing
+          heard = (subst (λ slot. IfSome slot (λ l. IsAttended connection site book line l before after seen seeing)) is attended).1 none
 
           by_new : (o : Option _) → l.answer ≡ o → Advances site book before after from to
           by_new None e = stayed (omega (arith, sum, unanswered-of line none, ap one_of is, unanswered-of l e)) (heard.waits e).same
@@ -150,8 +155,8 @@ module _ {C : Type 0} (connection : ConnectionGhosts C) (site : Site) {B : Type 
       kept_left : (slot : Option (Line C)) (answer : _) → left ≡ slot → line.answer ≡ Some answer → one_of left ≡ 0
       kept_left None answer is e = ap one_of is
       kept_left (Some l) answer is e =
-          let attended_l = subst (λ slot. IfSome slot (λ l. IsAttended connection site book line l before after)) is attended in
-          let handed = subst (λ o. IfSome o (λ a. IsHandedOn connection site book line l before after a.items)) e attended_l.0 in
+          let attended_l = subst (λ slot. IfSome slot (λ l. IsAttended connection site book line l before after seen seeing)) is attended in
+          let handed = subst (λ o. IfSome o (λ a. IsHandedOn connection site book line l before after seen seeing a.items)) e attended_l.0 in
           ap one_of is ∙ answered-of l answer (handed.kept ∙ e)
 
       by_answer : (o : Option _) → line.answer ≡ o → Advances site book before after from to
@@ -159,51 +164,51 @@ module _ {C : Type 0} (connection : ConnectionGhosts C) (site : Site) {B : Type 
       by_answer (Some a) e = stayed (omega (arith, sum, answered-of line a e, kept_left left a refl e)) (once (subst IsSome (sym e) refl))
 
   -- it stays open
-  pub advances-stays : (before after : B) (lines : Slab (Line C)) (key : ℕ) (line left : Line C) → get lines key ≡ Some line
-      → (IsSome line.answer → after ≡ before) → IsAttended connection site book line left before after → HasServed site book before after 1
+  pub advances-stays : (before after : B) (seen seeing : Times) (lines : Slab (Line C)) (key : ℕ) (line left : Line C) → get lines key ≡ Some line
+      → (IsSome line.answer → after ≡ before) → IsAttended connection site book line left before after seen seeing → HasServed site book before after 1
       → Advances site book before after (unanswered lines) (unanswered (with_value lines key left))
-  advances-stays before after lines key line left is once attended one =
-      fewer before after line (Some left) (unanswered lines) (unanswered (with_value lines key left))
+  advances-stays before after seen seeing lines key line left is once attended one =
+      fewer before after seen seeing line (Some left) (unanswered lines) (unanswered (with_value lines key left))
       (subst (λ slot. unanswered (with_value lines key left) + one_of slot ≡ unanswered lines + one_of (Some left)) is
       (unanswered-updates lines (with_value lines key left) key (Some left) (Updates-with_value lines key left (subst IsSome (sym is) refl)))) once attended one
 
   -- it is closed
-  pub advances-closed : (before after : B) (lines new : Slab (Line C)) (key : ℕ) (line left : Line C) → get lines key ≡ Some line
+  pub advances-closed : (before after : B) (seen seeing : Times) (lines new : Slab (Line C)) (key : ℕ) (line left : Line C) → get lines key ≡ Some line
       → (IsSome line.answer → after ≡ before) → HasServed site book before after 1 → Updates (with_value lines key left) new key None
       → Advances site book before after (unanswered lines) (unanswered new)
-  advances-closed before after lines new key line left is once one closed =
+  advances-closed before after seen seeing lines new key line left is once one closed =
       let written = Updates-with_value lines key left (subst IsSome (sym is) refl) in
-      fewer before after line None (unanswered lines) (unanswered new)
+      fewer before after seen seeing line None (unanswered lines) (unanswered new)
       (omega (arith, unanswered-updates lines (with_value lines key left) key (Some left) written, unanswered-updates (with_value lines key left) new key None closed, ap one_of written.changed, ap one_of is))
       once tt one
 
   -- the connection of a key is closed
-  pub attended-closed : (fate : Fate) (key : ℕ) (lines new : Slab (Line C)) (line left : Line C) (before after : B) → get lines key ≡ Some line
+  pub attended-closed : (fate : Fate) (key : ℕ) (lines new : Slab (Line C)) (line left : Line C) (before after : B) (seen seeing : Times) → get lines key ≡ Some line
       → Updates (with_value lines key left) new key None → (IsSome line.answer → after ≡ before) → HasServed site book before after 1
-      → IsClosedBy connection site book fate line before after → IsAttendedAt connection site book fate key lines new before after
-  attended-closed fate key lines new line left before after is removed once one closed =
+      → IsClosedBy connection site book fate line before after seen seeing → IsAttendedAt connection site book fate key lines new before after seen seeing
+  attended-closed fate key lines new line left before after seen seeing is removed once one closed =
       let written = Updates-with_value lines key left (subst IsSome (sym is) refl) in
       record {
         others = λ other differs. removed.others other differs ∙ written.others other differs;
         absent = λ none. absurd (cc (is, none));
-        there = λ l e. subst (λ slot. IfSome slot (λ left. IsAttended connection site book l left before after)) (sym removed.changed) tt;
-        closed = λ l e none. let same : line ≡ l = cc (is, e) in subst (λ l. IsClosedBy connection site book fate l before after) same closed;
+        there = λ l e. subst (λ slot. IfSome slot (λ left. IsAttended connection site book l left before after seen seeing)) (sym removed.changed) tt;
+        closed = λ l e none. let same : line ≡ l = cc (is, e) in subst (λ l. IsClosedBy connection site book fate l before after seen seeing) same closed;
         once = λ l e. let same : line ≡ l = cc (is, e) in subst (λ (l : Line C). IsSome l.answer → after ≡ before) same once;
         one = one;
       }
 
   -- it stays
-  pub attended-stays : (fate : Fate) (key : ℕ) (lines : Slab (Line C)) (line left : Line C) (before after : B) → get lines key ≡ Some line
+  pub attended-stays : (fate : Fate) (key : ℕ) (lines : Slab (Line C)) (line left : Line C) (before after : B) (seen seeing : Times) → get lines key ≡ Some line
       → (IsSome line.answer → after ≡ before) → HasServed site book before after 1
-      → IsAttended connection site book line left before after → IsAttendedAt connection site book fate key lines (with_value lines key left) before after
-  attended-stays fate key lines line left before after is once one attended =
+      → IsAttended connection site book line left before after seen seeing → IsAttendedAt connection site book fate key lines (with_value lines key left) before after seen seeing
+  attended-stays fate key lines line left before after seen seeing is once one attended =
       let written = Updates-with_value lines key left (subst IsSome (sym is) refl) in
       record {
         others = λ other differs. written.others other differs;
         absent = λ none. absurd (cc (is, none));
         there = λ l e. let same : line ≡ l = cc (is, e) in
-            subst (λ slot. IfSome slot (λ left. IsAttended connection site book l left before after)) (sym written.changed)
-            (subst (λ l. IsAttended connection site book l left before after) same attended);
+            subst (λ slot. IfSome slot (λ left. IsAttended connection site book l left before after seen seeing)) (sym written.changed)
+            (subst (λ l. IsAttended connection site book l left before after seen seeing) same attended);
         closed = λ l e none. absurd (cc (written.changed, none));
         once = λ l e. let same : line ≡ l = cc (is, e) in subst (λ (l : Line C). IsSome l.answer → after ≡ before) same once;
         one = one;

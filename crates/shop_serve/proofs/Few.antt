@@ -9,6 +9,7 @@ use Rattle.shop_serve.specs.declared.lines.Fate.{Fate}
 use Rattle.shop_serve.specs.declared.lines.Line.{Line}
 use Rattle.shop_serve.specs.declared.lines.TheConstants.{MOST_LINES}
 use Rattle.shop_serve.specs.declared.sites.Site.{Site}
+use Rattle.shop_serve.specs.Times.{Times}
 use Rattle.shop_serve.specs.Lines.{AreAttended, IsAttendedAt, IsOpened, IsTurnedAway, MakesRoom}
 use Rattle.shop_serve.specs.Rounds.{AreReceived, AreRounds, FewAreOpen, IsReceived, IsRound, Round}
 use Rattle.shop_serve.proofs.Counts.{one, one-most, count-but, count-fewer}
@@ -34,39 +35,43 @@ module _ {C : Type 0} where
   turned-few deaf old new few t = omega (arith, room-made old t.room few t.made, ap (count_by is_some) t.same)
 
 module _ {C : Type 0} (connection : ConnectionGhosts C) (site : Site) {B : Type 0} (book : Ghosts B) (deaf : Type 0) where
-  attended-fewer : (fate : Fate) (key : ℕ) (old new : Slab (Line C)) (before after : B) → IsAttendedAt connection site book fate key old new before after → slab_len new ≤ slab_len old
-  attended-fewer fate key old new before after attended = by_slot (get old key) refl
+  attended-fewer : (fate : Fate) (key : ℕ) (old new : Slab (Line C)) (before after : B) (seen seeing : Times)
+      → IsAttendedAt connection site book fate key old new before after seen seeing → slab_len new ≤ slab_len old
+  attended-fewer fate key old new before after seen seeing attended = by_slot (get old key) refl
     where
       by_slot : (slot : Option (Line C)) → get old key ≡ slot → slab_len new ≤ slab_len old
       by_slot None is = omega (arith, count-but is_some refl key old.slots new.slots attended.others, ap counted is, ap counted (attended.absent is).0)
       by_slot (Some line) is = omega (arith, count-but is_some refl key old.slots new.slots attended.others, ap counted is, one-most is_some refl (get new key))
 
-  each-fewer : (keys : List ℕ) (old new : Slab (Line C)) (before after : B) → AreAttended connection site book keys old new before after → slab_len new ≤ slab_len old
-  each-fewer [] old new before after run = omega (arith, ap (λ (s : Slab (Line C)). slab_len s) run.0)
-  each-fewer (key ∷ keys) old new before after run =
-      omega (arith, attended-fewer run.0 key old run.1 before run.2 run.3, each-fewer keys run.1 new run.2 after run.4)
+  each-fewer : (keys : List ℕ) (old new : Slab (Line C)) (before after : B) (seen seeing : Times)
+      → AreAttended connection site book keys old new before after seen seeing → slab_len new ≤ slab_len old
+  each-fewer [] old new before after seen seeing run = omega (arith, ap (λ (s : Slab (Line C)). slab_len s) run.0)
+  each-fewer (key ∷ keys) old new before after seen seeing run =
+      omega (arith, attended-fewer run.0 key old run.1 before run.2 seen run.3 run.4, each-fewer keys run.1 new run.2 after run.3 seeing run.5)
 
-  received-few : (now : Instant) (stream : C) (old new : Slab (Line C)) (before after : B) → slab_len old ≤ MOST_LINES → IsReceived connection site book deaf now stream old new before after
-      → slab_len new ≤ MOST_LINES
-  received-few now stream old new before after few (inl away) = turned-few deaf old new few away.0
-  received-few now stream old new before after few (inr here) =
-      omega (arith, opened-few now stream here.key old here.lines few here.opened, attended-fewer here.fate here.key here.lines new before after here.attended)
+  received-few : (stream : C) (old new : Slab (Line C)) (before after : B) (seen seeing : Times) → slab_len old ≤ MOST_LINES
+      → IsReceived connection site book deaf stream old new before after seen seeing → slab_len new ≤ MOST_LINES
+  received-few stream old new before after seen seeing few (now, between, told, inl away) = turned-few deaf old new few away.0
+  received-few stream old new before after seen seeing few (now, between, told, inr here) =
+      omega (arith, opened-few now stream here.key old here.lines few here.opened, attended-fewer here.fate here.key here.lines new before after between seeing here.attended)
 
-  came-few : (now : Instant) (came : List C) (old new : Slab (Line C)) (before after : B) → slab_len old ≤ MOST_LINES → AreReceived connection site book deaf now came old new before after
-      → slab_len new ≤ MOST_LINES
-  came-few now [] old new before after few run = omega (arith, few, ap (λ (s : Slab (Line C)). slab_len s) run.0)
-  came-few now (stream ∷ came) old new before after few run =
-      came-few now came run.0 new run.1 after (received-few now stream old run.0 before run.1 few run.2) run.3
+  came-few : (came : List C) (old new : Slab (Line C)) (before after : B) (seen seeing : Times) → slab_len old ≤ MOST_LINES
+      → AreReceived connection site book deaf came old new before after seen seeing → slab_len new ≤ MOST_LINES
+  came-few [] old new before after seen seeing few run = omega (arith, few, ap (λ (s : Slab (Line C)). slab_len s) run.0)
+  came-few (stream ∷ came) old new before after seen seeing few run =
+      came-few came run.0 new run.1 after run.2 seeing (received-few stream old run.0 before run.1 seen run.2 few run.3) run.4
 
-  round-few : (round : Round C) (old new : Slab (Line C)) (before after : B) → slab_len old ≤ MOST_LINES → IsRound connection site book deaf round old new before after → slab_len new ≤ MOST_LINES
-  round-few round old new before after few r =
-      came-few round.now round.came r.kept new r.mid after
-      (omega (arith, few, each-fewer round.keys old r.attended before r.mid r.each, late-fewer is_some refl round.now r.attended r.kept r.late)) r.received
+  round-few : (round : Round C) (old new : Slab (Line C)) (before after : B) (seen seeing : Times) → slab_len old ≤ MOST_LINES
+      → IsRound connection site book deaf round old new before after seen seeing → slab_len new ≤ MOST_LINES
+  round-few round old new before after seen seeing few r =
+      came-few round.came r.kept new r.mid after r.second seeing
+      (omega (arith, few, each-fewer round.keys old r.attended before r.mid seen r.first r.each, late-fewer is_some refl round.now r.attended r.kept r.late)) r.received
 
-  rounds-few : (rounds : List (Round C)) (old new : Slab (Line C)) (before after : B) → slab_len old ≤ MOST_LINES → AreRounds connection site book deaf rounds old new before after → slab_len new ≤ MOST_LINES
-  rounds-few [] old new before after few run = omega (arith, few, ap (λ (s : Slab (Line C)). slab_len s) run.0)
-  rounds-few (round ∷ rounds) old new before after few run =
-      rounds-few rounds run.0 new run.1 after (round-few round old run.0 before run.1 few run.2) run.3
+  rounds-few : (rounds : List (Round C)) (old new : Slab (Line C)) (before after : B) (seen seeing : Times) → slab_len old ≤ MOST_LINES
+      → AreRounds connection site book deaf rounds old new before after seen seeing → slab_len new ≤ MOST_LINES
+  rounds-few [] old new before after seen seeing few run = omega (arith, few, ap (λ (s : Slab (Line C)). slab_len s) run.0)
+  rounds-few (round ∷ rounds) old new before after seen seeing few run =
+      rounds-few rounds run.0 new run.1 after run.2 seeing (round-few round old run.0 before run.1 seen run.2 few run.3) run.4
 
   pub few_are_open : FewAreOpen connection site book deaf
-  few_are_open rounds first last before after run none = rounds-few rounds first last before after (none-few first none) run
+  few_are_open rounds first last before after seen seeing run none = rounds-few rounds first last before after seen seeing (none-few first none) run

@@ -12,6 +12,7 @@ use Rattle.shop_serve.specs.declared.lines.Line.{Line}
 use Rattle.shop_serve.specs.declared.sites.Site.{Site}
 use Rattle.shop_serve.specs.Lines.{IsAttendedAt, IsFresh}
 use Rattle.shop_serve.specs.Serving.{IsAnswered}
+use Rattle.shop_serve.specs.Times.{Times}
 
 module _ {C : Type 0} (connection : ConnectionGhosts C) where
   -- nothing more came of a connection only where nothing is left of what comes, and none is lost
@@ -42,6 +43,6 @@ module _ {C : Type 0} (connection : ConnectionGhosts C) where
     -- one that came now with a whole request, and is attended to, has its answer, where memory isn't wanting
     abbrev pub WholeIsAnswered : Type 0
     WholeIsAnswered =
-        (now : Instant) (stream : C) (input : List ℕ) (line : Line C) (fate : Fate) (key : ℕ) (old new : Slab (Line C)) (before after : B)
+        (now : Instant) (stream : C) (input : List ℕ) (line : Line C) (fate : Fate) (key : ℕ) (old new : Slab (Line C)) (before after : B) (seen seeing : Times)
         → TellsAll → BringsRequest stream input → IsFresh now stream line → get old key ≡ Some line → fate ≢ NoMemory
-        → IsAttendedAt connection site book fate key old new before after → HasOwnAnswer input before after
+        → IsAttendedAt connection site book fate key old new before after seen seeing → HasOwnAnswer input before after

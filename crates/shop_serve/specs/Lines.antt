@@ -15,6 +15,7 @@ use Rattle.shop_serve.specs.declared.lines.Line.{Line}
 use Rattle.shop_serve.specs.declared.lines.TheConstants.{PATIENCE, MOST_LINES}
 use Rattle.shop_serve.specs.declared.sites.Site.{Site}
 use Rattle.shop_serve.specs.Serving.{HasServed, IsAnswered}
+use Rattle.shop_serve.specs.Times.{Times, Tells, TellsNone}
 
 -- what came is an unfinished request, and so is all that goes on from it with fewer bytes than are needed
 pub record AwaitsMore (came : List ℕ) (needed : ℕ) : Type 0 where
@@ -31,7 +32,7 @@ module _ {C : Type 0} where
   abbrev pub unanswered : Slab (Line C) → ℕ
   unanswered lines = count_by is_unanswered lines.slots
 
-  -- it had its seconds, from when it was accepted or its answer was made
+  -- it had its seconds, from the time when it was accepted or its answer was made
   abbrev pub is_late : Instant → Line C → Bool
   is_late now line = leb (PATIENCE * 1000000000) (instant_nanos now - instant_nanos line.since)
 
@@ -110,41 +111,47 @@ IsMute connection old before new after =
 
 module _ {C : Type 0} (connection : ConnectionGhosts C) (site : Site) {B : Type 0} (book : Ghosts B) where
   -- A connection with an answer: it keeps it, takes more of it, to its end or until it takes no more, and nothing else is done.
-  pub record IsHandedOn (old new : Line C) (before after : B) (answer : List ℕ) : Type 0 where
+  -- Its seconds go on.
+  pub record IsHandedOn (old new : Line C) (before after : B) (seen seeing : Times) (answer : List ℕ) : Type 0 where
     pub same : after ≡ before
+    pub unread : TellsNone seen seeing
+    pub since : new.since ≡ old.since
     pub came : new.came ≡ old.came
     pub kept : new.answer ≡ old.answer
     pub takes : TakesAnswer connection answer old.stream old.sent new.stream new.sent
     pub stops : (new.sent ≡ length answer) ⊎ connection.is_full new.stream
 
   -- The answer to all that came of a connection, once that was whole or at its end. It took all of it, or its first bytes, until
-  -- it took no more.
-  pub record IsAnsweredWhole (old new : Line C) (rest : Option (List ℕ)) (before after : B) (answer : List ℕ) : Type 0 where
+  -- it took no more. Its seconds begin anew, at the time that is read then.
+  pub record IsAnsweredWhole (old new : Line C) (rest : Option (List ℕ)) (before after : B) (seen seeing : Times) (answer : List ℕ) : Type 0 where
+    pub since : Tells seen seeing new.since
     pub whole : IsSettled new.came.items ⊎ IsAtEnd rest
     pub answered : IsAnswered site book before after new.came.items answer
     pub takes : TakesAnswer connection answer old.stream 0 new.stream new.sent
     pub stops : (new.sent ≡ length answer) ⊎ connection.is_full new.stream
 
   -- It has no answer yet and took nothing, nothing is done, and nothing more came of it. What came is still an unfinished
-  -- request, where it was one before.
-  pub record IsLeftWaiting (old new : Line C) (before after : B) : Type 0 where
+  -- request, where it was one before. Its seconds go on, whatever came.
+  pub record IsLeftWaiting (old new : Line C) (before after : B) (seen seeing : Times) : Type 0 where
     pub same : after ≡ before
+    pub unread : TellsNone seen seeing
+    pub since : new.since ≡ old.since
     pub took : connection.contents new.stream ≡ connection.contents old.stream
     pub drained : connection.is_drained new.stream
     pub read : IsReadOn (connection.remaining old.stream) (connection.remaining new.stream) old.came.items new.came.items
     pub awaits : AwaitsMore old.came.items old.needed → AwaitsMore new.came.items new.needed
 
   -- A connection without an answer: what came of it goes on by what it gave. It is left waiting, or it is answered.
-  pub record IsHeard (old new : Line C) (before after : B) : Type 0 where
+  pub record IsHeard (old new : Line C) (before after : B) (seen seeing : Times) : Type 0 where
     pub rest : Option (List ℕ)
     pub read : IsReadOn (connection.remaining old.stream) rest old.came.items new.came.items
-    pub waits : new.answer ≡ None → IsLeftWaiting old new before after
-    pub answered : IfSome new.answer (λ answer. IsAnsweredWhole old new rest before after answer.items)
+    pub waits : new.answer ≡ None → IsLeftWaiting old new before after seen seeing
+    pub answered : IfSome new.answer (λ answer. IsAnsweredWhole old new rest before after seen seeing answer.items)
 
   -- a connection was attended to, and stays open
-  abbrev pub IsAttended : Line C → Line C → B → B → Type 0
-  IsAttended old new before after =
-      IfSome old.answer (λ answer. IsHandedOn old new before after answer.items) × (old.answer ≡ None → IsHeard old new before after)
+  abbrev pub IsAttended : Line C → Line C → B → B → (seen seeing : Times) → Type 0
+  IsAttended old new before after seen seeing =
+      IfSome old.answer (λ answer. IsHandedOn old new before after seen seeing answer.items) × (old.answer ≡ None → IsHeard old new before after seen seeing)
 
   -- no request can come of it, or it can't take its answer: it is lost, or told to have taken more than that
   abbrev pub IsSpoiled : Line C → Line C → Type 0
@@ -152,22 +159,23 @@ module _ {C : Type 0} (connection : ConnectionGhosts C) (site : Site) {B : Type 
       IsMute connection old.stream old.came.items new.stream new.came.items ⊎ IsSomeAnd old.answer (λ answer. length answer.items < old.sent)
 
   -- why a connection is closed that is attended to: it took its whole answer, or is spoiled; or memory was wanting
-  abbrev pub IsClosedBy : Fate → Line C → B → B → Type 0
-  IsClosedBy fate line before after =
-      (fate ≡ NoMemory) ⊎ ((left : Line C) × (IsAttended line left before after × IsSpent left ⊎ IsSpoiled line left))
+  abbrev pub IsClosedBy : Fate → Line C → B → B → (seen seeing : Times) → Type 0
+  IsClosedBy fate line before after seen seeing =
+      (fate ≡ NoMemory) ⊎ ((left : Line C) × (IsAttended line left before after seen seeing × IsSpent left ⊎ IsSpoiled line left))
 
   -- The connection of a key was attended to, if there is one, and is closed or stays; no other was. At most one request was
   -- served, and none where it had an answer.
-  pub record IsAttendedAt (fate : Fate) (key : ℕ) (old new : Slab (Line C)) (before after : B) : Type 0 where
+  pub record IsAttendedAt (fate : Fate) (key : ℕ) (old new : Slab (Line C)) (before after : B) (seen seeing : Times) : Type 0 where
     pub others : (other : ℕ) → other ≢ key → get new other ≡ get old other
     pub absent : get old key ≡ None → (get new key ≡ None) × (after ≡ before)
-    pub there : (line : Line C) → get old key ≡ Some line → IfSome (get new key) (λ left. IsAttended line left before after)
-    pub closed : (line : Line C) → get old key ≡ Some line → get new key ≡ None → IsClosedBy fate line before after
+    pub there : (line : Line C) → get old key ≡ Some line → IfSome (get new key) (λ left. IsAttended line left before after seen seeing)
+    pub closed : (line : Line C) → get old key ≡ Some line → get new key ≡ None → IsClosedBy fate line before after seen seeing
     pub once : (line : Line C) → get old key ≡ Some line → IsSome line.answer → after ≡ before
     pub one : HasServed site book before after 1
 
   -- the connections of these keys were attended to, one after another
-  abbrev pub AreAttended : List ℕ → Slab (Line C) → Slab (Line C) → B → B → Type 0
-  AreAttended [] old new before after = (new ≡ old) × (after ≡ before)
-  AreAttended (key ∷ keys) old new before after =
-      (fate : Fate) × (lines : Slab (Line C)) × (mid : B) × IsAttendedAt fate key old lines before mid × AreAttended keys lines new mid after
+  abbrev pub AreAttended : List ℕ → Slab (Line C) → Slab (Line C) → B → B → (seen seeing : Times) → Type 0
+  AreAttended [] old new before after seen seeing = (new ≡ old) × (after ≡ before) × TellsNone seen seeing
+  AreAttended (key ∷ keys) old new before after seen seeing =
+      (fate : Fate) × (lines : Slab (Line C)) × (mid : B) × (between : Times) × IsAttendedAt fate key old lines before mid seen between
+      × AreAttended keys lines new mid after between seeing

@@ -1,5 +1,5 @@
 -- Connections that were served, one request after another.
-use Rattle.std.specs.Prelude.{◌≡◌, ◌≢◌, ◌⊎◌, ◌<◌, ◌≤◌, ◌+◌, ℕ, List, [], ◌∷◌, ◌++◌, length, map, Some}
+use Rattle.std.specs.Prelude.{◌≡◌, ◌≢◌, ◌⊎◌, ◌<◌, ◌≤◌, ◌+◌, ℕ, List, [], ◌∷◌, ◌++◌, length, map, Option, Some, None}
 use Rattle.std.specs.List.{flat_map}
 use Rattle.shop_desk.specs.Faults.{CountsUp, StoreFailed}
 use Rattle.shop_desk.specs.Handled.{HasAccount}
@@ -21,6 +21,7 @@ use Rattle.shop_book.specs.declared.books.Book.{Ghosts}
 use Rattle.shop_book.specs.Kept.{OnContent}
 use Rattle.shop_wire.specs.AnswerBytes.{Telling, replied, bytes_of}
 use Rattle.shop_wire.specs.Serves.{SenseStep, exchanged, IsServed}
+use Rattle.shop_serve.specs.declared.serving.TheConstants.{MOST_SERVED}
 use Rattle.shop_serve.specs.Sites.{own_bytes}
 use Rattle.shop_serve.specs.declared.sites.Site.{Site}
 
@@ -96,6 +97,11 @@ HasServed site book before after count = OnContent book before after (λ m. IsSo
 -- a number fell from one to another, and at most as many requests were served as it fell by
 abbrev pub Advances : Site → {B : Type 0} → Ghosts B → B → B → ℕ → ℕ → Type 0
 Advances site book before after from to = (n : ℕ) × (n + to ≤ from) × HasServed site book before after n
+
+-- as many connections as a limit says; without one, more than come in the life of a machine
+abbrev pub most_served : Option ℕ → ℕ
+most_served (Some limit) = limit
+most_served None = MOST_SERVED
 
 -- memory was wanting before the first connection, or at most as many as the limit says were served
 abbrev pub IsUnserved : Site → {B : Type 0} → Ghosts B → B → B → ℕ → ServeFault → Type 0

@@ -11,7 +11,9 @@ mod ports;
 mod serving;
 mod sites;
 mod transfers;
+mod watches;
 
 pub use faults::ServeFault;
+pub use ports::{Listener, PortCause, listen};
 pub use serving::serve_on;
 pub use sites::Site;

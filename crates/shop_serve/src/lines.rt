@@ -1,4 +1,4 @@
-//! The open connections: how long each has, what came of it, and how much of its answer was handed over.
+//! The open connections: since when each has its seconds, what came of it, and how much of its answer was handed over.
 
 ghost use Rattle.std.specs.Prelude.{◌≡◌, ◌≢◌, ◌⊎◌, ◌<◌, ◌≤◌, ◌+◌, ◌↔◌, length, None, true, false, IfSome, IsSome, IsSomeAnd};
 ghost use Rattle.std.specs.Time.{instant_nanos};
@@ -8,6 +8,7 @@ ghost use Rattle.shop_request.specs.Senses.{IsSettled};
 ghost use Rattle.shop_serve.specs.Lines.{AwaitsMore, ClosesLate, IsAttended, IsAttendedAt, HasRoom, IsClosedBy, IsMute, IsOldest, IsOpened, IsSpoiled, IsTurnedAway, MakesRoom, MayGo, NoneMayGo, TakesAnswer, is_late, unanswered};
 ghost use Rattle.shop_serve.specs.declared.lines.Fate.TheVariants as fate;
 ghost use Rattle.shop_serve.specs.Serving.{Advances, HasServed, IsAnswered};
+ghost use Rattle.shop_serve.specs.Times.{Tells, TellsNone};
 ghost use Rattle.shop_serve.specs.declared.transfers.Given.TheVariants as given;
 ghost use Rattle.shop_serve.specs.declared.transfers.Taken.TheVariants as taken;
 
@@ -16,6 +17,7 @@ use crate::connections::Connection;
 use crate::ports::Port;
 use crate::sites::Site;
 use crate::transfers::{Given, Taken, drop_rest, hand_over, take_bytes};
+use crate::watches::Watch;
 use shop_book::Book;
 use slab::Slab;
 use std::alloc::Global;
@@ -53,6 +55,7 @@ pub(crate) enum Fate {
 // Hands over what is left of the answer, as far as it is taken.
 fn answer_on<C: Connection>(line: &mut Line<C>) -> Given
     ensures kept { (line.new.came ≡ line.old.came) × (line.new.answer ≡ line.old.answer) }
+    ensures since { line.new.since ≡ line.old.since }
     ensures takes { result ≢ given.Lost
         → IfSome line.old.answer (λ answer.
         TakesAnswer C.Connection answer.items line.old.stream line.old.sent line.new.stream
@@ -74,11 +77,11 @@ fn answer_on<C: Connection>(line: &mut Line<C>) -> Given
 }
 
 // Takes what has come of a request, and has it answered once it is whole.
-fn ask<C: Connection, B: Book>(
+fn ask<C: Connection, K: Watch, B: Book>(
     alloc: Global,
     site: &Site,
     line: &mut Line<C>,
-    now: Instant,
+    watch: &mut K,
     book: &mut B,
 ) -> Taken
     requires waits { line.old.answer ≡ None }
@@ -88,6 +91,10 @@ fn ask<C: Connection, B: Book>(
     ensures kept { C.contents line.new.stream ≡ C.contents line.old.stream }
     ensures waits { result ≡ taken.Waits → (line.new.answer ≡ None) × (book.new ≡ book.old)
         × C.is_drained line.new.stream }
+    ensures goes_on { result ≡ taken.Waits → (line.new.since ≡ line.old.since)
+        × TellsNone (K.times watch.old) (K.times watch.new) }
+    ensures since { result ≡ taken.Whole
+        → Tells (K.times watch.old) (K.times watch.new) line.new.since }
     ensures awaits { result ≡ taken.Waits → AwaitsMore line.old.came.items line.old.needed
         → AwaitsMore line.new.came.items line.new.needed }
     ensures over { result ≡ taken.Over
@@ -112,25 +119,27 @@ fn ask<C: Connection, B: Book>(
         Taken::Waits => return Taken::Waits,
         Taken::Whole => (),
     }
+    watch.stop();
     let Some(answer) = answer_of(alloc, site, &line.came, book) else {
         return Taken::NoMemory;
     };
     line.answer = Some(answer);
     line.sent = 0;
-    line.since = now;
+    line.since = watch.now();
     Taken::Whole
 }
 
 // Takes what has come of a request, has it answered once it is whole, and hands over its answer as far as it is taken.
-fn attend<C: Connection, B: Book>(
+fn attend<C: Connection, K: Watch, B: Book>(
     alloc: Global,
     site: &Site,
     line: &mut Line<C>,
-    now: Instant,
+    watch: &mut K,
     book: &mut B,
 ) -> Given
     ensures attended { result ≢ given.Lost → result ≢ given.NoMemory
-        → IsAttended C.Connection site.now B.Book line.old line.new book.old book.new }
+        → IsAttended C.Connection site.now B.Book line.old line.new book.old book.new
+        (K.times watch.old) (K.times watch.new) }
     ensures lost { result ≡ given.Lost → IsSpoiled C.Connection site.now B.Book line.old line.new }
     ensures whole { result ≡ given.Whole
         → IsSomeAnd line.new.answer (λ answer. line.new.sent ≡ length answer.items) }
@@ -141,7 +150,7 @@ fn attend<C: Connection, B: Book>(
     if line.answer.is_some() {
         return answer_on(line);
     }
-    match ask(alloc, site, line, now, book) {
+    match ask(alloc, site, line, watch, book) {
         Taken::NoMemory => return Given::NoMemory,
         Taken::Over => return Given::Lost,
         Taken::Waits => return Given::Waits,
@@ -155,6 +164,7 @@ fn attend<C: Connection, B: Book>(
 fn finish<C: Connection>(line: &mut Line<C>) -> Fate
     ensures kept { (line.new.came ≡ line.old.came) × (line.new.answer ≡ line.old.answer)
         × (line.new.sent ≡ line.old.sent) }
+    ensures since { line.new.since ≡ line.old.since }
     ensures contents { C.contents line.new.stream ≡ C.contents line.old.stream }
 {
     line.stream.end_writing();
@@ -168,22 +178,24 @@ fn finish<C: Connection>(line: &mut Line<C>) -> Fate
 }
 
 // Attends to a connection.
-fn attend_once<C: Connection, B: Book>(
+fn attend_once<C: Connection, K: Watch, B: Book>(
     alloc: Global,
     site: &Site,
     line: &mut Line<C>,
-    now: Instant,
+    watch: &mut K,
     book: &mut B,
 ) -> Fate
     ensures attended { result ≡ fate.Stays
-        → IsAttended C.Connection site.now B.Book line.old line.new book.old book.new }
+        → IsAttended C.Connection site.now B.Book line.old line.new book.old book.new
+        (K.times watch.old) (K.times watch.new) }
     ensures over { result ≡ fate.Over
-        → IsClosedBy C.Connection site.now B.Book fate.Over line.old book.old book.new }
+        → IsClosedBy C.Connection site.now B.Book fate.Over line.old book.old book.new
+        (K.times watch.old) (K.times watch.new) }
     ensures once { IsSome line.old.answer → book.new ≡ book.old }
     ensures one { HasServed site.now B.Book book.old book.new 1 }
     ensures honest { B.is_honest book.new → B.is_honest book.old }
 {
-    match attend(alloc, site, line, now, book) {
+    match attend(alloc, site, line, watch, book) {
         Given::Waits => Fate::Stays,
         Given::Lost => Fate::Over,
         Given::NoMemory => Fate::NoMemory,
@@ -192,16 +204,16 @@ fn attend_once<C: Connection, B: Book>(
 }
 
 /// Attends to the connection of a key, and closes it when it is over or memory is wanting.
-pub(crate) fn attend_at<C: Connection + Drop, B: Book>(
+pub(crate) fn attend_at<C: Connection + Drop, K: Watch, B: Book>(
     alloc: Global,
     site: &Site,
     lines: &mut Slab<Line<C>>,
     key: usize,
-    now: Instant,
+    watch: &mut K,
     book: &mut B,
 ) -> Fate
     ensures at { IsAttendedAt C.Connection site.now B.Book result key lines.old lines.new book.old
-        book.new }
+        book.new (K.times watch.old) (K.times watch.new) }
     ensures run { Advances site.now B.Book book.old book.new (unanswered lines.old)
         (unanswered lines.new) }
     ensures honest { B.is_honest book.new → B.is_honest book.old }
@@ -209,7 +221,7 @@ pub(crate) fn attend_at<C: Connection + Drop, B: Book>(
     let Some(line) = lines.get_mut(key) else {
         return Fate::Stays;
     };
-    match attend_once(alloc, site, line, now, book) {
+    match attend_once(alloc, site, line, watch, book) {
         Fate::Stays => Fate::Stays,
         Fate::Over => {
             let _ = lines.try_remove(key);

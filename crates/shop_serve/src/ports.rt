@@ -2,15 +2,16 @@
 
 ghost use Rattle.std.specs.Prelude.{◌≡◌, ℕ, List, Option, None, OnOk, map, false, ⊤};
 ghost use Rattle.mio.specs.Events.{items};
-ghost use Rattle.shop_serve.specs.Rounds.{Adds, given_by, key_of};
+ghost use Rattle.shop_serve.specs.Rounds.{given_by, key_of};
+ghost use Rattle.shop_serve.specs.Times.{Adds};
 
 use crate::faults::ServeFault;
-use mio::net::TcpStream as Stream;
+use mio::net::{TcpListener, TcpStream as Stream};
 use mio::unix::SourceFd;
 use mio::{Events, Interest, Poll, Token};
 use std::alloc::{AllocError, Global};
 use std::io::{self, ErrorKind};
-use std::net::{Net, TcpListener};
+use std::net::{Ipv4Addr, Net, SocketAddr, SocketAddrV4};
 use std::os::fd::AsRawFd;
 use std::time::Duration;
 
@@ -22,6 +23,44 @@ const MOST_TRIES: u32 = 1000;
 
 // The token of the listener. No connection has it.
 const LISTENER: Token = Token(usize::MAX);
+
+/// A listener on a port of this machine alone.
+#[derive(Drop)]
+pub struct Listener {
+    socket: TcpListener,
+}
+
+/// Why a port can't be listened to.
+#[derive(Clone, Copy, Debug, PartialEq, Eq)]
+pub enum PortCause {
+    /// Another program listens to it.
+    InUse,
+    /// This account may not.
+    NotAllowed,
+    /// The system refuses it, or connections can't be accepted or waited for.
+    Refused,
+}
+
+// Why the system refused to listen.
+fn port_cause(error: &io::Error) -> PortCause {
+    match error.kind() {
+        ErrorKind::AddrInUse => PortCause::InUse,
+        ErrorKind::PermissionDenied => PortCause::NotAllowed,
+        _ => PortCause::Refused,
+    }
+}
+
+/// Listens on a port of this machine, with the longest row of connections waiting that the system allows.
+pub fn listen<R: Net>(rt: &R, port: u32) -> Result<Listener, PortCause> {
+    let Ok(number) = u16::try_from(port) else {
+        return Err(PortCause::Refused);
+    };
+    let address = SocketAddr::V4(SocketAddrV4::new(Ipv4Addr::LOCALHOST, number));
+    match TcpListener::bind(rt, address) {
+        Ok(socket) => Ok(Listener { socket }),
+        Err(error) => Err(port_cause(&error)),
+    }
+}
 
 /// What connections come by: it reports which of them have something, and gives those that come.
 pub(crate) trait Port<C> {
@@ -62,18 +101,18 @@ pub(crate) trait Port<C> {
 /// A listener that is watched beside the connections that it gave.
 #[derive(Drop)]
 pub(crate) struct Door<'a> {
-    listener: &'a TcpListener,
+    listener: &'a Listener,
     poll: Poll,
     events: Events,
     keys: Vec<usize>,
 }
 
 impl<'a> Door<'a> {
-    /// Watches a listener, which no longer blocks from then on.
+    /// Watches a listener.
     pub(crate) fn new<R: Net>(
         rt: &R,
         alloc: Global,
-        listener: &'a TcpListener,
+        listener: &'a Listener,
     ) -> Result<Door<'a>, ServeFault> {
         let events = Events::with_capacity(alloc, MOST_EVENTS)?;
         let keys = Vec::with_capacity(alloc, MOST_EVENTS)?;
@@ -88,14 +127,11 @@ impl<'a> Door<'a> {
 }
 
 // Waits for what comes to a listener.
-fn watched<R: Net>(rt: &R, listener: &TcpListener) -> Result<Poll, ServeFault> {
+fn watched<R: Net>(rt: &R, listener: &Listener) -> Result<Poll, ServeFault> {
     let Ok(poll) = Poll::new(rt) else {
         return Err(ServeFault::Port);
     };
-    if listener.set_nonblocking(true).is_err() {
-        return Err(ServeFault::Port);
-    }
-    let descriptor = listener.as_raw_fd();
+    let descriptor = listener.socket.as_raw_fd();
     let mut source = SourceFd(&descriptor);
     if poll
         .registry()
@@ -128,14 +164,10 @@ fn is_gone(error: &io::Error) -> bool {
 }
 
 // The next connection that a listener has, where one waits and can be accepted now.
-fn next_stream(listener: &TcpListener) -> Result<Option<Stream>, ServeFault> {
+fn next_stream(listener: &Listener) -> Result<Option<Stream>, ServeFault> {
     for _ in 0..MOST_TRIES {
-        match listener.accept() {
-            Ok((stream, _)) => {
-                if stream.set_nonblocking(true).is_ok() {
-                    return Ok(Some(Stream::from_std(stream)));
-                }
-            }
+        match listener.socket.accept() {
+            Ok((stream, _)) => return Ok(Some(stream)),
             Err(error) => match error.kind() {
                 ErrorKind::Interrupted | ErrorKind::ConnectionAborted => (),
                 _ if is_gone(&error) => return Err(ServeFault::Port),

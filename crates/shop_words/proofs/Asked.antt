@@ -1,14 +1,16 @@
 -- Words that ask for nothing.
-use Rattle.std.proofs.Common.{◌≡◌, ◌∙◌, ℕ, List, Option, Some, None, codes, true, subst, sym, ap, refl}
+use Rattle.std.proofs.Common.{◌≡◌, ◌∙◌, ◌⊎◌, ℕ, List, Option, Some, None, codes, inl, inr, true, subst, sym, ap, refl}
 use Rattle.std.specs.Prelude.{◌==◌, is_some, option_map, IfSome, MatchOption, slice_index, if◌then◌else◌}
-use Rattle.clap.specs.Words.{Row, Text, first_of}
+use Rattle.clap.specs.Words.{Row, Text, first_of, one_of}
 use Rattle.cut_measure.specs.Codes.{code_of}
+use Rattle.cut_measure.specs.declared.ranges.TheConstants.{MOST_KERF}
 use Rattle.shop_words.specs.declared.words.Request.{Request}
-use Rattle.shop_words.specs.declared.words.Request.TheVariants.{Replay, Plan, Orders, Serve, Ticket, Yield}
+use Rattle.shop_words.specs.declared.words.Request.TheVariants.{Replay, Plan, PlanOrder, Orders, Serve, Ticket, Yield}
 use Rattle.shop_words.specs.declared.words.Word.{Word}
 use Rattle.shop_words.specs.declared.words.Word.TheVariants as word
 use Rattle.shop_words.specs.declared.words.ImportAs.{ImportAs}
-use Rattle.shop_words.specs.CommandLine.{names_message, IsImportAs, IsOrdersAsked, IsPlanAsked, IsServeAsked, IsTicketAsked, IsYieldAsked, IsCode, IsAsked, Asks, AsksNothing, word_text}
+use Rattle.shop_words.specs.declared.words.TheConstants.{MOST_CONNECTIONS}
+use Rattle.shop_words.specs.CommandLine.{names_message, AsAsked, HasNumber, IsLimit, IsNumber, IsWhole, IsWholeAsked, IsSingleAsked, IsImportAs, IsOrdersAsked, IsPlanAsked, IsServeAsked, IsTicketAsked, IsYieldAsked, IsCode, IsAsked, Asks, AsksNothing, word_text}
 
 nothing : {X : Type 0} (found : Option X) (x : X) → found ≡ None → found ≡ Some x → ⊥
 nothing found x none some = subst (λ (o : Option _). IfSome o (λ _. ⊥)) (sym (sym some ∙ none)) tt
@@ -34,18 +36,49 @@ pub the_code : (found : Option Text) (text : Text) (code : List ℕ) → Some te
 the_code None text code is has = absurd (nothing None text refl (sym is))
 the_code (Some t) text code is has = sym (has ∙ ap code_of (some_is text t is))
 
+-- a text stands for one number
+pub one_number : (found : Option Text) (m n : ℕ) → IsNumber found m → IsNumber found n → m ≡ n
+one_number None m n is too = absurd is
+one_number (Some text) m n is too = sym is.1 ∙ too.1
+
+-- what is asked is asked in other words
+pub as_asked : {X : Type 0} (found : Option X) (P Q : X → Type 0) → ((x : X) → P x → Q x) → ((x : X) → Q x → P x) → AsAsked found P → AsAsked found Q
+as_asked None P Q there back none = λ x q. none x (back x q)
+as_asked (Some x) P Q there back is = there x is
+
+with_flag : {W A B : Type 0} → W → (W × A) ⊎ ((W → ⊥) × B) → A
+with_flag flag (inl p) = p.1
+with_flag flag (inr p) = absurd (p.0 flag)
+
+without_flag : {W A B : Type 0} → (W → ⊥) → (W × A) ⊎ ((W → ⊥) × B) → B
+without_flag none (inl p) = absurd (none p.0)
+without_flag none (inr p) = p.1
+
+module _ (rows : List Row) (path : Text) (kerf : ℕ) (file : first_of (codes "FILE") rows ≡ Some path) (number : HasNumber (codes "kerf") rows 0 MOST_KERF kerf) where
+  -- what is asked of file and kerf is asked of these
+  of_these : (P : Text → ℕ → Type 0) (t : Text) (k : ℕ) → first_of (codes "FILE") rows ≡ Some t → HasNumber (codes "kerf") rows 0 MOST_KERF k → P t k → P path kerf
+  of_these P t k file_too number_too is =
+      let same_path = some_is t path (sym file_too ∙ file) in
+      let same_kerf = one_number (one_of (codes "kerf") rows) k kerf number_too.0 number.0 in
+      subst (λ n. P path n) same_kerf (subst (λ u. P u k) same_path is)
+
+  pub whole_asked : IsWhole rows → (found : Option Request) → AsAsked found (IsWholeAsked path kerf rows) → AsAsked found (IsPlanAsked rows)
+  whole_asked whole found = as_asked found _ _
+      (λ request is. (path, kerf, file, number, inl (whole, is)))
+      (λ request asked. of_these (λ t k. IsWholeAsked t k rows request) asked.0 asked.1 asked.2 asked.3 (with_flag whole asked.4))
+
+  pub single_asked : (IsWhole rows → ⊥) → (found : Option Request) → AsAsked found (IsSingleAsked path kerf rows) → AsAsked found (IsPlanAsked rows)
+  single_asked none found = as_asked found _ _
+      (λ request is. (path, kerf, file, number, inr (none, is)))
+      (λ request asked. of_these (λ t k. IsSingleAsked t k rows request) asked.0 asked.1 asked.2 asked.3 (without_flag none asked.4))
+
 pub no_plan_file : (rows : List Row) → first_of (codes "FILE") rows ≡ None → (request : Request) → IsPlanAsked rows request → ⊥
-no_plan_file rows none Replay asked = asked
-no_plan_file rows none (Plan file kerf step) asked = nothing (first_of (codes "FILE") rows) file.now none asked.0
-no_plan_file rows none (Orders file None) asked = asked
-no_plan_file rows none (Orders file (Some told)) asked = asked
-no_plan_file rows none (Serve port store shop limit page) asked = asked
-no_plan_file rows none (Ticket store job) asked = asked
-no_plan_file rows none (Yield store material) asked = asked
+no_plan_file rows none request asked = nothing (first_of (codes "FILE") rows) asked.0 none asked.2
 
 pub no_orders_file : (rows : List Row) → first_of (codes "FILE") rows ≡ None → (request : Request) → IsOrdersAsked rows request → ⊥
 no_orders_file rows none Replay asked = asked
 no_orders_file rows none (Plan file kerf step) asked = asked
+no_orders_file rows none (PlanOrder file kerf step calls) asked = asked
 no_orders_file rows none (Orders file None) asked = nothing (first_of (codes "FILE") rows) file.now none asked.0
 no_orders_file rows none (Orders file (Some told)) asked = nothing (first_of (codes "FILE") rows) file.now none asked.0
 no_orders_file rows none (Serve port store shop limit page) asked = asked
@@ -56,6 +89,7 @@ no_orders_file rows none (Yield store material) asked = asked
 pub no_orders_message : (rows : List Row) → names_message rows ≡ true → ((told : ImportAs) → IsImportAs rows told → ⊥) → (request : Request) → IsOrdersAsked rows request → ⊥
 no_orders_message rows some none Replay asked = asked
 no_orders_message rows some none (Plan file kerf step) asked = asked
+no_orders_message rows some none (PlanOrder file kerf step calls) asked = asked
 no_orders_message rows some none (Orders file None) asked = absurd (cc (sym asked.1 ∙ some))
 no_orders_message rows some none (Orders file (Some told)) asked = none told asked.1
 no_orders_message rows some none (Serve port store shop limit page) asked = asked
@@ -65,6 +99,7 @@ no_orders_message rows some none (Yield store material) asked = asked
 pub no_serve_store : (rows : List Row) → first_of (codes "store") rows ≡ None → (request : Request) → IsServeAsked rows request → ⊥
 no_serve_store rows none Replay asked = asked
 no_serve_store rows none (Plan file kerf step) asked = asked
+no_serve_store rows none (PlanOrder file kerf step calls) asked = asked
 no_serve_store rows none (Orders file None) asked = asked
 no_serve_store rows none (Orders file (Some told)) asked = asked
 no_serve_store rows none (Serve port store shop limit page) asked = nothing (first_of (codes "store") rows) store.now none asked.1
@@ -74,15 +109,23 @@ no_serve_store rows none (Yield store material) asked = asked
 pub no_serve_shop : (rows : List Row) → first_of (codes "shop") rows ≡ None → (request : Request) → IsServeAsked rows request → ⊥
 no_serve_shop rows none Replay asked = asked
 no_serve_shop rows none (Plan file kerf step) asked = asked
+no_serve_shop rows none (PlanOrder file kerf step calls) asked = asked
 no_serve_shop rows none (Orders file None) asked = asked
 no_serve_shop rows none (Orders file (Some told)) asked = asked
 no_serve_shop rows none (Serve port store shop limit page) asked = nothing (first_of (codes "shop") rows) shop.now none asked.2
 no_serve_shop rows none (Ticket store job) asked = asked
 no_serve_shop rows none (Yield store material) asked = asked
 
+-- the limit's number is out of range
+pub no_limit : (rows : List Row) → is_some (first_of (codes "limit") rows) ≡ true → ((n : ℕ) → HasNumber (codes "limit") rows 1 MOST_CONNECTIONS n → ⊥) → (limit : Option ℕ) → IsLimit rows limit → ⊥
+no_limit rows some none None asked = absurd (cc (sym asked.0 ∙ some))
+no_limit rows some none (Some n) (inl has) = none n has
+no_limit rows some none (Some n) (inr is) = absurd (cc (sym is.0 ∙ some))
+
 pub no_ticket_store : (rows : List Row) → first_of (codes "store") rows ≡ None → (request : Request) → IsTicketAsked rows request → ⊥
 no_ticket_store rows none Replay asked = asked
 no_ticket_store rows none (Plan file kerf step) asked = asked
+no_ticket_store rows none (PlanOrder file kerf step calls) asked = asked
 no_ticket_store rows none (Orders file None) asked = asked
 no_ticket_store rows none (Orders file (Some told)) asked = asked
 no_ticket_store rows none (Serve port store shop limit page) asked = asked
@@ -92,6 +135,7 @@ no_ticket_store rows none (Yield store material) asked = asked
 pub no_yield_store : (rows : List Row) → first_of (codes "store") rows ≡ None → (request : Request) → IsYieldAsked rows request → ⊥
 no_yield_store rows none Replay asked = asked
 no_yield_store rows none (Plan file kerf step) asked = asked
+no_yield_store rows none (PlanOrder file kerf step calls) asked = asked
 no_yield_store rows none (Orders file None) asked = asked
 no_yield_store rows none (Orders file (Some told)) asked = asked
 no_yield_store rows none (Serve port store shop limit page) asked = asked
@@ -101,6 +145,7 @@ no_yield_store rows none (Yield store material) asked = nothing (first_of (codes
 pub no_yield_code : (rows : List Row) → ((code : List ℕ) → IsCode (first_of (codes "MATERIAL") rows) code → ⊥) → (request : Request) → IsYieldAsked rows request → ⊥
 no_yield_code rows none Replay asked = asked
 no_yield_code rows none (Plan file kerf step) asked = asked
+no_yield_code rows none (PlanOrder file kerf step calls) asked = asked
 no_yield_code rows none (Orders file None) asked = asked
 no_yield_code rows none (Orders file (Some told)) asked = asked
 no_yield_code rows none (Serve port store shop limit page) asked = asked

@@ -1,20 +1,20 @@
 -- The program's command line, in the words of `clap`: its commands, and what they ask for.
-use Rattle.std.specs.Prelude.{◌≡◌, ◌≤◌, ℕ, List, ◌∷◌, [], Option, Some, None, codes, false, true, pos, ⊤, option_map, is_some, ◌||◌, Bool, MatchOption}
+use Rattle.std.specs.Prelude.{◌≡◌, ◌≤◌, ℕ, List, ◌∷◌, [], Option, Some, None, codes, false, true, pos, ⊤, option_map, is_some, ◌||◌, ◌⊎◌, Bool, MatchOption}
 use Rattle.std.specs.Str.Parse.{IsNumeral, digits_value, without_leading_plus}
 use Rattle.clap.specs.Words.{App, Row, Rule, Text, app_of, new_app, new_rule, rule_of, with_rule, with_subcommand, first_of, one_of}
 use Rattle.clap.specs.declared.builder.arg.Arg.{Arg}
 use Rattle.clap.specs.declared.builder.command.Command.{Command}
 use Rattle.clap.specs.declared.builder.command.Command.TheViews.{out-Command as fields_of}
 use Rattle.clap.specs.Simple.{on_top}
-use Rattle.clap.specs.declared.builder.action.ArgAction.TheVariants.{Set}
+use Rattle.clap.specs.declared.builder.action.ArgAction.TheVariants.{Set, SetTrue}
 use Rattle.clap.specs.declared.builder.value_parser.ValueParser.{ValueParser}
 use Rattle.clap.specs.declared.builder.value_parser.ValueParser.TheVariants.{Signed}
 use Rattle.cut_measure.specs.Codes.{code_of}
 use Rattle.cut_measure.specs.declared.ranges.TheConstants.{MOST_KERF, MOST_NUMBERS}
-use Rattle.shop_words.specs.declared.words.TheConstants.{LONGEST_STEP, LAST_PORT, MOST_CONNECTIONS, MOST_PAIR}
+use Rattle.shop_words.specs.declared.words.TheConstants.{LONGEST_STEP, MOST_CALLS, LAST_PORT, MOST_CONNECTIONS, MOST_PAIR}
 use Rattle.shop_words.specs.declared.words.ImportAs.{ImportAs}
 use Rattle.shop_words.specs.declared.words.Request.{Request}
-use Rattle.shop_words.specs.declared.words.Request.TheVariants.{Replay, Plan, Orders, Serve, Ticket, Yield}
+use Rattle.shop_words.specs.declared.words.Request.TheVariants.{Replay, Plan, PlanOrder, Orders, Serve, Ticket, Yield}
 use Rattle.shop_words.specs.declared.words.Word.{Word}
 use Rattle.shop_words.specs.declared.words.Word.TheVariants as word
 use Rattle.shop_words.specs.declared.words.Argument.{Argument}
@@ -46,9 +46,8 @@ store_rule = path_rule (codes "store")
 abbrev pub port_rule : Rule
 port_rule = number_rule (codes "port") (Signed (pos 1) (pos 65535))
 
--- without it the limit is 1000000
 abbrev pub limit_rule : Rule
-limit_rule = record (option_rule (codes "limit")) { parser = Some (Signed (pos 1) (pos 1000000)); defaults = codes "1000000" ∷ [] }
+limit_rule = record (option_rule (codes "limit")) { parser = Some (Signed (pos 1) (pos 1000000)) }
 
 abbrev pub page_rule : Rule
 page_rule = option_rule (codes "page")
@@ -69,11 +68,19 @@ abbrev pub kerf_rule : Rule
 kerf_rule = number_rule (codes "kerf") (Signed (pos 0) (pos 200))
 
 abbrev pub step_rule : Rule
-step_rule = number_rule (codes "step") (Signed (pos 0) (pos 200000))
+step_rule = record (option_rule (codes "step")) { parser = Some (Signed (pos 0) (pos 200000)) }
 
--- `plan FILE --kerf N --step N`
+-- a flag
+abbrev pub whole_rule : Rule
+whole_rule = record (new_rule (codes "whole")) { action = Some SetTrue; long = Some (codes "whole") }
+
+abbrev pub calls_rule : Rule
+calls_rule = record (option_rule (codes "calls")) { parser = Some (Signed (pos 1) (pos 5000)) }
+
+-- `plan FILE --kerf N [--step N] [--whole] [--calls N]`
 abbrev pub plan_app : App
-plan_app = with_rule (with_rule (with_rule (new_app (codes "plan")) (word_rule (codes "FILE"))) kerf_rule) step_rule
+plan_app =
+    with_rule (with_rule (with_rule (with_rule (with_rule (new_app (codes "plan")) (word_rule (codes "FILE"))) kerf_rule) step_rule) whole_rule) calls_rule
 
 abbrev pub replay_app : App
 replay_app = new_app (codes "replay")
@@ -109,6 +116,8 @@ abbrev pub argument_rule : Argument → Rule
 argument_rule argument.File = word_rule (codes "FILE")
 argument_rule argument.Kerf = kerf_rule
 argument_rule argument.Step = step_rule
+argument_rule argument.Whole = whole_rule
+argument_rule argument.Calls = calls_rule
 argument_rule argument.OrderFile = word_rule (codes "FILE")
 argument_rule argument.Order = order_rule
 argument_rule argument.Terminal = terminal_rule
@@ -172,11 +181,32 @@ IsCode (Some text) code = code_of text ≡ Some code
 abbrev pub AsAsked : {X : Type 0} → Option X → (X → Type 0) → Type 0
 AsAsked {X} found asked = MatchOption found ((x : X) → asked x → ⊥) asked
 
--- the values of a plan's words
+-- the value under a name is a number in a range, or there is none
+abbrev pub MayHaveNumber : Text → List Row → (least most : ℕ) → Option ℕ → Type 0
+MayHaveNumber name rows least most None = is_some (first_of name rows) ≡ false
+MayHaveNumber name rows least most (Some n) = HasNumber name rows least most n
+
+-- the flag is there
+abbrev pub IsWhole : List Row → Type 0
+IsWhole rows = first_of (codes "whole") rows ≡ Some (codes "true")
+
+-- a plan of one rectangle has a step, and says nothing of the search
+abbrev pub IsSingleAsked : Text → (kerf : ℕ) → List Row → Request → Type 0
+IsSingleAsked path k rows (Plan file kerf step) =
+    (file.now ≡ path) × (kerf ≡ k) × HasNumber (codes "step") rows 0 LONGEST_STEP step × (is_some (first_of (codes "calls") rows) ≡ false)
+IsSingleAsked path k rows _ = ⊥
+
+-- one of all pieces may have both
+abbrev pub IsWholeAsked : Text → (kerf : ℕ) → List Row → Request → Type 0
+IsWholeAsked path k rows (PlanOrder file kerf step calls) =
+    (file.now ≡ path) × (kerf ≡ k) × MayHaveNumber (codes "step") rows 0 LONGEST_STEP step × MayHaveNumber (codes "calls") rows 1 MOST_CALLS calls
+IsWholeAsked path k rows _ = ⊥
+
+-- the values of a plan's words: the file and the kerf, and what else is asked for with the flag, or without
 abbrev pub IsPlanAsked : List Row → Request → Type 0
-IsPlanAsked rows (Plan file kerf step) =
-    (first_of (codes "FILE") rows ≡ Some file.now) × HasNumber (codes "kerf") rows 0 MOST_KERF kerf × HasNumber (codes "step") rows 0 LONGEST_STEP step
-IsPlanAsked rows _ = ⊥
+IsPlanAsked rows request =
+    (path : Text) × (kerf : ℕ) × (first_of (codes "FILE") rows ≡ Some path) × HasNumber (codes "kerf") rows 0 MOST_KERF kerf
+    × ((IsWhole rows × IsWholeAsked path kerf rows request) ⊎ ((IsWhole rows → ⊥) × IsSingleAsked path kerf rows request))
 
 -- the values of the options that make a message of an order file
 abbrev pub IsImportAs : List Row → ImportAs → Type 0
@@ -195,10 +225,17 @@ IsOrdersAsked rows (Orders file None) = (first_of (codes "FILE") rows ≡ Some f
 IsOrdersAsked rows (Orders file (Some told)) = (first_of (codes "FILE") rows ≡ Some file.now) × IsImportAs rows told
 IsOrdersAsked rows _ = ⊥
 
+-- as many connections as the option says; without it no number of them ends a page's serving, and else 1000000 are served
+abbrev pub IsLimit : List Row → Option ℕ → Type 0
+IsLimit rows None = (is_some (first_of (codes "limit") rows) ≡ false) × (is_some (first_of (codes "page") rows) ≡ true)
+IsLimit rows (Some n) =
+    HasNumber (codes "limit") rows 1 MOST_CONNECTIONS n
+    ⊎ ((is_some (first_of (codes "limit") rows) ≡ false) × (is_some (first_of (codes "page") rows) ≡ false) × (n ≡ MOST_CONNECTIONS))
+
 abbrev pub IsServeAsked : List Row → Request → Type 0
 IsServeAsked rows (Serve port store shop limit page) =
     HasNumber (codes "port") rows 1 LAST_PORT port × (first_of (codes "store") rows ≡ Some store.now)
-    × (first_of (codes "shop") rows ≡ Some shop.now) × HasNumber (codes "limit") rows 1 MOST_CONNECTIONS limit
+    × (first_of (codes "shop") rows ≡ Some shop.now) × IsLimit rows limit
     × (first_of (codes "page") rows ≡ option_map (λ p. p.now) page)
 IsServeAsked rows _ = ⊥
 
@@ -231,6 +268,7 @@ IsAsked word.Yield rows request = IsYieldAsked rows request
 -- the kerf of a plan is in range
 abbrev pub HasKerf : Request → Type 0
 HasKerf (Plan file kerf step) = kerf ≤ MOST_KERF
+HasKerf (PlanOrder file kerf step calls) = kerf ≤ MOST_KERF
 HasKerf _ = ⊤
 
 -- the command that was read, with its values, asks for this

@@ -4,5 +4,6 @@
 mod words;
 
 pub use words::{
-    ImportAs, LAST_PORT, LONGEST_STEP, MOST_CONNECTIONS, MOST_PAIR, Request, VERSION, request_of,
+    ImportAs, LAST_PORT, LONGEST_STEP, MOST_CALLS, MOST_CONNECTIONS, MOST_PAIR, Request, VERSION,
+    request_of,
 };

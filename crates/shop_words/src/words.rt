@@ -1,6 +1,6 @@
 //! The words of the command line: what `clap` is told of them, and what they ask for.
 
-ghost use Rattle.std.specs.Prelude.{◌≡◌, [], is_some, IfOk, IfErr, map, string_bytes};
+ghost use Rattle.std.specs.Prelude.{◌≡◌, ◌↔◌, [], is_some, IfOk, IfErr, IsTrue, map, string_bytes};
 ghost use Rattle.clap.specs.Words.{app_of, first_of, rows_of, found_of, subcommand_of, subcommand_rows_of};
 ghost use Rattle.clap.specs.Kinds.{HasKind};
 ghost use Rattle.clap.specs.Faults.{fault_of};
@@ -20,7 +20,10 @@ pub const LONGEST_STEP: u32 = 200_000;
 /// The last port.
 pub const LAST_PORT: u32 = 65535;
 
-/// The most connections that are served.
+/// The most steps of the search for the plans of a whole order.
+pub const MOST_CALLS: u32 = 5000;
+
+/// The most connections that a limit says, and that are served without one where there is no page.
 pub const MOST_CONNECTIONS: u32 = 1_000_000;
 
 /// The greatest terminal, and the greatest number of a message.
@@ -52,6 +55,16 @@ pub enum Request<'a> {
         /// In tenths of a millimetre: 0 to 200000.
         step: u32,
     },
+    /// Plan all pieces of a problem file from as many of its rectangles as it takes.
+    PlanOrder {
+        file: &'a str,
+        /// In tenths of a millimetre: 0 to 200.
+        kerf: u32,
+        /// In tenths of a millimetre: 0 to 200000. None: the least one that the rectangle takes.
+        step: Option<u32>,
+        /// The most steps of the search: 1 to 5000. None: the usual number.
+        calls: Option<u32>,
+    },
     /// Read an order file, and tell how many lines it has, or the message that it becomes.
     Orders {
         file: &'a str,
@@ -63,8 +76,8 @@ pub enum Request<'a> {
         port: u32,
         store: &'a str,
         shop: &'a str,
-        /// How many connections: 1 to 1000000.
-        limit: u32,
+        /// How many connections, 1 to 1000000; where there is none, no number of them ends it.
+        limit: Option<u32>,
         page: Option<&'a str>,
     },
     /// Print the ticket of a job of a store.
@@ -97,6 +110,8 @@ enum Argument {
     File,
     Kerf,
     Step,
+    Whole,
+    Calls,
     OrderFile,
     Order,
     Terminal,
@@ -181,12 +196,34 @@ fn kerf_arg<'a>(alloc: Global) -> Arg<'a>
 fn step_arg<'a>(alloc: Global) -> Arg<'a>
     ensures { line.IsArg line.step_rule result }
 {
-    number_arg(
+    option_arg(
         alloc,
         "step",
-        value_parser!(u32).range(0..=200000),
-        "The step to which sides are rounded, in tenths of a millimetre: 0 to 200000",
+        "N",
+        "The step to which sides are rounded, in tenths of a millimetre: 0 to 200000; with --whole it may be left out",
     )
+    .value_parser(value_parser!(u32).range(0..=200000))
+}
+
+fn whole_arg<'a>(alloc: Global) -> Arg<'a>
+    ensures { line.IsArg line.whole_rule result }
+{
+    Arg::new(alloc, "whole")
+        .action(ArgAction::SetTrue)
+        .long("whole")
+        .help("Plans all pieces, from as many of the rectangles as it takes")
+}
+
+fn calls_arg<'a>(alloc: Global) -> Arg<'a>
+    ensures { line.IsArg line.calls_rule result }
+{
+    option_arg(
+        alloc,
+        "calls",
+        "N",
+        "With --whole, how long plans are searched for, in tables: 1 to 5000, else 500",
+    )
+    .value_parser(value_parser!(u32).range(1..=5000))
 }
 
 fn port_arg<'a>(alloc: Global) -> Arg<'a>
@@ -207,10 +244,9 @@ fn limit_arg<'a>(alloc: Global) -> Arg<'a>
         alloc,
         "limit",
         "N",
-        "How many connections are served before it ends: 1 to 1000000",
+        "How many connections are served before it ends: 1 to 1000000. Without it a page is served without an end, and else 1000000 are",
     )
     .value_parser(value_parser!(u32).range(1..=1000000))
-    .default_value("1000000")
 }
 
 fn page_arg<'a>(alloc: Global) -> Arg<'a>
@@ -279,6 +315,8 @@ fn arg_of<'a>(alloc: Global, argument: Argument) -> Arg<'a>
         ),
         Argument::Kerf => kerf_arg(alloc),
         Argument::Step => step_arg(alloc),
+        Argument::Whole => whole_arg(alloc),
+        Argument::Calls => calls_arg(alloc),
         Argument::OrderFile => word_arg(
             alloc,
             "FILE",
@@ -336,9 +374,15 @@ fn plan_command<'a>(alloc: Global) -> Result<Command<'a>, AllocError>
     new_command(
         alloc,
         "plan",
-        "Plans the rectangle of a problem file",
-        "Example:\n  cutshop plan sheet.txt --kerf 30 --step 10",
-        &[Argument::File, Argument::Kerf, Argument::Step],
+        "Plans the rectangle of a problem file, or all its pieces from as many as it takes",
+        "Examples:\n  cutshop plan sheet.txt --kerf 30 --step 10\n  cutshop plan sheet.txt --kerf 30 --whole",
+        &[
+            Argument::File,
+            Argument::Kerf,
+            Argument::Step,
+            Argument::Whole,
+            Argument::Calls,
+        ],
     )
 }
 
@@ -439,7 +483,7 @@ fn program<'a>(alloc: Global) -> Command<'a>
     Command::new(alloc, "cutshop")
         .about("The books and the plans of a cutting shop")
         .after_help(
-            "Units: messages, replies, problem files, --kerf and --step count tenths of a millimetre; shop files, order files, tickets and reports say millimetres.\n\nExamples:\n  cutshop replay < lines.txt\n  cutshop plan sheet.txt --kerf 30 --step 10\n  cutshop orders orders.csv\n  cutshop serve --port 8017 --store shop.db --shop shop.toml\n  cutshop ticket --store shop.db 2\n  cutshop yield --store shop.db STEEL",
+            "Units: messages, replies, problem files, --kerf and --step count tenths of a millimetre; shop files, order files, tickets and reports say millimetres.\n\nExamples:\n  cutshop replay < lines.txt\n  cutshop plan sheet.txt --kerf 30 --step 10\n  cutshop plan sheet.txt --kerf 30 --whole\n  cutshop orders orders.csv\n  cutshop serve --port 8017 --store shop.db --shop shop.toml\n  cutshop ticket --store shop.db 2\n  cutshop yield --store shop.db STEEL",
         )
         .subcommand_required(true)
         .version(VERSION)
@@ -467,13 +511,72 @@ fn number_of(matches: &ArgMatches<'_>, name: &str, least: u32, most: u32) -> Opt
     Some(number)
 }
 
+// Whether there is an option of this name.
+fn has_option(matches: &ArgMatches<'_>, name: &str) -> bool
+    ensures { result ≡ is_some (first_of name.now (rows_of (found_of matches.now))) }
+{
+    matches.get_str(name).is_some()
+}
+
+// The number that an option was given, if it is in a range; or none, where it isn't there.
+fn number_if_any(matches: &ArgMatches<'_>, name: &str, least: u32, most: u32) -> Option<Option<u32>>
+    ensures { line.AsAsked result
+        (line.MayHaveNumber name.now (rows_of (found_of matches.now)) least most) }
+{
+    if !has_option(matches, name) {
+        return Some(None);
+    }
+    let number = number_of(matches, name, least, most)?;
+    Some(Some(number))
+}
+
+// Whether all pieces are to be planned.
+fn is_whole(plan: &ArgMatches<'_>) -> bool
+    ensures { IsTrue result ↔ line.IsWhole (rows_of (found_of plan.now)) }
+{
+    match plan.get_str("whole") {
+        Some(value) => value == "true",
+        None => false,
+    }
+}
+
+// A plan of all pieces, of which file and kerf were read.
+fn whole_request<'a>(plan: &ArgMatches<'a>, file: &'a str, kerf: u32) -> Option<Request<'a>>
+    ensures { line.AsAsked result
+        (line.IsWholeAsked file.now kerf (rows_of (found_of plan.now))) }
+{
+    let step = number_if_any(plan, "step", 0, LONGEST_STEP)?;
+    let calls = number_if_any(plan, "calls", 1, MOST_CALLS)?;
+    Some(Request::PlanOrder {
+        file,
+        kerf,
+        step,
+        calls,
+    })
+}
+
+// A plan of one rectangle, of which file and kerf were read.
+fn single_request<'a>(plan: &ArgMatches<'a>, file: &'a str, kerf: u32) -> Option<Request<'a>>
+    ensures { line.AsAsked result
+        (line.IsSingleAsked file.now kerf (rows_of (found_of plan.now))) }
+{
+    let step = number_of(plan, "step", 0, LONGEST_STEP)?;
+    if has_option(plan, "calls") {
+        return None;
+    }
+    Some(Request::Plan { file, kerf, step })
+}
+
 fn plan_request<'a>(plan: &ArgMatches<'a>) -> Option<Request<'a>>
     ensures { line.AsAsked result (line.IsPlanAsked (rows_of (found_of plan.now))) }
 {
     let file = plan.get_str("FILE")?;
     let kerf = number_of(plan, "kerf", 0, MOST_KERF)?;
-    let step = number_of(plan, "step", 0, LONGEST_STEP)?;
-    Some(Request::Plan { file, kerf, step })
+    if is_whole(plan) {
+        whole_request(plan, file, kerf)
+    } else {
+        single_request(plan, file, kerf)
+    }
 }
 
 // The message that the three options ask for.
@@ -488,13 +591,6 @@ fn import_as(orders: &ArgMatches<'_>) -> Option<ImportAs>
         terminal,
         number,
     })
-}
-
-// Whether there is an option of this name.
-fn has_option(matches: &ArgMatches<'_>, name: &str) -> bool
-    ensures { result ≡ is_some (first_of name.now (rows_of (found_of matches.now))) }
-{
-    matches.get_str(name).is_some()
 }
 
 // Whether one of the three options is there.
@@ -518,13 +614,27 @@ fn orders_request<'a>(orders: &ArgMatches<'a>) -> Option<Request<'a>>
     })
 }
 
+// How many connections are asked for.
+fn limit_of(serve: &ArgMatches<'_>) -> Option<Option<u32>>
+    ensures { line.AsAsked result (line.IsLimit (rows_of (found_of serve.now))) }
+{
+    if has_option(serve, "limit") {
+        let limit = number_of(serve, "limit", 1, MOST_CONNECTIONS)?;
+        return Some(Some(limit));
+    }
+    if has_option(serve, "page") {
+        return Some(None);
+    }
+    Some(Some(MOST_CONNECTIONS))
+}
+
 fn serve_request<'a>(serve: &ArgMatches<'a>) -> Option<Request<'a>>
     ensures { line.AsAsked result (line.IsServeAsked (rows_of (found_of serve.now))) }
 {
     let port = number_of(serve, "port", 1, LAST_PORT)?;
     let store = serve.get_str("store")?;
     let shop = serve.get_str("shop")?;
-    let limit = number_of(serve, "limit", 1, MOST_CONNECTIONS)?;
+    let limit = limit_of(serve)?;
     let page = serve.get_str("page");
     Some(Request::Serve {
         port,

@@ -4,13 +4,13 @@ use Rattle.cut_plan.proofs.Faultless as sound
 use Rattle.cut_plan.proofs.bars.best_pieces.Goals as goal
 
 pub best_counts-requires-clause-own : goal.best_counts-requires-clause-own
-best_counts-requires-clause-own c = sound.own Bar c.args.wants.now (sound.faultless Bar c.args.size c.args.kerf 0 c.args.wants.now c.requires.faultless).in_range
+best_counts-requires-clause-own c = sound.own _ Bar c.args.wants.now (sound.faultless Bar c.args.size c.args.kerf 0 c.args.wants.now c.requires.faultless).in_range
 
 pub best_counts-requires-clause-bar : goal.best_counts-requires-clause-bar
-best_counts-requires-clause-bar c = sound.flat c.args.wants.now (sound.faultless Bar c.args.size c.args.kerf 0 c.args.wants.now c.requires.faultless).in_range
+best_counts-requires-clause-bar c = sound.flat _ c.args.wants.now (sound.faultless Bar c.args.size c.args.kerf 0 c.args.wants.now c.requires.faultless).in_range
 
 pub best_counts-requires-clause-modest : goal.best_counts-requires-clause-modest
-best_counts-requires-clause-modest c = sound.modest Bar c.args.wants.now (sound.faultless Bar c.args.size c.args.kerf 0 c.args.wants.now c.requires.faultless).in_range
+best_counts-requires-clause-modest c = sound.modest _ Bar c.args.wants.now (sound.faultless Bar c.args.size c.args.kerf 0 c.args.wants.now c.requires.faultless).in_range
 
 pub counted_pieces-requires : goal.counted_pieces-requires
 counted_pieces-requires c = rw c.deref.ensures.value (sound.counts_length c.args.wants.now c.in_ok-counts.counts.items c.in_ok-counts.ensures.counts.within)

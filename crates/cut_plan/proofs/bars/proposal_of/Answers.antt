@@ -16,7 +16,7 @@ unreachable-requires c =
 pub returns-in-Ok-clause-ok : goal.returns-in-Ok-clause-ok
 returns-in-Ok-clause-ok c =
     let f = sound.faultless Bar c.args.size c.args.kerf 0 c.args.wants.now c.requires.faultless in
-    is_proposal c.args.size c.args.kerf c.args.wants.now c.args.best.now c.in-Ok.plan (sound.own Bar c.args.wants.now f.in_range) (sound.flat c.args.wants.now f.in_range)
+    is_proposal c.args.size c.args.kerf c.args.wants.now c.args.best.now c.in-Ok.plan (sound.own _ Bar c.args.wants.now f.in_range) (sound.flat _ c.args.wants.now f.in_range)
     c.requires.flat c.requires.best (rw c.deref.ensures.value at c.in-Ok.ensures.tree) c.in-Ok.ensures.unit
 
 pub returns-in-Err-TooManyCuts-clause-err : goal.returns-in-Err-TooManyCuts-clause-err
@@ -25,6 +25,6 @@ returns-in-Err-TooManyCuts-clause-err c =
     let fault = rw (c.in-Err-TooManyCuts.field-0-is, c.deref.ensures.value) at c.in-Err-TooManyCuts.ensures.fault in
     inr (
       refl,
-      too_many c.args.size c.args.kerf c.args.wants.now c.args.best.now (sound.own Bar c.args.wants.now f.in_range) (sound.flat c.args.wants.now f.in_range)
+      too_many c.args.size c.args.kerf c.args.wants.now c.args.best.now (sound.own _ Bar c.args.wants.now f.in_range) (sound.flat _ c.args.wants.now f.in_range)
           c.requires.flat c.requires.best fault.1,
     )

@@ -4,7 +4,7 @@ use Rattle.cut_plan.proofs.bounds.faultless_bound.Goals as goal
 
 pub units-units-requires-clause-own : goal.units-units-requires-clause-own
 units-units-requires-clause-own c =
-    sound.own c.args.kind c.args.wants.now (sound.faultless c.args.kind c.args.size c.args.kerf c.args.step c.args.wants.now c.requires.faultless).in_range
+    sound.own _ c.args.kind c.args.wants.now (sound.faultless c.args.kind c.args.size c.args.kerf c.args.step c.args.wants.now c.requires.faultless).in_range
 
 pub units-units-requires-clause-best : goal.units-units-requires-clause-best
 units-units-requires-clause-best c =

@@ -1,20 +1,21 @@
 use Rattle.std.proofs.Common.{◌≡◌, false, subst, arith}
+use Rattle.cut_plan.specs.declared.faults.TheConstants.{MOST_WANTS}
 use Rattle.cut_plan.specs.Faults.{are_bad_wants, is_bad_step}
 use Rattle.cut_plan.proofs.Faultless as sound
 use Rattle.cut_plan.proofs.bounds.unit_best.Goals as goal
 
 pub best_counts-requires-clause-own : goal.best_counts-requires-clause-own
 best_counts-requires-clause-own c =
-    sound.own c.args.kind c.args.wants.now (sound.faultless c.args.kind c.args.size c.args.kerf c.args.step c.args.wants.now c.requires.faultless).in_range
+    sound.own _ c.args.kind c.args.wants.now (sound.faultless c.args.kind c.args.size c.args.kerf c.args.step c.args.wants.now c.requires.faultless).in_range
 
 pub best_counts-requires-clause-bar : goal.best_counts-requires-clause-bar
 best_counts-requires-clause-bar c =
     let f = sound.faultless c.args.kind c.args.size c.args.kerf c.args.step c.args.wants.now c.requires.faultless in
-    sound.flat c.args.wants.now (subst (λ kind. are_bad_wants kind c.args.wants.now ≡ false) c.in-Bar.is f.in_range)
+    sound.flat _ c.args.wants.now (subst (λ kind. are_bad_wants MOST_WANTS kind c.args.wants.now ≡ false) c.in-Bar.is f.in_range)
 
 pub best_counts-requires-clause-modest : goal.best_counts-requires-clause-modest
 best_counts-requires-clause-modest c =
-    sound.modest c.args.kind c.args.wants.now (sound.faultless c.args.kind c.args.size c.args.kerf c.args.step c.args.wants.now c.requires.faultless).in_range
+    sound.modest _ c.args.kind c.args.wants.now (sound.faultless c.args.kind c.args.size c.args.kerf c.args.step c.args.wants.now c.requires.faultless).in_range
 
 pub counted_worth-worth-requires-clause-len : goal.counted_worth-worth-requires-clause-len
 counted_worth-worth-requires-clause-len c =
@@ -40,11 +41,11 @@ returns-in_ok-counts-in-Bar-clause-small c =
 
 pub ceiling-requires-clause-own : goal.ceiling-requires-clause-own
 ceiling-requires-clause-own c =
-    sound.own c.args.kind c.args.wants.now (sound.faultless c.args.kind c.args.size c.args.kerf c.args.step c.args.wants.now c.requires.faultless).in_range
+    sound.own _ c.args.kind c.args.wants.now (sound.faultless c.args.kind c.args.size c.args.kerf c.args.step c.args.wants.now c.requires.faultless).in_range
 
 pub ceiling-requires-clause-worthy : goal.ceiling-requires-clause-worthy
 ceiling-requires-clause-worthy c =
-    sound.worthy c.args.kind c.args.wants.now (sound.faultless c.args.kind c.args.size c.args.kerf c.args.step c.args.wants.now c.requires.faultless).in_range
+    sound.worthy _ c.args.kind c.args.wants.now (sound.faultless c.args.kind c.args.size c.args.kerf c.args.step c.args.wants.now c.requires.faultless).in_range
 
 pub ceiling-requires-clause-step : goal.ceiling-requires-clause-step
 ceiling-requires-clause-step c =

@@ -9,7 +9,7 @@ pub returns-clause-ceiling : goal.returns-clause-ceiling
 returns-clause-ceiling c = λ size k wants p faultless is none.
     let f = sound.faultless Sheet size k 1 wants faultless in
     let laid = subst (IsSheetPlan size k 1 wants p.plan.tree p.worth) none is.laid in
-    whole_best size k wants p.plan.tree p.worth p.ceiling (sound.own Sheet wants f.in_range) laid is.ceiling
+    whole_best size k wants p.plan.tree p.worth p.ceiling (sound.own _ Sheet wants f.in_range) laid is.ceiling
 
 pub returns-clause-best : goal.returns-clause-best
 returns-clause-best c = λ size k wants p faultless is none t legal.

@@ -17,20 +17,20 @@ all_up-requires-clause-step c =
 pub kept_leaves-requires-clause-own : goal.kept_leaves-requires-clause-own
 kept_leaves-requires-clause-own c =
     let f = sound.faultless Sheet c.args.size c.args.kerf c.args.step c.args.wants.now c.requires.faultless in
-    rw (c.deref.ensures.value, c.in_ok-scaled.ensures.value) (up_own c.args.kerf c.args.step c.args.wants.now (sound.own Sheet c.args.wants.now f.in_range))
+    rw (c.deref.ensures.value, c.in_ok-scaled.ensures.value) (up_own c.args.kerf c.args.step c.args.wants.now (sound.own _ Sheet c.args.wants.now f.in_range))
 
 pub kept_leaves-requires-clause-small : goal.kept_leaves-requires-clause-small
 kept_leaves-requires-clause-small c =
     let f = sound.faultless Sheet c.args.size c.args.kerf c.args.step c.args.wants.now c.requires.faultless in
     rw (c.deref.ensures.value, c.in_ok-scaled.ensures.value) (
     up_small c.args.kerf c.args.step c.args.wants.now (sound.is_step c.args.kerf c.args.step c.args.wants.now f.stepped).some c.in_ok-scaled.ensures.sides
-    (sound.worthy Sheet c.args.wants.now f.in_range)
+    (sound.worthy _ Sheet c.args.wants.now f.in_range)
     )
 
 pub place-requires-clause-own : goal.place-requires-clause-own
 place-requires-clause-own c =
     let f = sound.faultless Sheet c.args.size c.args.kerf c.args.step c.args.wants.now c.requires.faultless in
-    sound.own Sheet c.args.wants.now f.in_range
+    sound.own _ Sheet c.args.wants.now f.in_range
 
 pub place-requires-clause-places : goal.place-requires-clause-places
 place-requires-clause-places c =
@@ -66,7 +66,7 @@ pub dropped_of-dropped-requires-clause-small : goal.dropped_of-dropped-requires-
 dropped_of-dropped-requires-clause-small c =
     let f = sound.faultless Sheet c.args.size c.args.kerf c.args.step c.args.wants.now c.requires.faultless in
     let cut = rw (c.deref.ensures.value, c.in_ok-scaled.ensures.value, c.w.ensures.value, c.h.ensures.value) at c.in_ok-cutting.ensures.kept in
-    rw c.deref-4.ensures.value (omega (arith, dropped_small c.args.wants.now c.in_ok-cutting.cutting.counts.items cut.small, sound.few Sheet c.args.wants.now f.in_range))
+    rw c.deref-4.ensures.value (omega (arith, dropped_small c.args.wants.now c.in_ok-cutting.cutting.counts.items cut.small, sound.few _ Sheet c.args.wants.now f.in_range))
 
 pub returns-clause-laid : goal.returns-clause-laid
 returns-clause-laid c =
@@ -74,7 +74,7 @@ returns-clause-laid c =
     let cut = rw (c.deref.ensures.value, c.in_ok-scaled.ensures.value, c.w.ensures.value, c.h.ensures.value) at c.in_ok-cutting.ensures.kept in
     let len : length c.in_ok-cutting.cutting.counts.items ≡ length c.args.wants.now = cut.len ∙ length-map c.args.wants.now (want_up c.args.kerf c.args.step) in
     let places = rw (c.w-2.ensures.value, c.h-2.ensures.value) at c.in_ok-root.ensures in
-    laid c.args.size c.args.kerf c.args.step c.args.wants.now c.in_ok-cutting.cutting.counts.items _ _ _ _ (sound.own Sheet c.args.wants.now f.in_range) cut places len
+    laid c.args.size c.args.kerf c.args.step c.args.wants.now c.in_ok-cutting.cutting.counts.items _ _ _ _ (sound.own _ Sheet c.args.wants.now f.in_range) cut places len
     (rw (c.deref-3.ensures.value, c.in_ok-kept.ensures, c.deref-2.ensures.value) at c.counted_worth-worth.ensures) (rw c.deref-4.ensures.value at c.dropped_of-dropped.ensures)
 
 pub returns-clause-few : goal.returns-clause-few
@@ -85,19 +85,19 @@ returns-clause-few c =
     let places = rw (c.w-2.ensures.value, c.h-2.ensures.value) at c.in_ok-root.ensures in
     omega (
       arith,
-      few_laid c.args.size c.args.kerf c.args.step c.args.wants.now c.in_ok-cutting.cutting.counts.items _ _ (sound.own Sheet c.args.wants.now f.in_range) cut places len,
-      sound.few Sheet c.args.wants.now f.in_range,
+      few_laid c.args.size c.args.kerf c.args.step c.args.wants.now c.in_ok-cutting.cutting.counts.items _ _ (sound.own _ Sheet c.args.wants.now f.in_range) cut places len,
+      sound.few _ Sheet c.args.wants.now f.in_range,
     )
 
 pub ceiling_beside-requires-clause-own : goal.ceiling_beside-requires-clause-own
 ceiling_beside-requires-clause-own c =
     let f = sound.faultless Sheet c.args.size c.args.kerf c.args.step c.args.wants.now c.requires.faultless in
-    sound.own Sheet c.args.wants.now f.in_range
+    sound.own _ Sheet c.args.wants.now f.in_range
 
 pub ceiling_beside-requires-clause-worthy : goal.ceiling_beside-requires-clause-worthy
 ceiling_beside-requires-clause-worthy c =
     let f = sound.faultless Sheet c.args.size c.args.kerf c.args.step c.args.wants.now c.requires.faultless in
-    sound.worthy Sheet c.args.wants.now f.in_range
+    sound.worthy _ Sheet c.args.wants.now f.in_range
 
 pub ceiling_beside-requires-clause-step : goal.ceiling_beside-requires-clause-step
 ceiling_beside-requires-clause-step c =

@@ -1,5 +1,14 @@
 use Rattle.shop_commands.proofs.performing.do_request.Goals as goal
 
+pub returns-in-Plan-clause-err : goal.returns-in-Plan-clause-err
+returns-in-Plan-clause-err g c = rw c.in-Plan.is c.plan.ensures.err
+
+pub returns-in-PlanOrder-clause-ok : goal.returns-in-PlanOrder-clause-ok
+returns-in-PlanOrder-clause-ok g c = rw c.in-PlanOrder.is c.plan_order.ensures.ok
+
+pub returns-in-PlanOrder-clause-err : goal.returns-in-PlanOrder-clause-err
+returns-in-PlanOrder-clause-err g c = rw c.in-PlanOrder.is c.plan_order.ensures.err
+
 pub returns-in-Orders-clause-err : goal.returns-in-Orders-clause-err
 returns-in-Orders-clause-err g c = rw c.in-Orders.is c.check_orders.ensures.err
 

@@ -1,7 +1,7 @@
 use Rattle.std.proofs.Common.{◌≡◌, rules, arith, subst, sym}
 use Rattle.cut_plan.specs.Proposals.{AreDemands}
-use Rattle.shop_commands.specs.Plans.{wants_of}
-use Rattle.shop_commands.proofs.Demands.{demands_from}
+use Rattle.shop_problems.specs.Wants.{wants_of}
+use Rattle.shop_problems.proofs.Demands.{demands_from}
 use Rattle.shop_commands.proofs.plans.plan_problem.Goals as goal
 
 pub plan_sheet-requires-clause-demands : goal.plan_sheet-requires-clause-demands

@@ -9,9 +9,9 @@ returns-then-is_some-clause-one g c = none_served c.args.site.now g.B.Book c.arg
 pub returns-clause-attended : goal.returns-clause-attended
 returns-clause-attended g c stays known =
     let none : c.args.line.now.answer ≡ None = search rules in
-    attended-first g.C.Connection c.args.site.now g.B.Book c.args.line.now c.ask.new.line c.answer_on-2.new.line c.args.book.now c.ask.new.book c.answer_on-2.result none
-    (c.ask.ensures.read (λ over. absurd (cc (over, c.in-Whole.is))) (λ none. absurd (cc (none, c.in-Whole.is)))) c.ask.ensures.kept (c.ask.ensures.begins c.in-Whole.is) (c.ask.ensures.whole c.in-Whole.is) c.ask.ensures.own
-    c.answer_on-2.ensures.kept stays known c.answer_on-2.ensures.takes c.answer_on-2.ensures.whole c.answer_on-2.ensures.full
+    attended-first g.C.Connection c.args.site.now g.B.Book c.args.line.now c.ask.new.line c.answer_on-2.new.line c.args.book.now c.ask.new.book (g.K.Watch.times c.args.watch.now) (g.K.Watch.times c.ask.new.watch) c.answer_on-2.result none
+    (c.ask.ensures.read (λ over. absurd (cc (over, c.in-Whole.is))) (λ none. absurd (cc (none, c.in-Whole.is)))) c.ask.ensures.kept (c.ask.ensures.begins c.in-Whole.is) (c.ask.ensures.whole c.in-Whole.is) c.ask.ensures.own (c.ask.ensures.since c.in-Whole.is)
+    c.answer_on-2.ensures.kept c.answer_on-2.ensures.since stays known c.answer_on-2.ensures.takes c.answer_on-2.ensures.whole c.answer_on-2.ensures.full
 
 pub returns-then-is_some-clause-lost : goal.returns-then-is_some-clause-lost
 returns-then-is_some-clause-lost g c lost =

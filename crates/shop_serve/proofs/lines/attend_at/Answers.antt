@@ -8,17 +8,17 @@ use Rattle.shop_serve.proofs.lines.attend_at.Goals as goal
 
 pub returns-in-Over-clause-run : goal.returns-in-Over-clause-run
 returns-in-Over-clause-run g c =
-    advances-closed g.C.Connection c.args.site.now g.B.Book c.args.book.now c.attend_once.new.book c.args.lines.now c.try_remove.new.self c.args.key c.in-Some.line.now c.attend_once.new.line
+    advances-closed g.C.Connection c.args.site.now g.B.Book c.args.book.now c.attend_once.new.book (g.K.Watch.times c.args.watch.now) (g.K.Watch.times c.attend_once.new.watch) c.args.lines.now c.try_remove.new.self c.args.key c.in-Some.line.now c.attend_once.new.line
     (sym c.in-Some.ensures.value) c.attend_once.ensures.once c.attend_once.ensures.one c.try_remove.ensures.updates
 
 pub returns-in-NoMemory-clause-run : goal.returns-in-NoMemory-clause-run
 returns-in-NoMemory-clause-run g c =
-    advances-closed g.C.Connection c.args.site.now g.B.Book c.args.book.now c.attend_once.new.book c.args.lines.now c.try_remove-in-NoMemory.new.self c.args.key c.in-Some.line.now c.attend_once.new.line
+    advances-closed g.C.Connection c.args.site.now g.B.Book c.args.book.now c.attend_once.new.book (g.K.Watch.times c.args.watch.now) (g.K.Watch.times c.attend_once.new.watch) c.args.lines.now c.try_remove-in-NoMemory.new.self c.args.key c.in-Some.line.now c.attend_once.new.line
     (sym c.in-Some.ensures.value) c.attend_once.ensures.once c.attend_once.ensures.one c.try_remove-in-NoMemory.ensures.updates
 
 pub returns-in-Stays-clause-run : goal.returns-in-Stays-clause-run
 returns-in-Stays-clause-run g c =
-    advances-stays g.C.Connection c.args.site.now g.B.Book c.args.book.now c.attend_once.new.book c.args.lines.now c.args.key c.in-Some.line.now c.attend_once.new.line
+    advances-stays g.C.Connection c.args.site.now g.B.Book c.args.book.now c.attend_once.new.book (g.K.Watch.times c.args.watch.now) (g.K.Watch.times c.attend_once.new.watch) c.args.lines.now c.args.key c.in-Some.line.now c.attend_once.new.line
     (sym c.in-Some.ensures.value) c.attend_once.ensures.once (c.attend_once.ensures.attended c.in-Stays.is) c.attend_once.ensures.one
 
 pub returns-in_default-clause-at : goal.returns-in_default-clause-at
@@ -38,15 +38,15 @@ returns-in_default-clause-run g c = stays c.args.site.now g.B.Book c.args.book.n
 
 pub returns-in-Over-clause-at : goal.returns-in-Over-clause-at
 returns-in-Over-clause-at g c =
-    attended-closed g.C.Connection c.args.site.now g.B.Book fate.Over c.args.key c.args.lines.now c.try_remove.new.self c.in-Some.line.now c.attend_once.new.line c.args.book.now c.attend_once.new.book
+    attended-closed g.C.Connection c.args.site.now g.B.Book fate.Over c.args.key c.args.lines.now c.try_remove.new.self c.in-Some.line.now c.attend_once.new.line c.args.book.now c.attend_once.new.book (g.K.Watch.times c.args.watch.now) (g.K.Watch.times c.attend_once.new.watch)
     (sym c.in-Some.ensures.value) c.try_remove.ensures.updates c.attend_once.ensures.once c.attend_once.ensures.one (c.attend_once.ensures.over c.in-Over.is)
 
 pub returns-in-NoMemory-clause-at : goal.returns-in-NoMemory-clause-at
 returns-in-NoMemory-clause-at g c =
-    attended-closed g.C.Connection c.args.site.now g.B.Book fate.NoMemory c.args.key c.args.lines.now c.try_remove-in-NoMemory.new.self c.in-Some.line.now c.attend_once.new.line c.args.book.now c.attend_once.new.book
+    attended-closed g.C.Connection c.args.site.now g.B.Book fate.NoMemory c.args.key c.args.lines.now c.try_remove-in-NoMemory.new.self c.in-Some.line.now c.attend_once.new.line c.args.book.now c.attend_once.new.book (g.K.Watch.times c.args.watch.now) (g.K.Watch.times c.attend_once.new.watch)
     (sym c.in-Some.ensures.value) c.try_remove-in-NoMemory.ensures.updates c.attend_once.ensures.once c.attend_once.ensures.one (inl refl)
 
 pub returns-in-Stays-clause-at : goal.returns-in-Stays-clause-at
 returns-in-Stays-clause-at g c =
-    attended-stays g.C.Connection c.args.site.now g.B.Book fate.Stays c.args.key c.args.lines.now c.in-Some.line.now c.attend_once.new.line c.args.book.now c.attend_once.new.book
+    attended-stays g.C.Connection c.args.site.now g.B.Book fate.Stays c.args.key c.args.lines.now c.in-Some.line.now c.attend_once.new.line c.args.book.now c.attend_once.new.book (g.K.Watch.times c.args.watch.now) (g.K.Watch.times c.attend_once.new.watch)
     (sym c.in-Some.ensures.value) c.attend_once.ensures.once c.attend_once.ensures.one (c.attend_once.ensures.attended c.in-Stays.is)

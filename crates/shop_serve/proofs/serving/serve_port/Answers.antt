@@ -1,7 +1,7 @@
 use Rattle.std.proofs.Common.{◌∙◌, ◌+◌, refl, sym, subst, arith}
 use Rattle.std.proofs.lemmas.Bool.{eqb-true}
 use Rattle.shop_serve.specs.Lines.{unanswered}
-use Rattle.shop_serve.specs.Rounds.{Adds}
+use Rattle.shop_serve.specs.Times.{Adds}
 use Rattle.shop_serve.proofs.Gathered.{rounds-none, rounds-all, rounds-one}
 use Rattle.shop_serve.proofs.Slots.{none-open, unanswered-empty}
 use Rattle.shop_serve.proofs.Turns.{stays, advances_more, advanced}
@@ -10,7 +10,7 @@ use Rattle.shop_serve.proofs.serving.serve_port.Goals as goal
 pub loop-init : goal.loop-init
 loop-init g c =
     record {
-      all = rounds-none g.C.Connection c.args.site.now g.B.Book _ (g.P.Port.told c.args.port.now) (g.P.Port.given c.args.port.now) c.new-lines.result c.args.book.now;
+      all = rounds-none g.C.Connection c.args.site.now g.B.Book _ (g.P.Port.told c.args.port.now) (g.P.Port.given c.args.port.now) c.new-lines.result c.args.book.now (g.K.Watch.times c.args.watch.now);
       run = stays c.args.site.now g.B.Book c.args.book.now 0 (unanswered c.new-lines.result) (omega (arith, unanswered-empty c.new-lines.result c.new-lines.ensures.empty));
       bound = omega arith;
       honest = λ honest. honest;
@@ -23,10 +23,10 @@ loop-preserved g c =
     record {
       all = rounds-one g.C.Connection c.args.site.now g.B.Book _ (g.P.Port.told c.args.port.now) (g.P.Port.told c.loop.port) (g.P.Port.told c.turn.new.port) (g.P.Port.given c.args.port.now) (g.P.Port.given c.loop.port) (g.P.Port.given c.turn.new.port)
           c.loop.accepted c.turn.new.accepted c.new-lines.result c.loop.lines c.turn.new.lines c.args.book.now c.loop.book c.turn.new.book
-          c.in-Ok.now (g.P.Port.reported c.waited.new.port) more.round.0
-          (subst (λ t. Adds (g.P.Port.told c.loop.port) t (g.P.Port.reported c.waited.new.port)) (sym more.told) c.in-Ok.ensures.told)
-          (subst (λ t. Adds t (g.P.Port.given c.turn.new.port) more.round.0) c.waited.ensures.given more.round.2)
-          more.round.1 more.round.3 so_far.all;
+          (g.K.Watch.times c.args.watch.now) (g.K.Watch.times c.loop.watch) (g.K.Watch.times c.turn.new.watch) more.round.3.0 (g.P.Port.reported c.wait.new.self) more.round.0
+          (subst (λ t. Adds (g.P.Port.told c.loop.port) t (g.P.Port.reported c.wait.new.self)) (sym more.told) c.in-Ok.ensures.told)
+          (subst (λ t. Adds t (g.P.Port.given c.turn.new.port) more.round.0) c.wait.ensures.given more.round.2)
+          more.round.1 more.round.3.1 so_far.all;
       run = advances_more c.args.site.now g.B.Book c.args.book.now c.loop.book c.turn.new.book c.loop.accepted (unanswered c.loop.lines)
           (unanswered c.loop.lines + c.turn.new.accepted) (unanswered c.turn.new.lines + c.loop.accepted) c.turn.new.accepted (unanswered c.turn.new.lines) (omega arith) more.honest so_far.run more.run;
       bound = more.bound;
@@ -40,7 +40,7 @@ returns-then-is_empty-clause-all g c =
       rounds = so_far.all.0;
       first = c.new-lines.result;
       last = c.loop.lines;
-      run = rounds-all g.C.Connection c.args.site.now g.B.Book _ (g.P.Port.told c.args.port.now) (g.P.Port.told c.loop.port) (g.P.Port.given c.args.port.now) (g.P.Port.given c.loop.port) c.loop.accepted c.new-lines.result c.loop.lines c.args.book.now c.loop.book so_far.all;
+      run = rounds-all g.C.Connection c.args.site.now g.B.Book _ (g.P.Port.told c.args.port.now) (g.P.Port.told c.loop.port) (g.P.Port.given c.args.port.now) (g.P.Port.given c.loop.port) c.loop.accepted c.new-lines.result c.loop.lines c.args.book.now c.loop.book (g.K.Watch.times c.args.watch.now) (g.K.Watch.times c.loop.watch) so_far.all;
       none = λ key. rw c.new-lines.ensures.empty refl;
       closed = λ key. none-open c.loop.lines.slots (eqb-true _ _ (sym c.is_empty.ensures ∙ c.if-is_empty.true)) key;
       count = sym so_far.all.1 ∙ omega (arith, so_far.bound, c.if-accepted-limit.true);
@@ -67,3 +67,6 @@ returns-in-None-clause-served g c =
     advanced c.args.site.now g.B.Book c.args.book.now c.turn.new.book c.turn.new.accepted (unanswered c.turn.new.lines) c.args.limit more.bound
     (advances_more c.args.site.now g.B.Book c.args.book.now c.loop.book c.turn.new.book c.loop.accepted (unanswered c.loop.lines)
     (unanswered c.loop.lines + c.turn.new.accepted) (unanswered c.turn.new.lines + c.loop.accepted) c.turn.new.accepted (unanswered c.turn.new.lines) (omega arith) more.honest so_far.run more.run)
+
+pub returns-in-None-clause-honest : goal.returns-in-None-clause-honest
+returns-in-None-clause-honest g c honest = c.loop.invariant.honest (c.turn.ensures.honest honest)

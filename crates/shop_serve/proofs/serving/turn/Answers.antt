@@ -9,14 +9,20 @@ returns-clause-round g c =
       came.0,
       came.1,
       came.2,
-      record {
-        attended = c.attend_reported.new.lines;
-        mid = c.attend_reported.new.book;
-        each = subst (λ keys. AreAttended g.C.Connection c.args.site.now g.B.Book keys c.args.lines.now c.attend_reported.new.lines c.args.book.now c.attend_reported.new.book) c.keys.ensures c.attend_reported.ensures.each;
-        kept = c.close_late.new.lines;
-        late = c.close_late.ensures.late;
-        received = came.3;
-      },
+      (
+        c.now.result,
+        record {
+          attended = c.attend_reported.new.lines;
+          mid = c.attend_reported.new.book;
+          first = g.K.Watch.times c.attend_reported.new.watch;
+          each = subst (λ keys. AreAttended g.C.Connection c.args.site.now g.B.Book keys c.args.lines.now c.attend_reported.new.lines c.args.book.now c.attend_reported.new.book (g.K.Watch.times c.args.watch.now) (g.K.Watch.times c.attend_reported.new.watch)) c.keys.ensures c.attend_reported.ensures.each;
+          kept = c.close_late.new.lines;
+          second = g.K.Watch.times c.now.new.self;
+          read = c.now.ensures;
+          late = c.close_late.ensures.late;
+          received = came.3;
+        },
+      ),
     )
 
 pub returns-clause-run : goal.returns-clause-run

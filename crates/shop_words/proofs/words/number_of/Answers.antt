@@ -4,6 +4,7 @@ use Rattle.std.specs.Str.Parse.{IsNumeral, digits_value, without_leading_plus}
 use Rattle.clap.specs.Words.{Text, found_of, one_text}
 use Rattle.clap.proofs.WalkLemmas.{one_text-rows}
 use Rattle.shop_words.specs.CommandLine.{IsNumber}
+use Rattle.shop_words.proofs.Asked.{one_number}
 use Rattle.shop_words.proofs.words.number_of.Goals as goal
 
 is_number : (found : Option Text) (n : ℕ) → (found ≡ None → Some n ≡ None)
@@ -17,10 +18,6 @@ no_number : (found : Option Text)
     → (n : ℕ) → n < 2 ^ 32 → IsNumber found n → ⊥
 no_number None unread n small is = is
 no_number (Some text) unread n small is = unread text refl (is.0, (let same : digits_value 10 (without_leading_plus text) ≡ n = is.1 in omega (arith, same, small)))
-
-one_number : (found : Option Text) (m n : ℕ) → IsNumber found m → IsNumber found n → m ≡ n
-one_number None m n is too = absurd is
-one_number (Some text) m n is too = sym is.1 ∙ too.1
 
 pub returns-in_err-number : goal.returns-in_err-number
 returns-in_err-number c =

@@ -1,0 +1,6 @@
+use Rattle.std.proofs.Common.{◌≤◌}
+use Rattle.cut_bound.proofs.GreatestCosts.{IsGreatestSoFar}
+use Rattle.cut_bound.proofs.ratings.best_within.Given as goal
+
+abbrev pub invariant-loop-entry : goal.invariant-loop-entry
+invariant-loop-entry l = IsGreatestSoFar (λ e. e.room ≤ l.room) (λ e. e.worth) l.entries l.entry-index l.best

@@ -1,0 +1,169 @@
+//! What it costs at least to make all that is left of an order, from units of several sizes.
+
+ghost use Rattle.std.specs.Prelude.{◌≡◌, ◌≤◌, ◌⊎◌, All, IfErr, IfOk, IfSome, ℕ, List, [], map, None, Some};
+ghost use Rattle.cut_measure.specs.declared.sizes.Kind.{Kind};
+ghost use Rattle.cut_measure.specs.declared.sizes.Kind.TheVariants.{Bar};
+ghost use Rattle.cut_wants.specs.declared.wants.Want.{Want};
+ghost use Rattle.cut_plan.specs.declared.faults.PlanFault.TheVariants.{NoMemory};
+ghost use Rattle.cut_bound.specs.Bounds.{sizes_of};
+ghost use Rattle.cut_bound.specs.Ratings.{AreRatable, IsRating};
+ghost use Rattle.cut_bound.specs.Orders as orders;
+ghost use Rattle.cut_bound.specs.Orders.{IsPricedBound, IsRatedBound};
+
+use crate::divisors::divisor_of;
+use crate::faults::cost_fault;
+use crate::limits::MOST_BOUND;
+use crate::price::greatest_cost;
+use crate::prices::priced;
+use crate::ratings::{rated_bars, rated_sheets};
+use crate::stock::{RatedSize, StockSize};
+use cut_measure::{Kind, MOST_KERF};
+use cut_plan::{PlanFault, Want};
+use cut_sheets::bound::total_left;
+use std::alloc::{AllocError, Global};
+
+// Each size with what a unit of it is worth at most, at the prices of some of the wants.
+fn rated_sizes(
+    alloc: Global,
+    kind: Kind,
+    kerf: u32,
+    step: u32,
+    sizes: &[StockSize],
+    priced: &[Want],
+) -> Result<Vec<RatedSize>, AllocError>
+    requires kerf { kerf ≤ MOST_KERF }
+    requires ratable { AreRatable kind kerf step sizes.now priced.now }
+    ensures sizes { IfOk result (λ rated. sizes_of rated.items ≡ sizes.now) }
+    ensures ratings { IfOk result
+        (λ rated. All (λ r. IsRating kind kerf step priced.now r.stock.size r.best) rated.items) }
+{
+    match kind {
+        Kind::Bar => rated_bars(alloc, kerf, sizes, priced),
+        Kind::Sheet => rated_sheets(alloc, kerf, step, sizes, priced),
+    }
+}
+
+// The least multiple of a divisor that is no less than a cost, or 10^18 where that is less.
+fn told_cost(divisor: u64, cost: u128) -> u64
+    ensures { result ≡ orders.told_cost divisor cost }
+{
+    let most = MOST_BOUND as u128;
+    if divisor == 0 {
+        0
+    } else if most <= cost {
+        MOST_BOUND
+    } else {
+        let by = divisor as u128;
+        (cost.div_ceil(by) * by).min(most) as u64
+    }
+}
+
+// The bound at the prices of some of the wants.
+fn rated_bound(
+    alloc: Global,
+    kind: Kind,
+    kerf: u32,
+    step: u32,
+    sizes: &[StockSize],
+    priced: &[Want],
+) -> Result<u64, AllocError>
+    requires kerf { kerf ≤ MOST_KERF }
+    requires ratable { AreRatable kind kerf step sizes.now priced.now }
+    ensures { IfOk result (IsRatedBound kind kerf step sizes.now priced.now) }
+{
+    let rated = rated_sizes(alloc, kind, kerf, step, sizes, priced)?;
+    let cost = greatest_cost(&rated, total_left(priced));
+    Ok(told_cost(divisor_of(sizes), cost))
+}
+
+/// What it costs at least to make all that is left of the wants, or more, from units of the sizes
+/// at hand, whatever is cut of each: the greatest cost of its worth at the rate of one of the sizes
+/// (weak duality of linear programming; Gilmore and Gomory 1961), as a multiple of what divides all
+/// costs, and 10^18 at most. The numbers are the wants' prices, in their order, whatever their
+/// worths are: a number outside 1..=1000000000 is none, and a sheet's want whose side and kerf are
+/// shorter than the step has none. One table is made, with this step; a bar ignores the step. A
+/// bound that is more than all units at hand cost tells that they don't suffice
+/// (`stock_falls_short`).
+pub fn priced_cost(
+    alloc: Global,
+    kind: Kind,
+    kerf: u32,
+    step: u32,
+    sizes: &[StockSize],
+    wants: &[Want],
+    numbers: &[u32],
+) -> Result<u64, AllocError>
+    requires kerf { kerf ≤ MOST_KERF }
+    requires flat { kind ≡ Bar → All (λ z. z.size.h ≡ 1) sizes.now }
+    requires faultless { orders.order_fault kind kerf step sizes.now wants.now ≡ None }
+    ensures { IfOk result (IsPricedBound kind kerf step sizes.now wants.now numbers.now) }
+{
+    let priced = priced(alloc, kind, kerf, step, wants, numbers)?;
+    let bound = rated_bound(alloc, kind, kerf, step, sizes, &priced)?;
+    Ok(bound)
+}
+
+/// The bound at no prices: 0. It takes no table.
+pub fn unpriced_cost(sizes: &[StockSize]) -> u64
+    ensures { (kind : Kind) (kerf step : ℕ) (wants : List Want)
+        → IsPricedBound kind kerf step sizes.now wants [] result }
+{
+    told_cost(divisor_of(sizes), 0)
+}
+
+// The worths of wants.
+fn worths_of(alloc: Global, wants: &[Want]) -> Result<Vec<u32>, AllocError>
+    ensures { IfOk result (λ worths. worths.items ≡ map (λ x. x.worth) wants.now) }
+{
+    wants.iter().map(|want| want.worth).collect(alloc)
+}
+
+// The bound at the wants' worths, where the order has no fault.
+fn faultless_cost(
+    alloc: Global,
+    kind: Kind,
+    kerf: u32,
+    step: u32,
+    sizes: &[StockSize],
+    wants: &[Want],
+) -> Result<u64, AllocError>
+    requires kerf { kerf ≤ MOST_KERF }
+    requires flat { kind ≡ Bar → All (λ z. z.size.h ≡ 1) sizes.now }
+    requires faultless { orders.cost_fault kind kerf step sizes.now wants.now ≡ None }
+    ensures { IfOk result
+        (IsPricedBound kind kerf step sizes.now wants.now (map (λ x. x.worth) wants.now)) }
+{
+    let worths = worths_of(alloc, wants)?;
+    let bound = priced_cost(alloc, kind, kerf, step, sizes, wants, &worths)?;
+    Ok(bound)
+}
+
+/// What it costs at least to make all that is left of the wants (`priced_cost`), their worths as
+/// prices. Where there is no fault, each of them is one. Faults in the order of `PlanFault`, with
+/// 100 wants for its 40: a bad step is one for any of the wants, a size too large any of the sizes,
+/// and nothing fits where no want fits any of them. Never one for a plan of many cuts.
+pub fn least_cost(
+    alloc: Global,
+    kind: Kind,
+    kerf: u32,
+    step: u32,
+    sizes: &[StockSize],
+    wants: &[Want],
+) -> Result<u64, PlanFault>
+    requires kerf { kerf ≤ MOST_KERF }
+    requires flat { kind ≡ Bar → All (λ z. z.size.h ≡ 1) sizes.now }
+    ensures ok { IfOk result
+        (IsPricedBound kind kerf step sizes.now wants.now (map (λ x. x.worth) wants.now)) }
+    ensures faulty { IfSome (orders.cost_fault kind kerf step sizes.now wants.now)
+        (λ fault. result ≡ Err fault) }
+    ensures err { IfErr result (λ fault. (fault ≡ NoMemory)
+        ⊎ (orders.cost_fault kind kerf step sizes.now wants.now ≡ Some fault)) }
+{
+    match cost_fault(kind, kerf, step, sizes, wants) {
+        Some(fault) => Err(fault),
+        None => match faultless_cost(alloc, kind, kerf, step, sizes, wants) {
+            Ok(bound) => Ok(bound),
+            Err(_) => Err(PlanFault::NoMemory),
+        },
+    }
+}

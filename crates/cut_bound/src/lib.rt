@@ -1,0 +1,34 @@
+//! Bounds and checks of whole orders: what it costs at least to make all that is left, from units
+//! of several sizes, and whether units are a plan of an order.
+#![tactic(auto)]
+
+mod bound;
+mod check;
+mod divisors;
+mod faults;
+mod fill;
+mod laws;
+mod limits;
+mod planned;
+mod price;
+mod prices;
+mod ratings;
+mod stock;
+
+pub use bound::{least_cost, priced_cost, unpriced_cost};
+pub use check::{CheckFault, CheckedOrder, check_order};
+pub use divisors::divisor_of;
+pub use faults::{cost_fault, order_fault};
+pub use fill::is_filled;
+pub use laws::{
+    bounds_are_multiples, fitting_pieces_are_held, order_limits, picked_wants_bound, priced_bound,
+    stock_falls_short,
+};
+pub use limits::{
+    MOST_BOUGHT_SIZES, MOST_BOUND, MOST_CALLS, MOST_ORDER_WANTS, MOST_PARTS, MOST_UNITS,
+};
+pub use planned::{PlannedUnit, are_planned, cost_of, pieces_of, units_at};
+pub use price::greatest_cost;
+pub use prices::{Price, has_price, priced, prices_of};
+pub use ratings::{rated_bars, rated_sheets};
+pub use stock::{RatedSize, StockSize};

@@ -1,0 +1,164 @@
+//! What a unit of each size is worth at most, read from one table that is made for all of them.
+
+ghost use Rattle.std.specs.Prelude.{◌≡◌, ◌≤◌, ◌<◌, ℕ, All, IfOk};
+ghost use Rattle.cut_wants.specs.Legal.{HaveOwnDemands};
+ghost use Rattle.cut_wants.specs.Best.{IsBestOf};
+ghost use Rattle.cut_bars.specs.Counts.{HaveBoundedWorthsAndLefts};
+ghost use Rattle.cut_sheets.specs.Rounded.{IsStep, steps_down, wants_down};
+ghost use Rattle.cut_sheets.specs.Table.{HaveBoundedWorths, IsTable, heights};
+ghost use Rattle.cut_bound.specs.Bounds.{IsGreatest, sizes_of};
+ghost use Rattle.cut_bound.specs.Ratings.{IsBarRating};
+
+use crate::stock::{RatedSize, StockSize};
+use cut_bars::bar::{Entry, LONGEST_BAR, reach};
+use cut_measure::MOST_KERF;
+use cut_sheets::bound::all_down;
+use cut_sheets::read::worth_at;
+use cut_sheets::sheet::{MOST_STEPS, Table, best_table};
+use cut_wants::wants::{Scaled, Want};
+use std::alloc::{AllocError, Global};
+
+// The longest of the sizes.
+fn longest(sizes: &[StockSize]) -> u32
+    ensures most { All (λ z. z.size.w ≤ result) sizes.now }
+    ensures least { (bound : ℕ) → All (λ z. z.size.w ≤ bound) sizes.now → result ≤ bound }
+{
+    let mut longest = 0;
+    for stock in sizes {
+        longest = stock.size.w().max(longest);
+    }
+    longest
+}
+
+// The greatest worth of an entry within a room.
+fn best_within(entries: &[Entry], room: u32) -> u64
+    ensures { IsGreatest (λ e. e.room ≤ room) (λ e. e.worth) entries.now result }
+{
+    let mut best = 0;
+    for entry in entries {
+        if entry.room <= room {
+            best = entry.worth.max(best);
+        }
+    }
+    best
+}
+
+/// Each of some bars with the worth of its best plan within the counts, from the rooms that counts
+/// reach of the longest.
+pub fn rated_bars(
+    alloc: Global,
+    kerf: u32,
+    sizes: &[StockSize],
+    wants: &[Want],
+) -> Result<Vec<RatedSize>, AllocError>
+    requires modest { HaveBoundedWorthsAndLefts wants.now }
+    requires short { All (λ z. z.size.w ≤ LONGEST_BAR) sizes.now }
+    requires kerf { kerf ≤ MOST_KERF }
+    ensures sizes { IfOk result (λ rated. sizes_of rated.items ≡ sizes.now) }
+    ensures ratings { IfOk result
+        (λ rated. All (λ r. IsBarRating wants.now kerf r.stock.size.w r.best) rated.items) }
+{
+    let longest = longest(sizes);
+    let entries = reach(alloc, wants, longest, kerf)?;
+    let mut rated = Vec::new(alloc);
+    for stock in sizes {
+        let best = best_within(&entries, stock.size.w() + kerf);
+        let size = RatedSize {
+            stock: *stock,
+            best,
+        };
+        rated.push(size)?;
+    }
+    Ok(rated)
+}
+
+// The most steps that a size has across.
+fn most_across(sizes: &[StockSize], kerf: u32, step: u32) -> u32
+    requires kerf { kerf ≤ MOST_KERF }
+    requires step { 1 ≤ step }
+    ensures most { All (λ z. steps_down kerf step z.size.w ≤ result) sizes.now }
+    ensures least { (bound : ℕ) → All (λ z. steps_down kerf step z.size.w ≤ bound) sizes.now
+        → result ≤ bound }
+{
+    let mut most = 0;
+    for stock in sizes {
+        most = ((stock.size.w() + kerf) / step).max(most);
+    }
+    most
+}
+
+// The most steps that a size has down.
+fn most_down(sizes: &[StockSize], kerf: u32, step: u32) -> u32
+    requires kerf { kerf ≤ MOST_KERF }
+    requires step { 1 ≤ step }
+    ensures most { All (λ z. steps_down kerf step z.size.h ≤ result) sizes.now }
+    ensures least { (bound : ℕ) → All (λ z. steps_down kerf step z.size.h ≤ bound) sizes.now
+        → result ≤ bound }
+{
+    let mut most = 0;
+    for stock in sizes {
+        most = ((stock.size.h() + kerf) / step).max(most);
+    }
+    most
+}
+
+// Each of some sheets with its best worth in a table.
+fn read_sheets(
+    alloc: Global,
+    kerf: u32,
+    step: u32,
+    sizes: &[StockSize],
+    rounded: &[Scaled],
+    table: &Table,
+    places: usize,
+) -> Result<Vec<RatedSize>, AllocError>
+    requires kerf { kerf ≤ MOST_KERF }
+    requires step { 1 ≤ step }
+    requires table { IsTable rounded.now places table.now }
+    requires wide { All (λ z. steps_down kerf step z.size.w < places) sizes.now }
+    requires tall { All (λ z. steps_down kerf step z.size.h < heights table.now) sizes.now }
+    ensures sizes { IfOk result (λ rated. sizes_of rated.items ≡ sizes.now) }
+    ensures ratings { IfOk result (λ rated. All (λ r. IsBestOf rounded.now 0
+        (steps_down kerf step r.stock.size.w) (steps_down kerf step r.stock.size.h) r.best)
+        rated.items) }
+{
+    let mut rated = Vec::new(alloc);
+    for stock in sizes {
+        let w = ((stock.size.w() + kerf) / step) as usize;
+        let h = ((stock.size.h() + kerf) / step) as usize;
+        let best = worth_at(rounded, table, places, w, h);
+        let size = RatedSize {
+            stock: *stock,
+            best,
+        };
+        rated.push(size)?;
+    }
+    Ok(rated)
+}
+
+/// Each of some sheets with its ceiling, from the table of a sheet that has as many steps on each
+/// side as any.
+pub fn rated_sheets(
+    alloc: Global,
+    kerf: u32,
+    step: u32,
+    sizes: &[StockSize],
+    wants: &[Want],
+) -> Result<Vec<RatedSize>, AllocError>
+    requires own { HaveOwnDemands wants.now }
+    requires worthy { HaveBoundedWorths wants.now }
+    requires kerf { kerf ≤ MOST_KERF }
+    requires step { IsStep kerf step wants.now }
+    requires wide { All (λ z. steps_down kerf step z.size.w ≤ MOST_STEPS) sizes.now }
+    requires tall { All (λ z. steps_down kerf step z.size.h ≤ MOST_STEPS) sizes.now }
+    ensures sizes { IfOk result (λ rated. sizes_of rated.items ≡ sizes.now) }
+    ensures ratings { IfOk result (λ rated. All (λ r. IsBestOf (wants_down kerf step wants.now) 0
+        (steps_down kerf step r.stock.size.w) (steps_down kerf step r.stock.size.h) r.best)
+        rated.items) }
+{
+    let across = most_across(sizes, kerf, step) as usize;
+    let down = most_down(sizes, kerf, step) as usize;
+    let rounded = all_down(alloc, wants, kerf, step)?;
+    let table = best_table(alloc, &rounded, across, down)?;
+    read_sheets(alloc, kerf, step, sizes, &rounded, &table, across + 1)
+}

@@ -1,0 +1,6 @@
+//! The lines that tell a plan of a whole order.
+#![tactic(auto)]
+
+mod lines;
+
+pub use lines::{OrderSummary, order_lines};

@@ -1,0 +1,22 @@
+-- Stocks that a search takes.
+use Rattle.std.specs.Prelude.{◌≡◌, ℕ, ◌+◌, ◌≤◌, List, All, length, sum_by, unwrap_or}
+use Rattle.cut_measure.specs.declared.sizes.Kind.{Kind}
+use Rattle.cut_measure.specs.declared.sizes.Kind.TheVariants.{Bar}
+use Rattle.cut_bound.specs.declared.limits.TheConstants.{MOST_BOUGHT_SIZES, MOST_PARTS}
+use Rattle.cut_bound.specs.declared.stock.StockSize.{StockSize}
+use Rattle.cut_order.specs.declared.question.TheConstants.{MOST_COST}
+
+-- the units at hand of the limited sizes, together
+abbrev pub parts_of : List StockSize → ℕ
+parts_of sizes = sum_by (λ s. unwrap_or s.limit 0) sizes
+
+-- each bar has a height of 1
+abbrev pub AreFlat : Kind → List StockSize → Type 0
+AreFlat kind sizes = kind ≡ Bar → All (λ s. s.size.h ≡ 1) sizes
+
+-- at most 1010 sizes and 1000 units at hand, none too dear, and each bar with a height of 1
+pub record IsStock (kind : Kind) (sizes : List StockSize) : Type 0 where
+  pub few : length sizes ≤ MOST_PARTS + MOST_BOUGHT_SIZES
+  pub at_hand : parts_of sizes ≤ MOST_PARTS
+  pub cheap : All (λ s. s.cost ≤ MOST_COST) sizes
+  pub flat : AreFlat kind sizes

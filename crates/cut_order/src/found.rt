@@ -1,0 +1,225 @@
+//! Whether found units are a plan of an order, and which of two plans is better.
+
+ghost use Rattle.std.specs.Prelude.{◌≡◌, ◌≤◌, ◌↔◌, IfOk, IfSome, IsTrue};
+ghost use Rattle.cut_tree.specs.Nodes.{tree_of};
+ghost use Rattle.cut_tree.specs.Patterns.{HasDemands};
+ghost use Rattle.cut_tree.specs.Tree.{IsShaped, cut_count};
+ghost use Rattle.cut_order.specs.Places.{IsFewOrderPlan};
+
+use crate::places::unit_count;
+use crate::question::Question;
+use cut_bound::{CheckFault, CheckedOrder, MOST_UNITS, PlannedUnit, check_order};
+use cut_measure::{Axis, MOST_KERF, MOST_NUMBERS, Size};
+use cut_search::search::FoundUnit;
+use cut_tree::{MOST_CUTS, Node, Plan};
+use std::alloc::{AllocError, Global};
+
+/// Units that are a plan of an order, the pieces that they leave out, and their cost.
+#[derive(Drop)]
+pub struct Kept {
+    pub units: Vec<PlannedUnit>,
+    pub missing: u128,
+    pub cost: u128,
+}
+
+// Whether the cuts follow the rule on a rectangle.
+fn is_shaped(node: &Node, w: u32, h: u32, kerf: u32) -> bool
+    ensures { IsTrue result ↔ IsShaped (tree_of node.now) w h kerf }
+{
+    match node {
+        Node::Piece(..) | Node::Rest => true,
+        Node::Trim(Axis::X, at, first) => {
+            1 <= *at && *at < w && w - *at <= kerf && is_shaped(first, *at, h, kerf)
+        }
+        Node::Trim(Axis::Y, at, first) => {
+            1 <= *at && *at < h && h - *at <= kerf && is_shaped(first, w, *at, kerf)
+        }
+        Node::Cut(Axis::X, at, first, second) => {
+            1 <= *at
+                && *at < w
+                && kerf < w - *at
+                && is_shaped(first, *at, h, kerf)
+                && is_shaped(second, w - *at - kerf, h, kerf)
+        }
+        Node::Cut(Axis::Y, at, first, second) => {
+            1 <= *at
+                && *at < h
+                && kerf < h - *at
+                && is_shaped(first, w, *at, kerf)
+                && is_shaped(second, w, h - *at - kerf, kerf)
+        }
+    }
+}
+
+// How many cuts there are, if they are no more than `most`.
+fn cuts_within(node: &Node, most: u32) -> Option<u32>
+    ensures { IfSome result (λ cuts. (cuts ≡ cut_count (tree_of node.now)) × (cuts ≤ most)) }
+{
+    match node {
+        Node::Piece(..) | Node::Rest => Some(0),
+        Node::Trim(_, _, first) => {
+            let below = most.checked_sub(1)?;
+            let cuts = cuts_within(first, below)?;
+            Some(cuts + 1)
+        }
+        Node::Cut(_, _, first, second) => {
+            let below = most.checked_sub(1)?;
+            let cuts = cuts_within(first, below)?;
+            let others = cuts_within(second, below - cuts)?;
+            Some(cuts + others + 1)
+        }
+    }
+}
+
+// Whether each demand has a number that a demand may have.
+fn has_demands(node: &Node) -> bool
+    ensures { IsTrue result ↔ HasDemands (tree_of node.now) }
+{
+    match node {
+        Node::Piece(demand, _) => 1 <= *demand && *demand <= MOST_NUMBERS,
+        Node::Rest => true,
+        Node::Trim(_, _, first) => has_demands(first),
+        Node::Cut(_, _, first, second) => has_demands(first) && has_demands(second),
+    }
+}
+
+// Whether nodes are a plan of a unit.
+fn is_plan(node: &Node, size: Size, kerf: u32) -> bool
+    ensures { IsTrue result → IsShaped (tree_of node.now) size.w size.h kerf
+        × (cut_count (tree_of node.now) ≤ MOST_CUTS) × HasDemands (tree_of node.now) }
+{
+    is_shaped(node, size.w(), size.h(), kerf)
+        && cuts_within(node, MOST_CUTS).is_some()
+        && has_demands(node)
+}
+
+// The plan of nodes on a unit, if it is one.
+fn plan_of(alloc: Global, node: Node, size: Size, kerf: u32) -> Result<Option<Plan>, AllocError>
+    requires { kerf ≤ MOST_KERF }
+{
+    if !is_plan(&node, size, kerf) {
+        return Ok(None);
+    }
+    let (_width, _height) = (size.w(), size.h());
+    let plan = Plan::of(alloc, node, size, kerf)?;
+    Ok(Some(plan))
+}
+
+// Planned units of those that were found, if each is a plan of one of the sizes.
+fn planned_units(
+    alloc: Global,
+    question: &Question,
+    found: Vec<FoundUnit>,
+) -> Result<Option<Vec<PlannedUnit>>, AllocError> {
+    let mut units = Vec::new(alloc);
+    for unit in found {
+        let Some(stock) = question.sizes.get(unit.place) else {
+            return Ok(None);
+        };
+        let Some(plan) = plan_of(alloc, unit.node, stock.size, question.kerf)? else {
+            return Ok(None);
+        };
+        units.push(PlannedUnit {
+            place: unit.place,
+            times: unit.times,
+            plan,
+        })?;
+    }
+    Ok(Some(units))
+}
+
+// What the check tells of units, if they are a plan of the order.
+fn checked(
+    alloc: Global,
+    question: &Question,
+    units: &[PlannedUnit],
+) -> Result<Option<CheckedOrder>, AllocError>
+    ensures { IfOk result (λ told. IfSome told (λ _. IsFewOrderPlan question.now.wants.items
+        question.now.kerf question.now.sizes.items units.now)) }
+{
+    if unit_count(units) > MOST_UNITS as u128 {
+        return Ok(None);
+    }
+    match check_order(
+        alloc,
+        question.kerf,
+        &question.sizes,
+        &question.wants,
+        units,
+        0,
+    ) {
+        Ok(checked) => Ok(Some(checked)),
+        Err(CheckFault::NoMemory) => Err(AllocError),
+        Err(_) => Ok(None),
+    }
+}
+
+// Copies of planned units, which share their plans' nodes.
+fn copies(alloc: Global, units: &[PlannedUnit]) -> Result<Vec<PlannedUnit>, AllocError> {
+    let mut copies = Vec::new(alloc);
+    for unit in units {
+        let plan = unit.plan.copy(alloc)?;
+        copies.push(PlannedUnit {
+            place: unit.place,
+            times: unit.times,
+            plan,
+        })?;
+    }
+    Ok(copies)
+}
+
+/// The units that are kept. They are checked once more, so that nothing has to be known of them;
+/// none would be taken if they failed.
+pub fn kept_units(
+    alloc: Global,
+    question: &Question,
+    kept: &Kept,
+) -> Result<Vec<PlannedUnit>, AllocError>
+    ensures { IfOk result (λ units. IsFewOrderPlan question.now.wants.items question.now.kerf
+        question.now.sizes.items units.items) }
+{
+    let units = copies(alloc, &kept.units)?;
+    match checked(alloc, question, &units)? {
+        Some(_) => Ok(units),
+        None => Ok(Vec::new(alloc)),
+    }
+}
+
+// How many pieces are missing together.
+fn sum_of(missing: &[u32]) -> u128 {
+    let mut sum: u128 = 0;
+    for number in missing {
+        sum = sum.saturating_add(*number as u128);
+    }
+    sum
+}
+
+// Whether a plan that leaves out so many pieces and costs so much is better than another.
+fn is_better(missing: u128, cost: u128, than: &Kept) -> bool {
+    missing < than.missing || missing == than.missing && cost < than.cost
+}
+
+/// The found units, if they are a plan of the order that is better than the one that is kept: it
+/// leaves out fewer pieces, or as many at a lower cost.
+pub fn better(
+    alloc: Global,
+    question: &Question,
+    found: Vec<FoundUnit>,
+    than: &Kept,
+) -> Result<Option<Kept>, AllocError> {
+    let Some(units) = planned_units(alloc, question, found)? else {
+        return Ok(None);
+    };
+    let Some(checked) = checked(alloc, question, &units)? else {
+        return Ok(None);
+    };
+    let missing = sum_of(&checked.missing);
+    if !is_better(missing, checked.cost, than) {
+        return Ok(None);
+    }
+    Ok(Some(Kept {
+        units,
+        missing,
+        cost: checked.cost,
+    }))
+}

@@ -1,0 +1,24 @@
+//! Plans of whole orders: by which units, and which plans of them, all that is left is cut at a low
+//! cost, and a bound that tells how far that is from the best. Whoever searches for them need not
+//! be trusted: what is told is checked and proved.
+#![tactic(auto)]
+
+mod answer;
+mod certified;
+mod complete;
+mod found;
+mod places;
+mod planning;
+mod question;
+mod search;
+mod seek;
+mod single;
+
+pub use answer::OrderPlan;
+pub use cut_bound::{
+    MOST_BOUGHT_SIZES, MOST_BOUND, MOST_CALLS, MOST_ORDER_WANTS, MOST_PARTS, MOST_UNITS,
+    PlannedUnit, Price, StockSize, least_cost,
+};
+pub use planning::plan_order;
+pub use question::{MOST_COST, Question, is_stock};
+pub use search::OrderSearch;

@@ -1,0 +1,62 @@
+//! What is asked of a search: the sizes and the wants of an order.
+
+ghost use Rattle.std.specs.Prelude.{◌≡◌, ◌≤◌, ◌↔◌, IsTrue, None};
+ghost use Rattle.cut_measure.specs.declared.ranges.TheConstants.{MOST_KERF};
+ghost use Rattle.cut_plan.specs.Proposals.{AreDemands};
+ghost use Rattle.cut_bound.specs.Orders as orders;
+ghost use Rattle.cut_order.specs.Stocks as stocks;
+ghost use Rattle.cut_order.specs.Stocks.{AreFlat, IsStock};
+
+use cut_bound::{MOST_BOUGHT_SIZES, MOST_PARTS, StockSize};
+use cut_measure::Kind;
+use cut_plan::Want;
+
+/// The most that a unit costs: 100 for each cell of the largest sheet.
+pub const MOST_COST: u64 = 4_000_000_000_000;
+
+/// What is asked of a search.
+#[derive(Drop)]
+pub struct Question {
+    pub kind: Kind,
+    pub kerf: u32,
+    pub step: u32,
+    pub sizes: Vec<StockSize>,
+    pub wants: Vec<Want>,
+    ghost narrow: { kerf ≤ MOST_KERF },
+    ghost stocked: { IsStock kind sizes.items },
+    ghost numbered: { AreDemands wants.items },
+    ghost faultless: { orders.order_fault kind kerf step sizes.items wants.items ≡ None },
+}
+
+// The units at hand of the limited sizes, together.
+fn parts_of(sizes: &[StockSize]) -> u128
+    ensures { result ≡ stocks.parts_of sizes.now }
+{
+    let mut parts: u128 = 0;
+    for stock in sizes {
+        parts += stock.limit.unwrap_or(0) as u128;
+    }
+    parts
+}
+
+// Whether each bar has a height of 1.
+fn are_flat(kind: Kind, sizes: &[StockSize]) -> bool
+    ensures { IsTrue result ↔ AreFlat kind sizes.now }
+{
+    match kind {
+        Kind::Bar => sizes.iter().all(|stock| stock.size.h() == 1),
+        Kind::Sheet => true,
+    }
+}
+
+/// Whether the sizes are a stock that a search takes: at most 1010 sizes, at most 1000 units at
+/// hand of the limited ones together, none that costs more than 4000000000000, and each bar with a
+/// height of 1.
+pub fn is_stock(kind: Kind, sizes: &[StockSize]) -> bool
+    ensures { IsTrue result ↔ IsStock kind sizes.now }
+{
+    sizes.len() <= MOST_PARTS as usize + MOST_BOUGHT_SIZES
+        && parts_of(sizes) <= MOST_PARTS as u128
+        && sizes.iter().all(|stock| stock.cost <= MOST_COST)
+        && are_flat(kind, sizes)
+}

@@ -1,0 +1,180 @@
+//! Plans of whole orders: a search that may be asked at any time for what it found so far.
+
+ghost use Rattle.std.specs.Prelude.{◌≡◌, ◌≤◌, ◌⊎◌, IfErr, IfOk, IfSome, None, Some};
+ghost use Rattle.cut_plan.specs.Proposals.{AreDemands};
+ghost use Rattle.cut_plan.specs.declared.faults.PlanFault.TheVariants.{NoMemory};
+ghost use Rattle.cut_bound.specs.Orders as orders;
+ghost use Rattle.cut_order.specs.Answers.{Asks, IsOrderAnswer};
+ghost use Rattle.cut_order.specs.Searches.{question_of};
+ghost use Rattle.cut_order.specs.Stocks.{IsStock};
+
+use crate::answer::{OrderPlan, answer_of};
+use crate::certified::Certified;
+use crate::complete::complete;
+use crate::found::{Kept, better, kept_units};
+use crate::question::Question;
+use crate::seek::search_for;
+use cut_bound::{StockSize, order_fault};
+use cut_measure::{Kind, MOST_KERF};
+use cut_plan::{PlanFault, Want};
+use cut_search::search::{Found, FoundUnit, Search};
+use std::alloc::{AllocError, Global};
+
+/// A search for plans of an order. Whatever it looks at, what it tells is checked: units are a plan
+/// of the order, and the bound comes with prices and is proved.
+#[derive(Drop)]
+pub struct OrderSearch {
+    certified: Certified,
+    kept: Kept,
+    pending: Option<Vec<u32>>,
+    search: Search,
+}
+
+impl OrderSearch {
+    // A search that found nothing yet.
+    fn begin(alloc: Global, question: Question) -> Result<OrderSearch, AllocError>
+        ensures { IfOk result (λ search. question_of search ≡ question) }
+    {
+        let search = search_for(alloc, &question)?;
+        let certified = Certified::new(alloc, question);
+        let kept = Kept {
+            units: Vec::new(alloc),
+            missing: u128::MAX,
+            cost: u128::MAX,
+        };
+        Ok(OrderSearch {
+            certified,
+            kept,
+            pending: None,
+            search,
+        })
+    }
+
+    // A search for a question without fault.
+    fn asked(
+        alloc: Global,
+        kind: Kind,
+        kerf: u32,
+        step: u32,
+        sizes: &[StockSize],
+        wants: &[Want],
+    ) -> Result<OrderSearch, AllocError>
+        requires kerf { kerf ≤ MOST_KERF }
+        requires stock { IsStock kind sizes.now }
+        requires demands { AreDemands wants.now }
+        requires faultless { orders.order_fault kind kerf step sizes.now wants.now ≡ None }
+        ensures { IfOk result (λ search. Asks kind kerf step sizes.now wants.now
+            (question_of search)) }
+    {
+        let sizes = Vec::from_slice(alloc, sizes)?;
+        let wants = Vec::from_slice(alloc, wants)?;
+        let question = Question {
+            kind,
+            kerf,
+            step,
+            sizes,
+            wants,
+        };
+        let search = OrderSearch::begin(alloc, question)?;
+        Ok(search)
+    }
+
+    /// A search that made no table yet. The sizes are a stock (`is_stock`), and demands are in
+    /// 1..=2147483647. Faults in the order of `PlanFault`: no want or more than 100, one that is
+    /// out of range or stands twice; a sheet's step of 0; a size that is too large; no want that
+    /// fits any of the sizes. A want whose side and kerf are shorter than the step is planned all
+    /// the same, and has no price.
+    pub fn new(
+        alloc: Global,
+        kind: Kind,
+        kerf: u32,
+        step: u32,
+        sizes: &[StockSize],
+        wants: &[Want],
+    ) -> Result<OrderSearch, PlanFault>
+        requires kerf { kerf ≤ MOST_KERF }
+        requires stock { IsStock kind sizes.now }
+        requires demands { AreDemands wants.now }
+        ensures ok { IfOk result (λ search. Asks kind kerf step sizes.now wants.now
+            (question_of search)) }
+        ensures faulty { IfSome (orders.order_fault kind kerf step sizes.now wants.now)
+            (λ fault. result ≡ Err fault) }
+        ensures err { IfErr result (λ fault. (fault ≡ NoMemory)
+            ⊎ (orders.order_fault kind kerf step sizes.now wants.now ≡ Some fault)) }
+    {
+        match order_fault(kind, kerf, step, sizes, wants) {
+            Some(fault) => Err(fault),
+            None => match OrderSearch::asked(alloc, kind, kerf, step, sizes, wants) {
+                Ok(search) => Ok(search),
+                Err(_) => Err(PlanFault::NoMemory),
+            },
+        }
+    }
+
+    // The cost of the plan that is kept, if it makes all.
+    fn best_cost(&self) -> Option<u64> {
+        if self.kept.missing == 0 {
+            u64::try_from(self.kept.cost).ok()
+        } else {
+            None
+        }
+    }
+
+    // Keeps units that are a better plan of the order.
+    fn consider(&mut self, alloc: Global, found: Vec<FoundUnit>) -> Result<(), AllocError>
+        ensures { question_of self.new ≡ question_of self.old }
+    {
+        let certified = &self.certified;
+        let found = better(alloc, &certified.question, found, &self.kept)?;
+        if let Some(kept) = found {
+            self.kept = kept;
+        }
+        Ok(())
+    }
+
+    // Lets the search go on; whether there is more to do.
+    fn go_on(&mut self, alloc: Global) -> Result<bool, AllocError>
+        ensures { question_of self.new ≡ question_of self.old }
+    {
+        let least = self.certified.certificate.bound;
+        let best = self.best_cost();
+        let found = self.search.go_on(alloc, least, best)?;
+        match found {
+            Found::Nothing => Ok(true),
+            Found::Ended => Ok(false),
+            Found::Prices(numbers) => {
+                self.pending = Some(numbers);
+                Ok(true)
+            }
+            Found::Units(units) => {
+                self.consider(alloc, units)?;
+                Ok(true)
+            }
+        }
+    }
+
+    /// Goes on, by one table at most; whether there is more to do.
+    pub fn advance(&mut self, alloc: Global) -> Result<bool, AllocError>
+        ensures { question_of self.new ≡ question_of self.old }
+    {
+        match self.pending.take() {
+            Some(numbers) => {
+                self.certified.rate(alloc, numbers)?;
+                Ok(true)
+            }
+            None => self.go_on(alloc),
+        }
+    }
+
+    /// The best that was found so far, with units added as long as an unused one holds a missing
+    /// piece.
+    pub fn finish(&self, alloc: Global) -> Result<OrderPlan, AllocError>
+        ensures { IfOk result (IsOrderAnswer (question_of self.now)) }
+    {
+        let question = &self.certified.question;
+        let mut units = kept_units(alloc, question, &self.kept)?;
+        complete(alloc, question, &mut units)?;
+        let plan = answer_of(alloc, &self.certified, units)?;
+        Ok(plan)
+    }
+}

@@ -1,0 +1,27 @@
+//! The search for prices and units (`cut_search`). It owes nothing but that it is safe and ends:
+//! what it finds is checked.
+
+use crate::question::Question;
+use cut_bound::StockSize;
+use cut_search::search::Search;
+use cut_search::stock::SearchSize;
+use std::alloc::{AllocError, Global};
+
+// The sizes as a search takes them.
+fn search_sizes(alloc: Global, sizes: &[StockSize]) -> Result<Vec<SearchSize>, AllocError> {
+    sizes
+        .iter()
+        .map(|stock| SearchSize {
+            size: stock.size,
+            cost: stock.cost,
+            limit: stock.limit,
+        })
+        .collect(alloc)
+}
+
+/// A search for a question that has made no table yet.
+pub fn search_for(alloc: Global, question: &Question) -> Result<Search, AllocError> {
+    let sizes = search_sizes(alloc, &question.sizes)?;
+    let (kind, kerf, step) = (question.kind, question.kerf, question.step);
+    Search::new(alloc, kind, kerf, step, &sizes, &question.wants)
+}

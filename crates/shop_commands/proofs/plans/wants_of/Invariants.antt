@@ -1,6 +1,0 @@
-use Rattle.std.proofs.Common.{◌≡◌, ◌+◌, ◌++◌, drop}
-use Rattle.shop_commands.specs.Plans.{wants_from, wants_of}
-use Rattle.shop_commands.proofs.plans.wants_of.Given as goal
-
-abbrev pub invariant-loop-piece : goal.invariant-loop-piece
-invariant-loop-piece l = (l.wants.items ++ wants_from l.demand (drop l.piece-index l.pieces) ≡ wants_of l.pieces) × (l.demand ≡ l.piece-index + 1)

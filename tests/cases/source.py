@@ -1,0 +1,255 @@
+"""What the source itself shows: where a want of memory is told, and which constants a law names."""
+
+import glob
+import os
+import re
+from functools import cache
+
+from kit.case import case
+
+TOP = os.path.join(os.path.dirname(os.path.abspath(__file__)), "..", "..")
+
+# A want of memory, by any of its names.
+NAMED = re.compile(r"\b(?:NoMemory|AllocError|OutOfMemory|is_memory)\b")
+
+# Calls of std and of ported crates whose only Err is a want of memory.
+OF_STD = {"push", "extend_from_slice", "Vec::with_capacity", "Vec::from_slice", "Box::new"}
+
+# Places that tell a want of memory otherwise than as the Err of a call that has no other, or as what another value names;
+# and why there is one behind it.
+LISTED = {
+    "cut_order/src/answer.rt want_of_memory": "the check of units that are a plan of the order, whose only fault then is this one, by its contract",
+    "shop_commands/src/storeless.rt next_act": "the book in memory, whose only fault is want of memory by its contract",
+    "shop_commands/src/storeless.rt next_demand": "the book in memory, as above",
+    "shop_commands/src/storeless.rt totals": "the book in memory, as above",
+    "shop_desk/src/desk_calls.rt known_rack": "the taker of a rack stops where its list has no room",
+    "shop_files/src/orders.rt next_row": "a record of a slice, of any length: the reader has no other error",
+    "shop_forms/src/writing.rt value_of": "a text that was written by the port's own writer: it is read but for want of memory",
+    "shop_request/src/routes.rt new": "the router takes the seventeen routes, which are constants, but for want of memory",
+    "shop_rows/src/part_rows.rt reserve": "a number of origins of 32 bits: acts end at 2147483647, and each begins one at most",
+    "shop_serve/src/lines.rt ask": "there is no answer where memory is wanting for it",
+    "shop_store/src/named_parts.rt searched_parts": "the taker of parts stops where its list has no room",
+    "shop_text/src/yields.rt report_text": "the taker of a report's lines stops where its text has no room",
+    "shop_wire/src/serving.rt write_made": "the text is handed over as it was made, or the want of memory",
+}
+
+
+def blanked(text):
+    """A source without its comments, and with the texts in it made blank."""
+    text = re.sub(r"//[^\n]*", "", text)
+    text = re.sub(r'"(?:\\.|[^"\\])*"', lambda it: '"' + " " * (len(it[0]) - 2) + '"', text)
+    return re.sub(r"b?'(?:\\.|[^'\\\n])'", "0", text)
+
+
+def closing(text, at):
+    """Where the bracket that opens at a place closes."""
+    depth = 0
+    for place in range(at, len(text)):
+        depth += {"{": 1, "}": -1}.get(text[place], 0)
+        if not depth:
+            return place
+    raise ValueError(f"no bracket closes behind {text[at : at + 80]}")
+
+
+def code_of(text):
+    """A source without its contracts and other ghosts."""
+    text = re.sub(r"\bghost use [^;]*;", "", blanked(text))
+    parts, at = [], 0
+    for found in re.finditer(r"(?m)^\s*(?:requires|ensures|maintains|ghost)\b[^{;]*\{", text):
+        if found.start() >= at:
+            parts.append(text[at : found.start()])
+            at = closing(text, found.end() - 1) + 1
+    return "".join([*parts, text[at:]])
+
+
+@cache
+def sources():
+    """The code of each source of the crates, by its path below crates/."""
+    found = sorted(glob.glob(f"{TOP}/crates/*/src/**/*.rt", recursive=True))
+    coded = {}
+    for path in found:
+        with open(path, encoding="utf-8") as file:
+            coded[os.path.relpath(path, f"{TOP}/crates")] = code_of(file.read())
+    return coded
+
+
+def functions(code):
+    """The name, the head and the body of each function."""
+    for found in re.finditer(r"\bfn (\w+)[^{};]*\{", code):
+        end = closing(code, found.end() - 1)
+        yield found[1], found[0], code[found.end() : end]
+
+
+def named(code):
+    """The name of each function, with its type before it where it is one's, and what stands before its body."""
+    impls = []
+    for found in re.finditer(r"\bimpl\b[^{;]*?(\w+)(?:<[^{;]*>)?\s*\{", code):
+        impls.append((found.end(), closing(code, found.end() - 1), found[1]))
+    for found in re.finditer(r"\bfn (\w+)[^{};]*", code):
+        of = [name for begin, end, name in impls if begin <= found.start() < end]
+        yield f"{of[0]}::{found[1]}" if of else found[1], found[0]
+
+
+@cache
+def wanting():
+    """The names of functions of each crate, those of types without them too: whether their only Err is a want of memory."""
+    known = {}
+    for path, code in sources().items():
+        for name, head in named(code):
+            is_wanting = bool(re.search(r"-> *Result<.*\bAllocError>\s*$", head, re.DOTALL))
+            for it in {name, name.rpartition("::")[2]}:
+                known.setdefault((path.partition("/")[0], it), set()).add(is_wanting)
+    return known
+
+
+def around(body, at):
+    """The blocks around a place, from the innermost one outward: what stands before each, and what stands in it up to the
+    place, without the blocks that are closed there."""
+    opened = []
+    for place in range(at):
+        if body[place] == "{":
+            opened.append(place)
+        elif body[place] == "}":
+            opened.pop()
+    end = at
+    for place in [*reversed(opened), -1]:
+        yield flat(body[: max(place, 0)]).rpartition(";")[2], flat(body[place + 1 : end]).replace(";", ",")
+        end = place
+
+
+def flat(text):
+    """The end of a text, from its last open block on, with a semicolon for each closed block and a word for each value."""
+    while (less := re.sub(r"([A-Z]\w*)\s*\{[^{}]*\}", r"\1", text)) != text or (less := re.sub(r"\{[^{}]*\}", ";", text)) != text:
+        text = less
+    return text.rpartition("{")[2]
+
+
+def is_wanting(call, crate):
+    """Whether the Err of what an expression calls last is a want of memory and nothing else: of that crate's own function of
+    this name, or else of all crates' functions of it."""
+    while (bare := re.sub(r"\([^()]*\)", "", call)) != call:
+        call = bare
+    name = re.sub(r"\s", "", call).rpartition(".")[2]
+    own = wanting().get((crate, name))
+    everywhere = set().union(*[it for (_, other), it in wanting().items() if other == name])
+    return name in OF_STD or (own or everywhere) == {True}
+
+
+def is_behind(body, at, crate):
+    """Whether what is told at a place is the want of memory of something else: that of a pattern or a condition around it, or
+    the Err of a call that has no other."""
+    for before, within in around(body, at):
+        matched, arms = re.search(r"\bmatch\b(.*)", before, re.DOTALL), within.rpartition("=>")
+        pattern = arms[0].rpartition(",")[2].strip()
+        condition = re.search(r"\bif\b(.*)", before, re.DOTALL)
+        let = re.search(r"\blet Ok\(.*?\)\s*=(.*)\belse\s*$", before, re.DOTALL)
+        if matched and NAMED.search(pattern) or condition and NAMED.search(condition[1]):
+            return True
+        if matched and pattern == "Err(_)":
+            return is_wanting(matched[1], crate)
+        if let:
+            return is_wanting(let[1], crate)
+        if condition and condition[1].strip().endswith(".is_err()"):
+            return is_wanting(condition[1].strip().removesuffix(".is_err()"), crate)
+    return False
+
+
+def tellings():
+    """The places that tell a want of memory: the file with the function, and whether there is another one behind it."""
+    for path, code in sources().items():
+        if re.search(r"\b(?:const|static)\s+\w+\s*:[^;{]*=[^;{]*\b(?:NoMemory|AllocError)\b|\b(?:NoMemory|AllocError)\s+as\b", code):
+            yield f"{path}, by another name", False
+        for name, head, body in functions(code):
+            if name == "from" and "AllocError" in head:
+                continue
+            for found in re.finditer(r"(?:\b\w+::)?\b(?:NoMemory|AllocError)\b", body):
+                behind = body[found.end() :]
+                is_type = re.match(r"\s*>", behind)
+                is_pattern = re.match(r"[\s)}]*(?:=>|\|)", behind) or re.search(r"[=!]=\s*$", body[: found.start()])
+                if not is_type and not is_pattern:
+                    yield f"{path} {name}", is_behind(body, found.start(), path.partition("/")[0])
+
+
+@case(
+    "want of memory is never made",
+    "In the source of the crates a want of memory is told where another one is named, or where a call fails that fails for "
+    "nothing else; other places are those of a list, with their reasons, and each of these is there.",
+)
+def never_made(trial):
+    told = list(tellings())
+    trial.holds(len(told) > 50, f"{len(told)} places")
+    trial.equal(sorted(place for place, is_behind in told if not is_behind), sorted(LISTED))
+
+
+# Takers whose stop is told as a want of memory, by the file in which each stands.
+TAKERS = ("shop_desk/src/racks.rt", "shop_store/src/takers.rt", "shop_text/src/yields.rt")
+
+
+@case(
+    "takers stop for want of memory alone",
+    "A taker of parts whose stop is told as a want of memory stops where a call fails that fails for nothing else, and an answer "
+    "that isn't made is one whose making failed.",
+)
+def takers(trial):
+    for path in TAKERS:
+        bodies = [body.strip() for name, _, body in functions(sources()[path]) if name == "part"]
+        trial.equal(len(bodies), 1, path)
+        last = bodies[0].rpartition("||")[2].strip()
+        is_plain = not re.search(r"&&|[;{}!]", bodies[0]) and last.endswith(".is_ok()")
+        trial.holds(is_plain and is_wanting(last.removesuffix(".is_ok()"), path.partition("/")[0]), f"{path}: {bodies[0]}")
+    code = sources()["shop_serve/src/answers.rt"]
+    trial.equal(len(re.findall(r"\bNone\b", code)), len(re.findall(r"Err\(_\) => None,", code)), "answers that aren't made")
+
+
+# Constants that definitions cite and whose number no law has, and why.
+NUMBERLESS = {
+    "shop_store open_work TOO_MANY": "how many rows of open work are looked for: of more none are told, and each look searches",
+    "shop_wire limits ROOM": "how much a read brings at most, in a measure of what reading can still do",
+    "shop_words words VERSION": "the text of the version, which the program prints",
+}
+
+
+def read(path):
+    with open(path, encoding="utf-8") as file:
+        return re.sub(r"--.*", "", file.read())
+
+
+def cited(text):
+    """The constants of the code that a definition's text cites: crate, module and name of each, by the name that it has there."""
+    found = {}
+    for crate, module, names in re.findall(r"Rattle\.(\w+)\.specs\.declared\.([\w.]+)\.TheConstants\.\{([^}]*)\}", text):
+        found |= {name: f"{crate} {module} {name}" for name in re.split(r"[,\s]+", names.strip())}
+    for crate, module, short in re.findall(r"Rattle\.(\w+)\.specs\.declared\.([\w.]+)\.TheConstants as (\w+)", text):
+        used = re.findall(rf"\b{short}\.([A-Z_0-9]+)\b", text)
+        found |= {f"{short}.{name}": f"{crate} {module} {name}" for name in used}
+    return found
+
+
+NUMBER = r"[0-9]+(?: \^ [0-9]+)?"
+
+
+def texts(kind):
+    """The text of each file of the crates of a kind: definitions, or sources with their contracts."""
+    folder, ending = {"definitions": ("specs", "antt"), "sources": ("src", "rt")}[kind]
+    return [read(it) for it in sorted(glob.glob(f"{TOP}/crates/*/{folder}/**/*.{ending}", recursive=True))]
+
+
+@case(
+    "constants have their numbers in a law",
+    "Each constant of the code that a definition or a contract cites has its number in a law, as in `limits_have_numbers`, by its "
+    "own name or by that of the definition that is it; others are those of a list, with their reasons, and each of these is one.",
+)
+def numbers(trial):
+    definitions, sources = texts("definitions"), texts("sources")
+    every, known, stated = set(), set(), set()
+    for text in definitions + sources:
+        by_name = cited(text)
+        every |= set(by_name.values())
+        equal = re.findall(rf"[:{{]\s*([\w.]+)\s*≡\s*{NUMBER}\s*(?:\}}|$)", text, re.MULTILINE)
+        known |= {by_name[it] for it in equal if it in by_name}
+        stated |= set(equal)
+    for text in definitions:
+        by_name = cited(text)
+        known |= {by_name[it] for name, it in re.findall(r"(?m)^(\w+) = ([\w.]+)$", text) if name in stated and it in by_name}
+    trial.holds(len(every) > 20, f"{len(every)} constants")
+    trial.equal(sorted(every - known), sorted(NUMBERLESS))
