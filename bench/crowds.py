@@ -1,21 +1,24 @@
 #!/usr/bin/env python3
-"""Times eight terminals that post 1000 messages at once, alone and beside connections that hold something up; and questions.
+"""Times eight terminals that post 1000 messages at once, alone and beside connections that hold something up or have the shop
+think about plans; and questions.
 
     bench/crowds.py [PROGRAM] [--rounds N] [--questions N]
 
 PROGRAM is the built program, crates/cutshop/out/cutshop by default (`rt run` in crates/cutshop makes it). Each row is a fresh
 shop on tmpfs: the least and the greatest of the rounds' slowest answers, in milliseconds, and by how much the least is above
-that without others. Then how many questions a second are answered to 1, 8 and 64 clients, each a process, over a connection
+that without others. The questions for plans are of sheets of 500 steps and 40 kinds, and of bars; the shop thinks about them
+while all is posted. Then how many questions a second are answered to 1, 8 and 64 clients, each a process, over a connection
 for each question. The clients are in Python and take a part of the time.
 """
 
 import argparse
 import multiprocessing
 import os
+import select
 import socket
 import sys
 import time
-from contextlib import nullcontext
+from contextlib import contextmanager, nullcontext
 
 HERE = os.path.dirname(os.path.abspath(__file__))
 sys.path.insert(0, os.path.join(HERE, "..", "tests"))
@@ -26,6 +29,7 @@ from cases.terminals import Terminal, at_once  # noqa: E402
 from kit import crowds  # noqa: E402
 from kit.case import Trial  # noqa: E402
 from kit.shop import request_of  # noqa: E402
+from kit.yards import Yard, question  # noqa: E402
 
 PROGRAM = os.path.join(HERE, "..", "crates", "cutshop", "out", "cutshop")
 CROWDS = {
@@ -36,7 +40,33 @@ CROWDS = {
     "one after the other that is reset": crowds.resetting,
     "50 that stop within their request": lambda shop: crowds.halves(shop, 50),
     "2000 quick questions": lambda shop: crowds.asking(shop, 2000, []),
+    "8 questions for plans of sheets": lambda shop: thinking(shop, 8, crowds.large_yard(40, 10), SHEETS),
+    "8 questions for plans of bars": lambda shop: thinking(shop, 8, bars(), BARS),
 }
+SHEETS = crowds.large_question(5000, 65, 10)
+BARS = question("BARS", buy=[{"h": 1, "w": 60000}, {"h": 1, "w": 80000}], calls=5000)
+
+
+def bars():
+    """Steel of which 40 lengths are open."""
+    yard = Yard(crowds.FILLER)
+    yard.material("BARS", 30)
+    yard.bars("BARS", *[(8000 + 913 * it % 37000, 1 + it * 7 % 50) for it in range(40)])
+    return yard
+
+
+@contextmanager
+def thinking(shop, count, yard, asked):
+    """So many questions to a yard that are thought about; told is when one was answered before the posts were."""
+    for line in yard.lines:
+        if b'"ok"' not in shop.reply(line):
+            raise SystemExit(f"{line} is refused")
+    with crowds.thinking(shop, count, asked) as held:
+        time.sleep(0.5)
+        yield held
+        ready, _, _ = select.select(held, [], [], 0)
+        if ready:
+            print(f"({len(ready)} of {count} questions were answered before all posts were)", flush=True)
 
 
 def slowest(program, crowd, count=125):

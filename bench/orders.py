@@ -18,12 +18,13 @@ memory are of interest, are run where they are named. --keep leaves the problem 
 by class, seed and number. --list tells the classes.
 
 The orders of a class that has several sizes and remnants, or pieces that may turn, can't be said in a problem file, which has
-one size and turns nothing. They are for the query `plans`, which the program doesn't answer yet: with --keep they are left as
-JSON, and nothing is run.
+one size and turns nothing. `cutshop replay` gets them as a shop's messages and a question `plans`, all that has no end as sizes
+to buy, a remnant at the cost of its cells; the time is that of the question. Each answer is checked (`tests/kit/questions.py`),
+and what stands for units is the cost: in units, where there is one size, else in metres of bar. Orders that the stock can't
+make are told and not counted. With --keep they are left as the lines that are sent.
 """
 
 import argparse
-import json
 import math
 import os
 import subprocess
@@ -39,6 +40,8 @@ sys.dont_write_bytecode = True
 
 from kit.case import Failed  # noqa: E402
 from kit.plans import Problem, checked  # noqa: E402
+from kit.questions import checked_answer, compact, content_of  # noqa: E402
+from kit.yards import Yard, question  # noqa: E402
 
 LARGEST = (1 << 64) - 1
 
@@ -78,6 +81,27 @@ class Order:
         """The order as a problem, each piece worth its cells."""
         w, h, _ = self.sizes[0]
         return Problem(w, h, [(w, h, count, w * h) for w, h, count, _ in self.wants])
+
+    def yard(self):
+        """The order as a shop in which all sizes that have an end stand, whole."""
+        yard = Yard()
+        yard.material(MATERIAL, self.kerf, "bar" if self.sizes[0][1] == 1 else "sheet")
+        for w, h, number in self.sizes:
+            for first in range(0, number or 0, 100):
+                yard.receive(MATERIAL, w, h, min(number - first, 100))
+        yard.order(MATERIAL, *self.wants)
+        return yard
+
+    def question(self, calls):
+        buy = [{"h": h, "w": w} for w, h, number in self.sizes if number is None]
+        return question(MATERIAL, buy=buy, calls=calls, **({"step": self.step} if self.step else {}))
+
+    def measure(self):
+        """What a cost is told in: a unit of the one size, or a metre of bar."""
+        return 100 * self.sizes[0][0] * self.sizes[0][1] if len(self.sizes) == 1 else 100 * 10000
+
+
+MATERIAL = "M"
 
 
 def bars(lengths, size, kerf):
@@ -251,6 +275,18 @@ class Row:
     slowest: float = 0
     memory: int = 0
 
+    def add(self, order, units, bound, proved, ran):
+        seconds = min(it.seconds for it in ran)
+        self.orders += 1
+        self.kinds += len(order.wants)
+        self.pieces += sum(it[2] for it in order.wants)
+        self.units += units
+        self.bound += bound
+        self.proved += proved
+        self.seconds += seconds
+        self.slowest = max(self.slowest, seconds)
+        self.memory = max(self.memory, *[it.memory for it in ran])
+
 
 def timed(words):
     """Runs the program: what it wrote on both outputs, its status, its seconds, and its most memory in KiB."""
@@ -269,32 +305,76 @@ def words_of(program, path, order, calls):
     return words + (["--step", str(order.step)] if order.step else [])
 
 
-def planned(program, path, order, calls, runs, row):
-    """Plans an order some times, checks what is printed, and adds it to the row of its class."""
-    ran = [timed(words_of(program, path, order, calls)) for _ in range(runs)]
-    if len({it[:2] for it in ran}) > 1:
-        raise Failed("\n  two runs print different plans")
-    if ran[0][1]:
-        raise Failed(f"\n  status {ran[0][1]}: {ran[0][0].strip()}")
-    problem = order.problem()
-    answer = checked(problem, order.kerf, ran[0][0])
-    seconds = min(it[2] for it in ran)
-    row.orders += 1
-    row.kinds += len(problem.kinds)
-    row.pieces += problem.pieces()
-    row.units += answer.units
-    row.bound += answer.bound
-    row.proved += answer.proved
-    row.seconds += seconds
-    row.slowest = max(row.slowest, seconds)
-    row.memory = max(row.memory, *[it[3] for it in ran])
+@dataclass
+class Ran:
+    """What a program answered, how long it took, and its most memory in KiB."""
+
+    text: str
+    seconds: float
+    memory: int
 
 
-def kept(folder, name, order, is_for_query):
+def whole(program, path, order, calls):
+    """What `plan --whole` prints for an order's file."""
+    text, status, seconds, memory = timed(words_of(program, path, order, calls))
+    if status:
+        raise Failed(f"\n  status {status}: {text.strip()}")
+    return Ran(text, seconds, memory)
+
+
+def asked(program, yard, line):
+    """What `replay` answers to a question behind a yard's messages, and what it tells of the material."""
+    child = subprocess.Popen([program, "replay"], stdin=subprocess.PIPE, stdout=subprocess.PIPE)
+
+    def reply(line):
+        child.stdin.write(f"{line}\n".encode())
+        child.stdin.flush()
+        return child.stdout.readline().decode().removesuffix("\n")
+
+    for message in yard.lines:
+        if '"ok"' not in (told := reply(message)):
+            raise Failed(f"\n  {message}: {told}")
+    content = content_of(reply, MATERIAL)
+    begin = time.perf_counter()
+    text = reply(line)
+    seconds = time.perf_counter() - begin
+    child.stdin.close()
+    _, _, used = os.wait4(child.pid, 0)
+    child.returncode = 0
+    if '"ok":"plans"' not in text:
+        raise Failed(f"\n  {line}: {text}")
+    return Ran(text, seconds, used.ru_maxrss), content
+
+
+def planned(program, path, order, of, calls, runs, row):
+    """Plans an order some times, checks what is told, and adds it to the row of its class."""
+    if of.is_for_query:
+        yard, keys = order.yard(), order.question(calls)
+        ran, contents = zip(*[asked(program, yard, compact(keys)) for _ in range(runs)])
+    else:
+        ran = [whole(program, path, order, calls) for _ in range(runs)]
+    if len({it.text for it in ran}) > 1:
+        raise Failed("\n  two runs tell different plans")
+    if of.is_for_query:
+        told = checked_answer(contents[0], keys, ran[0].text)
+        if told["missing"]:
+            print(f"({sum(it['pieces'] for it in told['missing'])} pieces are missing, short {told['short']})", flush=True)
+            return
+        units, bound, proved = told["cost"] / order.measure(), told["bound"] / order.measure(), told["proved"]
+    else:
+        answer = checked(order.problem(), order.kerf, ran[0].text)
+        units, bound, proved = answer.units, answer.bound, answer.proved
+    row.add(order, units, bound, proved, ran)
+
+
+def kept(folder, name, order, of, calls):
     """The path of an order as a file in a folder."""
-    path = os.path.join(folder, f"{name}.{'json' if is_for_query else 'txt'}")
+    path = os.path.join(folder, f"{name}.txt")
     with open(path, "w") as file:
-        file.write(json.dumps(vars(order)) if is_for_query else order.problem().text())
+        if of.is_for_query:
+            file.writelines(f"{it}\n" for it in [*order.yard().lines, compact(order.question(calls))])
+        else:
+            file.write(order.problem().text())
     return path
 
 
@@ -307,7 +387,8 @@ def tell(name, seed, row):
     over = 100 * (row.units - row.bound) / max(row.bound, 1)
     same = TRIAL.get((name, seed, row.orders))
     trial = f"{100 * (same[0] - same[1]) / same[1]:.2f} %, {same[2]} of {row.orders}" if same else ""
-    told = [name, row.orders, f"{row.kinds / many:.0f}, {row.pieces / many:.0f}", row.units, row.bound, f"{over:.2f} %"]
+    told = [name, row.orders, f"{row.kinds / many:.0f}, {row.pieces / many:.0f}", f"{row.units:.10g}", f"{row.bound:.10g}"]
+    told += [f"{over:.2f} %"]
     told += [f"{row.proved} of {row.orders}", f"{1000 * row.seconds / many:.0f}, {1000 * row.slowest:.0f}"]
     return "| " + " | ".join(map(str, [*told, row.memory // 1024, trial])) + " |"
 
@@ -318,18 +399,14 @@ def run(name, given, folder):
     seed = of.seed if given.seed is None else given.seed
     for number in range(given.count or of.count):
         order = of.order(Dice(seed, number), number)
-        path = kept(folder, f"{name}-{seed}-{number}", order, of.is_for_query)
-        if of.is_for_query:
-            continue
+        calls = given.calls or of.calls
+        path = kept(folder, f"{name}-{seed}-{number}", order, of, calls)
         try:
-            planned(given.program, path, order, given.calls or of.calls, given.runs, row)
+            planned(given.program, path, order, of, calls, given.runs, row)
         except Failed as why:
             print(f"{name}, seed {seed}, order {number}:{why}", flush=True)
             is_well = False
-    if of.is_for_query:
-        print(f"{name}: for the query `plans`, which the program doesn't answer yet; nothing is run")
-    else:
-        print(tell(name, seed, row), flush=True)
+    print(tell(name, seed, row), flush=True)
     return is_well
 
 
@@ -349,7 +426,7 @@ def main():
             apart = ", for `plans`" if it.is_for_query else ", where it is named" if it.is_apart else ""
             print(f"{name:15} {it.says}; seed {it.seed}, {it.count} orders{apart}")
         return 0
-    names = given.classes or [it for it, of in CLASSES.items() if given.keep or not (of.is_for_query or of.is_apart)]
+    names = given.classes or [it for it, of in CLASSES.items() if given.keep or not of.is_apart]
     with tempfile.TemporaryDirectory() as folder:
         if given.keep:
             os.makedirs(given.keep, exist_ok=True)

@@ -57,6 +57,8 @@ class Browser:
         self.buffer, self.last, self.session = b"", 0, None
         # What the console told as a fault, the requests that left the page, and the answers' addresses with their status.
         self.faults, self.requests, self.answers, self.on_paused = [], [], [], None
+        # How often somebody clicked, or picked a file.
+        self.clicks = 0
 
     def __enter__(self):
         target = self.call("Target.createTarget", url="about:blank")["targetId"]
@@ -164,6 +166,7 @@ class Browser:
         while place != before:
             time.sleep(0.02)
             before, place = place, self.place(find)
+        self.clicks += 1
         x, y = place
         for kind in ("mousePressed", "mouseReleased"):
             self.call("Input.dispatchMouseEvent", type=kind, x=x, y=y, button="left", clickCount=1)
@@ -197,6 +200,7 @@ class Browser:
 
     def pick(self, find, path):
         """Picks a file for a file field."""
+        self.clicks += 1
         found = self.call("Runtime.evaluate", expression=find)["result"]["objectId"]
         self.call("DOM.setFileInputFiles", files=[os.path.realpath(path)], objectId=found)
 

@@ -127,16 +127,34 @@ class Terminal(Browser):
         self.pick(by_id("csvFile"), self.trial.write(name, content))
         self.until(f"{by_id('csvPreview')}.querySelector('table')")
 
-    def propose(self, code):
-        """Has a plan proposed for the part that the page chose."""
+    def plan_all(self, code):
+        """Has all that is open of a material planned, to the end of the search."""
         self.view("tocut")
         self.material("tocut", code)
-        self.until(f"shop.open.has('{code}') && {by_id('cutFrom')}.querySelector('input')")
+        self.click(by_id("planAll"))
+        self.planned()
+
+    def planned(self):
+        """Waits until the search for plans of all is over."""
+        self.until("!toCut.planning && toCut.found && document.querySelector('#planList svg[role=img]')", 300)
+
+    def propose(self, code):
+        """Has the part planned alone that comes first in the list."""
+        self.view("tocut")
+        self.material("tocut", code)
+        self.until(f"shop.open.has('{code}') && {by_id('cutFrom')}.querySelector('button.small:not(:disabled)')")
+        self.click(f"{by_id('cutFrom')}.querySelector('.row button')")
+        self.until("!toCut.planning && chosenPlan() && document.querySelector('#planList svg[role=img]')", 300)
+
+    def propose_by_grids(self, code):
+        """Has the part that comes first planned alone, and by grids besides."""
+        self.propose(code)
+        self.click("document.querySelector('#otherStep summary')")
         self.click(by_id("propose"))
-        self.until("!toCut.planning && chosenPlan() && document.querySelector('#planPicture svg[role=img]')", 120)
+        self.until("!toCut.planning && toCut.tried.length > 1", 300)
 
     def reserve(self):
-        """Reserves the plan that is shown, goes to the saw, and gives the job's number."""
+        """Reserves the plan of one part that is shown, goes to the saw, and gives the job's number."""
         part = self.value("chosenPlan().part")
         self.click(by_id("reserve"))
         self.says(f"Reserve {part}: job ")

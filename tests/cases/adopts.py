@@ -4,13 +4,13 @@ import sqlite3
 
 from cases.stores import DAY, filled, sent
 from kit import tables
-from kit.case import case
+from kit.case import case, fault_in
 
 
 def opens(trial, store):
     """Whether a store is taken over; if not, it has to be told as of another version."""
     ran = trial.run("ticket", "--store", store, "2147483647")
-    if ran.err == b"refused 70 NoJob\n":
+    if fault_in(ran.err) == b"refused 70 NoJob\n":
         return True
     trial.ended(ran, 1, err="fault version\n", sent=store)
     return False

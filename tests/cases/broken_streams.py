@@ -3,7 +3,7 @@
 import errno
 
 from cases.connections import DONE, DONE_REPLY, TOTALS, reserved, totals
-from kit.case import case
+from kit.case import case, fault_in
 from kit.days import ASKED, day_of
 from kit.faults import Faults
 from kit.shop import answer, request_of
@@ -78,7 +78,7 @@ def texts_fail(trial):
             trial.ended(ran, 1, text[:at], b"fault write\n", sent=f"{words}, write {at + 1}")
     for at in trial.places(len(told), 11):
         shop = trial.shop(environment=Faults(trial, "write", at=at + 1, by=1).environment)
-        trial.equal((shop.is_open, shop.status, shop.errors), (False, 1, b"fault write\n"), f"write {at + 1}")
+        trial.equal((shop.is_open, shop.status, fault_in(shop.errors)), (False, 1, b"fault write\n"), f"write {at + 1}")
         trial.holds(told.startswith(shop.told[: len("listening on 127.0.0.1:")]), shop.told)
 
 
@@ -112,7 +112,7 @@ def interrupted(trial):
 
 
 def first_write(trial):
-    """How many writes of one byte tell that a shop listens."""
+    """How many writes of one byte tell that a shop listens, those on standard error aside."""
     faults = Faults(trial, "write", by=1)
     trial.shop("empty.db", environment=faults.environment).kill()
     return faults.calls()

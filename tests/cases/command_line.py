@@ -6,7 +6,7 @@ import sqlite3
 import subprocess
 from contextlib import contextmanager
 
-from kit.case import case
+from kit.case import case, fault_in
 
 STEEL = '[[material]]\ncode = "STEEL"\nkind = "bar"\nkerf = "0.3"\nmin_long = "2.0"\nmin_short = "0.1"\n'
 GLASS = '[[material]]\ncode = "GLASS"\nkind = "sheet"\nkerf = "0.1"\nmin_long = "0.5"\nmin_short = "0.4"\n'
@@ -140,7 +140,7 @@ def over(trial, *words, given=None, out=None):
     finally:
         os.close(source)
         os.close(sink)
-    return ran.returncode, ran.stderr
+    return ran.returncode, fault_in(ran.stderr)
 
 
 @case(

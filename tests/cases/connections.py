@@ -4,7 +4,7 @@ import os
 import socket
 
 from kit.case import case
-from kit.shop import answer, read_all, request_of
+from kit.shop import answer, begin_line, end_line, read_all, request_of
 
 GLASS = '{"do":"material","kerf":1,"kind":"sheet","material":"GLASS","min_long":5,"min_short":4,"number":1,"terminal":1}'
 SHEET = '{"batch":"B-1","count":1,"do":"receive","h":8,"material":"GLASS","number":2,"terminal":1,"w":10}'
@@ -96,7 +96,8 @@ def limited(trial):
     trial.equal(
         (shop.reply(GLASS), shop.reply(SHEET)), (b'{"material":"GLASS","ok":"material"}', b'{"act":1,"count":1,"ok":"receive"}')
     )
-    trial.equal(shop.end(), (0, f"listening on 127.0.0.1:{shop.port}\n".encode(), b""))
+    log = begin_line(shop.store) + end_line(shop.store)
+    trial.equal(shop.end(), (0, f"listening on 127.0.0.1:{shop.port}\n".encode(), log))
     again = trial.shop(limit=1)
     trial.equal(again.reply(TOTALS), totals(80, 0, 0, 0))
 

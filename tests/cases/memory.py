@@ -5,7 +5,7 @@ import shutil
 from concurrent.futures import ThreadPoolExecutor
 
 from kit import tables
-from kit.case import case
+from kit.case import case, fault_in
 from kit.days import ASKED, NAMES, REFUSED, Replay, day_of, questions_of
 from kit.faults import Faults
 from kit.shop import answer
@@ -50,13 +50,14 @@ def replayed(trial, day, faults):
             is_as_before(trial, shop, day, number)
             got = shop.reply(line)
         if not got:
-            trial.equal(shop.end(), (1, b"fault memory\n"), line)
+            status, errors = shop.end()
+            trial.equal((status, fault_in(errors)), (1, b"fault memory\n"), line)
             return
         trial.equal(got, reply, line)
     again = [(line, shop.reply(line), reply) for line, reply in day.accepted()]
     status, errors = shop.end()
     if status:
-        trial.equal((status, errors), (1, b"fault memory\n"))
+        trial.equal((status, fault_in(errors)), (1, b"fault memory\n"))
         again = [it for it in again if it[1]]
     for line, got, reply in again:
         trial.equal(got == REFUSED or got == reply, True, f"{line.decode()}, sent again: {got}")
@@ -75,9 +76,14 @@ def opened(trial, store, faults):
     shop = trial.shop(store, environment=faults.environment)
     if shop.is_open:
         return shop
-    trial.equal((shop.status, shop.errors), (1, b"fault memory\n"), f"the start, request {faults.at}")
+    trial.equal((shop.status, fault_in(shop.errors)), (1, b"fault memory\n"), f"the start, request {faults.at}")
     shop.kill()
     return trial.shop(store)
+
+
+def ended_for_memory(trial, shop, sent):
+    status, _, errors = shop.end()
+    trial.equal((status, fault_in(errors)), (1, b"fault memory\n"), sent)
 
 
 def served(trial, day, faults):
@@ -94,7 +100,7 @@ def served(trial, day, faults):
             got = sent(shop.reply, line)
         if not got:
             if shop.has_ended():
-                trial.equal(shop.end()[::2], (1, b"fault memory\n"), line)
+                ended_for_memory(trial, shop, line)
                 shop = trial.shop(store)
             got = sent(shop.reply, line)
         trial.equal(got, reply, line)
@@ -144,7 +150,7 @@ def starts(trial):
     def run(faults):
         shop = trial.shop(f"{faults.at}.db", shop_file=path, environment=faults.environment)
         if not shop.is_open:
-            trial.equal((shop.status, shop.errors in told), (1, True), f"request {faults.at}: {shop.errors}")
+            trial.equal((shop.status, fault_in(shop.errors) in told), (1, True), f"request {faults.at}: {shop.errors}")
         shop.kill()
         shop = trial.shop(f"{faults.at}.db", shop_file=path)
         got = [shop.reply(f'{{"ask":"totals","material":"{it}"}}') for it in ("STEEL", "GLASS")]
@@ -188,7 +194,7 @@ def texts(trial):
             got = sent(again.get, path)
             trial.equal(got in (text, answer(503, REFUSED), b""), True, f"{path}, request {faults.at}: {got}")
             if not got and again.has_ended():
-                trial.equal(again.end()[::2], (1, b"fault memory\n"), path)
+                ended_for_memory(trial, again, path)
                 break
             if got != text:
                 trial.equal(again.get(path), text, f"{path}, request {faults.at}")
@@ -216,7 +222,7 @@ def commands(trial):
             copy = trial.path(f"{words[0]}-{faults.at:06}.db")
             shutil.copy(store, copy)
             ran = trial.run(*[copy if it == store else it for it in words], environment=faults.environment)
-            trial.equal(ran == whole or (ran.status, ran.out, ran.err in told) == (1, b"", True), True, f"{words} {ran}")
+            trial.equal(ran == whole or (ran.status, ran.out, fault_in(ran.err) in told) == (1, b"", True), True, f"{words} {ran}")
             os.remove(copy)
 
         sweep(trial, run, stride)

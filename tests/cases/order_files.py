@@ -4,7 +4,7 @@ import json
 import re
 import subprocess
 
-from kit.case import SECONDS, case
+from kit.case import SECONDS, case, fault_in
 
 HEADER = "line,material,length,width,turn,count,worth\n"
 
@@ -131,7 +131,7 @@ def unread(trial):
     for options in ((), MESSAGE):
         with open("/dev/full", "wb") as full:
             ran = subprocess.run([trial.program, "orders", path, *options], stdout=full, stderr=subprocess.PIPE, timeout=SECONDS)
-        trial.equal((ran.returncode, ran.stderr), (1, b"fault write\n"))
+        trial.equal((ran.returncode, fault_in(ran.stderr)), (1, b"fault write\n"))
 
 
 @case(

@@ -131,13 +131,13 @@ def day(trial):
 
 def cut_sheet(it):
     """A sheet is planned, reserved, printed and broken off: the deepest cut went wrong, those above it were made."""
-    it.propose("GLASS")
+    it.propose_by_grids("GLASS")
     steps = it.value("toCut.tried.map(plan => plan.step)")
-    it.trial.holds(25 in steps and len(steps) > 2, f"steps {steps}: 2.5 mm is the least, and others are tried beside it")
+    it.trial.holds(25 in steps and len(steps) > 3, f"steps {steps}: 2.5 mm is the least, and others are tried beside it")
     worths = it.value("toCut.tried.map(plan => [-plan.worth, plan.root.cuts])")
     it.trial.equal(worths, sorted(worths), "the best first")
     drawn = it.value(
-        "[...document.querySelectorAll('#planPicture rect.piece')].filter(r => r.querySelector('title'))"
+        "[...document.querySelectorAll('#planList rect.piece')].filter(r => r.querySelector('title'))"
         ".map(r => +r.getAttribute('width') / +r.getAttribute('height'))"
     )
     sides = (4005 / 3000, 1.25, 0.8)
@@ -166,8 +166,8 @@ def cut_sheet(it):
 
 def cut_bar(it):
     """A bar is planned, reserved and done."""
-    it.propose("STEEL")
-    it.trial.holds("100.0\u00a0%of the ceiling" in it.text("planFigures"), "a bar's plan is its ceiling")
+    it.propose_by_grids("STEEL")
+    it.trial.holds("100.0\u00a0%of the ceiling" in it.text("planFigures"), "a bar's plan by price is its ceiling")
     job = it.reserve()
     told = it.ask(f"/job/{job}")
     it.click(by_id("done"))
@@ -195,7 +195,7 @@ def widths(trial):
         order(it)
         it.until(f"{by_id('openOrders')}.querySelector('h3')")
         it.at_widths("orders")
-        it.propose("GLASS")
+        it.propose_by_grids("GLASS")
         it.at_widths("to-cut")
         job = it.reserve()
         it.at_widths("saw")
@@ -263,17 +263,16 @@ def by_hand(trial):
         it.type(by_id("fileCode"), "P-1")
         it.click(by_id("sendProblem"))
         it.says("Order P-1 from a file: 1 line ordered, pieces wanted from no. 2 on, unit 3/0 received")
-        it.view("tocut")
-        it.until("toCut.part === '3/0'")
-        it.propose("GLASS")
+        it.propose_by_grids("GLASS")
+        trial.equal(it.value("toCut.part"), "3/0", "the smallest that something fits comes first")
         it.type(by_id("step"), "3,3")
         it.click(by_id("tryStep"))
         it.until("chosenPlan() && chosenPlan().step === 33")
         it.click("document.querySelector('#cutFrom [data-key=\"p1/0\"]')")
+        it.until("toCut.part === '1/0' && !toCut.planning && chosenPlan()")
+        it.click("document.querySelector('#otherStep summary')")
         it.click(by_id("askBound"))
         it.until(f"{by_id('boundWords')}.textContent.includes('takes at least 2 units of 1200.0 × 800.0')")
-        it.click(by_id("propose"))
-        it.until("!toCut.planning && chosenPlan()")
         job = it.reserve()
         it.click(by_id("release"))
         it.confirm()
@@ -366,13 +365,13 @@ def overdrawn(trial):
         it.value(f"send({{ do: 'reserve', part: '{part}', tree: '{tree}' }}, 'Reserve {part}')")
         it.says("(63 TooMany)")
         trial.holds(re.search(r"only \d+ of pieces no. \d+ (is|are) left \(63 TooMany\)", it.told()), it.told())
-        it.until(f"{by_id('planFault')}.textContent.includes('Propose anew')")
+        it.until(f"{by_id('planFault')}.textContent.includes('Plan again')")
         trial.holds(it.value(f"{by_id('reserve')}.disabled"), "a plan that can't be had can be reserved")
 
 
 @case(
     "a plan at the page by keys alone",
-    "By digits, Tab, Space and Enter alone the views open, a plan is proposed and reserved, and a cut is ticked off.",
+    "By digits, Tab, Space and Enter alone the views open, all is planned and reserved, and a cut is ticked off.",
 )
 def keys(trial):
     with Terminal(trial, open_shop(trial)) as it:
@@ -381,13 +380,13 @@ def keys(trial):
         order(it)
         it.value("document.activeElement.blur()")
         it.key("1")
-        it.until("!document.getElementById('tocut').hidden && toCut.part && !document.getElementById('propose').disabled")
-        for wanted in ("propose", "reserve"):
+        it.until("!document.getElementById('tocut').hidden && !document.getElementById('planAll').disabled")
+        for wanted in ("planAll", "reserve"):
             reach(it, f"document.activeElement.id === '{wanted}'")
             it.key("Enter")
-            if wanted == "propose":
-                it.until("!toCut.planning && chosenPlan()")
-        it.says(": job ")
+            if wanted == "planAll":
+                it.planned()
+        it.until("toCut.found.jobs.size === toCut.found.sent.size")
         it.key("2")
         it.until("!document.getElementById('saw').hidden && document.querySelector('#cutList button')")
         reach(it, "document.activeElement.dataset.key === 'c0'")
@@ -502,8 +501,8 @@ PIECES = {"line": 1, "material": "STEEL", "w": 10000, "h": 1, "turn": False, "co
 
 @case(
     "what is reserved at the page is answered at once",
-    "Reserve by Enter: nothing moves, the focus is at the next proposal, Enter proposes the next bar and Tab leads to Reserve, also while the shop is "
-    "silent, whose plan then leaves out what was reserved; a bar that another terminal takes is passed over, and that is told.",
+    "Reserve by Enter: nothing moves, the focus is at *Plan all*, Enter plans what is left and Tab leads to Reserve, also while the shop is "
+    "silent, whose plans then leave out what was reserved; a bar that another terminal takes is passed over, and that is told.",
 )
 def answered_at_once(trial):
     with Terminal(trial, open_shop(trial)) as it:
@@ -517,38 +516,39 @@ def answered_at_once(trial):
             it.value("scrollTo(0, 0)")
             part, left = it.value("[chosenPlan().part, leftOf(shop.demands[0])]")
             planned = it.value("chosenPlan().counts.get(1)")
-            before = it.value(f"[{PLACE_OF}({by_id('propose')}), {PLACE_OF}({by_id('reserve')})]")
+            before = it.value(f"[{PLACE_OF}({by_id('planAll')}), {PLACE_OF}({by_id('reserve')})]")
             it.value(f"{by_id('reserve')}.focus()")
             it.shop.process.send_signal(signal.SIGSTOP)
             it.key("Enter")
-            it.until("document.activeElement.id === 'propose'", 2)
+            it.until("document.activeElement.id === 'planAll'", 2)
             trial.holds(f"{part} is being reserved." in it.text("planWords"), it.text("planWords"))
             trial.equal(it.value("leftOf(demandsToCut()[0])"), left - planned)
-            following = it.value("toCut.part")
-            trial.holds(following != part, "the part that is being reserved is still chosen")
+            trial.equal(it.value(f"[...document.querySelectorAll('#cutFrom .row')].some(e => e.textContent.includes('{part},'))"), False)
             it.key("Enter")
-            it.until(f"{by_id('planPicture')}.textContent.includes('Planned once the answer is there')", 2)
+            it.until(f"{by_id('planNow')}.textContent.startsWith('Planned once the answer is there')", 2)
             it.shop.process.send_signal(signal.SIGCONT)
             it.says(f"Reserve {part}: job ")
-            it.until("!toCut.planning && chosenPlan()")
-            trial.equal(it.value("[chosenPlan().part, document.activeElement.id]"), [following, "propose"])
+            it.planned()
+            trial.equal(it.value("document.activeElement.id"), "planAll")
             it.key("Tab")
             trial.equal(it.value("document.activeElement.id"), "reserve", "Reserve isn't the next step")
-            trial.holds(it.value("chosenPlan().counts.get(1)") <= left - planned, "pieces that are reserved are planned again")
+            trial.holds(it.value("countOf(toCut.found.plans)") <= left - planned, "pieces that are reserved are planned again")
+            trial.equal(it.value(f"toCut.found.plans.some(plan => plan.parts.includes('{part}'))"), False)
             if width == 1280:
-                after = it.value(f"[{PLACE_OF}({by_id('propose')}), {PLACE_OF}({by_id('reserve')})]")
+                after = it.value(f"[{PLACE_OF}({by_id('planAll')}), {PLACE_OF}({by_id('reserve')})]")
                 moved = [abs(a - b) for now, was in zip(after, before) for a, b in zip(now, was)]
                 trial.holds(max(moved) <= 1, f"what was pressed moved: {before} to {after}")
             it.until("shop.parts.filter(row => row.state === 'reserved').length === " + ("1" if width == 1280 else "2"))
             it.click("document.querySelector('#successes button:last-child')")
         it.size(1280)
+        it.propose("STEEL")
         taken = it.value("chosenPlan().part")
         it.value(f"{by_id('reserve')}.focus()")
         trial.equal(send(3, do="reserve", part=taken, tree="x10000 p1 r").get("ok"), "reserve")
-        it.until(f"toCut.part !== '{taken}' && !toCut.tried.length")
-        words = f"Part {taken} doesn't stand any more: it was taken elsewhere, and another is chosen."
+        it.until(f"toCut.part === '' && !toCut.found && !toCut.tried.length")
+        words = f"Part {taken} doesn't stand any more: it was taken elsewhere."
         it.until(f"{by_id('planWords')}.textContent.startsWith({json.dumps(words)})")
-        trial.equal(it.value("document.activeElement.id"), "propose")
+        trial.equal(it.value("document.activeElement.id"), "planAll")
         is_quiet(it)
 
 

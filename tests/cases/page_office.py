@@ -293,7 +293,7 @@ def left_out(trial):
         trial.equal(it.value(ticks), [True, False])
         it.call("Page.reload")
         it.until("document.readyState === 'complete' && document.querySelector('#wanted [data-key=d2]')")
-        trial.equal((it.value(ticks), it.value("question().demands.map(row => row.demand)")), ([True, False], [1]))
+        trial.equal((it.value(ticks), it.value("chosenDemands().map(row => row.demand)")), ([True, False], [1]))
         it.value("localStorage.setItem('cutshop.leftOut', JSON.stringify(['1 B-9 1', '2 A-1 3']))")
         it.call("Page.reload")
         it.until("document.readyState === 'complete' && document.querySelector('#wanted [data-key=d2]')")

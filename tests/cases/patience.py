@@ -1,14 +1,15 @@
 """How long a connection has: ten seconds for its request, and ten for its answer."""
 
-import os
 import select
-import socket
+import threading
 import time
 
 from cases.connections import GLASS, TOTALS, reserved
 from cases.stores import DAY, filled, many_parts
+from kit import crowds
 from kit.case import case
-from kit.shop import read_all, request_of
+from kit.questions import compact
+from kit.shop import answer, read_all, request_of
 
 # How long a connection has for its request, and then for its answer.
 PATIENCE = 10
@@ -58,3 +59,58 @@ LARGE = (
         for it in range(40)
     ) + '],"number":13,"order":"L-1","terminal":1}',
 )
+LARGE_PLAN = compact({"ask": "plan", "demands": list(range(4, 44)), "part": "3/0", "step": 10})
+
+
+@case(
+    "a terminal behind long work of others",
+    "Time in which others are answered isn't counted against a terminal: it sends a part of its request, the shop works on "
+    "plans for others for over ten seconds, and when the rest comes it is answered.",
+)
+def behind_others(trial):
+    shop, faults = reserved(trial), []
+    for line in LARGE:
+        trial.holds(b'"ok"' in shop.reply(line), line)
+    trial.holds(b'"ok":"plan"' in shop.reply(LARGE_PLAN), LARGE_PLAN)
+    ends = time.monotonic() + PATIENCE + 2
+
+    def work():
+        while time.monotonic() < ends:
+            got = shop.reply(LARGE_PLAN)
+            if b'"ok":"plan"' not in got:
+                faults.append(got)
+
+    with shop.connect() as it:
+        it.sendall(request_of(GLASS)[:20])
+        others = [threading.Thread(target=work) for _ in range(4)]
+        for other in others:
+            other.start()
+        for other in others:
+            other.join()
+        it.sendall(request_of(GLASS)[20:])
+        trial.equal(read_all(it), answer(200, '{"material":"GLASS","ok":"material"}'))
+    trial.equal(faults, [])
+
+
+# Parts of a rack that takes more bytes than the system holds for a connection.
+MANY = 120000
+
+
+@case(
+    "an answer that nobody reads",
+    "A terminal that never reads its answer of 8 MB is closed ten seconds behind it, with the rest untold, and a shop with a "
+    "limit of one connection ends then.",
+)
+def nobody_reads(trial):
+    path = filled(trial, exchanges=DAY[:2])
+    many_parts(path, "GLASS", MANY, 200000, 60000, first_act=2000000000)
+    shop = trial.shop(limit=1)
+    with crowds.unread(shop, "/rack/GLASS") as it:
+        trial.holds(select.select([it], [], [], 3 * PATIENCE)[0], "no answer comes")
+        begin = time.monotonic()
+        trial.equal(shop.end()[0], 0)
+        seconds = time.monotonic() - begin
+        trial.holds(is_patience(seconds), f"ended after {seconds} seconds")
+        head, _, body = read_all(it).partition(b"\r\n\r\n")
+    length = int(head.split(b"Content-Length: ")[1].split(b"\r\n")[0])
+    trial.holds(len(body) < length and length > 60 * MANY, f"{len(body)} of {length} bytes came")

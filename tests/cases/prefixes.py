@@ -6,7 +6,7 @@ import re
 import subprocess
 import tomllib
 
-from kit.case import case
+from kit.case import case, fault_in
 from kit.shop import answer, request_of
 
 STEEL = '{"do":"material","kerf":3,"kind":"bar","material":"STEEL","min_long":20,"min_short":1,"number":1,"terminal":1}'
@@ -115,7 +115,7 @@ def gone(trial):
         os.close(reader)
         ran = subprocess.run([trial.program, *words], input=b"\n", stdout=writer, stderr=subprocess.PIPE)
         os.close(writer)
-        trial.equal((ran.returncode, ran.stderr), (1, b"fault write\n"), words)
+        trial.equal((ran.returncode, fault_in(ran.stderr)), (1, b"fault write\n"), words)
 
 
 @case(

@@ -155,7 +155,7 @@ def day(trial):
 
 @case(
     "the first screen as told",
-    "In a browser README's five steps, from the typed line on, receive, order, plan, reserve, print and end a job.",
+    "In a browser README's six steps, from the typed line on, receive, order, plan, reserve and print all, and end a job.",
 )
 def first_screen(trial):
     lines = blocks("README.md", "\n## Open the shop\n", "\n## Two commands\n")[0]
@@ -173,11 +173,20 @@ def first_screen(trial):
         it.until(f"{by_id('csvPreview')}.textContent.includes('Order 4 lines')")
         it.click(by_id("sendCsv"))
         it.says("4 lines ordered, pieces wanted from no. 1 on")
-        it.propose("GLASS")
-        trial.equal(it.text("reserve"), "Reserve 1/0")
+        it.click("document.querySelector('#successes .notice button')")
+        it.until("!document.getElementById('tocut').hidden && shop.material === 'GLASS'")
+        it.planned()
+        trial.equal(it.text("reserve"), "Reserve all")
         it.at_widths("first-plan")
-        trial.equal(it.reserve(), 2)
-        trial.equal(it.sheets("first-ticket"), 1)
+        plans = it.value("toCut.found.plans.length")
+        it.click(by_id("reserve"))
+        it.until("toCut.found.sent && toCut.found.jobs.size === toCut.found.sent.size")
+        it.value("window.print = () => 0")
+        it.click(by_id("printAll"))
+        it.until("document.body.classList.contains('sheets')")
+        trial.equal(it.sheets("first-tickets"), plans + 1)
+        it.click("[...document.querySelectorAll('#nextStep button')].find(e => e.textContent === 'To the saw')")
+        it.until("atSaw.told && atSaw.told.job === 2")
         it.click(by_id("done"))
         it.confirm()
         it.says("Job 2 done: pieces")

@@ -7,7 +7,7 @@ from concurrent.futures import ThreadPoolExecutor
 from dataclasses import dataclass
 
 from kit import tables
-from kit.case import case
+from kit.case import case, fault_in
 from kit.days import Day, day_of, questions_of
 from kit.faults import Faults
 
@@ -113,11 +113,12 @@ def disturbed(trial, course, at, of, stop="", on=False, **named):
     if shop.is_open:
         count = acknowledged(trial, course, shop, not on and not stop)
     elif not stop:
-        trial.equal((shop.status, shop.errors), (1, b"fault store\n"), f"the start, call {at}")
+        trial.equal((shop.status, fault_in(shop.errors)), (1, b"fault store\n"), f"the start, call {at}")
     if stop:
         trial.equal(shop.end()[0] if shop.is_open else shop.status, 9, f"the stop at call {at}")
     elif shop.is_open and count == len(course.day.lines):
-        trial.equal(shop.end()[::2] in ((0, b""), (1, b"fault store\n")), True, f"the end, call {at}")
+        status, _, errors = shop.end()
+        trial.equal((status, fault_in(errors)) in ((0, b""), (1, b"fault store\n")), True, f"the end, call {at}")
     shop.kill()
     goes_on(trial, course, store, count)
     calls = faults.calls()

@@ -11,7 +11,7 @@ import time
 from cases.earlier_files import REPORT
 from cases.stores import DAY, sent
 from kit import tables
-from kit.case import case
+from kit.case import case, fault_in
 from kit.shop import request_of
 
 CAP_DAC_OVERRIDE, CAP_DAC_READ_SEARCH, PR_CAPBSET_DROP = 1, 2, 24
@@ -155,7 +155,7 @@ def in_use(trial):
     shop = trial.shop()
     sent(trial, shop, DAY[:3])
     second = trial.shop()
-    trial.equal((second.is_open, second.status, second.told, second.errors), (False, 1, b"", b"fault store\n"))
+    trial.equal((second.is_open, second.status, second.told, fault_in(second.errors)), (False, 1, b"", b"fault store\n"))
     for words in (("ticket", "2"), ("yield", "GLASS")):
         trial.ended(trial.run(words[0], "--store", shop.store, words[1]), 1, err="fault store\n", sent=words[0])
     sent(trial, shop)
@@ -177,7 +177,7 @@ def no_store(trial):
         for words in (("ticket", "2"), ("yield", "GLASS")):
             trial.ended(trial.run(words[0], "--store", name, words[1]), 1, err="fault store\n", sent=f"{name} {words}")
         shop = trial.shop(name)
-        trial.equal((shop.is_open, shop.status, shop.errors), (False, 1, b"fault store\n"), name)
+        trial.equal((shop.is_open, shop.status, fault_in(shop.errors)), (False, 1, b"fault store\n"), name)
     for name, content in texts.items():
         with open(trial.path(name), "rb") as file:
             trial.equal(file.read(), content, name)
@@ -204,7 +204,7 @@ def read_only(trial):
         ran = trial.run("yield", "--store", name, "GLASS", prepare=judged_by_modes)
         trial.ended(ran, 1, err="fault store\n", sent=name)
         shop = trial.shop(name, prepare=judged_by_modes)
-        trial.equal((shop.is_open, shop.status, shop.errors), (False, 1, b"fault store\n"), name)
+        trial.equal((shop.is_open, shop.status, fault_in(shop.errors)), (False, 1, b"fault store\n"), name)
     with open(path, "rb") as file:
         trial.equal(file.read(), before)
     trial.equal(os.listdir(trial.path("folder")), [])

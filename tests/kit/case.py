@@ -74,6 +74,22 @@ def short(value):
     return text if len(text) <= 2000 else f"{text[:1000]} .. {text[-900:]} ({len(text)} characters)"
 
 
+# How the lines begin that a server writes of itself: when it begins, for an answer of 98 or 99, and when it ends.
+OF_ITSELF = (b"cutshop ", b"cutshop: ")
+
+
+def fault_in(errors):
+    """The line of a fault on standard error: what stands there without a server's lines of itself, and without the one line
+    that begins with two spaces, where exactly one stands behind another. A fault without it isn't one of these lines."""
+    lines = [it for it in errors.splitlines(keepends=True) if not it.startswith(OF_ITSELF)]
+    told = b"".join(lines)
+    if not lines or lines[0].startswith((b"fault order ", b"error: ")):
+        return told
+    if len(lines) == 2 and lines[1].startswith(b"  ") and lines[1].endswith(b"\n"):
+        return lines[0]
+    return told + b"(and no line that says why)"
+
+
 @dataclass
 class Trial:
     """What a case works with: the program, a folder of its own, and whether long sweeps run whole."""
@@ -142,10 +158,13 @@ class Trial:
             sent = f"\n  sent:   {short(sent)}" if sent else ""
             raise Failed(f"{sent}\n  wanted: {short(wanted)}\n  got:    {short(got)}", at)
 
-    def ended(self, ran, status, out=b"", err=b"", sent=""):
-        """Fails unless a run ended with this status and wrote exactly this."""
+    def ended(self, ran, status, out=b"", err=b"", sent="", why=None):
+        """Fails unless a run ended with this status and wrote exactly this; on standard error the line of a fault, and behind
+        it the one that says why: this one where it is given."""
         wanted = Ended(status, *[it.encode() if isinstance(it, str) else it for it in (out, err)])
-        self.equal(ran, wanted, sent)
+        if why is not None:
+            self.equal(ran, Ended(status, wanted.out, wanted.err + f"  {why}\n".encode()), sent)
+        self.equal(Ended(ran.status, ran.out, fault_in(ran.err)), wanted, sent)
 
     def holds(self, fact, why):
         """Fails unless this holds."""

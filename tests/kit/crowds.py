@@ -3,9 +3,12 @@
 import socket
 import struct
 import threading
+import time
 from contextlib import ExitStack, contextmanager, suppress
 
+from kit.questions import compact
 from kit.shop import request_of
+from kit.yards import Yard, question
 
 QUESTION = '{"ask":"materials"}'
 
@@ -60,7 +63,7 @@ def unread(shop, path):
     with shop.connect() as it:
         it.setsockopt(socket.SOL_SOCKET, socket.SO_RCVBUF, 4096)
         it.sendall(f"GET {path} HTTP/1.1\r\nHost: shop\r\n\r\n".encode())
-        yield
+        yield it
 
 
 @contextmanager
@@ -91,3 +94,43 @@ def asking(shop, count, answers):
 
     with beside(ask):
         yield
+
+
+# A terminal that only fills shops for questions, its material, and the sides of a sheet of it.
+FILLER, LARGE = 99, "LARGE"
+LARGE_W, LARGE_H = 3210, 2250
+
+
+def large_yard(kinds=40, scale=1):
+    """Sheets of 321 by 225 mm, or so many times as large, of which so many kinds of pieces are open; half of them may turn."""
+    yard = Yard(FILLER)
+    yard.material(LARGE, 3 * scale, "sheet")
+    lines = [
+        (scale * (250 + 173 * it % 701), scale * (230 + 257 * it % 503), 1 + it * 7 % 9, it % 2 == 0) for it in range(kinds)
+    ]
+    yard.order(LARGE, *lines)
+    return yard
+
+
+def large_question(calls, step, scale=1):
+    """What takes so many tables by a step, of which 7 is the least without a scale, and 233 the greatest."""
+    return question(LARGE, buy=[{"h": scale * LARGE_H, "w": scale * LARGE_W}], calls=calls, step=step)
+
+
+def fitting_step(shop):
+    """The longest step by which a few tables take tenths of a second, however fast the program is."""
+    for step in (200, 65, 32, 13):
+        begin = time.monotonic()
+        shop.reply(compact(large_question(20, step)))
+        if time.monotonic() - begin > 0.3:
+            return step
+    return 7
+
+
+@contextmanager
+def thinking(shop, count, asked):
+    """So many connections that have asked a question for plans and wait. (Whoever closes one ends the thinking.)"""
+    with silent(shop, count) as held:
+        for it in held:
+            it.sendall(request_of(compact(asked)))
+        yield held

@@ -19,7 +19,7 @@ import os
 from dataclasses import dataclass, field
 
 from kit import case as cases
-from kit.shop import answer, request_of, status_of
+from kit.shop import answer, begin_line, end_line, request_of, status_of
 
 # The cases of all files, by name.
 EXCHANGES = {}
@@ -85,7 +85,8 @@ def serve(trial, steps):
         request = step.sent if step.is_request else request_of(step.sent, step.wanted)
         got = shop.exchange(request, size)
         trial.equal(got, step.answer(), request if size is None else f"in pieces of {size}: {cases.short(request)}", step.at)
-    trial.equal(shop.end(), (0, f"listening on 127.0.0.1:{shop.port}\n".encode(), b""), "serve")
+    log = begin_line(shop.store) + end_line(shop.store)
+    trial.equal(shop.end(), (0, f"listening on 127.0.0.1:{shop.port}\n".encode(), log), "serve")
 
 
 def bytes_of(text):

@@ -1,5 +1,5 @@
-"""Plans as text, read by themselves: what a tree cuts from a unit, and whether the plans of a whole order are what the
-formats say of them."""
+"""Plans as text, read by themselves: what a tree cuts from a unit, and whether the plans of a whole order that `plan --whole`
+prints are what the formats say of them. (Answers to the question `plans` are read in `questions.py`, over the same trees.)"""
 
 import re
 from collections import Counter
@@ -30,6 +30,10 @@ class Problem:
     def fits(self, kind):
         return kind[0] <= self.w and kind[1] <= self.h
 
+    def demands(self):
+        """Of each kind's number its width and height, and that it isn't turned."""
+        return {number: (w, h, False) for number, (w, h, *_) in enumerate(self.kinds, 1)}
+
     def pieces(self):
         """How many pieces are wanted."""
         return sum(kind[2] for kind in self.kinds)
@@ -50,12 +54,12 @@ def wrong(why):
     raise Failed(f"\n  {short(why)}")
 
 
-def cut_from(problem, kerf, tree):
-    """How many pieces of each kind a tree cuts from the unit. Each cut stands inside its rectangle and goes right across it,
-    the saw takes the kerf or what is left, and each piece has exactly the sides of its kind."""
-    words, counts, cuts = tree.split(" "), Counter(), 0
-    parts = [(problem.w, problem.h)]
-    for word in words:
+def cut_from(w, h, kerf, demands, tree):
+    """How many pieces of each demand a tree cuts from a unit of these sides. Of each demand's number `demands` has the width,
+    the height, and whether a piece may be turned. Each cut stands inside its rectangle and goes right across it, the saw takes
+    the kerf or what is left, and each piece has exactly the sides of its demand, swapped where it is turned."""
+    counts, cuts, parts = Counter(), 0, [(w, h)]
+    for word in tree.split(" "):
         if not parts:
             wrong(f"a word behind the whole tree: {tree}")
         w, h = parts.pop()
@@ -68,11 +72,8 @@ def cut_from(problem, kerf, tree):
             if behind > 0:
                 parts.append((behind, h) if word[0] == "x" else (w, behind))
             parts.append((at, h) if word[0] == "x" else (w, at))
-        elif re.fullmatch(f"p{NUMBER}", word):
-            kind = int(word[1:])
-            if kind > len(problem.kinds) or problem.kinds[kind - 1][:2] != (w, h):
-                wrong(f"{word} isn't {w} by {h}: {tree}")
-            counts[kind] += 1
+        elif read := re.fullmatch(f"p({NUMBER})(t?)", word):
+            counts[piece_of(demands, int(read[1]), bool(read[2]), w, h, tree)] += 1
         elif word != "r":
             wrong(f"the word {word!r}: {tree}")
     if parts:
@@ -80,6 +81,17 @@ def cut_from(problem, kerf, tree):
     if cuts > MOST_CUTS:
         wrong(f"{cuts} cuts: {tree}")
     return counts
+
+
+def piece_of(demands, number, is_turned, w, h, tree):
+    """The number of a piece's demand, which has its sides, or has them swapped and may turn."""
+    wanted = demands.get(number)
+    if wanted is None:
+        wrong(f"p{number} is none of the demands: {tree}")
+    sides = wanted[1::-1] if is_turned else wanted[:2]
+    if sides != (w, h) or is_turned and not wanted[2]:
+        wrong(f"p{number}{'t' * is_turned} isn't {w} by {h}: {tree}")
+    return number
 
 
 def read_answer(text):
@@ -112,7 +124,7 @@ def checked(problem, kerf, text):
     answer = read_answer(text)
     counts, units = Counter(), 0
     for times, tree in answer.plans:
-        pieces = cut_from(problem, kerf, tree)
+        pieces = cut_from(problem.w, problem.h, kerf, problem.demands(), tree)
         if not pieces:
             wrong(f"a plan without a piece: {tree}")
         units += times

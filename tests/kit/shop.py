@@ -89,7 +89,7 @@ def request_of(line, reply=None):
     if path:
         return f"GET {path} HTTP/1.1\r\nHost: shop\r\n\r\n".encode()
     word = (value_of(line) or {}).get("ask")
-    route = word if word in ("plan", "bound") and not is_bad else "message"
+    route = word if word in ("plan", "bound", "plans") and not is_bad else "message"
     return f"POST /{route} HTTP/1.1\r\nHost: shop\r\nContent-Length: {len(line)}\r\n\r\n".encode() + line
 
 
@@ -109,6 +109,20 @@ def free_port():
             it.bind(("127.0.0.1", port))
             return port
     raise OSError("no port is free")
+
+
+# What the program tells as its own version.
+VERSION = "1.0.0"
+
+
+def begin_line(store, is_new=True):
+    """The line that a server of a store tells on standard error when it begins."""
+    return f"cutshop {VERSION}: serving {store}, {'a new store' if is_new else 'a store that was there'}\n".encode()
+
+
+def end_line(store):
+    """The line that it tells when it ends."""
+    return f"cutshop {VERSION}: ended serving {store}\n".encode()
 
 
 class Shop:
@@ -145,7 +159,7 @@ class Shop:
                 return
             self.status = self.process.wait()
             self.errors = self.process.stderr.read()
-            if self.errors != b"fault port\n":
+            if not self.errors.startswith(b"fault port\n"):
                 break
         self.port = None
 
@@ -182,6 +196,11 @@ class Shop:
 
     def get(self, path):
         return self.exchange(f"GET {path} HTTP/1.1\r\nHost: shop\r\n\r\n".encode())
+
+    def busy(self):
+        """For how many seconds it had a processor so far."""
+        with open(f"/proc/{self.process.pid}/schedstat", encoding="ascii") as file:
+            return int(file.read().split()[0]) / 1e9
 
     def has_ended(self, seconds=0.2):
         """Whether it ended by itself, or does so soon."""

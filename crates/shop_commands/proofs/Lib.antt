@@ -1,4 +1,6 @@
+pub mod Advised
 pub mod Opened
 pub mod OrderFiles
 pub mod Replayed
 pub mod Unwritten
+pub mod Plain

@@ -13,8 +13,8 @@ use Rattle.shop_serve.specs.declared.sites.Site.{Site}
 use Rattle.shop_serve.specs.declared.faults.ServeFault.{ServeFault}
 use Rattle.shop_serve.specs.declared.faults.ServeFault.TheVariants as serve
 use Rattle.shop_book.specs.declared.books.Book.{Ghosts}
-use Rattle.shop_book.specs.declared.books.BookFault.{BookFault}
-use Rattle.shop_book.specs.declared.books.BookFault.TheVariants as store
+use Rattle.shop_opening.specs.declared.stores.OpenFault.{OpenFault}
+use Rattle.shop_opening.specs.declared.stores.OpenFault.TheVariants as store
 use Rattle.shop_text.specs.declared.printing.PrintFault.{PrintFault}
 use Rattle.shop_text.specs.declared.printing.PrintFault.TheVariants as print
 use Rattle.shop_commands.specs.declared.faults.Fault.{Fault}
@@ -36,10 +36,10 @@ entries_short [] (e ∷ es) are = absurd are
 entries_short (v ∷ vs) [] are = absurd are
 entries_short (v ∷ vs) (e ∷ es) are = ap suc (entries_short vs es are.1)
 
-pub unopened : (fault : BookFault) (f : Fault) → f ≡ store_fault fault → IsUnopened f
+pub unopened : (fault : OpenFault) (f : Fault) → f ≡ store_fault fault → IsUnopened f
 unopened store.NoMemory f is = inl is
-unopened store.Store f is = inr (inl is)
-unopened store.WrongVersion f is = inr (inr is)
+unopened (store.Store cause) f is = inr (inl (cause, is))
+unopened (store.Version cause) f is = inr (inr (cause, is))
 
 module _ {B : Type 0} (book : Ghosts B) where
   pub unadded : (before after : B) (entries : List MaterialEntry) (fault : AddFault) (f : Fault) → f ≡ add_fault fault → ShopFailed book before after entries fault → AddFailed book before after entries f

@@ -14,8 +14,9 @@ use Rattle.shop_opening.specs.declared.shops.AddFault.{AddFault}
 use Rattle.shop_opening.specs.declared.shops.AddFault.TheVariants as add
 use Rattle.shop_serve.specs.declared.faults.ServeFault.{ServeFault}
 use Rattle.shop_serve.specs.declared.faults.ServeFault.TheVariants as serve
-use Rattle.shop_book.specs.declared.books.BookFault.{BookFault}
-use Rattle.shop_book.specs.declared.books.BookFault.TheVariants as store
+use Rattle.shop_serve.specs.declared.ports.PortCause.TheVariants as port_cause
+use Rattle.shop_opening.specs.declared.stores.OpenFault.{OpenFault}
+use Rattle.shop_opening.specs.declared.stores.OpenFault.TheVariants as store
 use Rattle.shop_text.specs.declared.printing.PrintFault.{PrintFault}
 use Rattle.shop_text.specs.declared.printing.PrintFault.TheVariants as print
 use Rattle.shop_wire.specs.declared.faults.ReplayFault.{ReplayFault}
@@ -60,9 +61,9 @@ fault_text (Refused r) = codes "refused " ++ decimal (refusal_number r) ++ codes
 fault_text Read = codes "fault read"
 fault_text Write = codes "fault write"
 fault_text NoMemory = codes "fault memory"
-fault_text Store = codes "fault store"
-fault_text Version = codes "fault version"
-fault_text Port = codes "fault port"
+fault_text (Store cause) = codes "fault store"
+fault_text (Version cause) = codes "fault version"
+fault_text (Port cause) = codes "fault port"
 
 -- the planner's fault is the refusal of this name
 abbrev pub planner_fault : PlanFault → Fault
@@ -89,10 +90,10 @@ shop_fault shop.NoMemory = NoMemory
 shop_fault shop.Text = ShopText
 shop_fault (shop.Entry entry) = ShopEntry entry
 
-abbrev pub store_fault : BookFault → Fault
+abbrev pub store_fault : OpenFault → Fault
 store_fault store.NoMemory = NoMemory
-store_fault store.Store = Store
-store_fault store.WrongVersion = Version
+store_fault (store.Store cause) = Store cause
+store_fault (store.Version cause) = Version cause
 
 abbrev pub add_fault : AddFault → Fault
 add_fault add.NoMemory = NoMemory
@@ -104,4 +105,4 @@ print_fault print.Write = Write
 
 abbrev pub serve_fault : ServeFault → Fault
 serve_fault serve.NoMemory = NoMemory
-serve_fault serve.Port = Port
+serve_fault serve.Port = Port port_cause.Refused

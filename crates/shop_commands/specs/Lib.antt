@@ -1,4 +1,6 @@
 pub mod Faults
+pub mod Advice
+pub mod Log
 pub mod Sinks
 pub mod Orders
 pub mod Plans

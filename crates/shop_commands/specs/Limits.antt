@@ -68,6 +68,7 @@ pub record AreRequests : Type 0 where
 pub record AreConnections : Type 0 where
   pub most : connections.MOST_LINES ≡ 256
   pub patience : connections.PATIENCE ≡ 10
+  pub grace : connections.GRACE ≡ 200
   pub served : MOST_SERVED ≡ 18446744073709551615
 
 -- of the command line: a step, steps of a search, a port, connections, and the terminal and the number of a message

@@ -16,7 +16,7 @@ use Rattle.shop_words.specs.declared.words.Request.{Request}
 use Rattle.shop_words.specs.declared.words.Request.TheVariants.{Replay, Plan, PlanOrder, Orders, Serve, Ticket, Yield}
 use Rattle.shop_words.specs.declared.words.TheConstants.{VERSION}
 use Rattle.shop_words.specs.CommandLine.{Asks, AsksNothing, shop_app}
-use Rattle.shop_commands.specs.Faults.{fault_text}
+use Rattle.shop_commands.specs.Advice.{IsToldOf, fault_line, no_memory_line}
 use Rattle.shop_commands.specs.Orders.{IsOrdersDone, IsOrdersStopped}
 use Rattle.shop_commands.specs.Plans.{IsFilePlan, IsFileFault, IsFileWhole, IsFileWholeFault}
 use Rattle.shop_commands.specs.Stored.{IsTextDone, IsTextStopped, IsServeDone, IsServeStopped}
@@ -48,13 +48,11 @@ IsPlanStopped made stops fault out = ((bytes : List ℕ) × stops bytes fault) �
 abbrev pub version_line : List ℕ
 version_line = codes "cutshop " ++ VERSION.now ++ codes "\n"
 
--- the line of a fault
-abbrev pub fault_line : Fault → List ℕ
-fault_line fault = fault_text fault ++ 10 ∷ []
-
--- the fault's line was written, or where memory for it ran out, that line; of either a first part alone where the sink failed
+-- The fault's line and what stands behind it were written, or where memory for them ran out, those of that; of either a first part
+-- alone where the sink failed.
 abbrev pub TellsFault : Fault → (err : SinkChange) → Type 0
-TellsFault fault err = IsWritten err (fault_line fault) ⊎ IsWritten err (fault_line NoMemory)
+TellsFault fault err =
+    ((told : List ℕ) × IsToldOf fault told × IsWritten err told) ⊎ IsWritten err (fault_line NoMemory ++ no_memory_line)
 
 -- what was done has status 0 and nothing is told, and what stopped has status 1 and is told
 abbrev pub Concludes : Result (Unit {0}) Fault → (err : SinkChange) → ℕ → Type 0

@@ -9,7 +9,11 @@ use Rattle.shop_records.specs.Content.{Content}
 use Rattle.shop_records.specs.declared.refusals.Refusal.{Refusal}
 use Rattle.shop_serve.specs.Serving.{HasServed, most_served}
 use Rattle.shop_serve.specs.Sites.{HasPage}
+use Rattle.shop_serve.specs.declared.ports.PortCause.{PortCause}
+use Rattle.shop_serve.specs.declared.ports.PortCause.TheVariants as port_cause
 use Rattle.shop_serve.specs.declared.sites.Site.{Site}
+use Rattle.shop_advice.specs.declared.causes.StoreCause.{StoreCause}
+use Rattle.shop_advice.specs.declared.causes.VersionCause.{VersionCause}
 use Rattle.shop_commands.specs.declared.files.TheConstants.{LONGEST_PAGE}
 use Rattle.shop_opening.specs.declared.shops.EntryRefused.{EntryRefused}
 use Rattle.shop_opening.specs.Shops.{HasShop, IsAccepted, IsFirstRefused}
@@ -50,7 +54,7 @@ IsSite port path site = (site.guard.port ≡ port) × ((page : Option (List ℕ)
 
 -- a store can't be opened
 abbrev pub IsUnopened : Fault → Type 0
-IsUnopened fault = (fault ≡ NoMemory) ⊎ ((fault ≡ Store) ⊎ (fault ≡ Version))
+IsUnopened fault = (fault ≡ NoMemory) ⊎ (((cause : StoreCause) × (fault ≡ Store cause)) ⊎ ((cause : VersionCause) × (fault ≡ Version cause)))
 
 abbrev pub listening_line : ℕ → List ℕ
 listening_line port = codes "listening on 127.0.0.1:" ++ decimal port ++ codes "\n"
@@ -58,7 +62,7 @@ listening_line port = codes "listening on 127.0.0.1:" ++ decimal port ++ codes "
 -- the port can't be listened to, or memory for its line is wanting, or the line can't be written
 abbrev pub IsUnannounced : ℕ → Fault → (out : SinkChange) → Type 0
 IsUnannounced port fault out =
-    (((fault ≡ Port) ⊎ (fault ≡ NoMemory)) × AddsNone out) ⊎ ((fault ≡ Write) × AddsFront out (listening_line port) × SinkFailed out)
+    ((((cause : PortCause) × (fault ≡ Port cause)) ⊎ (fault ≡ NoMemory)) × AddsNone out) ⊎ ((fault ≡ Write) × AddsFront out (listening_line port) × SinkFailed out)
 
 -- the text that is asked for of a content, or why there is none
 abbrev pub text_of : StoreText → Content → Result (List ℕ) Refusal
@@ -111,7 +115,7 @@ module _ {B : Type 0} (book : Ghosts B) where
 
   -- memory was wanting before the first connection, or no more could be accepted
   abbrev pub IsUnaccepted : Site → B → B → Option ℕ → Fault → Type 0
-  IsUnaccepted site before after limit fault = ((fault ≡ NoMemory) × (after ≡ before)) ⊎ ((fault ≡ Port) × HasServed site book before after (most_served limit))
+  IsUnaccepted site before after limit fault = ((fault ≡ NoMemory) × (after ≡ before)) ⊎ ((fault ≡ Port port_cause.Refused) × HasServed site book before after (most_served limit))
 
   -- the entries are there, the port was told, and then serving stopped
   pub record IsBookLeft (site : Site) (before after : B) (entries : List MaterialEntry) (port : ℕ) (limit : Option ℕ) (fault : Fault) (out : SinkChange) : Type 0 where

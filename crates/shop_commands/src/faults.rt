@@ -4,11 +4,11 @@ ghost use Rattle.std.specs.Prelude.{◌≡◌};
 ghost use Rattle.shop_commands.specs.Faults as spec;
 
 use cut_plan::PlanFault;
+use shop_advice::{StoreCause, VersionCause};
 use shop_files::{ShopFault, TextCause, TextFault};
-use shop_opening::{AddFault, EntryRefused};
+use shop_opening::{AddFault, EntryRefused, OpenFault};
 use shop_records::Refusal;
-use shop_serve::ServeFault;
-use shop_store::BookFault;
+use shop_serve::{PortCause, ServeFault};
 use shop_text::PrintFault;
 use shop_wire::ReplayFault;
 use std::alloc::AllocError;
@@ -71,11 +71,11 @@ pub enum Fault {
     /// Want of memory.
     NoMemory,
     /// The store can't be read and written, or is no database.
-    Store,
+    Store(StoreCause),
     /// The store has the tables of something else, or of another version.
-    Version,
+    Version(VersionCause),
     /// The port can't be listened to, or no connection can be accepted.
-    Port,
+    Port(PortCause),
 }
 
 impl From<AllocError> for Fault {
@@ -135,17 +135,17 @@ impl From<ShopFault> for Fault {
     }
 }
 
-impl From<BookFault> for Fault {
+impl From<OpenFault> for Fault {
     ghost use Rattle.std.specs.Prelude.{◌≡◌};
     ghost use Rattle.shop_commands.specs.Faults.{store_fault};
 
     ghost from_gives = { λ fault result. result ≡ store_fault fault };
 
-    fn from(fault: BookFault) -> Fault {
+    fn from(fault: OpenFault) -> Fault {
         match fault {
-            BookFault::NoMemory => Fault::NoMemory,
-            BookFault::Store => Fault::Store,
-            BookFault::WrongVersion => Fault::Version,
+            OpenFault::NoMemory => Fault::NoMemory,
+            OpenFault::Store(cause) => Fault::Store(cause),
+            OpenFault::Version(cause) => Fault::Version(cause),
         }
     }
 }
@@ -187,7 +187,7 @@ impl From<ServeFault> for Fault {
     fn from(fault: ServeFault) -> Fault {
         match fault {
             ServeFault::NoMemory => Fault::NoMemory,
-            ServeFault::Port => Fault::Port,
+            ServeFault::Port => Fault::Port(PortCause::Refused),
         }
     }
 }
@@ -293,9 +293,9 @@ impl fmt::Display for Fault {
             Fault::Read => f.write_str("fault read"),
             Fault::Write => f.write_str("fault write"),
             Fault::NoMemory => f.write_str("fault memory"),
-            Fault::Store => f.write_str("fault store"),
-            Fault::Version => f.write_str("fault version"),
-            Fault::Port => f.write_str("fault port"),
+            Fault::Store(_) => f.write_str("fault store"),
+            Fault::Version(_) => f.write_str("fault version"),
+            Fault::Port(_) => f.write_str("fault port"),
         }
     }
 }

@@ -1,9 +1,11 @@
 //! The commands of the shop's program: what the words of its command line ask for, done over the streams that it is given.
 #![tactic(auto)]
 
+mod advice;
 mod faults;
 mod files;
 mod limits;
+mod log;
 mod orders;
 mod performing;
 mod plans;
@@ -12,6 +14,7 @@ mod running;
 mod stored;
 mod storeless;
 
+pub use advice::second_lines_are_lines;
 pub use faults::Fault;
 pub use limits::limits_have_numbers;
 pub use performing::perform;

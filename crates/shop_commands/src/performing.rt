@@ -1,16 +1,18 @@
 //! From the words of a command line to the command that is done, and the status that is given back.
 
-ghost use Rattle.std.specs.Prelude.{◌≡◌, ◌+◌, ◌≤◌, IfOk, IfErr, OnOk, map, string_bytes};
+ghost use Rattle.std.specs.Prelude.{◌≡◌, ◌+◌, ◌≤◌, IfOk, IfErr, IfSome, OnOk, map, string_bytes};
 ghost use Rattle.cut_measure.specs.declared.ranges.TheConstants.{MOST_KERF};
 ghost use Rattle.clap.specs.Words.{kind_of};
 ghost use Rattle.clap.specs.declared.error.kind.ErrorKind.TheVariants as kind;
 ghost use Rattle.shop_wire.specs.Streams.{most_reads};
 ghost use Rattle.shop_words.specs.CommandLine.{HasKerf};
+ghost use Rattle.shop_commands.specs.Advice.{IsAdviceOf};
 ghost use Rattle.shop_commands.specs.Performs as spec;
 ghost use Rattle.shop_commands.specs.Performs.{Concludes, IsDone, IsHelped, IsPerformed, IsPlanDone, IsPlanStopped, IsStopped, IsTold, TellsFault};
 ghost use Rattle.shop_commands.specs.Plans.{IsFileFault, IsFilePlan, IsFileWhole, IsFileWholeFault};
 ghost use Rattle.shop_commands.specs.Sinks.{change_of};
 
+use crate::advice::{Advice, NO_MEMORY_TOLD, advise, fault_lines, makes_store, stream_advice};
 use crate::faults::Fault;
 use crate::files::{read_file, write_text};
 use crate::orders::check_orders;
@@ -26,6 +28,7 @@ use shop_text::{Sink, Source};
 use shop_words::{Request, VERSION, request_of};
 use std::alloc::{AllocError, Global};
 use std::fs::Files;
+use std::io::Eprint;
 use std::net::Net;
 use std::time::Clock;
 
@@ -33,24 +36,26 @@ use std::time::Clock;
 const NOTHING_ASKED: &str =
     "error: MATERIAL and --order are codes, 1 to 16 of A-Z, 0-9 and -; --order, --terminal and --number of orders stand together; plan wants --step or --whole, and --calls only with --whole; try '--help'\n";
 
-fn fault_line(alloc: Global, fault: Fault) -> Result<String, AllocError>
-    ensures { IfOk result (λ text. string_bytes text ≡ spec.fault_line fault) }
+// Writes the lines of a fault, and gives the status of a program that stopped.
+fn tell_fault<E: Sink>(alloc: Global, fault: Fault, advice: Option<Advice>, errors: &mut E) -> u8
+    requires { IfSome advice (IsAdviceOf fault) }
+    ensures status { result ≡ 1 }
+    ensures told { TellsFault fault (change_of E.Sink errors.old errors.new) }
 {
-    let mut text = String::new(alloc);
-    write!(text, "{fault}\n")?;
-    Ok(text)
+    let _ = match fault_lines(alloc, fault, advice) {
+        Ok(lines) => write_text(errors, lines.as_str()),
+        Err(_) => write_text(errors, NO_MEMORY_TOLD),
+    };
+    1
 }
 
-/// Writes the line of a fault, and gives the status of a program that stopped.
+/// Writes the lines of a fault of a stream or of memory, and gives the status of a program that stopped.
 pub(crate) fn report_fault<E: Sink>(alloc: Global, fault: Fault, errors: &mut E) -> u8
     ensures status { result ≡ 1 }
     ensures told { TellsFault fault (change_of E.Sink errors.old errors.new) }
 {
-    let _ = match fault_line(alloc, fault) {
-        Ok(line) => write_text(errors, line.as_str()),
-        Err(_) => write_text(errors, "fault memory\n"),
-    };
-    1
+    let advice = stream_advice(alloc, fault);
+    tell_fault(alloc, fault, advice, errors)
 }
 
 // Writes the plan of a problem file.
@@ -96,7 +101,7 @@ fn plan_order<R: Files, W: Sink>(
 }
 
 // Does what is asked, or stops.
-fn do_request<R: Files + Net + Clock, B: Book + Drop, O: Opens<B>, S: Source, W: Sink>(
+fn do_request<R: Files + Net + Clock + Eprint, B: Book + Drop, O: Opens<B>, S: Source, W: Sink>(
     rt: &R,
     stores: &O,
     alloc: Global,
@@ -140,12 +145,22 @@ fn do_request<R: Files + Net + Clock, B: Book + Drop, O: Opens<B>, S: Source, W:
 }
 
 // The status of what was done, or of what stopped, which is told.
-fn conclude<E: Sink>(alloc: Global, outcome: Result<(), Fault>, errors: &mut E) -> u8
+fn conclude<R: Files, E: Sink>(
+    rt: &R,
+    alloc: Global,
+    request: &Request<'_>,
+    is_new: bool,
+    outcome: Result<(), Fault>,
+    errors: &mut E,
+) -> u8
     ensures { Concludes outcome (change_of E.Sink errors.old errors.new) result }
 {
     match outcome {
         Ok(()) => 0,
-        Err(fault) => report_fault(alloc, fault, errors),
+        Err(fault) => {
+            let advice = advise(rt, alloc, request, is_new, fault);
+            tell_fault(alloc, fault, advice, errors)
+        }
     }
 }
 
@@ -208,8 +223,16 @@ fn explain<W: Sink, E: Sink>(alloc: Global, error: &Error, sink: &mut W, errors:
 }
 
 /// Does what the words ask for, the program's own name before them, and gives the status: 0 where it was done and for
-/// help, 2 for a mistake in the words, and else 1, with the fault as one line of `errors`.
-pub fn perform<R: Files + Net + Clock, B: Book + Drop, O: Opens<B>, S: Source, W: Sink, E: Sink>(
+/// help, 2 for a mistake in the words, and else 1, with the fault as one line of `errors`, and but for an order file's one more that
+/// begins with two spaces and tells why.
+pub fn perform<
+    R: Files + Net + Clock + Eprint,
+    B: Book + Drop,
+    O: Opens<B>,
+    S: Source,
+    W: Sink,
+    E: Sink,
+>(
     rt: &R,
     stores: &O,
     alloc: Global,
@@ -225,8 +248,9 @@ pub fn perform<R: Files + Net + Clock, B: Book + Drop, O: Opens<B>, S: Source, W
 {
     match request_of(alloc, words) {
         Ok(Some(request)) => {
+            let is_new = makes_store(rt, &request);
             let outcome = do_request(rt, stores, alloc, &request, source, sink);
-            conclude(alloc, outcome, errors)
+            conclude(rt, alloc, &request, is_new, outcome, errors)
         }
         Ok(None) => {
             let _ = write_text(errors, NOTHING_ASKED);

@@ -9,11 +9,14 @@ ghost use Rattle.shop_commands.specs.Stored.{Prints, text_of, IsTextDone, IsText
 ghost use Rattle.shop_files.specs.Shops.{IsShop, IsShopFault};
 ghost use Rattle.shop_files.specs.declared.shops.ShopFault.{ShopFault as ShopFaultOf};
 ghost use Rattle.shop_serve.specs.Serving.{HasServed, most_served};
+ghost use Rattle.shop_serve.specs.declared.ports.PortCause.{PortCause as PortCauseOf};
 ghost use Rattle.shop_commands.specs.Sinks.{Adds, change_of};
 
 use crate::faults::Fault;
 use crate::files::{read_file, read_page, write_text};
+use crate::log::{note_begin, note_end};
 use cut_measure::Code;
+use shop_advice::is_there;
 use shop_files::{MaterialEntry, RowList, read_shop};
 use shop_opening::{Opens, add_shop};
 use shop_serve::{Listener, Site, listen, serve_on};
@@ -21,6 +24,7 @@ use shop_store::Book;
 use shop_text::{PrintFault, Sink, ticket, yield_report};
 use std::alloc::{AllocError, Global};
 use std::fs::Files;
+use std::io::Eprint;
 use std::net::Net;
 use std::time::Clock;
 
@@ -159,11 +163,11 @@ fn listening_line(alloc: Global, port: u32) -> Result<String, AllocError>
 
 // Listens on a port of this machine alone.
 fn bind<R: Net>(rt: &R, port: u32) -> Result<Listener, Fault>
-    ensures { IfErr result (λ f. f ≡ fault.Port) }
+    ensures { IfErr result (λ f. (cause : PortCauseOf) × (f ≡ fault.Port cause)) }
 {
     match listen(rt, port) {
         Ok(listener) => Ok(listener),
-        Err(_) => Err(Fault::Port),
+        Err(cause) => Err(Fault::Port(cause)),
     }
 }
 
@@ -185,7 +189,7 @@ fn bind_and_announce<R: Net, W: Sink>(
 }
 
 // Serves connections.
-fn serve_connections<R: Net + Clock, B: Book>(
+fn serve_connections<R: Net + Clock + Eprint, B: Book>(
     rt: &R,
     alloc: Global,
     listener: &Listener,
@@ -203,10 +207,12 @@ fn serve_connections<R: Net + Clock, B: Book>(
 }
 
 // Adds the shop's entries to a book and serves it on a port.
-fn serve_book<R: Net + Clock, B: Book, W: Sink>(
+fn serve_book<R: Net + Clock + Eprint, B: Book, W: Sink>(
     rt: &R,
     alloc: Global,
     port: u32,
+    store: &str,
+    is_new: bool,
     limit: Option<u32>,
     site: &Site,
     entries: &[MaterialEntry],
@@ -223,6 +229,7 @@ fn serve_book<R: Net + Clock, B: Book, W: Sink>(
 {
     add_entries(alloc, book, entries)?;
     let listener = bind_and_announce(rt, alloc, port, sink)?;
+    note_begin(rt, alloc, store, is_new);
     match serve_connections(rt, alloc, &listener, limit, site, book) {
         Ok(()) => Ok(()),
         Err(fault) => Err(fault),
@@ -230,7 +237,7 @@ fn serve_book<R: Net + Clock, B: Book, W: Sink>(
 }
 
 /// Adds the materials of a shop file to the book of a store, tells the port, and serves connections on it.
-pub fn serve<R: Files + Net + Clock, B: Book + Drop, O: Opens<B>, W: Sink>(
+pub fn serve<R: Files + Net + Clock + Eprint, B: Book + Drop, O: Opens<B>, W: Sink>(
     rt: &R,
     stores: &O,
     alloc: Global,
@@ -248,11 +255,14 @@ pub fn serve<R: Files + Net + Clock, B: Book + Drop, O: Opens<B>, W: Sink>(
 {
     let entries = shop_entries(rt, alloc, shop)?;
     let site = site_of(rt, alloc, port, page)?;
+    let is_new = !is_there(rt, store);
     let mut book = open_store(stores, alloc, store)?;
     let served = serve_book(
         rt,
         alloc,
         port,
+        store,
+        is_new,
         limit,
         &site,
         entries.as_slice(),
@@ -261,7 +271,10 @@ pub fn serve<R: Files + Net + Clock, B: Book + Drop, O: Opens<B>, W: Sink>(
     );
     stores.close(book);
     match served {
-        Ok(()) => Ok(()),
+        Ok(()) => {
+            note_end(rt, alloc, store);
+            Ok(())
+        }
         Err(fault) => Err(fault),
     }
 }

@@ -5,4 +5,4 @@ mod shops;
 mod stores;
 
 pub use shops::{AddFault, EntryRefused, add_shop};
-pub use stores::{Opens, StoreBook};
+pub use stores::{OpenFault, Opens, StoreBook};

@@ -13,6 +13,8 @@ pub enum Route {
     Message,
     /// POST `/plan`: the query for a plan.
     Plan,
+    /// POST `/plans`: the question for plans of all that is open of a material.
+    Plans,
     /// POST `/bound`: the query for a bound.
     Bound,
     /// GET `/totals/{material}`.
@@ -53,6 +55,7 @@ impl Route {
         match self {
             Route::Message => "/message",
             Route::Plan => "/plan",
+            Route::Plans => "/plans",
             Route::Bound => "/bound",
             Route::Totals => "/totals/{material}",
             Route::Rack => "/rack/{material}",
@@ -78,6 +81,7 @@ impl Route {
         match self {
             Route::Message => 8,
             Route::Plan => 5,
+            Route::Plans => 6,
             Route::Bound => 6,
             Route::Totals => 8,
             Route::Rack => 6,
@@ -100,7 +104,10 @@ impl Route {
     pub fn takes_body(self) -> bool
         ensures { result ≡ takes_body self }
     {
-        matches!(self, Route::Message | Route::Plan | Route::Bound)
+        matches!(
+            self,
+            Route::Message | Route::Plan | Route::Plans | Route::Bound
+        )
     }
 }
 
@@ -129,9 +136,10 @@ fn add_all(router: &mut Router<Route>, routes: &[Route]) -> Result<(), InsertErr
     add_all(router, more)
 }
 
-const ROUTES: [Route; 17] = [
+const ROUTES: [Route; 18] = [
     Route::Message,
     Route::Plan,
+    Route::Plans,
     Route::Bound,
     Route::Totals,
     Route::Rack,

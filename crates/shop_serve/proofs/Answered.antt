@@ -2,7 +2,7 @@
 use Rattle.std.proofs.Common.{◌≡◌, ◌≢◌, ◌∙◌, ℕ, ◌<◌, List, [], ◌++◌, length, take, inl, inr, refl, sym, ap, subst, arith}
 use Rattle.std.proofs.lemmas.List.{append-nil, length-append}
 use Rattle.std.specs.Io.KnownBytes.{Appends, IsAtEnd}
-use Rattle.std.specs.Prelude.{Option, Some, None, IfSome, IsSomeAnd}
+use Rattle.std.specs.Prelude.{◌⊎◌, Option, Some, None, IfSome, IsSome, IsSomeAnd}
 use Rattle.slab.specs.Slab.{Slab, get}
 use Rattle.std.specs.declared.time.Instant.{Instant}
 use Rattle.shop_book.specs.declared.books.Book.{Ghosts}
@@ -13,9 +13,10 @@ use Rattle.shop_serve.specs.declared.lines.Fate.{Fate}
 use Rattle.shop_serve.specs.declared.lines.Fate.TheVariants.{NoMemory}
 use Rattle.shop_serve.specs.declared.lines.Line.{Line}
 use Rattle.shop_serve.specs.declared.sites.Site.{Site}
-use Rattle.shop_serve.specs.Known.{TellsAll, BringsRequest, HasOwnAnswer}
+use Rattle.shop_serve.specs.Known.{TellsAll, BringsRequest, HasOwnAnswer, HasOwnQuestion}
 use Rattle.shop_serve.specs.Times.{Times}
-use Rattle.shop_serve.specs.Lines.{AwaitsMore, IsAnsweredWhole, IsAttended, IsAttendedAt, IsClosedBy, IsFresh, IsHeard, IsSpoiled}
+use Rattle.shop_serve.specs.Lines.{AwaitsMore, IsAnsweredWhole, IsAttended, IsAttendedAt, IsBegunWhole, IsClosedBy, IsFresh, IsHeard, IsMute, IsSpoiled}
+use Rattle.shop_planning.specs.Thoughts.{posed_in}
 
 module _ {C : Type 0} (connection : ConnectionGhosts C) (site : Site) {B : Type 0} (book : Ghosts B)
     (now : Instant) (stream : C) (input : List ℕ) (line : Line C) (before after : B) (seen seeing : Times)
@@ -42,36 +43,57 @@ module _ {C : Type 0} (connection : ConnectionGhosts C) (site : Site) {B : Type 
       let empty : part.0 ≡ [] = cc none in
       brings.whole (subst IsUnfinished (sym (part.2 ∙ ap (λ l. came ++ l) empty ∙ append-nil came)) more.here)
 
-  not_spoiled : (left : Line C) → IsSpoiled connection site book line left → ⊥
-  not_spoiled left (inl (inl lost)) = tells.kept left.stream lost
-  not_spoiled left (inl (inr (read, inl ended))) =
+  not_mute : (left : Line C) → IsMute connection line.stream line.came.items left.stream left.came.items → ⊥
+  not_mute left (inl lost) = tells.kept left.stream lost
+  not_mute left (inr (read, inl ended)) =
       let part = first_part (connection.remaining left.stream) left.came.items (read_of (connection.remaining left.stream) left.came.items read) in
       let none : part.0 ≡ [] = subst IsAtEnd part.1 ended.1 in
       brings.whole (inl (part.2 ∙ ap (λ l. l ++ part.0) ended.0 ∙ none))
-  not_spoiled left (inl (inr (read, inr long))) =
+  not_mute left (inr (read, inr long)) =
       let part = first_part (connection.remaining left.stream) left.came.items (read_of (connection.remaining left.stream) left.came.items read) in
       absurd (omega (arith, long, brings.few, ap length part.2, length-append left.came.items part.0))
-  not_spoiled left (inr over) = subst (λ o. IsSomeAnd o (λ answer. length answer.items < line.sent)) fresh.waits over
+
+  not_spoiled : (left : Line C) → IsSpoiled connection site book seen line left → ⊥
+  not_spoiled left (inl mute) = not_mute left mute.2
+  not_spoiled left (inr (inl over)) = subst (λ o. IsSomeAnd o (λ answer. connection.is_lost left.stream ⊎ (length answer.items < line.sent))) fresh.waits over
+  not_spoiled left (inr (inr forsaken)) = absurd (cc (subst IsSome fresh.asks forsaken.0))
 
   took : (held : Option (List ℕ)) (bytes : List ℕ) → Appends (Some []) held bytes → held ≡ Some bytes
   took None bytes is = absurd is
   took (Some ys) bytes is = ap Some is
 
-  answered : (left : Line C) → IsAttended connection site book line left before after seen seeing → HasOwnAnswer connection site book input before after
+  abbrev HasOwn : Type 0
+  HasOwn = HasOwnAnswer connection site book input before after ⊎ HasOwnQuestion connection site book input before after
+
+  answered : (left : Line C) → IsAttended connection site book line left before after seen seeing → HasOwn
   answered left attended = by_answer left.answer refl
     where
       heard : IsHeard connection site book line left before after seen seeing
-      heard = attended.1 fresh.waits
+      heard = attended.2 fresh.waits fresh.asks
 
-      by_answer : (o : Option _) → left.answer ≡ o → HasOwnAnswer connection site book input before after
-      by_answer None e =
-          let w = heard.waits e in
+      by_thought : left.answer ≡ None → (t : Option _) → left.thought ≡ t → HasOwn
+      by_thought none None e =
+          let w = heard.waits none e in
           absurd (not_waiting left.came.items left.needed left.stream w.read w.drained (w.awaits awaits))
+      by_thought none (Some t) e =
+          let whole = subst (λ o. IfSome o (IsBegunWhole connection site book line left heard.rest before after seen seeing)) e heard.begun in
+          let part = first_part heard.rest left.came.items (read_of heard.rest left.came.items heard.read) in
+          inr (record {
+            came = left.came.items;
+            rest = part.0;
+            posed = posed_in t.thought;
+            split = part.2;
+            whole = elim whole.whole [ inl settled ↦ inl settled | inr end ↦ inr (subst IsAtEnd part.1 end) ];
+            asked = whole.asked;
+          })
+
+      by_answer : (o : Option _) → left.answer ≡ o → HasOwn
+      by_answer None e = by_thought e left.thought refl
       by_answer (Some a) e =
           let whole = subst (λ o. IfSome o (λ answer. IsAnsweredWhole connection site book line left heard.rest before after seen seeing answer.items)) e heard.answered in
           let part = first_part heard.rest left.came.items (read_of heard.rest left.came.items heard.read) in
           let first : connection.contents line.stream ≡ Some [] = ap connection.contents fresh.own ∙ brings.took in
-          record {
+          inl (record {
             came = left.came.items;
             rest = part.0;
             answer = a.items;
@@ -81,17 +103,17 @@ module _ {C : Type 0} (connection : ConnectionGhosts C) (site : Site) {B : Type 
             whole = elim whole.whole [ inl settled ↦ inl settled | inr end ↦ inr (subst IsAtEnd part.1 end) ];
             answered = whole.answered;
             takes = took (connection.contents left.stream) (take left.sent a.items) (whole.takes (Some []) (subst (λ held. Appends (Some []) held []) (sym first) refl));
-          }
+          })
 
   pub whole_is_answered : (fate : Fate) (key : ℕ) (old new : Slab (Line C)) → get old key ≡ Some line → fate ≢ NoMemory
-      → IsAttendedAt connection site book fate key old new before after seen seeing → HasOwnAnswer connection site book input before after
+      → IsAttendedAt connection site book fate key old new before after seen seeing → HasOwn
   whole_is_answered fate key old new is known attended = by_slot (get new key) refl
     where
-      by_reason : IsClosedBy connection site book fate line before after seen seeing → HasOwnAnswer connection site book input before after
+      by_reason : IsClosedBy connection site book fate line before after seen seeing → HasOwn
       by_reason (inl wanting) = absurd (known wanting)
       by_reason (inr (left, inl spent)) = answered left spent.0
       by_reason (inr (left, inr spoiled)) = absurd (not_spoiled left spoiled)
 
-      by_slot : (slot : Option (Line C)) → get new key ≡ slot → HasOwnAnswer connection site book input before after
+      by_slot : (slot : Option (Line C)) → get new key ≡ slot → HasOwn
       by_slot None e = by_reason (attended.closed line is e)
       by_slot (Some left) e = answered left (subst (λ slot. IfSome slot (λ left. IsAttended connection site book line left before after seen seeing)) e (attended.there line is))

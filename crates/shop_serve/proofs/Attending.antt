@@ -1,9 +1,11 @@
 -- What attending to a connection leaves, and how many have no answer then.
-use Rattle.std.proofs.Common.{◌≡◌, ◌≢◌, ◌∙◌, ℕ, ◌+◌, ◌<◌, ◌≤◌, List, length, take, inl, inr, refl, sym, ap, subst, arith}
+use Rattle.std.proofs.Common.{◌≡◌, ◌≢◌, ◌∙◌, ℕ, ◌+◌, ◌<◌, ◌≤◌, Bool, true, false, List, length, take, inl, inr, refl, sym, ap, subst, arith}
 use Rattle.std.specs.Io.KnownBytes.{Appends, IsAtEnd}
-use Rattle.std.specs.Prelude.{◌⊎◌, Option, Some, None, IfSome, IsSome, IsSomeAnd}
+use Rattle.std.specs.declared.alloc.Global.{Global}
+use Rattle.std.specs.Prelude.{Vec, ◌⊎◌, Option, Some, None, IfSome, IsSome, IsSomeAnd}
 use Rattle.slab.specs.Slab.{Slab, get, Updates, with_value}
 use Rattle.slab.proofs.SlabLemmas.{Updates-with_value}
+use Rattle.std.specs.declared.time.Instant.{Instant}
 use Rattle.shop_book.specs.declared.books.Book.{Ghosts}
 use Rattle.shop_request.specs.Reading.{IsReadOn}
 use Rattle.shop_request.specs.Senses.{IsSettled}
@@ -13,10 +15,14 @@ use Rattle.shop_serve.specs.declared.lines.Line.{Line}
 use Rattle.shop_serve.specs.declared.sites.Site.{Site}
 use Rattle.shop_serve.specs.declared.transfers.Given.{Given}
 use Rattle.shop_serve.specs.declared.transfers.Given.TheVariants as given
-use Rattle.shop_serve.specs.Lines.{unanswered, TakesAnswer, IsHandedOn, IsAnsweredWhole, IsHeard, IsAttended, IsAttendedAt, IsClosedBy, IsSpent, IsSpoiled}
+use Rattle.shop_planning.specs.Thoughts.{posed_in}
+use Rattle.shop_serve.specs.declared.answers.Made.{Made}
+use Rattle.shop_serve.specs.declared.answers.Made.TheVariants.{Answer, Thought}
+use Rattle.shop_serve.specs.Making.{IsAsked, IsMade, put_made}
+use Rattle.shop_serve.specs.Lines.{is_unanswered, unanswered, TakesAnswer, IsHandedOn, IsAnsweredWhole, IsBegunWhole, IsHeard, IsAttended, IsAttendedAt, IsClosedBy, IsSpent, IsSpoiled}
 use Rattle.shop_serve.specs.Serving.{Advances, HasServed, IsAnswered}
 use Rattle.shop_serve.specs.Times.{Times, Tells}
-use Rattle.shop_serve.proofs.Slots.{one_of, unanswered-updates}
+use Rattle.shop_serve.proofs.Slots.{answered-of, has-answer, has-neither, has-question, one_of, unanswered-of, unanswered-updates}
 use Rattle.shop_serve.proofs.Turns.{stays, one_advances}
 
 if_some_at : {A : Type 0} (o : Option A) (P Q : A → Type 0) → ((a : A) → o ≡ Some a → P a → Q a) → IfSome o P → IfSome o Q
@@ -32,23 +38,27 @@ module _ {C : Type 0} (connection : ConnectionGhosts C) (site : Site) {B : Type 
 
   -- the connection was ended, and what still came was dropped
   pub attended-ended : (old mid new : Line C) (before after : B) (seen seeing : Times)
-      → (new.came ≡ mid.came) × (new.answer ≡ mid.answer) × (new.sent ≡ mid.sent) → new.since ≡ mid.since → connection.contents new.stream ≡ connection.contents mid.stream
-      → IsSomeAnd mid.answer (λ answer. mid.sent ≡ length answer.items)
+      → (new.came ≡ mid.came) × (new.answer ≡ mid.answer) × (new.sent ≡ mid.sent) → new.since ≡ mid.since → new.thought ≡ mid.thought
+      → connection.contents new.stream ≡ connection.contents mid.stream → IsSomeAnd mid.answer (λ answer. mid.sent ≡ length answer.items)
       → IsAttended connection site book old mid before after seen seeing → IsAttended connection site book old new before after seen seeing
-  attended-ended old mid new before after seen seeing kept since contents whole attended = (
+  attended-ended old mid new before after seen seeing kept since asks contents whole attended = (
     if_some_at old.answer _ _ (λ answer is handed. record {
       same = handed.same;
       unread = handed.unread;
       since = since ∙ handed.since;
       came = kept.0 ∙ handed.came;
+      asks = asks ∙ handed.asks;
       kept = kept.1 ∙ handed.kept;
       takes = takes-ended answer.items old.stream mid.stream new.stream old.sent mid.sent new.sent kept.2 contents handed.takes;
       stops = inl (kept.2 ∙ subst (λ o. IsSomeAnd o (λ a. mid.sent ≡ length a.items)) (handed.kept ∙ is) whole);
     }) attended.0,
-    λ none. let heard = attended.1 none in record {
+    λ none thinks. absurd (some_answer (ap (λ (l : Line C). l.answer) (attended.1 none thinks).kept ∙ none)),
+    λ none rests. let heard = attended.2 none rests in record {
       rest = heard.rest;
       read = subst (λ came. IsReadOn (connection.remaining old.stream) heard.rest old.came.items came.items) (sym kept.0) heard.read;
-      waits = λ waits. absurd (subst (λ o. IsSomeAnd o (λ a. mid.sent ≡ length a.items)) (sym kept.1 ∙ waits) whole);
+      waits = λ waits idle. absurd (some_answer (sym kept.1 ∙ waits));
+      begun = subst (λ o. IfSome o (IsBegunWhole connection site book old new heard.rest before after seen seeing)) (sym asks)
+          (if_some_at mid.thought _ _ (λ thinking is b. absurd (some_answer b.none)) heard.begun);
       answered = if_some_at new.answer _ _ (λ answer is whole_answer. record {
         since = subst (Tells seen seeing) (sym since) whole_answer.since;
         whole = subst (λ came. IsSettled came.items ⊎ IsAtEnd heard.rest) (sym kept.0) whole_answer.whole;
@@ -58,20 +68,27 @@ module _ {C : Type 0} (connection : ConnectionGhosts C) (site : Site) {B : Type 
       }) (subst (λ o. IfSome o (λ answer. IsAnsweredWhole connection site book old mid heard.rest before after seen seeing answer.items)) (sym kept.1) heard.answered);
     },
   )
+    where
+      some_answer : mid.answer ≡ None → ⊥
+      some_answer none = subst (λ o. IsSomeAnd o (λ a. mid.sent ≡ length a.items)) none whole
 
-  -- it was answered, and its answer handed over as far as that went
-  pub attended-first : (old mid new : Line C) (before after : B) (seen seeing : Times) (r : Given) → old.answer ≡ None
+  -- it was answered or its question begun, and its answer handed over as far as that went
+  pub attended-first : (old mid new : Line C) (before after : B) (seen seeing : Times) (r : Given) → old.answer ≡ None → old.thought ≡ None
       → IsReadOn (connection.remaining old.stream) (connection.remaining mid.stream) old.came.items mid.came.items
-      → connection.contents mid.stream ≡ connection.contents old.stream → IsSome mid.answer × (mid.sent ≡ 0)
+      → connection.contents mid.stream ≡ connection.contents old.stream
+      → ((IsSome mid.answer × (mid.thought ≡ None)) ⊎ (IsSome mid.thought × (mid.answer ≡ None))) × (mid.sent ≡ 0)
       → IsSettled mid.came.items ⊎ IsAtEnd (connection.remaining mid.stream)
       → IfSome mid.answer (λ answer. IsAnswered site book before after mid.came.items answer.items)
-      → Tells seen seeing mid.since → (new.came ≡ mid.came) × (new.answer ≡ mid.answer) → new.since ≡ mid.since → r ≢ given.Lost → r ≢ given.NoMemory
+      → IfSome mid.thought (λ t. (t.last ≡ None) × IsAsked site book before after mid.came.items (posed_in t.thought))
+      → Tells seen seeing mid.since → (new.came ≡ mid.came) × (new.answer ≡ mid.answer) → new.since ≡ mid.since → new.thought ≡ mid.thought
+      → (mid.answer ≡ None → (new ≡ mid) × (r ≡ given.Waits)) → r ≢ given.Lost → r ≢ given.NoMemory
       → (r ≢ given.Lost → IfSome mid.answer (λ answer. TakesAnswer connection answer.items mid.stream mid.sent new.stream new.sent))
       → (r ≡ given.Whole → IsSomeAnd new.answer (λ answer. new.sent ≡ length answer.items))
       → (r ≡ given.Waits → IsSome mid.answer → connection.is_full new.stream) → IsAttended connection site book old new before after seen seeing
-  attended-first old mid new before after seen seeing r none read contents begins whole own timed kept since stays known takes ends full = (
+  attended-first old mid new before after seen seeing r none rests read contents begins whole own asked timed kept since asks idle stays known takes ends full = (
     subst (λ o. IfSome o (λ answer. IsHandedOn connection site book old new before after seen seeing answer.items)) (sym none) tt,
-    λ none. heard mid.answer refl,
+    λ none thinks. absurd (cc (subst IsSome rests thinks)),
+    λ none rests. heard mid.answer refl,
   )
     where
       stop : (r : Given) → r ≢ given.Lost → r ≢ given.NoMemory → (length_of : ℕ) → (r ≡ given.Whole → new.sent ≡ length_of) → (r ≡ given.Waits → connection.is_full new.stream)
@@ -81,15 +98,37 @@ module _ {C : Type 0} (connection : ConnectionGhosts C) (site : Site) {B : Type 
       stop given.Lost stays known n ends full = absurd (stays refl)
       stop given.NoMemory stays known n ends full = absurd (known refl)
 
+      asks_nothing : (answer : _) → mid.answer ≡ Some answer → mid.thought ≡ None
+      asks_nothing answer e = elim begins.0 [ inl answered ↦ answered.1 | inr thinks ↦ absurd (cc (thinks.1, e)) ]
+
+      thinks_then : mid.answer ≡ None → IsSome mid.thought
+      thinks_then e = elim begins.0 [ inl answered ↦ absurd (cc (subst IsSome e answered.0)) | inr thinks ↦ thinks.0 ]
+
       heard : (o : Option _) → mid.answer ≡ o → IsHeard connection site book old new before after seen seeing
-      heard None e = absurd (cc (subst IsSome e begins.0))
+      heard None e =
+          let same = (idle e).0 in
+          subst (λ (l : Line C). IsHeard connection site book old l before after seen seeing) (sym same) (record {
+            rest = connection.remaining mid.stream;
+            read = read;
+            waits = λ waits idle. absurd (cc (subst IsSome idle (thinks_then e)));
+            begun = if_some_at mid.thought _ _ (λ thinking is so. record {
+              since = timed;
+              whole = whole;
+              asked = so.1;
+              waits = so.0;
+              none = e;
+              took = contents;
+            }) asked;
+            answered = subst (λ o. IfSome o (λ answer. IsAnsweredWhole connection site book old mid (connection.remaining mid.stream) before after seen seeing answer.items)) (sym e) tt;
+          })
       heard (Some a) e =
           let there = kept.1 ∙ e in
           let taken = subst (λ o. IfSome o (λ answer. TakesAnswer connection answer.items mid.stream mid.sent new.stream new.sent)) e (takes stays) in
           record {
             rest = connection.remaining mid.stream;
             read = subst (λ came. IsReadOn (connection.remaining old.stream) (connection.remaining mid.stream) old.came.items came.items) (sym kept.0) read;
-            waits = λ waits. absurd (cc (waits, there));
+            waits = λ waits idle. absurd (cc (waits, there));
+            begun = subst (λ o. IfSome o (IsBegunWhole connection site book old new (connection.remaining mid.stream) before after seen seeing)) (sym (asks ∙ asks_nothing a e)) tt;
             answered = subst (λ o. IfSome o (λ answer. IsAnsweredWhole connection site book old new (connection.remaining mid.stream) before after seen seeing answer.items)) (sym there) (record {
               since = subst (Tells seen seeing) (sym since) timed;
               whole = subst (λ came. IsSettled came.items ⊎ IsAtEnd (connection.remaining mid.stream)) (sym kept.0) whole;
@@ -97,9 +136,35 @@ module _ {C : Type 0} (connection : ConnectionGhosts C) (site : Site) {B : Type 
                   (subst (λ o. IfSome o (λ answer. IsAnswered site book before after mid.came.items answer.items)) e own);
               takes = λ held first. taken held (subst (λ n. Appends held (connection.contents mid.stream) (take n a.items)) (sym begins.1)
                   (subst (λ known. Appends held known (take 0 a.items)) (sym contents) first));
-              stops = stop r stays known (length a.items) (λ e. subst (λ o. IsSomeAnd o (λ answer. new.sent ≡ length answer.items)) there (ends e)) (λ e. full e begins.0);
+              stops = stop r stays known (length a.items) (λ e. subst (λ o. IsSomeAnd o (λ answer. new.sent ≡ length answer.items)) there (ends e))
+                  (λ waits. full waits (subst IsSome (sym e) refl));
             });
           }
+
+  -- what was made was put into its connection
+  pub made-own : (before after : B) (line : Line C) (made : Made) (now : Instant) → IsMade site book before after line.came.items made
+      → IfSome (put_made line made now).answer (λ answer. IsAnswered site book before after (put_made line made now).came.items answer.items)
+  made-own before after line (Answer answer) now is = is
+  made-own before after line (Thought thought) now is = tt
+
+  pub made-asked : (before after : B) (line : Line C) (made : Made) (now : Instant) → IsMade site book before after line.came.items made
+      → IfSome (put_made line made now).thought (λ t. (t.last ≡ None) × IsAsked site book before after (put_made line made now).came.items (posed_in t.thought))
+  made-asked before after line (Answer answer) now is = tt
+  made-asked before after line (Thought thought) now is = (refl, is)
+
+  pub made-whole : (line : Line C) (made : Made) (now : Instant) → IsSettled line.came.items ⊎ IsAtEnd (connection.remaining line.stream)
+      → IsSettled (put_made line made now).came.items ⊎ IsAtEnd (connection.remaining (put_made line made now).stream)
+  made-whole line (Answer answer) now whole = whole
+  made-whole line (Thought thought) now whole = whole
+
+  -- its question is thought about
+  pub attended-heeded : (old new : Line C) (before : B) (seen : Times) → old.answer ≡ None → IsSome old.thought → new ≡ record old { stream = new.stream }
+      → connection.contents new.stream ≡ connection.contents old.stream → IsAttended connection site book old new before before seen seen
+  attended-heeded old new before seen none thinks kept contents = (
+    subst (λ o. IfSome o (λ answer. IsHandedOn connection site book old new before before seen seen answer.items)) (sym none) tt,
+    λ none thinks. record { same = refl; unread = refl; kept = kept; took = contents },
+    λ none rests. absurd (cc (subst IsSome rests thinks)),
+  )
 
   -- it took its whole answer
   pub spent : (mid new : Line C) → (new.came ≡ mid.came) × (new.answer ≡ mid.answer) × (new.sent ≡ mid.sent)
@@ -112,60 +177,73 @@ module _ {C : Type 0} (connection : ConnectionGhosts C) (site : Site) {B : Type 
           subst (λ o. IsSomeAnd o (λ answer. length answer.items ≤ new.sent)) (sym e) (omega (arith, whole, kept.2))
 
   -- it is lost, or told to have taken more than its answer, which it isn't when that begins
-  pub spoiled-on : (old new : Line C) → connection.is_lost new.stream ⊎ IsSomeAnd old.answer (λ answer. length answer.items < old.sent)
-      → IsSpoiled connection site book old new
-  spoiled-on old new (inl lost) = inl (inl lost)
-  spoiled-on old new (inr over) = inr over
-
-  pub spoiled-first : (old mid new : Line C) → mid.sent ≡ 0 → connection.is_lost new.stream ⊎ IsSomeAnd mid.answer (λ answer. length answer.items < mid.sent)
-      → IsSpoiled connection site book old new
-  spoiled-first old mid new begins (inl lost) = inl (inl lost)
-  spoiled-first old mid new begins (inr over) = by_answer mid.answer refl over
+  pub spoiled-on : (seen : Times) (old new : Line C) → IsSome old.answer → connection.is_lost new.stream ⊎ IsSomeAnd old.answer (λ answer. length answer.items < old.sent)
+      → IsSpoiled connection site book seen old new
+  spoiled-on seen old new some why = inr (inl (by_answer old.answer some why))
     where
-      by_answer : (o : Option _) → mid.answer ≡ o → IsSomeAnd o (λ answer. length answer.items < mid.sent) → IsSpoiled connection site book old new
+      by_answer : (o : Option (Vec ℕ Global)) → IsSome o → connection.is_lost new.stream ⊎ IsSomeAnd o (λ answer. length answer.items < old.sent)
+          → IsSomeAnd o (λ answer. connection.is_lost new.stream ⊎ (length answer.items < old.sent))
+      by_answer None some why = absurd (cc some)
+      by_answer (Some answer) some why = why
+
+  pub spoiled-first : (seen : Times) (old mid new : Line C) → old.answer ≡ None → old.thought ≡ None → mid.sent ≡ 0
+      → connection.is_lost new.stream ⊎ IsSomeAnd mid.answer (λ answer. length answer.items < mid.sent) → IsSpoiled connection site book seen old new
+  spoiled-first seen old mid new none rests begins (inl lost) = inl (none, rests, inl lost)
+  spoiled-first seen old mid new none rests begins (inr over) = by_answer mid.answer refl over
+    where
+      by_answer : (o : Option _) → mid.answer ≡ o → IsSomeAnd o (λ answer. length answer.items < mid.sent) → IsSpoiled connection site book seen old new
       by_answer None e over = absurd over
       by_answer (Some answer) e over = absurd (omega (arith, begins, over))
 
-  unanswered-of : (line : Line C) → line.answer ≡ None → one_of (Some line) ≡ 1
-  unanswered-of line e = rw e refl
+  -- it keeps its answer or its question
+  keeps-own : (line left : Line C) (before after : B) (seen seeing : Times) → is_unanswered (Some line) ≡ false
+      → IsAttended connection site book line left before after seen seeing → is_unanswered (Some left) ≡ false
+  keeps-own line left before after seen seeing own attended = by_answer line.answer refl
+    where
+      by_thought : line.answer ≡ None → (t : Option _) → line.thought ≡ t → is_unanswered (Some left) ≡ false
+      by_thought none None e = absurd (cc (own, none, e))
+      by_thought none (Some x) e =
+          let heeded = attended.1 none (subst IsSome (sym e) refl) in
+          has-question left (subst IsSome (sym (ap (λ (l : Line C). l.thought) heeded.kept ∙ e)) refl)
 
-  answered-of : (line : Line C) (answer : _) → line.answer ≡ Some answer → one_of (Some line) ≡ 0
-  answered-of line answer e = rw e refl
+      by_answer : (o : Option _) → line.answer ≡ o → is_unanswered (Some left) ≡ false
+      by_answer None e = by_thought e line.thought refl
+      by_answer (Some a) e =
+          let handed = subst (λ o. IfSome o (λ a. IsHandedOn connection site book line left before after seen seeing a.items)) e attended.0 in
+          has-answer left (subst IsSome (sym (handed.kept ∙ e)) refl)
 
-  -- as many fewer have no answer as were served
+  -- as many fewer have no answer and no question as were served
   fewer : (before after : B) (seen seeing : Times) (line : Line C) (left : Option (Line C)) (from to : ℕ) → to + one_of (Some line) ≡ from + one_of left
-      → (IsSome line.answer → after ≡ before) → IfSome left (λ l. IsAttended connection site book line l before after seen seeing) → HasServed site book before after 1
+      → (is_unanswered (Some line) ≡ false → after ≡ before) → IfSome left (λ l. IsAttended connection site book line l before after seen seeing) → HasServed site book before after 1
       → Advances site book before after from to
-  fewer before after seen seeing line left from to sum once attended one = by_answer line.answer refl
+  fewer before after seen seeing line left from to sum once attended one = by_line (is_unanswered (Some line)) refl
     where
       stayed : to ≤ from → after ≡ before → Advances site book before after from to
       stayed within same = subst (λ b. Advances site book before b from to) (sym same) (stays site book before from to within)
 
-      by_left : (slot : Option (Line C)) → left ≡ slot → line.answer ≡ None → Advances site book before after from to
+      by_left : (slot : Option (Line C)) → left ≡ slot → is_unanswered (Some line) ≡ true → Advances site book before after from to
       by_left None is none = one_advances site book before after from to (omega (arith, sum, unanswered-of line none, ap one_of is)) one
-      by_left (Some l) is none = by_new l.answer refl
+      by_left (Some l) is none = by_new (is_unanswered (Some l)) refl
         where
           heard : IsHeard connection site book line l before after seen seeing
-          heard = (subst (λ slot. IfSome slot (λ l. IsAttended connection site book line l before after seen seeing)) is attended).1 none
+          heard = (subst (λ slot. IfSome slot (λ l. IsAttended connection site book line l before after seen seeing)) is attended).2 (has-neither line none).0 (has-neither line none).1
 
-          by_new : (o : Option _) → l.answer ≡ o → Advances site book before after from to
-          by_new None e = stayed (omega (arith, sum, unanswered-of line none, ap one_of is, unanswered-of l e)) (heard.waits e).same
-          by_new (Some a) e = one_advances site book before after from to (omega (arith, sum, unanswered-of line none, ap one_of is, answered-of l a e)) one
+          by_new : (b : Bool) → is_unanswered (Some l) ≡ b → Advances site book before after from to
+          by_new true e = stayed (omega (arith, sum, unanswered-of line none, ap one_of is, unanswered-of l e)) (heard.waits (has-neither l e).0 (has-neither l e).1).same
+          by_new false e = one_advances site book before after from to (omega (arith, sum, unanswered-of line none, ap one_of is, answered-of l e)) one
 
-      kept_left : (slot : Option (Line C)) (answer : _) → left ≡ slot → line.answer ≡ Some answer → one_of left ≡ 0
-      kept_left None answer is e = ap one_of is
-      kept_left (Some l) answer is e =
-          let attended_l = subst (λ slot. IfSome slot (λ l. IsAttended connection site book line l before after seen seeing)) is attended in
-          let handed = subst (λ o. IfSome o (λ a. IsHandedOn connection site book line l before after seen seeing a.items)) e attended_l.0 in
-          ap one_of is ∙ answered-of l answer (handed.kept ∙ e)
+      kept_left : (slot : Option (Line C)) → left ≡ slot → is_unanswered (Some line) ≡ false → one_of left ≡ 0
+      kept_left None is e = ap one_of is
+      kept_left (Some l) is e =
+          ap one_of is ∙ answered-of l (keeps-own line l before after seen seeing e (subst (λ slot. IfSome slot (λ l. IsAttended connection site book line l before after seen seeing)) is attended))
 
-      by_answer : (o : Option _) → line.answer ≡ o → Advances site book before after from to
-      by_answer None e = by_left left refl e
-      by_answer (Some a) e = stayed (omega (arith, sum, answered-of line a e, kept_left left a refl e)) (once (subst IsSome (sym e) refl))
+      by_line : (b : Bool) → is_unanswered (Some line) ≡ b → Advances site book before after from to
+      by_line true e = by_left left refl e
+      by_line false e = stayed (omega (arith, sum, answered-of line e, kept_left left refl e)) (once e)
 
   -- it stays open
   pub advances-stays : (before after : B) (seen seeing : Times) (lines : Slab (Line C)) (key : ℕ) (line left : Line C) → get lines key ≡ Some line
-      → (IsSome line.answer → after ≡ before) → IsAttended connection site book line left before after seen seeing → HasServed site book before after 1
+      → (is_unanswered (Some line) ≡ false → after ≡ before) → IsAttended connection site book line left before after seen seeing → HasServed site book before after 1
       → Advances site book before after (unanswered lines) (unanswered (with_value lines key left))
   advances-stays before after seen seeing lines key line left is once attended one =
       fewer before after seen seeing line (Some left) (unanswered lines) (unanswered (with_value lines key left))
@@ -174,7 +252,7 @@ module _ {C : Type 0} (connection : ConnectionGhosts C) (site : Site) {B : Type 
 
   -- it is closed
   pub advances-closed : (before after : B) (seen seeing : Times) (lines new : Slab (Line C)) (key : ℕ) (line left : Line C) → get lines key ≡ Some line
-      → (IsSome line.answer → after ≡ before) → HasServed site book before after 1 → Updates (with_value lines key left) new key None
+      → (is_unanswered (Some line) ≡ false → after ≡ before) → HasServed site book before after 1 → Updates (with_value lines key left) new key None
       → Advances site book before after (unanswered lines) (unanswered new)
   advances-closed before after seen seeing lines new key line left is once one closed =
       let written = Updates-with_value lines key left (subst IsSome (sym is) refl) in
@@ -184,24 +262,25 @@ module _ {C : Type 0} (connection : ConnectionGhosts C) (site : Site) {B : Type 
 
   -- the connection of a key is closed
   pub attended-closed : (fate : Fate) (key : ℕ) (lines new : Slab (Line C)) (line left : Line C) (before after : B) (seen seeing : Times) → get lines key ≡ Some line
-      → Updates (with_value lines key left) new key None → (IsSome line.answer → after ≡ before) → HasServed site book before after 1
+      → Updates (with_value lines key left) new key None → (is_unanswered (Some line) ≡ false → after ≡ before) → HasServed site book before after 1 → (book.is_honest after → book.is_honest before)
       → IsClosedBy connection site book fate line before after seen seeing → IsAttendedAt connection site book fate key lines new before after seen seeing
-  attended-closed fate key lines new line left before after seen seeing is removed once one closed =
+  attended-closed fate key lines new line left before after seen seeing is removed once one honest closed =
       let written = Updates-with_value lines key left (subst IsSome (sym is) refl) in
       record {
         others = λ other differs. removed.others other differs ∙ written.others other differs;
         absent = λ none. absurd (cc (is, none));
         there = λ l e. subst (λ slot. IfSome slot (λ left. IsAttended connection site book l left before after seen seeing)) (sym removed.changed) tt;
         closed = λ l e none. let same : line ≡ l = cc (is, e) in subst (λ l. IsClosedBy connection site book fate l before after seen seeing) same closed;
-        once = λ l e. let same : line ≡ l = cc (is, e) in subst (λ (l : Line C). IsSome l.answer → after ≡ before) same once;
+        once = λ l e. let same : line ≡ l = cc (is, e) in subst (λ (l : Line C). is_unanswered (Some l) ≡ false → after ≡ before) same once;
         one = one;
+        honest = honest;
       }
 
   -- it stays
   pub attended-stays : (fate : Fate) (key : ℕ) (lines : Slab (Line C)) (line left : Line C) (before after : B) (seen seeing : Times) → get lines key ≡ Some line
-      → (IsSome line.answer → after ≡ before) → HasServed site book before after 1
+      → (is_unanswered (Some line) ≡ false → after ≡ before) → HasServed site book before after 1 → (book.is_honest after → book.is_honest before)
       → IsAttended connection site book line left before after seen seeing → IsAttendedAt connection site book fate key lines (with_value lines key left) before after seen seeing
-  attended-stays fate key lines line left before after seen seeing is once one attended =
+  attended-stays fate key lines line left before after seen seeing is once one honest attended =
       let written = Updates-with_value lines key left (subst IsSome (sym is) refl) in
       record {
         others = λ other differs. written.others other differs;
@@ -210,6 +289,7 @@ module _ {C : Type 0} (connection : ConnectionGhosts C) (site : Site) {B : Type 
             subst (λ slot. IfSome slot (λ left. IsAttended connection site book l left before after seen seeing)) (sym written.changed)
             (subst (λ l. IsAttended connection site book l left before after seen seeing) same attended);
         closed = λ l e none. absurd (cc (written.changed, none));
-        once = λ l e. let same : line ≡ l = cc (is, e) in subst (λ (l : Line C). IsSome l.answer → after ≡ before) same once;
+        once = λ l e. let same : line ≡ l = cc (is, e) in subst (λ (l : Line C). is_unanswered (Some l) ≡ false → after ≡ before) same once;
         one = one;
+        honest = honest;
       }

@@ -1,5 +1,5 @@
 -- How many connections are open, turn after turn.
-use Rattle.std.proofs.Common.{◌≡◌, ℕ, ◌≤◌, ◌<◌, is_some, List, [], ◌∷◌, count_by, inl, inr, refl, ap, arith}
+use Rattle.std.proofs.Common.{◌≡◌, ◌≢◌, ℕ, ◌≤◌, ◌<◌, is_some, List, [], ◌∷◌, count_by, inl, inr, refl, ap, arith}
 use Rattle.std.specs.Prelude.{Option, Some, None}
 use Rattle.std.specs.declared.time.Instant.{Instant}
 use Rattle.slab.specs.Slab.{Slab, get, slab_len}
@@ -11,6 +11,9 @@ use Rattle.shop_serve.specs.declared.lines.TheConstants.{MOST_LINES}
 use Rattle.shop_serve.specs.declared.sites.Site.{Site}
 use Rattle.shop_serve.specs.Times.{Times}
 use Rattle.shop_serve.specs.Lines.{AreAttended, IsAttendedAt, IsOpened, IsTurnedAway, MakesRoom}
+use Rattle.shop_serve.specs.Thinking.{IsThoughtAt, Thinks}
+use Rattle.shop_serve.specs.declared.thinking.Progress.{Progress}
+use Rattle.shop_serve.specs.declared.thinking.Progress.TheVariants.{GoesOn, Answered, NoMemory}
 use Rattle.shop_serve.specs.Rounds.{AreReceived, AreRounds, FewAreOpen, IsReceived, IsRound, Round}
 use Rattle.shop_serve.proofs.Counts.{one, one-most, count-but, count-fewer}
 use Rattle.shop_serve.proofs.Slots.{late-fewer}
@@ -61,11 +64,34 @@ module _ {C : Type 0} (connection : ConnectionGhosts C) (site : Site) {B : Type 
   came-few (stream ∷ came) old new before after seen seeing few run =
       came-few came run.0 new run.1 after run.2 seeing (received-few stream old run.0 before run.1 seen run.2 few run.3) run.4
 
+  thought-fewer : (progress : Progress) (now : Instant) (key : ℕ) (old new : Slab (Line C)) (seen seeing : Times)
+      → IsThoughtAt progress now key old new seen seeing → slab_len new ≤ slab_len old
+  thought-fewer progress now key old new seen seeing t =
+      omega (arith, count-but is_some refl key old.slots new.slots t.others, ap counted t.there, one-most is_some refl (get new key))
+
+  thinks-fewer : (now : Instant) (old new : Slab (Line C)) (before after : B) (seen seeing : Times)
+      → Thinks connection site book now old new before after seen seeing → slab_len new ≤ slab_len old
+  thinks-fewer now old new before after seen seeing (inl idle) = omega (arith, ap (λ (s : Slab (Line C)). slab_len s) idle.1)
+  thinks-fewer now old new before after seen seeing (inr t) = by_progress t.progress refl
+    where
+      once : slab_len t.lines ≤ slab_len old
+      once = thought-fewer t.progress now t.key old t.lines seen t.between t.thought
+
+      on : t.progress ≢ Answered → slab_len new ≤ slab_len old
+      on other = omega (arith, once, ap (λ (s : Slab (Line C)). slab_len s) (t.goes_on other).0)
+
+      by_progress : (p : Progress) → t.progress ≡ p → slab_len new ≤ slab_len old
+      by_progress GoesOn e = on (λ is. absurd (cc (e, is)))
+      by_progress NoMemory e = on (λ is. absurd (cc (e, is)))
+      by_progress Answered e =
+          let handed = t.answered e in
+          omega (arith, once, attended-fewer handed.0 t.key t.lines new before after t.between seeing handed.1)
+
   round-few : (round : Round C) (old new : Slab (Line C)) (before after : B) (seen seeing : Times) → slab_len old ≤ MOST_LINES
       → IsRound connection site book deaf round old new before after seen seeing → slab_len new ≤ MOST_LINES
   round-few round old new before after seen seeing few r =
-      came-few round.came r.kept new r.mid after r.second seeing
-      (omega (arith, few, each-fewer round.keys old r.attended before r.mid seen r.first r.each, late-fewer is_some refl round.now r.attended r.kept r.late)) r.received
+      came-few round.came r.thought new r.later after r.third seeing
+      (omega (arith, few, thinks-fewer round.now r.kept r.thought r.mid r.later r.second r.third r.thinks, each-fewer round.keys old r.attended before r.mid seen r.first r.each, late-fewer is_some refl round.now r.attended r.kept r.late)) r.received
 
   rounds-few : (rounds : List (Round C)) (old new : Slab (Line C)) (before after : B) (seen seeing : Times) → slab_len old ≤ MOST_LINES
       → AreRounds connection site book deaf rounds old new before after seen seeing → slab_len new ≤ MOST_LINES

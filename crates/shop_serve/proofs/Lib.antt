@@ -7,3 +7,5 @@ pub mod Gathered
 pub mod Awaiting
 pub mod Answered
 pub mod Few
+pub mod Thoughts
+pub mod Owned

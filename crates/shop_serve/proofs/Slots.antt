@@ -1,7 +1,9 @@
 -- How many open connections have no answer, as one of them changes.
-use Rattle.std.proofs.Common.{◌≡◌, ◌∙◌, ℕ, zero, suc, ◌+◌, ◌≤◌, Bool, true, false, not, is_some, cond, MutBor, List, [], ◌∷◌, get_or, count_by, inr, refl, sym, ap, subst, arith}
+use Rattle.std.proofs.Common.{◌≡◌, ◌∙◌, ℕ, zero, suc, ◌+◌, ◌≤◌, Bool, true, false, not, is_none, is_some, ◌&&◌, cond, MutBor, List, [], ◌∷◌, get_or, count_by, inr, refl, sym, ap, subst, arith}
 use Rattle.std.proofs.lemmas.List.Sums.{sum_by-cons}
-use Rattle.std.specs.Prelude.{Option, Some, None, Result, Ok, Err, IfOk, IfSome, IsOk, OnErr, if◌then◌else◌}
+use Rattle.std.specs.declared.alloc.Global.{Global}
+use Rattle.shop_serve.specs.declared.thinking.Thinking.{Thinking}
+use Rattle.std.specs.Prelude.{Vec, Option, Some, None, Result, Ok, Err, IfOk, IfSome, IsSome, IsOk, OnErr, if◌then◌else◌}
 use Rattle.std.specs.Result.{result_ok}
 use Rattle.slab.specs.Slab.{Slab, get, Updates, HasRoomFor, CalledAt, RetainsFrom}
 use Rattle.shop_serve.specs.declared.lines.Line.{Line}
@@ -13,6 +15,36 @@ module _ {C : Type 0} where
   -- one for a connection without an answer
   abbrev pub one_of : Option (Line C) → ℕ
   one_of slot = cond (is_unanswered slot) 1 0
+
+  -- whether it has an answer or a question
+  pub answered-of : (line : Line C) → is_unanswered (Some line) ≡ false → one_of (Some line) ≡ 0
+  answered-of line e = ap (λ b. cond b 1 0) e
+
+  pub unanswered-of : (line : Line C) → is_unanswered (Some line) ≡ true → one_of (Some line) ≡ 1
+  unanswered-of line e = ap (λ b. cond b 1 0) e
+
+  pub has-answer : (line : Line C) → IsSome line.answer → is_unanswered (Some line) ≡ false
+  has-answer line some = by_answer line.answer some
+    where
+      by_answer : (o : Option (Vec ℕ Global)) → IsSome o → (is_none o && is_none line.thought) ≡ false
+      by_answer None some = absurd (cc some)
+      by_answer (Some a) some = refl
+
+  pub has-question : (line : Line C) → IsSome line.thought → is_unanswered (Some line) ≡ false
+  has-question line some = by_both line.answer line.thought some
+    where
+      by_both : (o : Option (Vec ℕ Global)) (t : Option Thinking) → IsSome t → (is_none o && is_none t) ≡ false
+      by_both o None some = absurd (cc some)
+      by_both None (Some t) some = refl
+      by_both (Some a) (Some t) some = refl
+
+  pub has-neither : (line : Line C) → is_unanswered (Some line) ≡ true → (line.answer ≡ None) × (line.thought ≡ None)
+  has-neither line e = by_both line.answer line.thought refl refl e
+    where
+      by_both : (o : Option (Vec ℕ Global)) (t : Option Thinking) → line.answer ≡ o → line.thought ≡ t → (is_none o && is_none t) ≡ true → (line.answer ≡ None) × (line.thought ≡ None)
+      by_both None None a t e = (a, t)
+      by_both None (Some x) a t e = absurd (cc e)
+      by_both (Some x) o a t e = absurd (cc e)
 
   -- one of them changes
   pub unanswered-updates : (old new : Slab (Line C)) (key : ℕ) (slot : Option (Line C)) → Updates old new key slot

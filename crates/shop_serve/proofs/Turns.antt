@@ -13,10 +13,11 @@ use Rattle.shop_request.specs.declared.guards.Ruling.{Ruling}
 use Rattle.shop_request.specs.declared.guards.Ruling.TheVariants.{Routed, Forbidden, Page, OnlyGet}
 use Rattle.shop_forms.specs.Forms.{json_texts}
 use Rattle.shop_book.specs.declared.books.Book.{Ghosts}
-use Rattle.shop_wire.specs.Serves.{exchanged, IsServed}
+use Rattle.shop_planning.specs.declared.posed.Posed.{Posed}
+use Rattle.shop_wire.specs.Serves.{exchanged, IsBegun, IsServed}
 use Rattle.shop_serve.specs.declared.sites.Site.{Site}
 use Rattle.shop_serve.specs.Sites.{is_routed, own_bytes}
-use Rattle.shop_serve.specs.Serving.{Turn, routed, ruled, InTurn, exchange_of, exchanges, TellsFailure, TellOfFailures, HasServed, Advances}
+use Rattle.shop_serve.specs.Serving.{Turn, routed, ruled, begun, InTurn, exchange_of, exchanges, TellsFailure, TellOfFailures, HasServed, Advances}
 
 -- what goes to its route, and what doesn't
 pub is_route : (r : Ruling) → is_routed r ≡ true → r ≡ Routed
@@ -81,6 +82,28 @@ module _ (site : Site) {B : Type 0} (book : Ghosts B) where
       → CountsUp (book.failed before) (book.failed after) → ((after ≡ before) × Same) ⊎ ((unwritten : List ℕ) × IsServed book before after left old new unwritten) → HasServed site book before after 1
   one_done before after input left old new Same is some goes up (inl same) = none_done before after 1 same.0
   one_done before after input left old new Same is some goes up (inr s) = one_served before after input left old new s.0 is some goes up s.1
+
+  -- a question was begun
+  begun_once : (before after : B) (input : List ℕ) (posed : Posed) → 0 < length input → GoesToRoute input → CountsUp (book.failed before) (book.failed after)
+      → IsBegun book before after (Some input) posed → HasServed site book before after 1
+  begun_once before after input posed some goes up b honest m held sound =
+      let done = b.run honest m held sound in
+      let turn : Turn = record { input = input; handling = begun b.body b.query posed; answer = [] } in
+      record {
+        served = turn ∷ [];
+        few = omega arith;
+        next = m;
+        run = (m, (some, (goes, b.sense, b.asks, refl)), (refl, done.1), refl);
+        held = done.0;
+        sound = sound;
+        failures = up;
+        blame = λ t i e. elim i [ inl is ↦ absurd (subst (λ (t : Turn). TellsFailure t.handling) is e) | inr none ↦ absurd none ];
+        account = account_same json_texts m m refl;
+      }
+
+  pub one_begun : (before after : B) (input : List ℕ) (left : Option (List ℕ)) (posed : Posed) → left ≡ Some input → 0 < length input → GoesToRoute input
+      → CountsUp (book.failed before) (book.failed after) → IsBegun book before after left posed → HasServed site book before after 1
+  one_begun before after input left posed is some goes up b = begun_once before after input posed some goes up (subst (λ l. IsBegun book before after l posed) is b)
 
   -- the site answered one by itself
   pub one_ruled : (here : B) (input : List ℕ) (r : Ruling) → 0 < length input → HasRuling site.guard.port site.guard.has_page input r → r ≢ Routed → HasServed site book here here 1

@@ -1,4 +1,5 @@
--- What is done with a connection that tells all: its one request is answered, and it takes its own answer.
+-- What is done with a connection that tells all: its one request is answered, and it takes its own answer; or it is a question, and
+-- that is its own.
 use Rattle.std.specs.Prelude.{◌≡◌, ◌≢◌, ◌⊎◌, ◌<◌, ℕ, List, [], ◌++◌, length, take, Some}
 use Rattle.slab.specs.Slab.{Slab, get}
 use Rattle.std.specs.declared.time.Instant.{Instant}
@@ -11,6 +12,8 @@ use Rattle.shop_serve.specs.declared.lines.Fate.TheVariants.{NoMemory}
 use Rattle.shop_serve.specs.declared.lines.Line.{Line}
 use Rattle.shop_serve.specs.declared.sites.Site.{Site}
 use Rattle.shop_serve.specs.Lines.{IsAttendedAt, IsFresh}
+use Rattle.shop_planning.specs.declared.posed.Posed.{Posed}
+use Rattle.shop_serve.specs.Making.{IsAsked}
 use Rattle.shop_serve.specs.Serving.{IsAnswered}
 use Rattle.shop_serve.specs.Times.{Times}
 
@@ -40,9 +43,18 @@ module _ {C : Type 0} (connection : ConnectionGhosts C) where
       pub answered : IsAnswered site book before after came answer
       pub takes : connection.contents left ≡ Some (take sent answer)
 
-    -- one that came now with a whole request, and is attended to, has its answer, where memory isn't wanting
+    -- the first of its bytes whose sense is settled, or all of them, are a question, and this is what it asks of the content
+    pub record HasOwnQuestion (input : List ℕ) (before after : B) : Type 0 where
+      pub came : List ℕ
+      pub rest : List ℕ
+      pub posed : Posed
+      pub split : input ≡ came ++ rest
+      pub whole : IsSettled came ⊎ (rest ≡ [])
+      pub asked : IsAsked site book before after came posed
+
+    -- one that came now with a whole request, and is attended to, has its answer or its question, where memory isn't wanting
     abbrev pub WholeIsAnswered : Type 0
     WholeIsAnswered =
         (now : Instant) (stream : C) (input : List ℕ) (line : Line C) (fate : Fate) (key : ℕ) (old new : Slab (Line C)) (before after : B) (seen seeing : Times)
         → TellsAll → BringsRequest stream input → IsFresh now stream line → get old key ≡ Some line → fate ≢ NoMemory
-        → IsAttendedAt connection site book fate key old new before after seen seeing → HasOwnAnswer input before after
+        → IsAttendedAt connection site book fate key old new before after seen seeing → HasOwnAnswer input before after ⊎ HasOwnQuestion input before after

@@ -1,6 +1,9 @@
 pub mod Sites
 pub mod Serving
+pub mod Making
 pub mod Times
 pub mod Lines
+pub mod Thinking
 pub mod Rounds
 pub mod Known
+pub mod Own

@@ -1,5 +1,5 @@
 -- Open connections: which have no answer yet, and what it is to attend to one.
-use Rattle.std.specs.Prelude.{◌≡◌, ◌≢◌, ◌⊎◌, ◌<◌, ◌≤◌, ◌-◌, ◌*◌, ◌++◌, leb, if◌then◌else◌, ℕ, List, [], ◌∷◌, length, take, Option, Some, None, IfSome, IsSome, IsSomeAnd, Bool, false, is_none, count_by}
+use Rattle.std.specs.Prelude.{◌≡◌, ◌≢◌, ◌⊎◌, ◌<◌, ◌≤◌, ◌-◌, ◌*◌, ◌++◌, leb, ◌&&◌, if◌then◌else◌, ℕ, List, [], ◌∷◌, length, take, Option, Some, None, IfSome, IsSome, IsSomeAnd, Bool, false, is_none, is_some, count_by}
 use Rattle.std.specs.Io.KnownBytes.{Appends, IsAtEnd}
 use Rattle.std.specs.Time.{instant_nanos}
 use Rattle.std.specs.declared.time.Instant.{Instant}
@@ -12,29 +12,48 @@ use Rattle.shop_serve.specs.declared.connections.Connection.{Ghosts as Connectio
 use Rattle.shop_serve.specs.declared.lines.Fate.{Fate}
 use Rattle.shop_serve.specs.declared.lines.Fate.TheVariants.{NoMemory}
 use Rattle.shop_serve.specs.declared.lines.Line.{Line}
-use Rattle.shop_serve.specs.declared.lines.TheConstants.{PATIENCE, MOST_LINES}
+use Rattle.shop_serve.specs.declared.lines.TheConstants.{PATIENCE, GRACE, MOST_LINES}
+use Rattle.shop_serve.specs.declared.thinking.Thinking.{Thinking}
+use Rattle.shop_planning.specs.Thoughts.{posed_in}
+use Rattle.shop_serve.specs.Making.{IsAsked}
 use Rattle.shop_serve.specs.declared.sites.Site.{Site}
 use Rattle.shop_serve.specs.Serving.{HasServed, IsAnswered}
-use Rattle.shop_serve.specs.Times.{Times, Tells, TellsNone}
+use Rattle.shop_serve.specs.Times.{Times, Tells, TellsNone, ToldLast}
 
 -- what came is an unfinished request, and so is all that goes on from it with fewer bytes than are needed
 pub record AwaitsMore (came : List ℕ) (needed : ℕ) : Type 0 where
   pub here : IsUnfinished came
   pub later : (more : List ℕ) → length (came ++ more) < needed → IsUnfinished (came ++ more)
 
+-- a question was thought on
+abbrev pub was_thought_on : Option Thinking → Bool
+was_thought_on None = false
+was_thought_on (Some thinking) = is_some thinking.last
+
 module _ {C : Type 0} where
-  -- a connection that is open and has no answer yet
+  -- a connection that is open and has no answer yet, and no question
   abbrev pub is_unanswered : Option (Line C) → Bool
   is_unanswered None = false
-  is_unanswered (Some line) = is_none line.answer
+  is_unanswered (Some line) = is_none line.answer && is_none line.thought
 
-  -- how many of these connections have no answer yet
+  -- how many of these connections have no answer yet, and no question
   abbrev pub unanswered : Slab (Line C) → ℕ
   unanswered lines = count_by is_unanswered lines.slots
 
-  -- it had its seconds, from the time when it was accepted or its answer was made
+  abbrev pub is_begun : Line C → Bool
+  is_begun line = was_thought_on line.thought
+
+  -- it had its seconds, from the time when it was accepted or its answer was made; a question has none
   abbrev pub is_late : Instant → Line C → Bool
-  is_late now line = leb (PATIENCE * 1000000000) (instant_nanos now - instant_nanos line.since)
+  is_late now line = is_none line.thought && leb (PATIENCE * 1000000000) (instant_nanos now - instant_nanos line.since)
+
+  -- a connection of this key has a question
+  abbrev pub AsksAt : Slab (Line C) → ℕ → Type 0
+  AsksAt lines key = (line : Line C) × (get lines key ≡ Some line) × IsSome line.thought
+
+  -- none has one
+  abbrev pub NoneAsks : Slab (Line C) → Type 0
+  NoneAsks lines = (key : ℕ) → AsksAt lines key → ⊥
 
   -- a connection, unless it had its time
   abbrev pub in_time : Instant → Option (Line C) → Option (Line C)
@@ -49,11 +68,11 @@ module _ {C : Type 0} where
   abbrev pub IsSpent : Line C → Type 0
   IsSpent line = IsSomeAnd line.answer (λ answer. length answer.items ≤ line.sent)
 
-  -- no answer of it is on its way: it has none yet, or took all of it
+  -- no answer of it is on its way: it has none yet, and its question wasn't thought on; or it took all of it
   abbrev pub MayGo : Line C → Type 0
-  MayGo line = (line.answer ≡ None) ⊎ IsSpent line
+  MayGo line = ((line.answer ≡ None) × (is_begun line ≡ false)) ⊎ IsSpent line
 
-  -- each that is open has an answer on its way
+  -- each that is open has an answer on its way, or its question was thought on
   abbrev pub NoneMayGo : Slab (Line C) → Type 0
   NoneMayGo lines = (key : ℕ) (line : Line C) → get lines key ≡ Some line → MayGo line → ⊥
 
@@ -80,12 +99,13 @@ module _ {C : Type 0} where
     pub same : new.slots ≡ room.slots
     pub why : deaf ⊎ (HasRoomFor room 1 → ⊥)
 
-  -- it was accepted now: nothing came of it, and it has no answer
+  -- it was accepted now: nothing came of it, and it has no question and no answer
   pub record IsFresh (now : Instant) (stream : C) (line : Line C) : Type 0 where
     pub own : line.stream ≡ stream
     pub since : line.since ≡ now
     pub came : line.came.items ≡ []
     pub needed : line.needed ≡ 0
+    pub asks : line.thought ≡ None
     pub waits : line.answer ≡ None
 
   -- it is open under a key that was free, once room was made for it
@@ -109,6 +129,14 @@ IsMute connection old before new after =
     ⊎ (IsReadOn (connection.remaining old) (connection.remaining new) before after
     × ((after ≡ []) × IsAtEnd (connection.remaining new) ⊎ (most_request_reads ≤ length after)))
 
+-- A connection whose question was read then isn't there for its answer: it is lost; or its input is at its end, and was so later
+-- than right behind its request.
+abbrev pub IsForsaken : {C : Type 0} → ConnectionGhosts C → Times → Instant → C → Type 0
+IsForsaken connection seen read stream =
+    connection.is_lost stream
+    ⊎ (IsAtEnd (connection.remaining stream)
+    × ((now : Instant) × ToldLast seen now × (GRACE * 1000000 < instant_nanos now - instant_nanos read)))
+
 module _ {C : Type 0} (connection : ConnectionGhosts C) (site : Site) {B : Type 0} (book : Ghosts B) where
   -- A connection with an answer: it keeps it, takes more of it, to its end or until it takes no more, and nothing else is done.
   -- Its seconds go on.
@@ -117,6 +145,7 @@ module _ {C : Type 0} (connection : ConnectionGhosts C) (site : Site) {B : Type 
     pub unread : TellsNone seen seeing
     pub since : new.since ≡ old.since
     pub came : new.came ≡ old.came
+    pub asks : new.thought ≡ old.thought
     pub kept : new.answer ≡ old.answer
     pub takes : TakesAnswer connection answer old.stream old.sent new.stream new.sent
     pub stops : (new.sent ≡ length answer) ⊎ connection.is_full new.stream
@@ -130,6 +159,23 @@ module _ {C : Type 0} (connection : ConnectionGhosts C) (site : Site) {B : Type 
     pub takes : TakesAnswer connection answer old.stream 0 new.stream new.sent
     pub stops : (new.sent ≡ length answer) ⊎ connection.is_full new.stream
 
+  -- The question that is all that came of a connection, once that was whole or at its end: this is what it asks of the content.
+  -- It waits to be thought on, since the time that is read then. Nothing is done, and the connection took nothing.
+  pub record IsBegunWhole (old new : Line C) (rest : Option (List ℕ)) (before after : B) (seen seeing : Times) (thinking : Thinking) : Type 0 where
+    pub since : Tells seen seeing new.since
+    pub whole : IsSettled new.came.items ⊎ IsAtEnd rest
+    pub asked : IsAsked site book before after new.came.items (posed_in thinking.thought)
+    pub waits : thinking.last ≡ None
+    pub none : new.answer ≡ None
+    pub took : connection.contents new.stream ≡ connection.contents old.stream
+
+  -- A connection whose question is thought about: it keeps that and waits, and what still came of it was dropped. Nothing is done.
+  pub record IsHeeded (old new : Line C) (before after : B) (seen seeing : Times) : Type 0 where
+    pub same : after ≡ before
+    pub unread : TellsNone seen seeing
+    pub kept : new ≡ record old { stream = new.stream }
+    pub took : connection.contents new.stream ≡ connection.contents old.stream
+
   -- It has no answer yet and took nothing, nothing is done, and nothing more came of it. What came is still an unfinished
   -- request, where it was one before. Its seconds go on, whatever came.
   pub record IsLeftWaiting (old new : Line C) (before after : B) (seen seeing : Times) : Type 0 where
@@ -141,37 +187,45 @@ module _ {C : Type 0} (connection : ConnectionGhosts C) (site : Site) {B : Type 
     pub read : IsReadOn (connection.remaining old.stream) (connection.remaining new.stream) old.came.items new.came.items
     pub awaits : AwaitsMore old.came.items old.needed → AwaitsMore new.came.items new.needed
 
-  -- A connection without an answer: what came of it goes on by what it gave. It is left waiting, or it is answered.
+  -- A connection without an answer and a question: what came of it goes on by what it gave. It is left waiting, or it is answered,
+  -- or its question is begun.
   pub record IsHeard (old new : Line C) (before after : B) (seen seeing : Times) : Type 0 where
     pub rest : Option (List ℕ)
     pub read : IsReadOn (connection.remaining old.stream) rest old.came.items new.came.items
-    pub waits : new.answer ≡ None → IsLeftWaiting old new before after seen seeing
+    pub waits : new.answer ≡ None → new.thought ≡ None → IsLeftWaiting old new before after seen seeing
+    pub begun : IfSome new.thought (IsBegunWhole old new rest before after seen seeing)
     pub answered : IfSome new.answer (λ answer. IsAnsweredWhole old new rest before after seen seeing answer.items)
 
   -- a connection was attended to, and stays open
   abbrev pub IsAttended : Line C → Line C → B → B → (seen seeing : Times) → Type 0
   IsAttended old new before after seen seeing =
-      IfSome old.answer (λ answer. IsHandedOn old new before after seen seeing answer.items) × (old.answer ≡ None → IsHeard old new before after seen seeing)
+      IfSome old.answer (λ answer. IsHandedOn old new before after seen seeing answer.items)
+      × (old.answer ≡ None → IsSome old.thought → IsHeeded old new before after seen seeing)
+      × (old.answer ≡ None → old.thought ≡ None → IsHeard old new before after seen seeing)
 
-  -- no request can come of it, or it can't take its answer: it is lost, or told to have taken more than that
-  abbrev pub IsSpoiled : Line C → Line C → Type 0
-  IsSpoiled old new =
-      IsMute connection old.stream old.came.items new.stream new.came.items ⊎ IsSomeAnd old.answer (λ answer. length answer.items < old.sent)
+  -- No request can come of it, or it can't take its answer: it is lost, or told to have taken more than that; or it isn't there for
+  -- the answer to its question.
+  abbrev pub IsSpoiled : Times → Line C → Line C → Type 0
+  IsSpoiled seen old new =
+      ((old.answer ≡ None) × (old.thought ≡ None) × IsMute connection old.stream old.came.items new.stream new.came.items)
+      ⊎ IsSomeAnd old.answer (λ answer. connection.is_lost new.stream ⊎ (length answer.items < old.sent))
+      ⊎ IsSome old.thought × IsForsaken connection seen old.since new.stream
 
   -- why a connection is closed that is attended to: it took its whole answer, or is spoiled; or memory was wanting
   abbrev pub IsClosedBy : Fate → Line C → B → B → (seen seeing : Times) → Type 0
   IsClosedBy fate line before after seen seeing =
-      (fate ≡ NoMemory) ⊎ ((left : Line C) × (IsAttended line left before after seen seeing × IsSpent left ⊎ IsSpoiled line left))
+      (fate ≡ NoMemory) ⊎ ((left : Line C) × (IsAttended line left before after seen seeing × IsSpent left ⊎ IsSpoiled seen line left))
 
   -- The connection of a key was attended to, if there is one, and is closed or stays; no other was. At most one request was
-  -- served, and none where it had an answer.
+  -- served, and none where it had an answer or a question.
   pub record IsAttendedAt (fate : Fate) (key : ℕ) (old new : Slab (Line C)) (before after : B) (seen seeing : Times) : Type 0 where
     pub others : (other : ℕ) → other ≢ key → get new other ≡ get old other
     pub absent : get old key ≡ None → (get new key ≡ None) × (after ≡ before)
     pub there : (line : Line C) → get old key ≡ Some line → IfSome (get new key) (λ left. IsAttended line left before after seen seeing)
     pub closed : (line : Line C) → get old key ≡ Some line → get new key ≡ None → IsClosedBy fate line before after seen seeing
-    pub once : (line : Line C) → get old key ≡ Some line → IsSome line.answer → after ≡ before
+    pub once : (line : Line C) → get old key ≡ Some line → is_unanswered (Some line) ≡ false → after ≡ before
     pub one : HasServed site book before after 1
+    pub honest : book.is_honest after → book.is_honest before
 
   -- the connections of these keys were attended to, one after another
   abbrev pub AreAttended : List ℕ → Slab (Line C) → Slab (Line C) → B → B → (seen seeing : Times) → Type 0

@@ -13,6 +13,7 @@ use Rattle.shop_serve.specs.declared.lines.TheConstants.{MOST_LINES}
 use Rattle.shop_serve.specs.declared.sites.Site.{Site}
 use Rattle.shop_serve.specs.Times.{Adds, Times, Tells, TellsNone}
 use Rattle.shop_serve.specs.Lines.{AreAttended, ClosesLate, IsAttendedAt, IsOpened, IsTurnedAway}
+use Rattle.shop_serve.specs.Thinking.{Thinks}
 
 -- the key of the connection that an event is about
 abbrev pub key_of : Event → ℕ
@@ -57,8 +58,8 @@ module _ {C : Type 0} (connection : ConnectionGhosts C) (site : Site) {B : Type 
   AreReceived (stream ∷ streams) old new before after seen seeing =
       (lines : Slab (Line C)) × (mid : B) × (between : Times) × IsReceived stream old lines before mid seen between × AreReceived streams lines new mid after between seeing
 
-  -- Those that are reported are attended to, one after another; the time is read, and those that had theirs are closed; those that
-  -- come are received.
+  -- Those that are reported are attended to, one after another; the time is read, and those that had theirs are closed; a question
+  -- is thought on, once, where there is any; those that come are received.
   pub record IsRound (round : Round C) (old new : Slab (Line C)) (before after : B) (seen seeing : Times) : Type 0 where
     pub attended : Slab (Line C)
     pub mid : B
@@ -68,7 +69,11 @@ module _ {C : Type 0} (connection : ConnectionGhosts C) (site : Site) {B : Type 
     pub second : Times
     pub read : Tells first second round.now
     pub late : ClosesLate round.now attended kept
-    pub received : AreReceived round.came kept new mid after second seeing
+    pub thought : Slab (Line C)
+    pub later : B
+    pub third : Times
+    pub thinks : Thinks connection site book round.now kept thought mid later second third
+    pub received : AreReceived round.came thought new later after third seeing
 
   -- turn after turn
   abbrev pub AreRounds : List (Round C) → Slab (Line C) → Slab (Line C) → B → B → (seen seeing : Times) → Type 0

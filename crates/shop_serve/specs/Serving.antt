@@ -13,22 +13,28 @@ use Rattle.shop_records.specs.declared.refusals.Refusal.TheVariants.{StoreFault}
 use Rattle.shop_request.specs.Guards.{HasRuling}
 use Rattle.shop_request.specs.declared.guards.Ruling.{Ruling}
 use Rattle.shop_request.specs.declared.guards.Ruling.TheVariants.{Routed}
-use Rattle.shop_request.specs.Requests.{Sense, HasSense}
+use Rattle.shop_request.specs.Requests.{Sense, asking, HasSense}
+use Rattle.shop_request.specs.declared.routes.Route.TheVariants.{Plans}
+use Rattle.shop_planning.specs.Questions.{IsPosed}
+use Rattle.shop_planning.specs.declared.posed.Posed.{Posed}
+use Rattle.shop_plans.specs.declared.questions.PlansQuery.{PlansQuery}
 use Rattle.shop_forms.specs.Forms.{json_texts}
 use Rattle.shop_serve.specs.declared.faults.ServeFault.{ServeFault}
 use Rattle.shop_serve.specs.declared.faults.ServeFault.TheVariants.{NoMemory, Port}
 use Rattle.shop_book.specs.declared.books.Book.{Ghosts}
 use Rattle.shop_book.specs.Kept.{OnContent}
 use Rattle.shop_wire.specs.AnswerBytes.{Telling, replied, bytes_of}
-use Rattle.shop_wire.specs.Serves.{SenseStep, exchanged, IsServed}
+use Rattle.shop_wire.specs.Serves.{SenseStep, exchanged, body_plans, IsServed}
 use Rattle.shop_serve.specs.declared.serving.TheConstants.{MOST_SERVED}
 use Rattle.shop_serve.specs.Sites.{own_bytes}
 use Rattle.shop_serve.specs.declared.sites.Site.{Site}
 
--- What is done with a request: it goes to its route, with this sense, and this is told; or the site answers by itself.
+-- What is done with a request: it goes to its route, with this sense, and this is told; or the site answers by itself; or its
+-- body is a question, and this is what it asks of the content, which is thought about.
 pub data Handling : Type 0 where
   routed : Sense → Telling → Handling
   ruled : Ruling → Handling
+  begun : List ℕ → PlansQuery → Posed → Handling
 
 -- What was served: the bytes that came of a connection, what was done, and the bytes that were made of it.
 pub record Turn : Type 0 where
@@ -37,21 +43,24 @@ pub record Turn : Type 0 where
   pub answer : List ℕ
 
 -- By its head the request goes to its route, and the answer is that of its sense but for some last bytes; or it doesn't, and the
--- answer is the site's own.
+-- answer is the site's own. A question is asked at its route, and has no answer yet.
 abbrev pub IsHandling : Site → (input answer : List ℕ) → Handling → Type 0
 IsHandling site input answer (routed sense telling) =
     HasRuling site.guard.port site.guard.has_page input Routed × HasSense input sense
     × ((unwritten : List ℕ) × (answer ++ unwritten ≡ bytes_of sense telling))
 IsHandling site input answer (ruled r) = HasRuling site.guard.port site.guard.has_page input r × (r ≢ Routed) × (answer ≡ own_bytes site r)
+IsHandling site input answer (begun body query posed) =
+    HasRuling site.guard.port site.guard.has_page input Routed × HasSense input (asking Plans body) × (body_plans body ≡ Some query) × (answer ≡ [])
 
 -- some bytes came, and this is what was done with them
 abbrev pub IsTurn : Site → Turn → Type 0
 IsTurn site t = (0 < length t.input) × IsHandling site t.input t.answer t.handling
 
--- what the site answers by itself does nothing
+-- What the site answers by itself does nothing, and a question neither. What that asks is asked of the content as it is then.
 abbrev pub HandlingStep : Content → Handling → Content → Type 0
 HandlingStep old (routed sense telling) new = SenseStep old sense telling new
 HandlingStep old (ruled r) new = new ≡ old
+HandlingStep old (begun body query posed) new = (new ≡ old) × IsPosed old query posed
 
 -- one after another
 abbrev pub InTurn : Site → Content → List Turn → Content → Type 0
@@ -62,6 +71,7 @@ InTurn site old (t ∷ ts) new = (mid : Content) × IsTurn site t × HandlingSte
 abbrev pub exchange_of : Handling → List (Message × Reply)
 exchange_of (routed sense telling) = exchanged sense telling
 exchange_of (ruled r) = []
+exchange_of (begun body query posed) = []
 
 -- the messages among them, each with its reply
 abbrev pub exchanges : List Turn → List (Message × Reply)
@@ -71,6 +81,7 @@ exchanges = flat_map (λ t. exchange_of t.handling)
 abbrev pub TellsFailure : Handling → Type 0
 TellsFailure (routed sense telling) = telling ≡ replied (Refused StoreFault)
 TellsFailure (ruled r) = ⊥
+TellsFailure (begun body query posed) = ⊥
 
 -- a failed store is told of only where it failed meanwhile
 abbrev pub TellOfFailures : List Turn → ℕ → ℕ → Type 0

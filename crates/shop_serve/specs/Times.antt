@@ -1,5 +1,5 @@
 -- The times that a server reads.
-use Rattle.std.specs.Prelude.{◌≡◌, ℕ, List, [], ◌∷◌, ◌++◌, Option, Some, None, ⊤}
+use Rattle.std.specs.Prelude.{◌≡◌, ◌⊎◌, ℕ, List, [], ◌∷◌, ◌++◌, Option, Some, None, ⊤}
 use Rattle.std.specs.declared.time.Instant.{Instant}
 
 -- what is known grows by these
@@ -15,6 +15,11 @@ Times = Option (List Instant)
 -- the time was read, and it was this
 abbrev pub Tells : Times → Times → Instant → Type 0
 Tells seen seeing now = Adds seen seeing (now ∷ [])
+
+-- where the times are known, and one was read, this is the last
+abbrev pub ToldLast : Times → Instant → Type 0
+ToldLast None now = ⊤
+ToldLast (Some times) now = (times ≡ []) ⊎ ((earlier : List Instant) × (times ≡ earlier ++ now ∷ []))
 
 -- it wasn't read
 abbrev pub TellsNone : Times → Times → Type 0

@@ -1,19 +1,21 @@
-//! The whole answer to the bytes of a request: its route's, or what the site answers by itself.
+//! What is made of the bytes of a request: its route's answer, what the site answers by itself, or a question that is to be
+//! thought about.
 
 ghost use Rattle.std.specs.Prelude.{◌≡◌, ◌≢◌, ◌⊎◌, ◌<◌, ◌++◌, length, IfOk, IfSome, Some, [], string_bytes, decimal};
 ghost use Rattle.shop_request.specs.Guards.{HasRuling};
 ghost use Rattle.shop_request.specs.declared.guards.Ruling.TheVariants as ruling;
 ghost use Rattle.shop_request.specs.declared.faults.Fault.TheVariants as faults;
 ghost use Rattle.shop_wire.specs.AnswerBytes.{answer_bytes, fault_answer};
-ghost use Rattle.shop_wire.specs.Serves.{IsServed};
-ghost use Rattle.shop_serve.specs.Serving.{HasServed, IsAnswered};
+ghost use Rattle.shop_serve.specs.Making.{IsMade};
+ghost use Rattle.shop_serve.specs.Serving.{HasServed};
 ghost use Rattle.shop_serve.specs.Sites.{is_routed, own_bytes, page_bytes, page_fields, page_start};
 
 use crate::sites::Site;
 use shop_book::Book;
+use shop_planning::Thought;
 use shop_request::Ruling;
 use shop_text::{Counted, Failed, Sink};
-use shop_wire::serve_request;
+use shop_wire::begin_request;
 use std::alloc::{AllocError, Global};
 
 const FORBIDDEN: &[u8] =
@@ -27,6 +29,13 @@ const PAGE_START: &str =
 
 const PAGE_FIELDS: &str =
     "\r\nContent-Security-Policy: default-src 'none'; script-src 'unsafe-inline'; style-src 'unsafe-inline'; img-src data:; connect-src 'self'; base-uri 'none'; form-action 'none'; frame-ancestors 'none'\r\nX-Content-Type-Options: nosniff\r\nCache-Control: no-cache\r\nConnection: close\r\n\r\n";
+
+/// What is made of a request: its whole answer, or what it asks, which is to be thought about.
+#[derive(Drop)]
+pub(crate) enum Made {
+    Answer(Vec<u8>),
+    Thought(Thought),
+}
 
 // An answer, as it is made.
 #[derive(Drop)]
@@ -57,13 +66,11 @@ impl Sink for Answer {
     }
 }
 
-// Serves the bytes that came at their route, and gives the whole answer.
-fn routed_answer<B: Book>(alloc: Global, site: &Site, came: &[u8], book: &mut B) -> Option<Vec<u8>>
+// Serves the bytes that came at their route, and gives the whole answer, or begins their question.
+fn routed_answer<B: Book>(alloc: Global, site: &Site, came: &[u8], book: &mut B) -> Option<Made>
     requires some { 0 < length came.now }
     requires goes { HasRuling site.now.guard.port site.now.guard.has_page came.now ruling.Routed }
-    ensures told { IfSome result
-        (λ answer. IsServed B.Book book.old book.new (Some came.now) (Some [])
-        (Some answer.items) []) }
+    ensures made { IfSome result (IsMade site.now B.Book book.old book.new came.now) }
     ensures step { HasServed site.now B.Book book.old book.new 1 }
     ensures honest { B.is_honest book.new → B.is_honest book.old }
 {
@@ -72,8 +79,9 @@ fn routed_answer<B: Book>(alloc: Global, site: &Site, came: &[u8], book: &mut B)
         bytes: Vec::new(alloc),
         failures: 0,
     };
-    match serve_request(alloc, &site.routes, &mut source, &mut sink, book) {
-        Ok(()) => Some(sink.bytes),
+    match begin_request(alloc, &site.routes, &mut source, &mut sink, book) {
+        Ok(None) => Some(Made::Answer(sink.bytes)),
+        Ok(Some(thought)) => Some(Made::Thought(thought)),
         Err(_) => None,
     }
 }
@@ -115,17 +123,16 @@ fn own_answer(alloc: Global, site: &Site, ruling: Ruling) -> Result<Vec<u8>, All
     }
 }
 
-/// Serves the bytes that came, and gives the whole answer. Where memory is wanting there is none, though what was asked for
-/// may be done.
+/// Serves the bytes that came, and gives the whole answer, or begins their question. Where memory is wanting there is nothing,
+/// though what was asked for may be done.
 pub(crate) fn answer_of<B: Book>(
     alloc: Global,
     site: &Site,
     came: &[u8],
     book: &mut B,
-) -> Option<Vec<u8>>
+) -> Option<Made>
     requires { 0 < length came.now }
-    ensures told { IfSome result
-        (λ answer. IsAnswered site.now B.Book book.old book.new came.now answer.items) }
+    ensures made { IfSome result (IsMade site.now B.Book book.old book.new came.now) }
     ensures step { HasServed site.now B.Book book.old book.new 1 }
     ensures honest { B.is_honest book.new → B.is_honest book.old }
 {
@@ -134,7 +141,7 @@ pub(crate) fn answer_of<B: Book>(
         return routed_answer(alloc, site, came, book);
     }
     match own_answer(alloc, site, ruling) {
-        Ok(answer) => Some(answer),
+        Ok(answer) => Some(Made::Answer(answer)),
         Err(_) => None,
     }
 }

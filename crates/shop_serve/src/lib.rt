@@ -1,5 +1,5 @@
 //! Connections of a listener, many at once: whichever has bytes is read, and each request is answered whole, one after
-//! another, from a book.
+//! another, from a book. Questions for plans are thought about beside that.
 #![tactic(auto)]
 
 mod answers;
@@ -10,6 +10,7 @@ mod lines;
 mod ports;
 mod serving;
 mod sites;
+mod thinking;
 mod transfers;
 mod watches;
 

@@ -1,8 +1,10 @@
-//! The turns of a server: it waits, attends to connections, closes late ones and accepts those that wait.
+//! The turns of a server: it waits, attends to connections, closes late ones, thinks once on a question and accepts those that
+//! wait.
 
-ghost use Rattle.std.specs.Prelude.{◌≡◌, ◌≤◌, ◌+◌, List, length, IfErr, OnOk};
+ghost use Rattle.std.specs.Prelude.{◌≡◌, ◌≤◌, ◌+◌, ℕ, List, length, IfErr, IfSome, OnOk};
+ghost use Rattle.std.specs.Duration.{as_nanos};
 ghost use Rattle.std.specs.declared.time.Instant.{Instant as Moment};
-ghost use Rattle.shop_serve.specs.Lines.{AreAttended, HasRoom, unanswered};
+ghost use Rattle.shop_serve.specs.Lines.{AreAttended, AsksAt, HasRoom, unanswered};
 ghost use Rattle.shop_serve.specs.Rounds.{AreReceived, HasServedAll, IsReceived, IsRound};
 ghost use Rattle.shop_serve.specs.Serving.{Advances, HasServed, IsUnserved, most_served};
 ghost use Rattle.shop_serve.specs.Times.{Adds};
@@ -13,10 +15,12 @@ use crate::faults::ServeFault;
 use crate::lines::{Line, attend_at, close_late, has_room, open_line};
 use crate::ports::{Door, Listener, Port};
 use crate::sites::Site;
+use crate::thinking::{next_wait, think};
 use crate::watches::{Stopwatch, Watch};
 use shop_book::Book;
 use slab::Slab;
 use std::alloc::Global;
+use std::io::Eprint;
 use std::net::Net;
 use std::time::{Clock, Duration};
 
@@ -117,8 +121,8 @@ fn attend_reported<C: Connection + Drop, K: Watch, B: Book>(
     }
 }
 
-// One turn: attends to what is reported, closes what had its time, and accepts what waits. Gives how long the next one may
-// wait, or `None` where none can be accepted for good.
+// One turn: attends to what is reported, closes what had its time, thinks once on a question, and accepts what waits. Gives how
+// long the next one may wait, or `None` where none can be accepted for good.
 fn turn<C: Connection + Drop, P: Port<C>, K: Watch, B: Book>(
     alloc: Global,
     site: &Site,
@@ -135,6 +139,8 @@ fn turn<C: Connection + Drop, P: Port<C>, K: Watch, B: Book>(
         × ((now : Moment) × IsRound C.Connection site.now B.Book ((p : P) × P.is_deaf p)
         (record { now = now; keys = P.reported port.old; came = came }) lines.old lines.new book.old
         book.new (K.times watch.old) (K.times watch.new)) }
+    ensures waits { IfSome result
+        (λ wait. (key : ℕ) → AsksAt lines.new key → as_nanos wait ≡ 0) }
     ensures told { P.told port.new ≡ P.told port.old }
     ensures run { Advances site.now B.Book book.old book.new (unanswered lines.old + accepted.new)
         (unanswered lines.new + accepted.old) }
@@ -142,8 +148,11 @@ fn turn<C: Connection + Drop, P: Port<C>, K: Watch, B: Book>(
     ensures honest { B.is_honest book.new → B.is_honest book.old }
 {
     attend_reported(alloc, site, port.keys(), watch, lines, book);
-    close_late(lines, watch.now());
-    accept_waiting(alloc, site, port, watch, limit, lines, accepted, book)
+    let moment = watch.now();
+    close_late(lines, moment);
+    think(alloc, site, lines, moment, watch, book);
+    let wait = accept_waiting(alloc, site, port, watch, limit, lines, accepted, book);
+    next_wait(lines, wait)
 }
 
 // Serves the connections that a port gives, until as many as the limit says came and are done with, or none can be accepted
@@ -212,7 +221,7 @@ fn most_served(limit: Option<u32>) -> u64
 /// `NoMemory` before the first connection; `Port` where none can be accepted for good, or waited for, and then the rest isn't
 /// served.
 #[tactic(auto, using(crate::proofs::Turns::none_served))]
-pub fn serve_on<R: Net + Clock, B: Book>(
+pub fn serve_on<R: Net + Clock + Eprint, B: Book>(
     rt: &R,
     alloc: Global,
     listener: &Listener,

@@ -7,6 +7,7 @@ ghost use Rattle.shop_request.specs.Reading.{IsReadOn};
 ghost use Rattle.shop_request.specs.Senses.{IsSettled};
 ghost use Rattle.shop_serve.specs.declared.transfers.Piece.TheVariants as piece;
 ghost use Rattle.shop_serve.specs.declared.transfers.Given.TheVariants as given;
+ghost use Rattle.shop_serve.specs.declared.transfers.Rest.TheVariants as rest;
 ghost use Rattle.shop_serve.specs.declared.transfers.Taken.TheVariants as taken;
 
 use crate::connections::{Connection, Halt};
@@ -151,17 +152,28 @@ pub(crate) fn hand_over<C: Connection>(stream: &mut C, answer: &[u8], sent: &mut
     Given::Whole
 }
 
-/// Reads what still comes and drops it. Tells whether more may come.
-pub(crate) fn drop_rest<C: Connection>(stream: &mut C) -> bool
+/// What is left of a connection's input, behind what was dropped of it.
+#[derive(Clone, Copy, PartialEq, Eq)]
+pub(crate) enum Rest {
+    MayCome,
+    Ended,
+    Lost,
+}
+
+/// Reads what still comes and drops it.
+pub(crate) fn drop_rest<C: Connection>(stream: &mut C) -> Rest
+    ensures ended { result ≡ rest.Ended → IsAtEnd (C.remaining stream.new) }
+    ensures lost { result ≡ rest.Lost → C.is_lost stream.new }
     ensures kept { C.contents stream.new ≡ C.contents stream.old }
 {
     let mut room = [0; ROOM];
     for _ in 0..MOST_DROPS {
         match stream.read_some(&mut room) {
-            Ok(0) => return false,
+            Ok(0) => return Rest::Ended,
             Ok(_) => (),
-            Err(halt) => return halt == Halt::Waits,
+            Err(Halt::Waits) => return Rest::MayCome,
+            Err(Halt::Lost) => return Rest::Lost,
         }
     }
-    true
+    Rest::MayCome
 }

@@ -5,12 +5,14 @@ ghost use Rattle.std.specs.Duration.{as_nanos, max_nanos};
 ghost use Rattle.std.specs.Time.{instant_nanos};
 
 use crate::faults::ServeFault;
+use shop_advice::answer_note;
+use std::io::Eprint;
 use std::time::{Clock, Duration, Instant};
 
 /// What tells a server's time.
 pub(crate) trait Watch {
     ghost use Rattle.std.specs.Prelude.{◌≡◌};
-    ghost use Rattle.shop_serve.specs.Times.{Times, Tells, TellsNone};
+    ghost use Rattle.shop_serve.specs.Times.{Times, Tells, TellsNone, ToldLast};
 
     /// The times that it told so far, where they are known.
     ghost times: { Self → Times };
@@ -19,9 +21,16 @@ pub(crate) trait Watch {
     fn now(&mut self) -> Instant
         ensures { Tells (times self.old) (times self.new) result };
 
+    /// The time that was told last.
+    fn last(&self) -> Instant
+        ensures { ToldLast (times self.now) result };
+
     /// Stands still until the time is told next.
     fn stop(&mut self)
         ensures { TellsNone (times self.old) (times self.new) };
+
+    /// Tells who runs the server of an answer of 98 or 99.
+    fn note(&self, answer: &[u8]);
 }
 
 /// A clock without the time for which it stood still.
@@ -61,7 +70,7 @@ fn still_until(still: Duration, stopped: Option<Instant>, reading: Instant) -> D
     }
 }
 
-impl<'a, R: Clock> Watch for Stopwatch<'a, R> {
+impl<'a, R: Clock + Eprint> Watch for Stopwatch<'a, R> {
     ghost use Rattle.std.specs.Prelude.{None};
 
     ghost times = { λ _. None };
@@ -76,7 +85,18 @@ impl<'a, R: Clock> Watch for Stopwatch<'a, R> {
         self.last
     }
 
+    fn last(&self) -> Instant {
+        self.last
+    }
+
     fn stop(&mut self) {
         self.stopped = Instant::now(self.clock).ok();
+    }
+
+    // A line that can't be written is left out.
+    fn note(&self, answer: &[u8]) {
+        if let Some(line) = answer_note(answer) {
+            let _ = self.clock.eprint(line);
+        }
     }
 }

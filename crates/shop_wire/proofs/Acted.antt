@@ -27,12 +27,13 @@ use Rattle.shop_text.specs.Tickets.{ticket_of}
 use Rattle.shop_text.specs.Yields.{yield_of}
 use Rattle.shop_text.proofs.ToldTickets.{ticket_told, report_told}
 use Rattle.shop_request.specs.declared.routes.Route.{Route}
-use Rattle.shop_request.specs.declared.routes.Route.TheVariants.{Message, Plan, Bound, Totals, Rack, Trace, Demand, Ticket, Yield, Materials, Parts, PartsBehind, Demands, DemandsOf, Jobs, Job, Terminal}
+use Rattle.shop_request.specs.declared.routes.Route.TheVariants.{Message, Plan, Plans, Bound, Totals, Rack, Trace, Demand, Ticket, Yield, Materials, Parts, PartsBehind, Demands, DemandsOf, Jobs, Job, Terminal}
 use Rattle.shop_request.specs.Requests.{asking}
 use Rattle.shop_wire.specs.AnswerBytes.{Telling, replied, printed}
-use Rattle.shop_wire.specs.Replays.{IsNoMessage, line_message}
-use Rattle.shop_wire.specs.Serves.{AskStep, HasServed, MessageStep, PrintStep, TellsText, asked_at, code_at, numbered, text_at, with_reply}
+use Rattle.shop_wire.specs.Replays.{IsNoMessage, PlansStep, line_message, with_reply}
+use Rattle.shop_wire.specs.Serves.{AskStep, HasServed, MessageStep, PrintStep, TellsText, asked_at, body_plans, code_at, numbered, text_at}
 use Rattle.shop_wire.specs.Tellings.{IsToldOf, IsUnread, PrintsCounted, TellsCounted}
+use Rattle.shop_wire.proofs.Answered.{told_reply}
 use Rattle.shop_wire.proofs.Meant.{unread_not_store}
 
 -- ---- messages
@@ -49,9 +50,6 @@ message_unread m body refusal (inr why) =
 
 refused_same : (refusal : Refusal) → Refused refusal ≡ Refused StoreFault → refusal ≡ StoreFault
 refused_same refusal e = cc
-
-told_same : (reply : Reply) → replied reply ≡ replied (Refused StoreFault) → reply ≡ Refused StoreFault
-told_same reply e = cc
 
 -- ---- texts
 
@@ -73,7 +71,7 @@ failed_by : (a b : ℕ) (t : Bool) → nat_lt a MOST_FAILURES ≡ t → b ≡ (i
 failed_by a b true e is = inl (omega (arith, is))
 failed_by a b false e is = inr is
 
-store_failed : (a b : ℕ) → b ≡ one_more_failure a → StoreFailed a b
+pub store_failed : (a b : ℕ) → b ≡ one_more_failure a → StoreFailed a b
 store_failed a b is = failed_by a b (nat_lt a MOST_FAILURES) refl is
 
 text_blame : (said : Result (List ℕ) Refusal) (refusal : Refusal) (a b : ℕ) → said ≢ Err StoreFault → (said ≡ Err refusal) ⊎ IsFailure refusal a b → refusal ≡ StoreFault → StoreFailed a b
@@ -88,7 +86,7 @@ Agrees o = MatchOption o ⊤ (λ said. said ≢ Err StoreFault)
 printed_blame : (o : Option (Result (List ℕ) Refusal)) (telling : Telling) (a b : ℕ) → Agrees o → PrintsCounted o telling a b → telling ≡ replied (Refused StoreFault) → StoreFailed a b
 printed_blame None telling a b agrees is e = absurd (cc (sym is ∙ e))
 printed_blame (Some said) (printed text) a b agrees h e = absurd (cc e)
-printed_blame (Some said) (replied reply) a b agrees h e = text_blame said h.0 a b agrees h.2 (refused_same h.0 (sym h.1 ∙ told_same reply e))
+printed_blame (Some said) (replied reply) a b agrees h e = text_blame said h.0 a b agrees h.2 (refused_same h.0 (sym h.1 ∙ told_reply reply (Refused StoreFault) e))
 
 asked_agrees : {X : Type 0} (says : X → Result (List ℕ) Refusal) → ((x : X) → says x ≢ Err StoreFault) → (o : Option X) → Agrees (option_map says o)
 asked_agrees says agrees None = tt
@@ -102,8 +100,8 @@ told_counted (Err refusal) telling a b said is told = subst (λ t. TellsCounted 
 pub text_asked : (o : Option (Result (List ℕ) Refusal)) (said : Result (List ℕ) Refusal) (telling : Telling) (a b : ℕ) → o ≡ Some said → TellsCounted said telling a b → PrintsCounted o telling a b
 text_asked o said telling a b is h = subst (λ o. PrintsCounted o telling a b) (sym is) h
 
-pub none_asked : (o : Option (Result (List ℕ) Refusal)) (a b : ℕ) → o ≡ None → PrintsCounted o (replied (Refused BadMessage)) a b
-none_asked o a b is = subst (λ o. PrintsCounted o (replied (Refused BadMessage)) a b) (sym is) refl
+pub none_asked : (o : Option (Result (List ℕ) Refusal)) (telling : Telling) (a b : ℕ) → o ≡ None → telling ≡ replied (Refused BadMessage) → PrintsCounted o telling a b
+none_asked o telling a b is told = subst (λ o. PrintsCounted o telling a b) (sym is) told
 
 -- the failures that go with a text
 pub up_told : {T : Type 0} (r : Result T Refusal) (a b : ℕ) → CountsRefusal r a b → CountsUp a b
@@ -145,7 +143,7 @@ module _ {B : Type 0} (book : Ghosts B) (before after : B) (m : Content) where
         step = subst (λ (o : Option MessageOf). MatchOption o (IsNoMessage m reply next) (λ message. Step json_texts m message reply next)) (sym is) step;
         held = held;
         sound = sound;
-        blame = λ e. blame (told_same reply e);
+        blame = λ e. blame (told_reply reply (Refused StoreFault) e);
         account = subst (λ o. AccountOf m o (replied reply) next) (sym is) (account_step json_texts m next message reply is_message step);
       }
 
@@ -157,32 +155,37 @@ module _ {B : Type 0} (book : Ghosts B) (before after : B) (m : Content) where
         step = message_unread m body refusal why;
         held = held;
         sound = sound;
-        blame = λ e. absurd (unread_not_store refusal (line_message body) why (refused_same refusal (told_same (Refused refusal) e)));
+        blame = λ e. absurd (unread_not_store refusal (line_message body) why (refused_same refusal (told_reply (Refused refusal) (Refused StoreFault) e)));
         account = refused_account m refusal (line_message body);
       }
 
   -- ---- what changes nothing
 
   module _ (held : book.holds after m) (sound : IsSound json_texts m) where
-    pub asked_served : (route : Route) (text : List ℕ) (reply : Reply) → route ≢ Message → route ≢ Ticket → route ≢ Yield → AskStep m (asked_at route text) reply m
+    pub asked_served : (route : Route) (text : List ℕ) (reply : Reply) → route ≢ Message → route ≢ Plans → route ≢ Ticket → route ≢ Yield → AskStep m (asked_at route text) reply m
         → (reply ≡ Refused StoreFault → StoreFailed (book.failed before) (book.failed after)) → HasServed book before after m (asking route text) (replied reply)
-    asked_served Message text reply a b c step blame = absurd (a refl)
-    asked_served Ticket text reply a b c step blame = absurd (b refl)
-    asked_served Yield text reply a b c step blame = absurd (c refl)
-    asked_served Plan text reply a b c step blame = record { next = m; step = step; held = held; sound = sound; blame = λ e. blame (told_same reply e); account = account_same json_texts m m refl }
-    asked_served Bound text reply a b c step blame = record { next = m; step = step; held = held; sound = sound; blame = λ e. blame (told_same reply e); account = account_same json_texts m m refl }
-    asked_served Totals text reply a b c step blame = record { next = m; step = step; held = held; sound = sound; blame = λ e. blame (told_same reply e); account = account_same json_texts m m refl }
-    asked_served Rack text reply a b c step blame = record { next = m; step = step; held = held; sound = sound; blame = λ e. blame (told_same reply e); account = account_same json_texts m m refl }
-    asked_served Trace text reply a b c step blame = record { next = m; step = step; held = held; sound = sound; blame = λ e. blame (told_same reply e); account = account_same json_texts m m refl }
-    asked_served Demand text reply a b c step blame = record { next = m; step = step; held = held; sound = sound; blame = λ e. blame (told_same reply e); account = account_same json_texts m m refl }
-    asked_served Materials text reply a b c step blame = record { next = m; step = step; held = held; sound = sound; blame = λ e. blame (told_same reply e); account = account_same json_texts m m refl }
-    asked_served Parts text reply a b c step blame = record { next = m; step = step; held = held; sound = sound; blame = λ e. blame (told_same reply e); account = account_same json_texts m m refl }
-    asked_served PartsBehind text reply a b c step blame = record { next = m; step = step; held = held; sound = sound; blame = λ e. blame (told_same reply e); account = account_same json_texts m m refl }
-    asked_served Demands text reply a b c step blame = record { next = m; step = step; held = held; sound = sound; blame = λ e. blame (told_same reply e); account = account_same json_texts m m refl }
-    asked_served DemandsOf text reply a b c step blame = record { next = m; step = step; held = held; sound = sound; blame = λ e. blame (told_same reply e); account = account_same json_texts m m refl }
-    asked_served Jobs text reply a b c step blame = record { next = m; step = step; held = held; sound = sound; blame = λ e. blame (told_same reply e); account = account_same json_texts m m refl }
-    asked_served Job text reply a b c step blame = record { next = m; step = step; held = held; sound = sound; blame = λ e. blame (told_same reply e); account = account_same json_texts m m refl }
-    asked_served Terminal text reply a b c step blame = record { next = m; step = step; held = held; sound = sound; blame = λ e. blame (told_same reply e); account = account_same json_texts m m refl }
+    asked_served Message text reply a b c d step blame = absurd (a refl)
+    asked_served Plans text reply a b c d step blame = absurd (b refl)
+    asked_served Ticket text reply a b c d step blame = absurd (c refl)
+    asked_served Yield text reply a b c d step blame = absurd (d refl)
+    asked_served Plan text reply a b c d step blame = record { next = m; step = step; held = held; sound = sound; blame = λ e. blame (told_reply reply (Refused StoreFault) e); account = account_same json_texts m m refl }
+    asked_served Bound text reply a b c d step blame = record { next = m; step = step; held = held; sound = sound; blame = λ e. blame (told_reply reply (Refused StoreFault) e); account = account_same json_texts m m refl }
+    asked_served Totals text reply a b c d step blame = record { next = m; step = step; held = held; sound = sound; blame = λ e. blame (told_reply reply (Refused StoreFault) e); account = account_same json_texts m m refl }
+    asked_served Rack text reply a b c d step blame = record { next = m; step = step; held = held; sound = sound; blame = λ e. blame (told_reply reply (Refused StoreFault) e); account = account_same json_texts m m refl }
+    asked_served Trace text reply a b c d step blame = record { next = m; step = step; held = held; sound = sound; blame = λ e. blame (told_reply reply (Refused StoreFault) e); account = account_same json_texts m m refl }
+    asked_served Demand text reply a b c d step blame = record { next = m; step = step; held = held; sound = sound; blame = λ e. blame (told_reply reply (Refused StoreFault) e); account = account_same json_texts m m refl }
+    asked_served Materials text reply a b c d step blame = record { next = m; step = step; held = held; sound = sound; blame = λ e. blame (told_reply reply (Refused StoreFault) e); account = account_same json_texts m m refl }
+    asked_served Parts text reply a b c d step blame = record { next = m; step = step; held = held; sound = sound; blame = λ e. blame (told_reply reply (Refused StoreFault) e); account = account_same json_texts m m refl }
+    asked_served PartsBehind text reply a b c d step blame = record { next = m; step = step; held = held; sound = sound; blame = λ e. blame (told_reply reply (Refused StoreFault) e); account = account_same json_texts m m refl }
+    asked_served Demands text reply a b c d step blame = record { next = m; step = step; held = held; sound = sound; blame = λ e. blame (told_reply reply (Refused StoreFault) e); account = account_same json_texts m m refl }
+    asked_served DemandsOf text reply a b c d step blame = record { next = m; step = step; held = held; sound = sound; blame = λ e. blame (told_reply reply (Refused StoreFault) e); account = account_same json_texts m m refl }
+    asked_served Jobs text reply a b c d step blame = record { next = m; step = step; held = held; sound = sound; blame = λ e. blame (told_reply reply (Refused StoreFault) e); account = account_same json_texts m m refl }
+    asked_served Job text reply a b c d step blame = record { next = m; step = step; held = held; sound = sound; blame = λ e. blame (told_reply reply (Refused StoreFault) e); account = account_same json_texts m m refl }
+    asked_served Terminal text reply a b c d step blame = record { next = m; step = step; held = held; sound = sound; blame = λ e. blame (told_reply reply (Refused StoreFault) e); account = account_same json_texts m m refl }
+
+    pub plans_served : (body : List ℕ) (telling : Telling) → PlansStep m (body_plans body) telling m → (telling ≡ replied (Refused StoreFault) → StoreFailed (book.failed before) (book.failed after))
+        → HasServed book before after m (asking Plans body) telling
+    plans_served body telling step blame = record { next = m; step = step; held = held; sound = sound; blame = blame; account = account_same json_texts m m refl }
 
     pub ticket_served : (part : List ℕ) (telling : Telling) → PrintsCounted (text_at m Ticket part) telling (book.failed before) (book.failed after) → HasServed book before after m (asking Ticket part) telling
     ticket_served part telling h =

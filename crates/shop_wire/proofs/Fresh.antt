@@ -18,7 +18,7 @@ module _ {B : Type 0} (book : Ghosts B) (before after : B) (honest : book.is_hon
       let one = r.run honest fresh held (gives_sound json_texts [] fresh refl) in
       let later = one.account [] refl in
       record {
-        replies = r.replies;
+        tellings = r.tellings;
         each = r.each;
         bytes = r.bytes;
         told = r.told;

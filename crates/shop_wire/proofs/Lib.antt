@@ -9,3 +9,4 @@ pub mod Fresh
 pub mod Meant
 pub mod Acted
 pub mod Written
+pub mod Begun

@@ -1,6 +1,7 @@
 -- Lines that were answered, and more of them.
 use Rattle.std.proofs.Common.{◌≡◌, ℕ, ◌+◌, ◌*◌, ◌≤◌, inl, inr, Result, Ok, Err, List, [], ◌∷◌, ◌++◌, length, Option, Some, None, refl, sym, ap, subst, ◌∙◌, arith, append_assoc, append-nil, length-append}
-use Rattle.std.specs.Prelude.{IfErr, ◌⊎◌, ⊤, map, zip, filter_map, option_map, option_and_then}
+use Rattle.std.specs.Prelude.{IfErr, ◌⊎◌, ⊤, map, zip, option_and_then}
+use Rattle.std.specs.List.{flat_map}
 use Rattle.shop_wire.specs.declared.faults.ReplayFault.{ReplayFault}
 use Rattle.shop_wire.specs.declared.faults.ReplayFault.TheVariants.{Read, Write, NoMemory}
 use Rattle.shop_wire.specs.declared.limits.TheConstants.{ROOM}
@@ -17,51 +18,53 @@ use Rattle.shop_forms.specs.Forms.{message_of, json_texts}
 use Rattle.shop_wire.specs.Lines.{lines_of, AreLines, GivesLine, kept_of}
 use Rattle.shop_book.specs.declared.books.Book.{Ghosts}
 use Rattle.shop_book.specs.Kept.{OnContent}
-use Rattle.shop_desk.specs.Faults.{CountsUp}
+use Rattle.shop_desk.specs.Faults.{CountsUp, TellOfFailures}
 use Rattle.shop_desk.specs.Handled.{HasAccount}
 use Rattle.shop_desk.proofs.Blame.{tell_more}
 use Rattle.shop_desk.proofs.Accounts.{account_same, account_more}
-use Rattle.shop_wire.specs.Replays.{InTurn, exchanges, HasAnswered, LineStep, line_message, IsReplayed, reply_line, reply_lines}
+use Rattle.shop_wire.specs.AnswerBytes.{Telling}
+use Rattle.shop_wire.specs.Replays.{InTurn, exchanges, HasAnswered, LineStep, line_message, IsReplayed, replies_in, reply_in, telling_line, telling_lines, with_reply}
 use Rattle.shop_wire.proofs.Answered.{AccountOne, whole_line, data_of-kept_of}
 
 -- ---- what was answered
 
-module _ {X B : Type 0} (step : Content → X → Reply → Content → Type 0) (message_in : X → Option Message) (book : Ghosts B) where
-  InTurn-append : (old mid new : Content) (xs more : List X) (replies answers : List Reply)
-      → InTurn step message_in old xs replies mid → InTurn step message_in mid more answers new → InTurn step message_in old (xs ++ more) (replies ++ answers) new
-  InTurn-append old mid new [] more [] answers run rest = subst (λ c. InTurn step message_in c more answers new) run rest
-  InTurn-append old mid new [] more (r ∷ rs) answers run rest = absurd run
-  InTurn-append old mid new (x ∷ xs) more [] answers run rest = absurd run
-  InTurn-append old mid new (x ∷ xs) more (r ∷ rs) answers run rest = (run.0, run.1, InTurn-append run.0 mid new xs more rs answers run.2 rest)
+module _ {X B : Type 0} (step : Content → X → Telling → Content → Type 0) (message_in : X → Option Message) (book : Ghosts B) where
+  InTurn-append : (old mid new : Content) (xs more : List X) (tellings later : List Telling)
+      → InTurn step message_in old xs tellings mid → InTurn step message_in mid more later new → InTurn step message_in old (xs ++ more) (tellings ++ later) new
+  InTurn-append old mid new [] more [] later run rest = subst (λ c. InTurn step message_in c more later new) run rest
+  InTurn-append old mid new [] more (t ∷ ts) later run rest = absurd run
+  InTurn-append old mid new (x ∷ xs) more [] later run rest = absurd run
+  InTurn-append old mid new (x ∷ xs) more (t ∷ ts) later run rest = (run.0, run.1, InTurn-append run.0 mid new xs more ts later run.2 rest)
 
-  zip-append : (old mid : Content) (xs more : List X) (replies answers : List Reply) → InTurn step message_in old xs replies mid
-      → zip (xs ++ more) (replies ++ answers) ≡ zip xs replies ++ zip more answers
-  zip-append old mid [] more [] answers run = refl
-  zip-append old mid [] more (r ∷ rs) answers run = absurd run
-  zip-append old mid (x ∷ xs) more [] answers run = absurd run
-  zip-append old mid (x ∷ xs) more (r ∷ rs) answers run = ap (λ es. (x, r) ∷ es) (zip-append run.0 mid xs more rs answers run.2)
+  zip-append : (old mid : Content) (xs more : List X) (tellings later : List Telling) → InTurn step message_in old xs tellings mid
+      → zip (xs ++ more) (tellings ++ later) ≡ zip xs tellings ++ zip more later
+  zip-append old mid [] more [] later run = refl
+  zip-append old mid [] more (t ∷ ts) later run = absurd run
+  zip-append old mid (x ∷ xs) more [] later run = absurd run
+  zip-append old mid (x ∷ xs) more (t ∷ ts) later run = ap (λ es. (x, t) ∷ es) (zip-append run.0 mid xs more ts later run.2)
 
-  exchanges-append : (old mid : Content) (xs more : List X) (replies answers : List Reply) → InTurn step message_in old xs replies mid
-      → exchanges step message_in (xs ++ more) (replies ++ answers) ≡ exchanges step message_in xs replies ++ exchanges step message_in more answers
-  exchanges-append old mid xs more replies answers run =
-      ap (filter_map (λ e. option_map (λ message. (message, e.1)) (message_in e.0))) (zip-append old mid xs more replies answers run)
-      ∙ filter_map-append (λ e. option_map (λ message. (message, e.1)) (message_in e.0)) (zip xs replies) (zip more answers)
+  exchanges-append : (old mid : Content) (xs more : List X) (tellings later : List Telling) → InTurn step message_in old xs tellings mid
+      → exchanges step message_in (xs ++ more) (tellings ++ later) ≡ exchanges step message_in xs tellings ++ exchanges step message_in more later
+  exchanges-append old mid xs more tellings later run =
+      ap (flat_map (λ e. with_reply (message_in e.0) e.1)) (zip-append old mid xs more tellings later run)
+      ∙ flat_map-append (λ e. with_reply (message_in e.0) e.1) (zip xs tellings) (zip more later)
 
   pub none_answered : (at : B) (m : Content) → book.holds at m → IsSound json_texts m → HasAnswered step message_in book at at m [] []
   none_answered at m held sound =
       record { next = m; run = refl; held = held; sound = sound; blame = λ none. absurd none; account = account_same json_texts m m refl }
 
-  pub more_answered : (a b c : B) (m : Content) (xs more : List X) (replies answers : List Reply) → CountsUp (book.failed a) (book.failed b) → CountsUp (book.failed b) (book.failed c)
-      → (one : HasAnswered step message_in book a b m xs replies) → HasAnswered step message_in book b c one.next more answers → HasAnswered step message_in book a c m (xs ++ more) (replies ++ answers)
-  more_answered a b c m xs more replies answers up later one two =
+  pub more_answered : (a b c : B) (m : Content) (xs more : List X) (tellings later : List Telling) → CountsUp (book.failed a) (book.failed b) → CountsUp (book.failed b) (book.failed c)
+      → (one : HasAnswered step message_in book a b m xs tellings) → HasAnswered step message_in book b c one.next more later → HasAnswered step message_in book a c m (xs ++ more) (tellings ++ later)
+  more_answered a b c m xs more tellings later up next one two =
       record {
         next = two.next;
-        run = InTurn-append m one.next two.next xs more replies answers one.run two.run;
+        run = InTurn-append m one.next two.next xs more tellings later one.run two.run;
         held = two.held;
         sound = two.sound;
-        blame = tell_more (book.failed a) (book.failed b) (book.failed c) replies answers up later one.blame two.blame;
-        account = subst (λ es. HasAccount json_texts m (map (λ (e : Message × Reply). e.0) es) (map (λ (e : Message × Reply). e.1) es) two.next) (sym (exchanges-append m one.next xs more replies answers one.run))
-            (account_more json_texts m one.next two.next (exchanges step message_in xs replies) (exchanges step message_in more answers) one.account two.account);
+        blame = subst (λ rs. TellOfFailures rs (book.failed a) (book.failed c)) (sym (filter_map-append reply_in tellings later))
+            (tell_more (book.failed a) (book.failed b) (book.failed c) (replies_in tellings) (replies_in later) up next one.blame two.blame);
+        account = subst (λ es. HasAccount json_texts m (map (λ (e : Message × Reply). e.0) es) (map (λ (e : Message × Reply). e.1) es) two.next) (sym (exchanges-append m one.next xs more tellings later one.run))
+            (account_more json_texts m one.next two.next (exchanges step message_in xs tellings) (exchanges step message_in more later) one.account two.account);
       }
 
 -- ---- lines
@@ -71,7 +74,7 @@ module _ {B : Type 0} (book : Ghosts B) where
   pub none_replayed : (at : B) (held : Option (List ℕ)) → IsReplayed book at at held held [] []
   none_replayed at held =
       record {
-        replies = [];
+        tellings = [];
         each = refl;
         bytes = [];
         told = refl;
@@ -79,41 +82,41 @@ module _ {B : Type 0} (book : Ghosts B) where
         run = λ h m held sound. none_answered LineStep line_message book at m held sound;
       }
 
-  -- a line that was answered, and whose reply was written but for some last bytes
-  pub one_replayed : (before after : B) (held_old held_new : Option (List ℕ)) (line : List ℕ) (reply : Reply) (bytes unwritten : List ℕ)
-      → bytes ++ unwritten ≡ reply_line reply → Appends held_old held_new bytes
-      → OnContent book before after (λ m. IsSound json_texts m → HasAnswered LineStep line_message book before after m (line ∷ []) (reply ∷ []))
+  -- a line that was answered, and of which what it is told was written but for some last bytes
+  pub one_replayed : (before after : B) (held_old held_new : Option (List ℕ)) (line : List ℕ) (telling : Telling) (bytes unwritten : List ℕ)
+      → bytes ++ unwritten ≡ telling_line telling → Appends held_old held_new bytes
+      → OnContent book before after (λ m. IsSound json_texts m → HasAnswered LineStep line_message book before after m (line ∷ []) (telling ∷ []))
       → IsReplayed book before after held_old held_new (line ∷ []) unwritten
-  one_replayed before after held_old held_new line reply bytes unwritten told written answered =
+  one_replayed before after held_old held_new line telling bytes unwritten told written answered =
       record {
-        replies = reply ∷ [];
+        tellings = telling ∷ [];
         each = refl;
         bytes = bytes;
-        told = told ∙ sym (append-nil (reply_line reply));
+        told = told ∙ sym (append-nil (telling_line telling));
         written = written;
         run = answered;
       }
 
-  joined : (bytes held more lost next : List ℕ) (replies answers : List Reply) → bytes ++ held ≡ reply_lines replies → more ++ lost ≡ reply_lines answers → next ≡ held ++ more
-      → bytes ++ (next ++ lost) ≡ reply_lines (replies ++ answers)
-  joined bytes held more lost next replies answers p q is =
+  joined : (bytes held more lost next : List ℕ) (tellings later : List Telling) → bytes ++ held ≡ telling_lines tellings → more ++ lost ≡ telling_lines later → next ≡ held ++ more
+      → bytes ++ (next ++ lost) ≡ telling_lines (tellings ++ later)
+  joined bytes held more lost next tellings later p q is =
       ap (λ l. bytes ++ (l ++ lost)) is ∙ ap (λ l. bytes ++ l) (append_assoc held more lost) ∙ sym (append_assoc bytes held (more ++ lost))
-      ∙ ap (λ l. (bytes ++ held) ++ l) q ∙ ap (λ l. l ++ reply_lines answers) p ∙ sym (flat_map-append reply_line replies answers)
+      ∙ ap (λ l. (bytes ++ held) ++ l) q ∙ ap (λ l. l ++ telling_lines later) p ∙ sym (flat_map-append telling_line tellings later)
 
-  -- lines that were answered, with replies that are held, and then more replies that are held but for some last bytes
+  -- lines that were answered, of which some is held, and then more that is held but for some last bytes
   pub more_held : (before mid after : B) (a b : Option (List ℕ)) (lines more : List (List ℕ)) (held next lost : List ℕ)
       → (book.is_honest after → book.is_honest mid) → CountsUp (book.failed before) (book.failed mid) → CountsUp (book.failed mid) (book.failed after)
       → IsReplayed book before mid a b lines held → IsReplayed book mid after (Some held) (Some next) more lost → IsReplayed book before after a b (lines ++ more) (next ++ lost)
   more_held before mid after a b lines more held next lost back up later first second =
       record {
-        replies = first.replies ++ second.replies;
-        each = length-append first.replies second.replies ∙ ap (λ n. n + length second.replies) first.each ∙ ap (λ n. length lines + n) second.each ∙ sym (length-append lines more);
+        tellings = first.tellings ++ second.tellings;
+        each = length-append first.tellings second.tellings ∙ ap (λ n. n + length second.tellings) first.each ∙ ap (λ n. length lines + n) second.each ∙ sym (length-append lines more);
         bytes = first.bytes;
-        told = joined first.bytes held second.bytes lost next first.replies second.replies first.told second.told second.written;
+        told = joined first.bytes held second.bytes lost next first.tellings second.tellings first.told second.told second.written;
         written = first.written;
         run = λ h m held sound.
             let one = first.run (back h) m held sound in
-            more_answered LineStep line_message book before mid after m lines more first.replies second.replies up later one (second.run h one.next one.held one.sound);
+            more_answered LineStep line_message book before mid after m lines more first.tellings second.tellings up later one (second.run h one.next one.held one.sound);
       }
 
   -- some of what is held is written
@@ -121,7 +124,7 @@ module _ {B : Type 0} (book : Ghosts B) where
       → done ++ rest ≡ held → Appends b c done → IsReplayed book before after a b lines held → IsReplayed book before after a c lines rest
   passed_on before after a b c lines held done rest is written r =
       record {
-        replies = r.replies;
+        tellings = r.tellings;
         each = r.each;
         bytes = r.bytes ++ done;
         told = append_assoc r.bytes done rest ∙ ap (λ l. r.bytes ++ l) is ∙ r.told;
@@ -129,31 +132,31 @@ module _ {B : Type 0} (book : Ghosts B) where
         run = r.run;
       }
 
-  answered_whole : (before after : B) (m : Content) (whole : List ℕ) (replies : List Reply)
-      → HasAnswered LineStep line_message book before after m (kept_of whole ∷ []) replies → HasAnswered LineStep line_message book before after m (whole ∷ []) replies
+  answered_whole : (before after : B) (m : Content) (whole : List ℕ) (tellings : List Telling)
+      → HasAnswered LineStep line_message book before after m (kept_of whole ∷ []) tellings → HasAnswered LineStep line_message book before after m (whole ∷ []) tellings
   answered_whole before after m whole [] one = absurd one.run
-  answered_whole before after m whole (r ∷ []) one =
+  answered_whole before after m whole (t ∷ []) one =
       record {
         next = one.next;
-        run = (one.run.0, whole_line m one.run.0 whole r one.run.1, one.run.2);
+        run = (one.run.0, whole_line m one.run.0 whole t one.run.1, one.run.2);
         held = one.held;
         sound = one.sound;
         blame = one.blame;
-        account = subst (AccountOne m r one.next) (ap (option_and_then message_of) (data_of-kept_of whole)) one.account;
+        account = subst (AccountOne m t one.next) (ap (option_and_then message_of) (data_of-kept_of whole)) one.account;
       }
-  answered_whole before after m whole (r ∷ s ∷ rs) one = absurd one.run.2
+  answered_whole before after m whole (t ∷ s ∷ ts) one = absurd one.run.2
 
   -- what is kept of a line was answered as the line
   pub whole_replayed : (before after : B) (a b : Option (List ℕ)) (whole unwritten : List ℕ)
       → IsReplayed book before after a b (kept_of whole ∷ []) unwritten → IsReplayed book before after a b (whole ∷ []) unwritten
   whole_replayed before after a b whole unwritten r =
       record {
-        replies = r.replies;
+        tellings = r.tellings;
         each = r.each;
         bytes = r.bytes;
         told = r.told;
         written = r.written;
-        run = λ h m held sound. answered_whole before after m whole r.replies (r.run h m held sound);
+        run = λ h m held sound. answered_whole before after m whole r.tellings (r.run h m held sound);
       }
 
   -- none or all of one line

@@ -8,6 +8,7 @@ use Rattle.shop_records.specs.Messages.{refusal_in}
 use Rattle.shop_request.specs.declared.faults.Fault.{Fault}
 use Rattle.shop_request.specs.declared.faults.Fault.TheVariants as faults
 use Rattle.shop_request.specs.declared.routes.Route.{Route}
+use Rattle.shop_request.specs.declared.routes.Route.TheVariants.{Plans}
 use Rattle.shop_request.specs.Routes.{takes_body}
 use Rattle.shop_request.specs.Requests.{Sense, silent, faulty, asking}
 use Rattle.shop_forms.specs.Forms.{json_texts}
@@ -88,17 +89,22 @@ abbrev pub reply_answer : Route → Reply → Answer
 reply_answer route reply =
     record { status = status_in (takes_body route) (refusal_in reply); fields = codes "Content-Type: application/json" ++ head_line_end; body = json_texts.of_reply reply }
 
-abbrev pub text_answer : List ℕ → Answer
-text_answer text = record { status = 200; fields = codes "Content-Type: text/plain" ++ head_line_end; body = text }
+-- the plans of a whole order are JSON, a ticket and a report are lines
+abbrev pub text_fields : Route → List ℕ
+text_fields Plans = codes "Content-Type: application/json" ++ head_line_end
+text_fields _ = codes "Content-Type: text/plain" ++ head_line_end
 
--- What a request is told: a reply, or a text.
+abbrev pub text_answer : Route → List ℕ → Answer
+text_answer route text = record { status = 200; fields = text_fields route; body = text }
+
+-- What a line or a request is told: a reply, or a text.
 pub data Telling : Type 0 where
   replied : Reply → Telling
   printed : List ℕ → Telling
 
 abbrev pub telling_answer : Route → Telling → Answer
 telling_answer route (replied reply) = reply_answer route reply
-telling_answer route (printed text) = text_answer text
+telling_answer route (printed text) = text_answer route text
 
 -- what is written where an input has this sense: nothing, the answer to a fault, or to a request that is told this
 abbrev pub bytes_of : Sense → Telling → List ℕ

@@ -1,8 +1,9 @@
 -- What lines stand for, what is answered to them, and what is written.
-use Rattle.std.specs.Prelude.{◌≡◌, ◌≢◌, ℕ, ◌&&◌, List, [], ◌∷◌, ◌++◌, length, map, zip, filter_map, nat_le, if◌then◌else◌, Option, None, MatchOption, option_map, option_and_then}
+use Rattle.std.specs.Prelude.{◌≡◌, ◌≢◌, ℕ, ◌&&◌, List, [], ◌∷◌, ◌++◌, length, map, zip, filter_map, nat_le, if◌then◌else◌, Option, Some, None, Ok, Err, MatchOption, option_and_then}
 use Rattle.std.specs.Str.{is_utf8}
 use Rattle.std.specs.List.{flat_map}
 use Rattle.std.specs.Io.KnownBytes.{Appends}
+use Rattle.shop_records.specs.declared.refusals.Refusal.{Refusal}
 use Rattle.shop_records.specs.declared.refusals.Refusal.TheVariants.{BadMessage, NoMemory, StoreFault}
 use Rattle.shop_records.specs.declared.messages.Message.{Message}
 use Rattle.shop_records.specs.declared.messages.Reply.{Reply}
@@ -16,11 +17,15 @@ use Rattle.shop_records.specs.Soundness.{IsSound}
 use Rattle.serde_json.specs.Data.{Data}
 use Rattle.serde_json.specs.Read.{read}
 use Rattle.shop_forms.specs.Forms.{message_of, query_of, json_texts}
+use Rattle.shop_plans.specs.declared.questions.PlansQuery.{PlansQuery}
+use Rattle.shop_plans.specs.Questions.{plans_query_of}
+use Rattle.shop_planning.specs.Questions.{AnswersPlans}
 use Rattle.shop_book.specs.declared.books.Book.{Ghosts}
 use Rattle.shop_book.specs.Kept.{OnContent}
 use Rattle.shop_desk.specs.Faults.{TellOfFailures}
 use Rattle.shop_desk.specs.Handled.{HasAccount}
 use Rattle.shop_wire.specs.Lines.{longest_line}
+use Rattle.shop_wire.specs.AnswerBytes.{Telling, replied, printed}
 
 -- the value that a line of at most 131072 bytes is
 abbrev pub data_of : List ℕ → Option Data
@@ -30,77 +35,112 @@ data_of line = if nat_le (length line) longest_line && is_utf8 line then read li
 abbrev pub IsNoMessage : Content → Reply → Content → Type 0
 IsNoMessage old reply new = (reply ≢ Refused NoMemory → reply ≡ Refused BadMessage) × (new ≡ old)
 
--- a value that is a message is a step of the machine, a query is answered, and anything else is refused
-abbrev pub ValueStep : Content → Data → Reply → Content → Type 0
-ValueStep old d reply new =
-    MatchOption (message_of d)
-    (MatchOption (query_of d) (IsNoMessage old reply new) (λ query. Answers old query reply × (new ≡ old)))
-    (λ message. Step json_texts old message reply new)
+-- a reply of which that holds
+abbrev pub IsReplied : Telling → (Reply → Type 0) → Type 0
+IsReplied (replied reply) of = of reply
+IsReplied (printed text) of = ⊥
 
-abbrev pub LineStep : Content → List ℕ → Reply → Content → Type 0
-LineStep old line reply new = MatchOption (data_of line) (IsNoMessage old reply new) (λ d. ValueStep old d reply new)
+-- the answer to a question for plans is told: its text, or its refusal
+abbrev pub TellsPlans : Content → PlansQuery → Telling → Type 0
+TellsPlans old question (printed text) = AnswersPlans old question (Ok text)
+TellsPlans old question (replied reply) = (refusal : Refusal) × (reply ≡ Refused refusal) × AnswersPlans old question (Err refusal)
+
+-- a question for plans is answered, and anything else is refused
+abbrev pub PlansStep : Content → Option PlansQuery → Telling → Content → Type 0
+PlansStep old asked telling new =
+    MatchOption asked (IsReplied telling (λ reply. IsNoMessage old reply new)) (λ question. TellsPlans old question telling × (new ≡ old))
+
+-- a value that is a message is a step of the machine, a query is answered, and so is a question for plans; anything else is
+-- refused
+abbrev pub ValueStep : Content → Data → Telling → Content → Type 0
+ValueStep old d telling new =
+    MatchOption (message_of d)
+    (MatchOption (query_of d) (PlansStep old (plans_query_of d) telling new) (λ query. IsReplied telling (λ reply. Answers old query reply × (new ≡ old))))
+    (λ message. IsReplied telling (λ reply. Step json_texts old message reply new))
+
+abbrev pub LineStep : Content → List ℕ → Telling → Content → Type 0
+LineStep old line telling new = MatchOption (data_of line) (IsReplied telling (λ reply. IsNoMessage old reply new)) (λ d. ValueStep old d telling new)
 
 -- the message that a line is
 abbrev pub line_message : List ℕ → Option Message
 line_message line = option_and_then message_of (data_of line)
 
--- ---- what is asked in turn, whether by lines or otherwise: what an element may be answered, and the message that it is
+-- ---- what is told
 
-module _ {X : Type 0} (step : Content → X → Reply → Content → Type 0) (message_in : X → Option Message) where
+-- the replies among what was told
+abbrev pub reply_in : Telling → Option Reply
+reply_in (replied reply) = Some reply
+reply_in (printed text) = None
+
+abbrev pub replies_in : List Telling → List Reply
+replies_in tellings = filter_map reply_in tellings
+
+-- a message, where there is one, with its reply
+abbrev pub with_reply : Option Message → Telling → List (Message × Reply)
+with_reply (Some message) (replied reply) = (message, reply) ∷ []
+with_reply _ telling = []
+
+-- ---- what is asked in turn, whether by lines or otherwise: what an element may be told, and the message that it is
+
+module _ {X : Type 0} (step : Content → X → Telling → Content → Type 0) (message_in : X → Option Message) where
   -- one after another
-  abbrev pub InTurn : Content → List X → List Reply → Content → Type 0
+  abbrev pub InTurn : Content → List X → List Telling → Content → Type 0
   InTurn old [] [] new = new ≡ old
-  InTurn old (x ∷ xs) (reply ∷ replies) new = (mid : Content) × step old x reply mid × InTurn mid xs replies new
-  InTurn old [] (reply ∷ replies) new = ⊥
+  InTurn old (x ∷ xs) (telling ∷ tellings) new = (mid : Content) × step old x telling mid × InTurn mid xs tellings new
+  InTurn old [] (telling ∷ tellings) new = ⊥
   InTurn old (x ∷ xs) [] new = ⊥
 
   -- the messages among what was asked, each with its reply
-  abbrev pub exchanges : List X → List Reply → List (Message × Reply)
-  exchanges asked replies = filter_map (λ e. option_map (λ message. (message, e.1)) (message_in e.0)) (zip asked replies)
+  abbrev pub exchanges : List X → List Telling → List (Message × Reply)
+  exchanges asked tellings = flat_map (λ e. with_reply (message_in e.0) e.1) (zip asked tellings)
 
   -- The book held old and holds next: all was answered in turn. Replies tell of a failed store only where it failed. Where a
   -- history gives old, one whose messages are those of that history with each message among these that was accepted, once,
   -- gives next, and this is its account.
-  pub record HasAnswered {B : Type 0} (book : Ghosts B) (before after : B) (old : Content) (asked : List X) (replies : List Reply) : Type 0 where
+  pub record HasAnswered {B : Type 0} (book : Ghosts B) (before after : B) (old : Content) (asked : List X) (tellings : List Telling) : Type 0 where
     pub next : Content
-    pub run : InTurn old asked replies next
+    pub run : InTurn old asked tellings next
     pub held : book.holds after next
     pub sound : IsSound json_texts next
-    pub blame : TellOfFailures replies (book.failed before) (book.failed after)
-    pub account : HasAccount json_texts old (map (λ e. e.0) (exchanges asked replies)) (map (λ e. e.1) (exchanges asked replies)) next
+    pub blame : TellOfFailures (replies_in tellings) (book.failed before) (book.failed after)
+    pub account : HasAccount json_texts old (map (λ e. e.0) (exchanges asked tellings)) (map (λ e. e.1) (exchanges asked tellings)) next
 
   -- A shop in which nothing was done yet, and under which no store can fail, was asked this, and answered so: no reply tells
   -- of a failed store, and the account is that of the messages that were accepted, each once.
-  pub record IsFromFresh (asked : List X) (replies : List Reply) : Type 0 where
+  pub record IsFromFresh (asked : List X) (tellings : List Telling) : Type 0 where
     pub next : Content
-    pub run : InTurn fresh asked replies next
-    pub blame : IsIn (Refused StoreFault) replies → ⊥
+    pub run : InTurn fresh asked tellings next
+    pub blame : IsIn (Refused StoreFault) (replies_in tellings) → ⊥
     pub history : List Entry
-    pub messages : messages_of history ≡ history_after [] (map (λ e. e.0) (exchanges asked replies)) (map (λ e. e.1) (exchanges asked replies))
+    pub messages : messages_of history ≡ history_after [] (map (λ e. e.0) (exchanges asked tellings)) (map (λ e. e.1) (exchanges asked tellings))
     pub account : IsAccountOf json_texts history next
 
 -- ---- what is written
 
--- a reply as a line
-abbrev pub reply_line : Reply → List ℕ
-reply_line reply = json_texts.of_reply reply ++ 10 ∷ []
+abbrev pub telling_text : Telling → List ℕ
+telling_text (replied reply) = json_texts.of_reply reply
+telling_text (printed text) = text
 
-abbrev pub reply_lines : List Reply → List ℕ
-reply_lines replies = flat_map reply_line replies
+-- a reply or a text as a line
+abbrev pub telling_line : Telling → List ℕ
+telling_line telling = telling_text telling ++ 10 ∷ []
 
--- Each line has its reply, and the replies were written but for some last bytes; this is said of the replies.
-pub record AreAnswered (says : List Reply → Type 0) (held_old held_new : Option (List ℕ)) (lines : List (List ℕ)) (unwritten : List ℕ) : Type 0 where
-  pub replies : List Reply
-  pub each : length replies ≡ length lines
+abbrev pub telling_lines : List Telling → List ℕ
+telling_lines tellings = flat_map telling_line tellings
+
+-- Each line has a reply or a text, and these were written but for some last bytes; this is said of them.
+pub record AreAnswered (says : List Telling → Type 0) (held_old held_new : Option (List ℕ)) (lines : List (List ℕ)) (unwritten : List ℕ) : Type 0 where
+  pub tellings : List Telling
+  pub each : length tellings ≡ length lines
   pub bytes : List ℕ
-  pub told : bytes ++ unwritten ≡ reply_lines replies
+  pub told : bytes ++ unwritten ≡ telling_lines tellings
   pub written : Appends held_old held_new bytes
-  pub run : says replies
+  pub run : says tellings
 
 -- The lines were answered in turn: each sound content that an honest book held before led to one that it holds now.
 abbrev pub IsReplayed : {B : Type 0} → Ghosts B → B → B → Option (List ℕ) → Option (List ℕ) → List (List ℕ) → List ℕ → Type 0
 IsReplayed book before after held_old held_new lines unwritten =
-    AreAnswered (λ replies. OnContent book before after (λ m. IsSound json_texts m → HasAnswered LineStep line_message book before after m lines replies))
+    AreAnswered (λ tellings. OnContent book before after (λ m. IsSound json_texts m → HasAnswered LineStep line_message book before after m lines tellings))
     held_old held_new lines unwritten
 
 -- The lines were answered in turn by a shop in which nothing was done yet, and under which no store can fail.

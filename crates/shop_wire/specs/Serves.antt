@@ -1,5 +1,5 @@
 -- What a request does to a content, and what is told and written.
-use Rattle.std.specs.Prelude.{◌≡◌, ◌⊎◌, ◌&&◌, ◌==◌, ℕ, Bool, true, false, List, [], ◌∷◌, ◌++◌, map, nat_le, bytes_eq, Option, Some, None, Result, Ok, Err, MatchOption, option_map, option_and_then, IfSome, if◌then◌else◌}
+use Rattle.std.specs.Prelude.{◌≡◌, ◌⊎◌, ◌&&◌, ◌==◌, ℕ, Bool, true, false, List, ◌++◌, map, nat_le, bytes_eq, Option, Some, None, Result, Ok, Err, MatchOption, option_map, option_and_then, IfSome, if◌then◌else◌}
 use Rattle.std.specs.Fmt.{decimal}
 use Rattle.std.specs.List.{after_first, before_first}
 use Rattle.std.specs.Str.{is_utf8}
@@ -20,17 +20,21 @@ use Rattle.shop_machine.specs.Machine.{Step}
 use Rattle.shop_answers.specs.Queries.{Answers}
 use Rattle.shop_records.specs.Soundness.{IsSound}
 use Rattle.shop_forms.specs.Forms.{query_of, json_texts}
+use Rattle.shop_plans.specs.declared.questions.PlansQuery.{PlansQuery}
+use Rattle.shop_plans.specs.Questions.{plans_query_of}
+use Rattle.shop_planning.specs.declared.posed.Posed.{Posed}
+use Rattle.shop_planning.specs.Questions.{IsPosed}
 use Rattle.shop_book.specs.declared.books.Book.{Ghosts}
-use Rattle.shop_book.specs.Kept.{OnContent}
+use Rattle.shop_book.specs.Kept.{OnContent, Unchanged}
 use Rattle.shop_desk.specs.Faults.{StoreFailed}
 use Rattle.shop_desk.specs.Handled.{HasAccount}
 use Rattle.shop_text.specs.Tickets.{ticket_of}
 use Rattle.shop_text.specs.Yields.{yield_of}
 use Rattle.shop_request.specs.declared.routes.Route.{Route}
-use Rattle.shop_request.specs.declared.routes.Route.TheVariants.{Message, Plan, Bound, Totals, Rack, Trace, Demand, Ticket, Yield, Materials, Parts, PartsBehind, Demands, DemandsOf, Jobs, Job, Terminal}
+use Rattle.shop_request.specs.declared.routes.Route.TheVariants.{Message, Plan, Plans, Bound, Totals, Rack, Trace, Demand, Ticket, Yield, Materials, Parts, PartsBehind, Demands, DemandsOf, Jobs, Job, Terminal}
 use Rattle.shop_request.specs.Routes.{takes_body}
 use Rattle.shop_request.specs.Requests.{Sense, silent, faulty, asking, HasSense}
-use Rattle.shop_wire.specs.Replays.{data_of, line_message, IsNoMessage}
+use Rattle.shop_wire.specs.Replays.{data_of, line_message, IsNoMessage, IsReplied, PlansStep, with_reply}
 use Rattle.shop_wire.specs.AnswerBytes.{Telling, replied, printed, bytes_of}
 
 -- ---- what is asked for
@@ -95,6 +99,10 @@ is_of route _ = false
 abbrev pub body_query : Route → List ℕ → Option Query
 body_query route body = option_and_then (λ d. option_and_then (λ q. if is_of route q then Some q else None) (query_of d)) (data_of body)
 
+-- the question for plans that a body is
+abbrev pub body_plans : List ℕ → Option PlansQuery
+body_plans body = option_and_then plans_query_of (data_of body)
+
 -- the query that a path says
 abbrev pub path_query : Route → List ℕ → Option Query
 path_query Totals part = option_map (λ code. query.Totals code) (code_at part)
@@ -123,11 +131,6 @@ text_at m _ part = None
 
 -- ---- what is told
 
--- a reply of which that holds
-abbrev pub IsReplied : Telling → (Reply → Type 0) → Type 0
-IsReplied (replied reply) of = of reply
-IsReplied (printed text) of = ⊥
-
 -- a message is a step of the machine, and anything else is refused
 abbrev pub MessageStep : Content → List ℕ → Reply → Content → Type 0
 MessageStep old body reply new = MatchOption (line_message body) (IsNoMessage old reply new) (λ message. Step json_texts old message reply new)
@@ -148,6 +151,7 @@ PrintStep old asked telling new = MatchOption asked (IsReplied telling (λ reply
 abbrev pub RequestStep : Content → Route → List ℕ → Telling → Content → Type 0
 RequestStep old Message text telling new = IsReplied telling (λ reply. MessageStep old text reply new)
 RequestStep old Plan text telling new = IsReplied telling (λ reply. AskStep old (asked_at Plan text) reply new)
+RequestStep old Plans text telling new = PlansStep old (body_plans text) telling new
 RequestStep old Bound text telling new = IsReplied telling (λ reply. AskStep old (asked_at Bound text) reply new)
 RequestStep old Totals text telling new = IsReplied telling (λ reply. AskStep old (asked_at Totals text) reply new)
 RequestStep old Rack text telling new = IsReplied telling (λ reply. AskStep old (asked_at Rack text) reply new)
@@ -176,10 +180,6 @@ SenseStep old (asking route text) telling new = RequestStep old route text telli
 abbrev pub sense_message : Sense → Option MessageOf
 sense_message (asking Message body) = line_message body
 sense_message _ = None
-
-abbrev pub with_reply : Option MessageOf → Telling → List (MessageOf × Reply)
-with_reply (Some message) (replied reply) = (message, reply) ∷ []
-with_reply _ telling = []
 
 -- a message, with its reply
 abbrev pub exchanged : Sense → Telling → List (MessageOf × Reply)
@@ -212,3 +212,13 @@ IsServedAs book before after held_old held_new sense unwritten =
 abbrev pub IsServed : {B : Type 0} → Ghosts B → B → B → Option (List ℕ) → Option (List ℕ) → Option (List ℕ) → List ℕ → Type 0
 IsServed book before after left held_old held_new unwritten =
     (sense : Sense) × IfSome left (λ input. HasSense input sense) × IsServedAs book before after held_old held_new sense unwritten
+
+-- The question for plans that an input asks at /plans, for whoever thinks about it: an honest book holds what it held, each such
+-- content was asked it, and the book is left as it was.
+pub record IsBegun {B : Type 0} (book : Ghosts B) (before after : B) (left : Option (List ℕ)) (posed : Posed) : Type 0 where
+  pub body : List ℕ
+  pub query : PlansQuery
+  pub sense : IfSome left (λ input. HasSense input (asking Plans body))
+  pub asks : body_plans body ≡ Some query
+  pub run : OnContent book before after (λ m. IsSound json_texts m → book.holds after m × IsPosed m query posed)
+  pub keeps : Unchanged book (λ old new. new ≡ old) before after

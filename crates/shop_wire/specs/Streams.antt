@@ -1,5 +1,5 @@
 -- How far a source was read, and when a source or a sink failed.
-use Rattle.std.specs.Prelude.{ℕ, ◌+◌, ◌-◌, ◌*◌, ◌<◌, ◌≤◌, ◌⊎◌, List, length, Option, Some, None, ⊤, IfSome}
+use Rattle.std.specs.Prelude.{ℕ, ◌+◌, ◌-◌, ◌*◌, ◌≤◌, ◌⊎◌, List, length, Option, Some, None, ⊤, IfSome}
 use Rattle.shop_streams.specs.Streams.{most_counted}
 use Rattle.shop_wire.specs.declared.limits.TheConstants.{MOST_READS, ROOM}
 

@@ -1,20 +1,19 @@
--- What the parts of serving a request answer.
+-- What the parts of answering a line or a request give.
 use Rattle.std.specs.Prelude.{◌≡◌, ◌⊎◌, ℕ, List, Option, Some, None, Result, Ok, Err, IfSome, MatchOption, ⊤, string_bytes}
 use Rattle.std.specs.declared.string.String.{String}
 use Rattle.shop_records.specs.declared.refusals.Refusal.{Refusal}
 use Rattle.shop_records.specs.declared.refusals.Refusal.TheVariants.{BadMessage, NoMemory}
-use Rattle.shop_records.specs.declared.messages.Reply.{Reply}
 use Rattle.shop_records.specs.declared.messages.Reply.TheVariants.{Refused}
 use Rattle.shop_forms.specs.Forms.{json_texts}
 use Rattle.shop_text.specs.Printing.{IsFailure}
-use Rattle.shop_wire.specs.declared.telling.Told.{Told}
-use Rattle.shop_wire.specs.declared.telling.Told.TheVariants as told
+use Rattle.shop_wire.specs.declared.told.Told.{Told}
+use Rattle.shop_wire.specs.declared.told.Told.TheVariants as told
 use Rattle.shop_wire.specs.AnswerBytes.{Telling, replied, printed}
 
 -- what was told
 abbrev pub telling_of : Told → Telling
 telling_of (told.Reply reply text) = replied reply
-telling_of (told.Text text) = printed (string_bytes text)
+telling_of (told.Text text) = printed text
 
 -- a text that was told of a reply is its text
 abbrev pub IsPrinted : Told → Type 0

@@ -1,52 +1,62 @@
-//! The reply to a line: it is read as a message or a query, handled over a book, and held as a line.
+//! What a line is told: it is read as a message, a query or a question for plans, done over a book, and held as a line.
 
-ghost use Rattle.std.specs.Prelude.{◌≡◌, ◌++◌, ◌∷◌, [], ℕ, List, IfOk, IfSome, OnOk, OnErr, None};
+ghost use Rattle.std.specs.Prelude.{◌≡◌, ◌++◌, ◌∷◌, [], ℕ, List, IfOk, OnOk, OnErr, None};
 ghost use Rattle.serde_json.specs.View.{view};
 ghost use Rattle.shop_records.specs.Soundness.{IsSound};
 ghost use Rattle.shop_forms.specs.Forms.{message_of, json_texts};
 ghost use Rattle.shop_book.specs.Kept.{OnContent};
 ghost use Rattle.shop_desk.specs.Faults.{CountsUp};
-ghost use Rattle.shop_wire.specs.Replays.{HasAnswered, LineStep, ValueStep, data_of, line_message, reply_line};
-ghost use Rattle.shop_wire.specs.Tellings.{IsRead};
+ghost use Rattle.shop_wire.specs.Replays.{HasAnswered, LineStep, ValueStep, data_of, line_message, telling_line};
+ghost use Rattle.shop_wire.specs.Tellings.{IsPrinted, IsRead, telling_of};
 
 use crate::limits::LONGEST_LINE;
+use crate::plans::plans_told;
+use crate::told::{Told, refused, text_told};
 use serde_json::Value;
 use shop_book::Book;
 use shop_desk::{ask, handle_with_text};
-use shop_rules::{Refusal, Reply, Text, read_message, read_query, reply_text};
+use shop_plans::read_plans;
+use shop_rules::{Refusal, read_message, read_query};
 use std::alloc::{AllocError, Global};
 
-// The reply to a value that is no message.
-fn query_reply<B: Book>(alloc: Global, book: &mut B, value: &Value) -> Reply
+// What a value is told that is no message.
+fn query_told<B: Book>(alloc: Global, book: &mut B, value: &Value) -> Told
     ensures step { message_of (view value.now) ≡ None
         → OnContent B.Book book.old book.new
         (λ m. IsSound json_texts m
         → HasAnswered ValueStep message_of B.Book book.old book.new m (view value.now ∷ [])
-        (result ∷ [])) }
+        (telling_of result ∷ [])) }
+    ensures printed { IsPrinted result }
     ensures honest { B.is_honest book.new → B.is_honest book.old }
     ensures failures { CountsUp (B.failed book.old) (B.failed book.new) }
 {
     match read_query(alloc, value) {
-        Ok(query) => ask(alloc, book, &query),
-        Err(refusal) => Reply::Refused(refusal),
+        Ok(query) => Told::Reply(ask(alloc, book, &query), None),
+        Err(refusal) => match refusal {
+            Refusal::NoMemory => refused(Refusal::NoMemory),
+            _ => plans_told(alloc, book, read_plans(alloc, value)),
+        },
     }
 }
 
-// The reply to a value, and its text, where it was written to be kept.
-fn reply_to<B: Book>(alloc: Global, book: &mut B, value: &Value) -> (Reply, Option<Text>)
+// What a value is told.
+fn value_told<B: Book>(alloc: Global, book: &mut B, value: &Value) -> Told
     ensures step { OnContent B.Book book.old book.new
         (λ m. IsSound json_texts m
         → HasAnswered ValueStep message_of B.Book book.old book.new m (view value.now ∷ [])
-        (result.0 ∷ [])) }
-    ensures told { IfSome result.1 (λ text. text ≡ json_texts.of_reply result.0) }
+        (telling_of result ∷ [])) }
+    ensures printed { IsPrinted result }
     ensures honest { B.is_honest book.new → B.is_honest book.old }
     ensures failures { CountsUp (B.failed book.old) (B.failed book.new) }
 {
     match read_message(alloc, value) {
-        Ok(message) => handle_with_text(alloc, book, &message),
+        Ok(message) => {
+            let (reply, text) = handle_with_text(alloc, book, &message);
+            Told::Reply(reply, text)
+        }
         Err(refusal) => match refusal {
-            Refusal::NoMemory => (Reply::Refused(Refusal::NoMemory), None),
-            _ => (query_reply(alloc, book, value), None),
+            Refusal::NoMemory => refused(Refusal::NoMemory),
+            _ => query_told(alloc, book, value),
         },
     }
 }
@@ -69,62 +79,45 @@ pub(crate) fn value_in(alloc: Global, line: &[u8]) -> Result<Value, Refusal>
     }
 }
 
-/// The reply to a line, and its text, where it was written to be kept. Refused `NoMemory` where memory runs out while the line is
-/// read.
-pub(crate) fn answer<B: Book>(alloc: Global, book: &mut B, line: &[u8]) -> (Reply, Option<Text>)
+/// What a line is told. Refused `NoMemory` where memory runs out while the line is read.
+pub(crate) fn answer<B: Book>(alloc: Global, book: &mut B, line: &[u8]) -> Told
     ensures step { OnContent B.Book book.old book.new
         (λ m. IsSound json_texts m
         → HasAnswered LineStep line_message B.Book book.old book.new m (line.now ∷ [])
-        (result.0 ∷ [])) }
-    ensures told { IfSome result.1 (λ text. text ≡ json_texts.of_reply result.0) }
+        (telling_of result ∷ [])) }
+    ensures printed { IsPrinted result }
     ensures honest { B.is_honest book.new → B.is_honest book.old }
     ensures failures { CountsUp (B.failed book.old) (B.failed book.new) }
 {
     match value_in(alloc, line) {
-        Ok(value) => reply_to(alloc, book, &value),
-        Err(refusal) => (Reply::Refused(refusal), None),
-    }
-}
-
-/// The text of a reply: the one that was told, where there is one.
-pub(crate) fn text_of(alloc: Global, reply: &Reply, told: Option<Text>) -> Result<Text, AllocError>
-    requires { IfSome told (λ text. text ≡ json_texts.of_reply reply.now) }
-    ensures { IfOk result (λ text. text ≡ json_texts.of_reply reply.now) }
-{
-    match told {
-        Some(text) => Ok(text),
-        None => reply_text(alloc, reply),
+        Ok(value) => value_told(alloc, book, &value),
+        Err(refusal) => refused(refusal),
     }
 }
 
 // Puts a text behind what is held, and a line feed, as far as there is memory.
-fn hold_line(held: &mut Vec<u8>, text: &Text) -> Result<(), AllocError>
+fn hold_line(held: &mut Vec<u8>, text: &str) -> Result<(), AllocError>
     ensures ok { OnOk result (held.new.items ≡ held.old.items ++ (text.now ++ 10 ∷ [])) }
     ensures err { OnErr result
         ((bytes rest : List ℕ) × (bytes ++ rest ≡ text.now ++ 10 ∷ [])
         × (held.new.items ≡ held.old.items ++ bytes)) }
 {
-    match held.extend_from_slice(text.as_str().as_bytes()) {
+    match held.extend_from_slice(text.as_bytes()) {
         Ok(()) => held.extend_from_slice(b"\n"),
         Err(error) => Err(error),
     }
 }
 
-/// Puts a reply behind what is held as a line, as far as there is memory. What was told of it is its text.
-pub(crate) fn buffer_reply(
-    alloc: Global,
-    reply: &Reply,
-    told: Option<Text>,
-    held: &mut Vec<u8>,
-) -> Result<(), AllocError>
-    requires { IfSome told (λ text. text ≡ json_texts.of_reply reply.now) }
-    ensures ok { OnOk result (held.new.items ≡ held.old.items ++ reply_line reply.now) }
+/// Puts what is told behind what is held as a line, as far as there is memory.
+pub(crate) fn hold_told(alloc: Global, told: Told, held: &mut Vec<u8>) -> Result<(), AllocError>
+    requires { IsPrinted told }
+    ensures ok { OnOk result (held.new.items ≡ held.old.items ++ telling_line (telling_of told)) }
     ensures err { OnErr result
-        ((bytes rest : List ℕ) × (bytes ++ rest ≡ reply_line reply.now)
+        ((bytes rest : List ℕ) × (bytes ++ rest ≡ telling_line (telling_of told))
         × (held.new.items ≡ held.old.items ++ bytes)) }
 {
-    let Ok(text) = text_of(alloc, reply, told) else {
+    let Ok(text) = text_told(alloc, told) else {
         return Err(AllocError);
     };
-    hold_line(held, &text)
+    hold_line(held, text.as_str())
 }

@@ -1,4 +1,4 @@
-//! What a request is told: its route's message, query, ticket or report, done over a book.
+//! What a request is told: its route's message, query, plans, ticket or report, done over a book.
 
 ghost use Rattle.std.specs.Prelude.{◌≡◌, ◌⊎◌, ◌∷◌, [], Some, None, IfErr, IfOk, IfSome};
 ghost use Rattle.shop_records.specs.declared.messages.Reply.TheVariants.{Refused};
@@ -12,11 +12,12 @@ ghost use Rattle.shop_request.specs.declared.routes.Route.TheVariants.{Message a
 ghost use Rattle.shop_wire.specs.AnswerBytes.{replied};
 ghost use Rattle.shop_wire.specs.Replays.{line_message};
 ghost use Rattle.shop_wire.specs.Serves.{AskStep, HasServed, asked_at, body_query, code_at, is_of, name_at, numbered, path_query, text_at};
-ghost use Rattle.shop_wire.specs.Tellings.{IsPrinted, IsRead, IsToldOf, PrintsCounted, telling_of};
+ghost use Rattle.shop_wire.specs.Tellings.{IsPrinted, IsRead, PrintsCounted, telling_of};
 
 use crate::answers::value_in;
 use crate::paths::{demands_at, number_before, number_of, parts_at, terminal_in};
-use crate::telling::Told;
+use crate::plans::body_told;
+use crate::told::{Told, refused, told_of};
 use cut_measure::MOST_NUMBERS;
 use shop_book::Book;
 use shop_desk::{ask, handle_with_text};
@@ -172,17 +173,6 @@ fn ask_reply<B: Book>(alloc: Global, book: &mut B, route: Route, text: &[u8]) ->
     }
 }
 
-// A text, or the refusal that stands for it.
-fn told_of(made: Result<String, Refusal>) -> Told
-    ensures told { IsToldOf made (telling_of result) }
-    ensures printed { IsPrinted result }
-{
-    match made {
-        Ok(text) => Told::Text(text),
-        Err(refusal) => Told::Reply(Reply::Refused(refusal), None),
-    }
-}
-
 // The ticket that a path asks for.
 fn ticket_told<B: Book>(alloc: Global, book: &mut B, part: &[u8]) -> Told
     ensures answer { OnContent B.Book book.old book.new
@@ -193,7 +183,7 @@ fn ticket_told<B: Book>(alloc: Global, book: &mut B, part: &[u8]) -> Told
 {
     match number_in(part) {
         Some(job) => told_of(ticket_text(alloc, book, job)),
-        None => Told::Reply(Reply::Refused(Refusal::BadMessage), None),
+        None => refused(Refusal::BadMessage),
     }
 }
 
@@ -207,7 +197,7 @@ fn yield_told<B: Book>(alloc: Global, book: &mut B, part: &[u8]) -> Told
 {
     match code_in(part) {
         Some(material) => told_of(report_text(alloc, book, material)),
-        None => Told::Reply(Reply::Refused(Refusal::BadMessage), None),
+        None => refused(Refusal::BadMessage),
     }
 }
 
@@ -222,6 +212,7 @@ pub(crate) fn respond<B: Book>(alloc: Global, book: &mut B, route: Route, text: 
 {
     match route {
         Route::Message => message_told(alloc, book, text),
+        Route::Plans => body_told(alloc, book, text),
         Route::Ticket => ticket_told(alloc, book, text),
         Route::Yield => yield_told(alloc, book, text),
         _ => Told::Reply(ask_reply(alloc, book, route, text), None),

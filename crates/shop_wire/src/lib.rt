@@ -1,5 +1,5 @@
-//! Messages and queries as lines of JSON, and their replies as lines, over any source, sink and book; one request of HTTP,
-//! and its answer.
+//! Messages, queries and questions for plans as lines of JSON, and what they are told as lines, over any source, sink and book;
+//! one request of HTTP, and its answer.
 #![tactic(auto)]
 
 mod answers;
@@ -7,11 +7,14 @@ mod asking;
 mod faults;
 mod limits;
 mod paths;
+mod plans;
 mod reader;
 mod replays;
 mod serving;
 mod telling;
+mod told;
 
 pub use faults::{ReplayFault, WireFault};
 pub use replays::replay;
-pub use serving::{serve_one, serve_request};
+pub use serving::{begin_request, serve_one, serve_request};
+pub use telling::{plans_answer, plans_refused};

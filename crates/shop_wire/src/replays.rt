@@ -10,7 +10,7 @@ ghost use Rattle.shop_wire.specs.Streams.{AreReads, IsLong, most_reads};
 ghost use Rattle.shop_wire.specs.declared.limits.TheConstants.{MOST_HELD};
 ghost use Rattle.shop_wire.specs.declared.faults.ReplayFault.TheVariants.{Read, Write, NoMemory};
 
-use crate::answers::{answer, buffer_reply};
+use crate::answers::{answer, hold_told};
 use crate::faults::ReplayFault;
 use crate::limits::{LONGEST_LINE, MOST_HELD};
 use crate::reader::LineReader;
@@ -18,8 +18,8 @@ use shop_book::Book;
 use shop_text::{Sink, Source, write_all};
 use std::alloc::Global;
 
-// Answers a line, and holds its reply.
-fn hold_reply<B: Book>(
+// Answers a line, and holds what it is told.
+fn hold_answer<B: Book>(
     alloc: Global,
     line: &[u8],
     book: &mut B,
@@ -35,8 +35,8 @@ fn hold_reply<B: Book>(
     ensures failures { CountsUp (B.failed book.old) (B.failed book.new) }
     ensures fault { IfErr result (λ fault. fault ≡ NoMemory) }
 {
-    let (reply, told) = answer(alloc, book, line);
-    match buffer_reply(alloc, &reply, told, held) {
+    let told = answer(alloc, book, line);
+    match hold_told(alloc, told, held) {
         Ok(()) => Ok(()),
         Err(_) => Err(ReplayFault::NoMemory),
     }
@@ -126,7 +126,7 @@ fn answer_lines<S: Source, W: Sink, B: Book>(
     };
     let mut count = 0u64;
     while reader.next_line(source, &mut line)? {
-        hold_reply(alloc, &line, book, held)?;
+        hold_answer(alloc, &line, book, held)?;
         count += 1;
         flush_if_due(&reader, sink, held)?;
     }

@@ -1,18 +1,24 @@
 //! One request, read from a source, done over a book and answered on a sink.
 
-ghost use Rattle.std.specs.Prelude.{◌≡◌, ◌≢◌, ◌⊎◌, ◌≤◌, ◌+◌, ◌++◌, [], ℕ, List, OnOk, OnErr, Err, IfOk, IfErr, IfSome, IsErrOf, string_bytes};
+ghost use Rattle.std.specs.Prelude.{◌≡◌, ◌≢◌, ◌⊎◌, ◌≤◌, ◌+◌, ◌++◌, [], ℕ, List, Option, Ok, Some, None, OnOk, OnErr, Err, IfOk, IfErr, IfSome, IsErrOf, string_bytes};
 ghost use Rattle.std.specs.Io.KnownBytes.{Appends};
 ghost use Rattle.shop_desk.specs.Faults.{CountsUp};
 ghost use Rattle.shop_streams.specs.Streams.{HasFailed};
 ghost use Rattle.shop_request.specs.Requests.{HasSense, asking, most_request_reads, sense_of};
 ghost use Rattle.shop_wire.specs.AnswerBytes.{answer_bytes, fault_answer};
-ghost use Rattle.shop_wire.specs.Serves.{IsServed, IsServedAs};
+ghost use Rattle.shop_planning.specs.Thoughts.{posed_in};
+ghost use Rattle.shop_planning.specs.declared.thought.Thought.{Thought as ThoughtOf};
+ghost use Rattle.shop_request.specs.declared.routes.Route.TheVariants.{Plans as AtPlans};
+ghost use Rattle.shop_wire.specs.Serves.{IsBegun, IsServed, IsServedAs};
 ghost use Rattle.shop_wire.specs.declared.faults.WireFault.TheVariants.{Read, Write, NoMemory};
 
 use crate::asking::respond;
 use crate::faults::WireFault;
+use crate::plans::pose_body;
 use crate::telling::{fault_text, told_text};
+use crate::told::refused;
 use shop_book::Book;
+use shop_planning::Thought;
 use shop_request::{Fault, Inbound, Route, Routes, StreamFault, read_request};
 use shop_text::{Sink, Source, write_all};
 use std::alloc::{AllocError, Global};
@@ -158,7 +164,126 @@ pub fn serve_request<S: Source, W: Sink, B: Book>(
     }
 }
 
-/// The same with routes of its own. A server makes them once and calls `serve_request`.
+// Poses the question for plans that a body is, or answers its refusal.
+fn begin_plans<W: Sink, B: Book>(
+    alloc: Global,
+    body: &[u8],
+    sink: &mut W,
+    book: &mut B,
+) -> Result<Option<Thought>, WireFault>
+    ensures begun { (left : Option (List ℕ))
+        → IfSome left (λ input. HasSense input (asking AtPlans body.now))
+        → (thought : ThoughtOf) → result ≡ Ok (Some thought)
+        → IsBegun B.Book book.old book.new left (posed_in thought) × (sink.new ≡ sink.old) }
+    ensures answered { result ≡ Ok None
+        → IsServedAs B.Book book.old book.new (W.held sink.old) (W.held sink.new)
+        (asking AtPlans body.now) [] }
+    ensures err { OnErr result
+        ((unwritten : List ℕ) × IsServedAs B.Book book.old book.new (W.held sink.old)
+        (W.held sink.new) (asking AtPlans body.now) unwritten) }
+    ensures honest { B.is_honest book.new → B.is_honest book.old }
+    ensures failures { CountsUp (B.failed book.old) (B.failed book.new) }
+    ensures fault { IfErr result
+        (λ fault. (fault ≡ NoMemory) ⊎ (fault ≡ Write)
+        × HasFailed (W.failed sink.old) (W.failed sink.new)) }
+    ensures worked { OnOk result (W.failed sink.new ≡ W.failed sink.old) }
+{
+    match pose_body(alloc, book, body) {
+        Ok(thought) => Ok(Some(thought)),
+        Err(refusal) => {
+            match write_made(sink, told_text(alloc, Route::Plans, refused(refusal))) {
+                Ok(()) => Ok(None),
+                Err(fault) => Err(fault),
+            }
+        }
+    }
+}
+
+// The body of a request at `/plans`.
+fn plans_body(inbound: &Inbound) -> Option<&[u8]>
+    ensures { IfSome result (λ body. sense_of inbound.now ≡ asking AtPlans body.now) }
+{
+    match inbound {
+        Inbound::Asks(route, body) => match route {
+            Route::Plans => Some(body.as_slice()),
+            _ => None,
+        },
+        _ => None,
+    }
+}
+
+// Answers what was read, or poses its question.
+fn begin_inbound<W: Sink, B: Book>(
+    alloc: Global,
+    inbound: &Inbound,
+    sink: &mut W,
+    book: &mut B,
+) -> Result<Option<Thought>, WireFault>
+    ensures begun { (left : Option (List ℕ))
+        → IfSome left (λ input. HasSense input (sense_of inbound.now))
+        → (thought : ThoughtOf) → result ≡ Ok (Some thought)
+        → IsBegun B.Book book.old book.new left (posed_in thought) × (sink.new ≡ sink.old) }
+    ensures answered { result ≡ Ok None
+        → IsServedAs B.Book book.old book.new (W.held sink.old) (W.held sink.new)
+        (sense_of inbound.now) [] }
+    ensures err { OnErr result
+        ((unwritten : List ℕ) × IsServedAs B.Book book.old book.new (W.held sink.old)
+        (W.held sink.new) (sense_of inbound.now) unwritten) }
+    ensures honest { B.is_honest book.new → B.is_honest book.old }
+    ensures failures { CountsUp (B.failed book.old) (B.failed book.new) }
+    ensures fault { IfErr result
+        (λ fault. (fault ≡ NoMemory) ⊎ (fault ≡ Write)
+        × HasFailed (W.failed sink.old) (W.failed sink.new)) }
+    ensures worked { OnOk result (W.failed sink.new ≡ W.failed sink.old) }
+{
+    if let Some(body) = plans_body(inbound) {
+        return begin_plans(alloc, body, sink, book);
+    }
+    match answer_inbound(alloc, inbound, sink, book) {
+        Ok(()) => Ok(None),
+        Err(fault) => Err(fault),
+    }
+}
+
+/// As `serve_request`, but that a question at `/plans` that was posed isn't answered: it is given to whoever thinks about it,
+/// and nothing is written.
+///
+/// `Read`, `Write` and `NoMemory` as there.
+pub fn begin_request<S: Source, W: Sink, B: Book>(
+    alloc: Global,
+    routes: &Routes,
+    source: &mut S,
+    sink: &mut W,
+    book: &mut B,
+) -> Result<Option<Thought>, WireFault>
+    ensures begun { (thought : ThoughtOf) → result ≡ Ok (Some thought)
+        → IsBegun B.Book book.old book.new (S.left source.old) (posed_in thought)
+        × (sink.new ≡ sink.old) }
+    ensures answered { result ≡ Ok None
+        → IsServed B.Book book.old book.new (S.left source.old) (W.held sink.old)
+        (W.held sink.new) [] }
+    ensures err { OnErr result (((book.new ≡ book.old) × (sink.new ≡ sink.old))
+        ⊎ ((unwritten : List ℕ) × IsServed B.Book book.old book.new (S.left source.old)
+        (W.held sink.old) (W.held sink.new) unwritten)) }
+    ensures honest { B.is_honest book.new → B.is_honest book.old }
+    ensures failures { CountsUp (B.failed book.old) (B.failed book.new) }
+    ensures reads { S.reads source.new ≤ S.reads source.old + most_request_reads }
+    ensures read { result ≡ Err Read → HasFailed (S.failed source.old) (S.failed source.new)
+        × (book.new ≡ book.old) × (sink.new ≡ sink.old) }
+    ensures write { result ≡ Err Write → HasFailed (W.failed sink.old) (W.failed sink.new) }
+    ensures worked { OnOk result (W.failed sink.new ≡ W.failed sink.old) }
+{
+    let inbound = match read_one(alloc, routes, source) {
+        Ok(inbound) => inbound,
+        Err(fault) => return Err(fault),
+    };
+    match begin_inbound(alloc, &inbound, sink, book) {
+        Ok(begun) => Ok(begun),
+        Err(fault) => Err(fault),
+    }
+}
+
+/// As `serve_request`, with routes of its own. A server makes them once and calls `serve_request`.
 pub fn serve_one<S: Source, W: Sink, B: Book>(
     alloc: Global,
     source: &mut S,

@@ -1,25 +1,20 @@
 //! The bytes of an answer to a request: its status, its fields and its body.
 
 ghost use Rattle.std.specs.Prelude.{◌≡◌, ◌≤◌, ◌<◌, IfOk, IfSome, decimal, string_bytes};
-ghost use Rattle.shop_wire.specs.AnswerBytes.{answer_bytes, fault_answer, fault_fields, fault_status, phrase, refusal_status, reply_answer, status_in, telling_answer, text_answer, unfound};
+ghost use Rattle.shop_wire.specs.AnswerBytes.{answer_bytes, fault_answer, fault_fields, fault_status, phrase, printed, refusal_status, replied, reply_answer, status_in, telling_answer, text_answer, text_fields, unfound};
 ghost use Rattle.shop_wire.specs.Tellings.{IsPrinted, telling_of};
 ghost use Rattle.shop_records.specs.Messages.{refusal_in};
+ghost use Rattle.shop_records.specs.declared.messages.Reply.TheVariants.{Refused};
+ghost use Rattle.shop_records.specs.declared.refusals.Refusal.TheVariants.{NoMemory};
 ghost use Rattle.shop_request.specs.Routes.{takes_body};
+ghost use Rattle.shop_request.specs.declared.routes.Route.TheVariants.{Plans as AtPlans};
 ghost use Rattle.shop_forms.specs.Forms.{json_texts};
 
-use crate::answers::text_of;
+use crate::told::{Told, refused, text_of};
 use http::StatusCode;
 use shop_request::{Fault, Route};
 use shop_rules::{Refusal, Reply, Text};
 use std::alloc::{AllocError, Global};
-
-/// What a request is told.
-#[derive(Drop)]
-pub(crate) enum Told {
-    /// A reply, and its text, where it was written to be kept.
-    Reply(Reply, Option<Text>),
-    Text(String),
-}
 
 // A status by its number.
 fn status(number: u16) -> StatusCode
@@ -168,11 +163,22 @@ fn reply_answer_text(
     Ok(text)
 }
 
-// The answer that prints a text.
-fn text_answer_text(alloc: Global, text: &str) -> Result<String, AllocError>
-    ensures { IfOk result (λ whole. string_bytes whole ≡ answer_bytes (text_answer text.now)) }
+// The field that says what a text is.
+fn text_fields(route: Route) -> &'static str
+    ensures { result.now ≡ text_fields route }
 {
-    let text = answer_text(alloc, 200, "Content-Type: text/plain\r\n", text)?;
+    match route {
+        Route::Plans => "Content-Type: application/json\r\n",
+        _ => "Content-Type: text/plain\r\n",
+    }
+}
+
+// The answer that prints a text.
+fn text_answer_text(alloc: Global, route: Route, text: &str) -> Result<String, AllocError>
+    ensures { IfOk result (λ whole. string_bytes whole
+        ≡ answer_bytes (text_answer route text.now)) }
+{
+    let text = answer_text(alloc, 200, text_fields(route), text)?;
     Ok(text)
 }
 
@@ -184,6 +190,22 @@ pub(crate) fn told_text(alloc: Global, route: Route, told: Told) -> Result<Strin
 {
     match told {
         Told::Reply(reply, text) => reply_answer_text(alloc, route, &reply, text),
-        Told::Text(text) => text_answer_text(alloc, text.as_str()),
+        Told::Text(text) => text_answer_text(alloc, route, text.as_str()),
     }
+}
+
+/// The answer at `/plans` that tells a text: that of an answer to a question for plans.
+pub fn plans_answer(alloc: Global, text: &Text) -> Result<String, AllocError>
+    ensures { IfOk result (λ whole. string_bytes whole
+        ≡ answer_bytes (telling_answer AtPlans (printed text.now))) }
+{
+    text_answer_text(alloc, Route::Plans, text.as_str())
+}
+
+/// The answer at `/plans` that tells of want of memory.
+pub fn plans_refused(alloc: Global) -> Result<String, AllocError>
+    ensures { IfOk result (λ whole. string_bytes whole
+        ≡ answer_bytes (telling_answer AtPlans (replied (Refused NoMemory)))) }
+{
+    told_text(alloc, Route::Plans, refused(Refusal::NoMemory))
 }

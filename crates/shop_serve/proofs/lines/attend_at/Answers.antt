@@ -31,6 +31,7 @@ returns-in_default-clause-at g c =
       closed = λ line is. absurd (cc (absent, is));
       once = λ line is some. refl;
       one = none_served c.args.site.now g.B.Book c.args.book.now 1;
+      honest = λ honest. honest;
     }
 
 pub returns-in_default-clause-run : goal.returns-in_default-clause-run
@@ -39,14 +40,14 @@ returns-in_default-clause-run g c = stays c.args.site.now g.B.Book c.args.book.n
 pub returns-in-Over-clause-at : goal.returns-in-Over-clause-at
 returns-in-Over-clause-at g c =
     attended-closed g.C.Connection c.args.site.now g.B.Book fate.Over c.args.key c.args.lines.now c.try_remove.new.self c.in-Some.line.now c.attend_once.new.line c.args.book.now c.attend_once.new.book (g.K.Watch.times c.args.watch.now) (g.K.Watch.times c.attend_once.new.watch)
-    (sym c.in-Some.ensures.value) c.try_remove.ensures.updates c.attend_once.ensures.once c.attend_once.ensures.one (c.attend_once.ensures.over c.in-Over.is)
+    (sym c.in-Some.ensures.value) c.try_remove.ensures.updates c.attend_once.ensures.once c.attend_once.ensures.one c.attend_once.ensures.honest (c.attend_once.ensures.over c.in-Over.is)
 
 pub returns-in-NoMemory-clause-at : goal.returns-in-NoMemory-clause-at
 returns-in-NoMemory-clause-at g c =
     attended-closed g.C.Connection c.args.site.now g.B.Book fate.NoMemory c.args.key c.args.lines.now c.try_remove-in-NoMemory.new.self c.in-Some.line.now c.attend_once.new.line c.args.book.now c.attend_once.new.book (g.K.Watch.times c.args.watch.now) (g.K.Watch.times c.attend_once.new.watch)
-    (sym c.in-Some.ensures.value) c.try_remove-in-NoMemory.ensures.updates c.attend_once.ensures.once c.attend_once.ensures.one (inl refl)
+    (sym c.in-Some.ensures.value) c.try_remove-in-NoMemory.ensures.updates c.attend_once.ensures.once c.attend_once.ensures.one c.attend_once.ensures.honest (inl refl)
 
 pub returns-in-Stays-clause-at : goal.returns-in-Stays-clause-at
 returns-in-Stays-clause-at g c =
     attended-stays g.C.Connection c.args.site.now g.B.Book fate.Stays c.args.key c.args.lines.now c.in-Some.line.now c.attend_once.new.line c.args.book.now c.attend_once.new.book (g.K.Watch.times c.args.watch.now) (g.K.Watch.times c.attend_once.new.watch)
-    (sym c.in-Some.ensures.value) c.attend_once.ensures.once c.attend_once.ensures.one (c.attend_once.ensures.attended c.in-Stays.is)
+    (sym c.in-Some.ensures.value) c.attend_once.ensures.once c.attend_once.ensures.one c.attend_once.ensures.honest (c.attend_once.ensures.attended c.in-Stays.is)

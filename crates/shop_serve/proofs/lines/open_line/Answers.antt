@@ -5,7 +5,7 @@ use Rattle.shop_serve.proofs.lines.open_line.Goals as goal
 pub returns-clause-opened : goal.returns-clause-opened
 returns-clause-opened g c =
     opened-so c.args.now c.args.stream c.args.lines.now c.make_room.new.lines c.insert.new.self _ c.insert.result c.ok.result c.ok.ensures.value c.insert.ensures.was_vacant c.insert.ensures.updates
-    c.make_room.ensures.room (record { own = c.watch.ensures.same; since = refl; came = c.new.ensures.items; needed = refl; waits = refl })
+    c.make_room.ensures.room (record { own = c.watch.ensures.same; since = refl; came = c.new.ensures.items; needed = refl; asks = refl; waits = refl })
 
 pub returns-clause-closed : goal.returns-clause-closed
 returns-clause-closed g c =
@@ -14,6 +14,7 @@ returns-clause-closed g c =
       since = c.args.now;
       came = c.new.result;
       needed = 0;
+      thought = None;
       answer = None;
       sent = 0;
     }) ((p : _) × g.P.Port.is_deaf p) c.insert.result c.ok.result c.ok.ensures.value c.insert.ensures.err c.insert.ensures.succeeds c.make_room.ensures.room

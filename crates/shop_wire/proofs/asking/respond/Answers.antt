@@ -11,6 +11,11 @@ returns-in-Message-clause-served g c = λ honest m held sound.
     subst (λ r. HasServed g.B.Book c.args.book.now c.message_told.new.book m (asking r c.args.text.now) (telling_of c.message_told.result)) (sym c.in-Message.is)
     (c.message_told.ensures.served honest m held sound)
 
+pub returns-in-Plans-clause-served : goal.returns-in-Plans-clause-served
+returns-in-Plans-clause-served g c = λ honest m held sound.
+    subst (λ r. HasServed g.B.Book c.args.book.now c.body_told.new.book m (asking r c.args.text.now) (telling_of c.body_told.result)) (sym c.in-Plans.is)
+    (c.body_told.ensures.served honest m held sound)
+
 pub returns-in-Ticket-clause-served : goal.returns-in-Ticket-clause-served
 returns-in-Ticket-clause-served g c = λ honest m held sound.
     subst (λ r. HasServed g.B.Book c.args.book.now c.ticket_told.new.book m (asking r c.args.text.now) (telling_of c.ticket_told.result)) (sym c.in-Ticket.is)
@@ -26,7 +31,7 @@ returns-in-Yield-clause-served g c = λ honest m held sound.
 pub returns-in_default-clause-served : goal.returns-in_default-clause-served
 returns-in_default-clause-served g c = λ honest m held sound.
     asked_served g.B.Book c.args.book.now c.ask_reply.new.book m (c.ask_reply.ensures.keeps.stays honest m held) sound c.args.route c.args.text.now c.ask_reply.result
-    c.in_default.not-Message c.in_default.not-Ticket c.in_default.not-Yield (c.ask_reply.ensures.answer honest m held) c.ask_reply.ensures.store_fault
+    c.in_default.not-Message c.in_default.not-Plans c.in_default.not-Ticket c.in_default.not-Yield (c.ask_reply.ensures.answer honest m held) c.ask_reply.ensures.store_fault
 
 pub returns-in_default-clause-failures : goal.returns-in_default-clause-failures
 returns-in_default-clause-failures g c = up_reply (g.B.Book.failed c.args.book.now) (g.B.Book.failed c.ask_reply.new.book) c.ask_reply.result c.ask_reply.ensures.keeps.failures

@@ -16,4 +16,4 @@ returns-in-Some-clause-keeps g c =
     record { honest = k.honest; stays = k.stays; crash = k.crash; failures = up_told c.ticket_text.result _ _ k.failures }
 
 pub returns-in-None-clause-answer : goal.returns-in-None-clause-answer
-returns-in-None-clause-answer g c = λ honest m held. none_asked _ _ _ (ap (option_map (ticket_of m)) (sym c.number_in.ensures ∙ c.in-None.is))
+returns-in-None-clause-answer g c = λ honest m held. none_asked _ _ _ _ (ap (option_map (ticket_of m)) (sym c.number_in.ensures ∙ c.in-None.is)) c.refused.ensures.told

@@ -49,22 +49,22 @@ returns-clause-ok g c =
     let now = prepend_known (pending c.loop-line.reader.buffer c.loop-line.reader.start c.loop-line.reader.end) (g.S.Source.left c.loop-line.source) in
     (so_far.0, all_read (g.S.Source.left c.args.source.now) now so_far.0 so_far.1 (c.in_ok-next_line.ensures.none (ap Ok c.if-branch.false)), so_far.2, so_far.3)
 
-pub returns-in_err-hold_reply-clause-err : goal.returns-in_err-hold_reply-clause-err
-returns-in_err-hold_reply-clause-err g c =
+pub returns-in_err-hold_answer-clause-err : goal.returns-in_err-hold_answer-clause-err
+returns-in_err-hold_answer-clause-err g c =
     let so_far = c.loop-line.invariant in
     let left = g.S.Source.left c.args.source.now in
     let now = prepend_known (pending c.loop-line.reader.buffer c.loop-line.reader.start c.loop-line.reader.end) (g.S.Source.left c.loop-line.source) in
     let next = prepend_known (pending c.next_line.new.self.buffer c.next_line.new.self.start c.next_line.new.self.end) (g.S.Source.left c.next_line.new.source) in
     let line = c.in_ok-next_line.ensures.line (ap Ok c.if-branch.true) in
-    let stopped = c.in_err-hold_reply.ensures.err in
-    let part = part_replayed g.B.Book c.loop-line.book c.hold_reply.new.book (Some c.loop-line.held.items) (Some c.hold_reply.new.held.items)
+    let stopped = c.in_err-hold_answer.ensures.err in
+    let part = part_replayed g.B.Book c.loop-line.book c.hold_answer.new.book (Some c.loop-line.held.items) (Some c.hold_answer.new.held.items)
     line.0 stopped.3 stopped.0 stopped.1 (stopped.2 ∙ ap (λ l. l ∷ []) (c.deref.ensures.value ∙ line.1)) stopped.4 in
-    let all = more_held g.B.Book c.args.book.now c.loop-line.book c.hold_reply.new.book (g.W.Sink.held c.args.sink.now) (g.W.Sink.held c.loop-line.sink)
-    so_far.0 part.0 c.loop-line.held.items c.hold_reply.new.held.items stopped.3 c.hold_reply.ensures.honest so_far.5 c.hold_reply.ensures.failures so_far.3 part.3 in
+    let all = more_held g.B.Book c.args.book.now c.loop-line.book c.hold_answer.new.book (g.W.Sink.held c.args.sink.now) (g.W.Sink.held c.loop-line.sink)
+    so_far.0 part.0 c.loop-line.held.items c.hold_answer.new.held.items stopped.3 c.hold_answer.ensures.honest so_far.5 c.hold_answer.ensures.failures so_far.3 part.3 in
     let first = first_read left next so_far.0 part.0 part.1 line.0 (line_read left now next so_far.0 line.0 so_far.1 line.2) part.2 in
-    let exit = err_from_is_err_and c.from_residual-in_err-hold_reply.result c.from_residual-in_err-hold_reply.ensures.1 in
-    for_the_fault c.from_residual-in_err-hold_reply.result _ exit.0 exit.1
-    (so_far.0 ++ part.0, first.0, first.1, stopped.3, (λ is. not_read c.in_err-hold_reply.field-0.0 stopped.3 (inl c.in_err-hold_reply.ensures.fault) (sym exit.2 ∙ is)), all)
+    let exit = err_from_is_err_and c.from_residual-in_err-hold_answer.result c.from_residual-in_err-hold_answer.ensures.1 in
+    for_the_fault c.from_residual-in_err-hold_answer.result _ exit.0 exit.1
+    (so_far.0 ++ part.0, first.0, first.1, stopped.3, (λ is. not_read c.in_err-hold_answer.field-0.0 stopped.3 (inl c.in_err-hold_answer.ensures.fault) (sym exit.2 ∙ is)), all)
 
 pub returns-in_err-flush_if_due-clause-err : goal.returns-in_err-flush_if_due-clause-err
 returns-in_err-flush_if_due-clause-err g c =
@@ -73,15 +73,15 @@ returns-in_err-flush_if_due-clause-err g c =
     let now = prepend_known (pending c.loop-line.reader.buffer c.loop-line.reader.start c.loop-line.reader.end) (g.S.Source.left c.loop-line.source) in
     let next = prepend_known (pending c.next_line.new.self.buffer c.next_line.new.self.start c.next_line.new.self.end) (g.S.Source.left c.next_line.new.source) in
     let line = c.in_ok-next_line.ensures.line (ap Ok c.if-branch.true) in
-    let kept = subst (λ l. IsReplayed g.B.Book c.loop-line.book c.hold_reply.new.book (Some c.loop-line.held.items) (Some c.hold_reply.new.held.items) (l ∷ []) [])
-    (c.deref.ensures.value ∙ line.1) c.in_ok-hold_reply.ensures.ok in
-    let one = whole_replayed g.B.Book c.loop-line.book c.hold_reply.new.book (Some c.loop-line.held.items) (Some c.hold_reply.new.held.items) line.0 [] kept in
-    let held = subst (IsReplayed g.B.Book c.args.book.now c.hold_reply.new.book (g.W.Sink.held c.args.sink.now) (g.W.Sink.held c.loop-line.sink) (so_far.0 ++ line.0 ∷ [])) (append-nil c.hold_reply.new.held.items)
-    (more_held g.B.Book c.args.book.now c.loop-line.book c.hold_reply.new.book (g.W.Sink.held c.args.sink.now) (g.W.Sink.held c.loop-line.sink)
-    so_far.0 (line.0 ∷ []) c.loop-line.held.items c.hold_reply.new.held.items [] c.hold_reply.ensures.honest so_far.5 c.hold_reply.ensures.failures so_far.3 one) in
+    let kept = subst (λ l. IsReplayed g.B.Book c.loop-line.book c.hold_answer.new.book (Some c.loop-line.held.items) (Some c.hold_answer.new.held.items) (l ∷ []) [])
+    (c.deref.ensures.value ∙ line.1) c.in_ok-hold_answer.ensures.ok in
+    let one = whole_replayed g.B.Book c.loop-line.book c.hold_answer.new.book (Some c.loop-line.held.items) (Some c.hold_answer.new.held.items) line.0 [] kept in
+    let held = subst (IsReplayed g.B.Book c.args.book.now c.hold_answer.new.book (g.W.Sink.held c.args.sink.now) (g.W.Sink.held c.loop-line.sink) (so_far.0 ++ line.0 ∷ [])) (append-nil c.hold_answer.new.held.items)
+    (more_held g.B.Book c.args.book.now c.loop-line.book c.hold_answer.new.book (g.W.Sink.held c.args.sink.now) (g.W.Sink.held c.loop-line.sink)
+    so_far.0 (line.0 ∷ []) c.loop-line.held.items c.hold_answer.new.held.items [] c.hold_answer.ensures.honest so_far.5 c.hold_answer.ensures.failures so_far.3 one) in
     let part = c.in_err-flush_if_due.ensures.err in
-    let all = passed_on g.B.Book c.args.book.now c.hold_reply.new.book (g.W.Sink.held c.args.sink.now) (g.W.Sink.held c.loop-line.sink) (g.W.Sink.held c.flush_if_due.new.sink)
-    (so_far.0 ++ line.0 ∷ []) c.hold_reply.new.held.items part.0 part.1 part.2 part.3 held in
+    let all = passed_on g.B.Book c.args.book.now c.hold_answer.new.book (g.W.Sink.held c.args.sink.now) (g.W.Sink.held c.loop-line.sink) (g.W.Sink.held c.flush_if_due.new.sink)
+    (so_far.0 ++ line.0 ∷ []) c.hold_answer.new.held.items part.0 part.1 part.2 part.3 held in
     let read = some_read left next (so_far.0 ++ line.0 ∷ []) (line_read left now next so_far.0 line.0 so_far.1 line.2) in
     let exit = err_from_is_err_and c.from_residual-in_err-flush_if_due.result c.from_residual-in_err-flush_if_due.ensures.1 in
     for_the_fault c.from_residual-in_err-flush_if_due.result _ exit.0 exit.1 (
@@ -90,7 +90,7 @@ returns-in_err-flush_if_due-clause-err g c =
       read.1,
       part.1,
       (λ is. not_read c.in_err-flush_if_due.field-0.0 part.1 (inr c.in_err-flush_if_due.ensures.fault.0) (sym exit.2 ∙ is)),
-      subst (λ l. IsReplayed g.B.Book c.args.book.now c.hold_reply.new.book (g.W.Sink.held c.args.sink.now) (g.W.Sink.held c.flush_if_due.new.sink) (so_far.0 ++ line.0 ∷ []) (l ++ part.1)) (sym c.in_err-flush_if_due.ensures.none) all,
+      subst (λ l. IsReplayed g.B.Book c.args.book.now c.hold_answer.new.book (g.W.Sink.held c.args.sink.now) (g.W.Sink.held c.flush_if_due.new.sink) (so_far.0 ++ line.0 ∷ []) (l ++ part.1)) (sym c.in_err-flush_if_due.ensures.none) all,
     )
 
 pub loop-line-preserved : goal.loop-line-preserved
@@ -102,20 +102,20 @@ loop-line-preserved g c =
     let now = prepend_known (pending mid.buffer mid.start mid.end) (g.S.Source.left c.loop-line.source) in
     let next = prepend_known (pending new.buffer new.start new.end) (g.S.Source.left c.next_line.new.source) in
     let line = c.in_ok-next_line.ensures.line (ap Ok c.if-branch.true) in
-    let kept = subst (λ l. IsReplayed g.B.Book c.loop-line.book c.hold_reply.new.book (Some c.loop-line.held.items) (Some c.hold_reply.new.held.items) (l ∷ []) [])
-    (c.deref.ensures.value ∙ line.1) c.in_ok-hold_reply.ensures.ok in
-    let one = whole_replayed g.B.Book c.loop-line.book c.hold_reply.new.book (Some c.loop-line.held.items) (Some c.hold_reply.new.held.items) line.0 [] kept in
-    let held = subst (IsReplayed g.B.Book c.args.book.now c.hold_reply.new.book (g.W.Sink.held c.args.sink.now) (g.W.Sink.held c.loop-line.sink) (so_far.0 ++ line.0 ∷ [])) (append-nil c.hold_reply.new.held.items)
-    (more_held g.B.Book c.args.book.now c.loop-line.book c.hold_reply.new.book (g.W.Sink.held c.args.sink.now) (g.W.Sink.held c.loop-line.sink)
-    so_far.0 (line.0 ∷ []) c.loop-line.held.items c.hold_reply.new.held.items [] c.hold_reply.ensures.honest so_far.5 c.hold_reply.ensures.failures so_far.3 one) in
+    let kept = subst (λ l. IsReplayed g.B.Book c.loop-line.book c.hold_answer.new.book (Some c.loop-line.held.items) (Some c.hold_answer.new.held.items) (l ∷ []) [])
+    (c.deref.ensures.value ∙ line.1) c.in_ok-hold_answer.ensures.ok in
+    let one = whole_replayed g.B.Book c.loop-line.book c.hold_answer.new.book (Some c.loop-line.held.items) (Some c.hold_answer.new.held.items) line.0 [] kept in
+    let held = subst (IsReplayed g.B.Book c.args.book.now c.hold_answer.new.book (g.W.Sink.held c.args.sink.now) (g.W.Sink.held c.loop-line.sink) (so_far.0 ++ line.0 ∷ [])) (append-nil c.hold_answer.new.held.items)
+    (more_held g.B.Book c.args.book.now c.loop-line.book c.hold_answer.new.book (g.W.Sink.held c.args.sink.now) (g.W.Sink.held c.loop-line.sink)
+    so_far.0 (line.0 ∷ []) c.loop-line.held.items c.hold_answer.new.held.items [] c.hold_answer.ensures.honest so_far.5 c.hold_answer.ensures.failures so_far.3 one) in
     let part = c.in_ok-flush_if_due.ensures.ok in (
       so_far.0 ++ line.0 ∷ [],
       line_read left now next so_far.0 line.0 so_far.1 line.2,
       ap (λ n. n + 1) so_far.2 ∙ sym (length-append so_far.0 (line.0 ∷ [])),
-      passed_on g.B.Book c.args.book.now c.hold_reply.new.book (g.W.Sink.held c.args.sink.now) (g.W.Sink.held c.loop-line.sink) (g.W.Sink.held c.flush_if_due.new.sink)
-          (so_far.0 ++ line.0 ∷ []) c.hold_reply.new.held.items part.0 c.flush_if_due.new.held.items part.1 part.2 held,
-      (λ honest. so_far.4 (c.hold_reply.ensures.honest honest)),
-      up_more (g.B.Book.failed c.args.book.now) (g.B.Book.failed c.loop-line.book) (g.B.Book.failed c.hold_reply.new.book) so_far.5 c.hold_reply.ensures.failures,
+      passed_on g.B.Book c.args.book.now c.hold_answer.new.book (g.W.Sink.held c.args.sink.now) (g.W.Sink.held c.loop-line.sink) (g.W.Sink.held c.flush_if_due.new.sink)
+          (so_far.0 ++ line.0 ∷ []) c.hold_answer.new.held.items part.0 c.flush_if_due.new.held.items part.1 part.2 held,
+      (λ honest. so_far.4 (c.hold_answer.ensures.honest honest)),
+      up_more (g.B.Book.failed c.args.book.now) (g.B.Book.failed c.loop-line.book) (g.B.Book.failed c.hold_answer.new.book) so_far.5 c.hold_answer.ensures.failures,
       c.next_line.ensures.most,
       c.in_ok-next_line.ensures.ended,
       (λ goes_on.

@@ -1,0 +1,55 @@
+-- What is told of each cause.
+use Rattle.std.specs.Prelude.{ℕ, List, codes}
+use Rattle.shop_advice.specs.declared.causes.FileCause.{FileCause}
+use Rattle.shop_advice.specs.declared.causes.FileCause.TheVariants as file
+use Rattle.shop_advice.specs.declared.causes.StoreCause.{StoreCause}
+use Rattle.shop_advice.specs.declared.causes.StoreCause.TheVariants as store
+use Rattle.shop_advice.specs.declared.causes.VersionCause.{VersionCause}
+use Rattle.shop_advice.specs.declared.causes.VersionCause.TheVariants as version
+use Rattle.shop_advice.specs.declared.causes.ShopCause.{ShopCause}
+use Rattle.shop_advice.specs.declared.causes.ShopCause.TheVariants as shop
+
+-- of a file that can't be read
+abbrev pub file_text : FileCause → List ℕ
+file_text file.Missing = codes "there is no such file"
+file_text file.Folder = codes "it is a folder; name a file"
+file_text file.NotAllowed = codes "this account may not read it"
+file_text file.Long = codes "it is over 1048576 bytes long"
+file_text file.NoText = codes "it is no UTF-8 text"
+file_text file.Unreadable = codes "it can't be read"
+
+-- of a store that can't be opened
+abbrev pub store_text : StoreCause → List ℕ
+store_text store.NoFolder = codes "its folder isn't there; make it first"
+store_text store.Folder = codes "it is a folder; name a file in it"
+store_text store.NotAllowed = codes "this account may not read and write it, or may not write in its folder"
+store_text store.ReadOnly = codes "its disk is read-only"
+store_text store.InUse = codes "another program has it open"
+store_text store.Journal = codes "a rollback journal lies beside it; open it once with sqlite3"
+store_text store.NotPlain = codes "it is no plain file with one name; name one, and no hard link to it"
+store_text store.NoDatabase = codes "it is no SQLite database; name another file"
+store_text store.Damaged = codes "it or its disk is damaged; put a copy of it and its log in its place"
+store_text store.Full = codes "the disk is full; make room"
+store_text store.Failed = codes "it or its log can't be read and written; look at the permissions of both and of their folder"
+
+-- of a database that has other tables
+abbrev pub version_text : VersionCause → List ℕ
+version_text version.Newer = codes "a newer cutshop made it; run that one"
+version_text version.Strange = codes "it has the tables of another program; name another file"
+version_text version.Contradicting = codes "its totals or rows contradict each other; put a copy of it and its log in its place"
+
+-- of a shop file; behind some stands a key, or what TOML wants
+abbrev pub shop_text : ShopCause → List ℕ
+shop_text shop.Long = codes "it is over 65536 bytes long"
+shop_text shop.NoText = codes "it is no UTF-8 text"
+shop_text shop.NoDocument = codes "it is no TOML: "
+shop_text shop.OtherKey = codes "write [[material]] above each material, and no key named "
+shop_text shop.NoList = codes "material is no list; write [[material]] above each material"
+shop_text shop.Many = codes "it has over 1000 materials"
+shop_text shop.NoTable = codes "it is no table; write [[material]] above each material"
+shop_text shop.UnknownKey = codes "no key is named "
+shop_text shop.MissingKey = codes "the material has no key "
+shop_text shop.Code = codes "the code is 1 to 16 of A-Z, 0-9 and -; write it as \"STEEL-40\""
+shop_text shop.Kind = codes "the kind is \"bar\" or \"sheet\""
+shop_text shop.Length = codes "write millimetres as a text, as \"1250.5\", with 1 to 6 digits, and one behind a point: "
+shop_text shop.Changed = codes "it was changed meanwhile; start again"

@@ -1,0 +1,174 @@
+//! Causes, each with the words that tell it.
+
+ghost use Rattle.std.specs.Prelude.{◌≡◌};
+ghost use Rattle.shop_advice.specs.Causes as spec;
+
+/// Why a file can't be read.
+#[derive(Clone, Copy, Debug, PartialEq, Eq)]
+pub enum FileCause {
+    /// There is no file of this name, or no such folder.
+    Missing,
+    /// The name is a folder's.
+    Folder,
+    /// This account may not read it.
+    NotAllowed,
+    /// It is longer than a page may be.
+    Long,
+    /// It was read, and is no text.
+    NoText,
+    /// Reading it failed.
+    Unreadable,
+}
+
+/// Why a store can't be opened.
+#[derive(Clone, Copy, Debug, PartialEq, Eq)]
+pub enum StoreCause {
+    /// The folder in which it would be isn't there.
+    NoFolder,
+    /// The name is a folder's.
+    Folder,
+    /// This account may not read and write it, or not make it.
+    NotAllowed,
+    /// Its disk takes no writes.
+    ReadOnly,
+    /// Another program has it open.
+    InUse,
+    /// A rollback journal of SQLite lies beside it.
+    Journal,
+    /// The name is that of a device, or the file has a second name.
+    NotPlain,
+    /// It is a file that SQLite didn't make.
+    NoDatabase,
+    /// It is a database, and its bytes or its rows are none that it could have.
+    Damaged,
+    /// The disk has no room.
+    Full,
+    /// It can't be read and written, and nothing tells why.
+    Failed,
+}
+
+/// Why the tables of a database are no shop's of this program.
+#[derive(Clone, Copy, Debug, PartialEq, Eq)]
+pub enum VersionCause {
+    /// They are of a later version.
+    Newer,
+    /// They are another program's.
+    Strange,
+    /// They are of a known version, and contradict each other.
+    Contradicting,
+}
+
+/// What is wrong in a shop file.
+#[derive(Clone, Copy, Debug, PartialEq, Eq)]
+pub enum ShopCause {
+    /// It is over 65536 bytes long.
+    Long,
+    /// It is no UTF-8.
+    NoText,
+    /// It is no TOML from here on.
+    NoDocument,
+    /// It has a key but `material`.
+    OtherKey,
+    /// Under `material` is no list.
+    NoList,
+    /// It has over 1000 materials.
+    Many,
+    /// A material is no table.
+    NoTable,
+    /// A material has a key that none has.
+    UnknownKey,
+    /// A material wants a key.
+    MissingKey,
+    /// The code is none.
+    Code,
+    /// The kind is none.
+    Kind,
+    /// The value of a key is no length.
+    Length,
+    /// Nothing is found now: the file was changed meanwhile.
+    Changed,
+}
+
+impl FileCause {
+    /// What is told of it.
+    pub fn text(self) -> &'static str
+        ensures { result.now ≡ spec.file_text self }
+    {
+        match self {
+            FileCause::Missing => "there is no such file",
+            FileCause::Folder => "it is a folder; name a file",
+            FileCause::NotAllowed => "this account may not read it",
+            FileCause::Long => "it is over 1048576 bytes long",
+            FileCause::NoText => "it is no UTF-8 text",
+            FileCause::Unreadable => "it can't be read",
+        }
+    }
+}
+
+impl StoreCause {
+    /// What is told of it.
+    pub fn text(self) -> &'static str
+        ensures { result.now ≡ spec.store_text self }
+    {
+        match self {
+            StoreCause::NoFolder => "its folder isn't there; make it first",
+            StoreCause::Folder => "it is a folder; name a file in it",
+            StoreCause::NotAllowed => {
+                "this account may not read and write it, or may not write in its folder"
+            }
+            StoreCause::ReadOnly => "its disk is read-only",
+            StoreCause::InUse => "another program has it open",
+            StoreCause::Journal => "a rollback journal lies beside it; open it once with sqlite3",
+            StoreCause::NotPlain => {
+                "it is no plain file with one name; name one, and no hard link to it"
+            }
+            StoreCause::NoDatabase => "it is no SQLite database; name another file",
+            StoreCause::Damaged =>
+                "it or its disk is damaged; put a copy of it and its log in its place",
+            StoreCause::Full => "the disk is full; make room",
+            StoreCause::Failed => {
+                "it or its log can't be read and written; look at the permissions of both and of their folder"
+            }
+        }
+    }
+}
+
+impl VersionCause {
+    /// What is told of it.
+    pub fn text(self) -> &'static str
+        ensures { result.now ≡ spec.version_text self }
+    {
+        match self {
+            VersionCause::Newer => "a newer cutshop made it; run that one",
+            VersionCause::Strange => "it has the tables of another program; name another file",
+            VersionCause::Contradicting => {
+                "its totals or rows contradict each other; put a copy of it and its log in its place"
+            }
+        }
+    }
+}
+
+impl ShopCause {
+    /// What is told of it. Behind the last words of some stands a key, or what TOML wants.
+    pub fn text(self) -> &'static str
+        ensures { result.now ≡ spec.shop_text self }
+    {
+        match self {
+            ShopCause::Long => "it is over 65536 bytes long",
+            ShopCause::NoText => "it is no UTF-8 text",
+            ShopCause::NoDocument => "it is no TOML: ",
+            ShopCause::OtherKey => "write [[material]] above each material, and no key named ",
+            ShopCause::NoList => "material is no list; write [[material]] above each material",
+            ShopCause::Many => "it has over 1000 materials",
+            ShopCause::NoTable => "it is no table; write [[material]] above each material",
+            ShopCause::UnknownKey => "no key is named ",
+            ShopCause::MissingKey => "the material has no key ",
+            ShopCause::Code => "the code is 1 to 16 of A-Z, 0-9 and -; write it as \"STEEL-40\"",
+            ShopCause::Kind => "the kind is \"bar\" or \"sheet\"",
+            ShopCause::Length => {
+                "write millimetres as a text, as \"1250.5\", with 1 to 6 digits, and one behind a point: "
+            }
+            ShopCause::Changed => "it was changed meanwhile; start again",
+        }
+    }
+}

@@ -1,0 +1,12 @@
+//! Why a file, a store or a shop file can't be used, in words to act on, and what looks for it. Nothing is changed by a look.
+#![tactic(auto)]
+
+mod causes;
+mod looks;
+mod notes;
+mod shop_lines;
+
+pub use causes::{FileCause, ShopCause, StoreCause, VersionCause};
+pub use looks::{is_there, kind_cause, look_at_file, look_at_store};
+pub use notes::answer_note;
+pub use shop_lines::{ShopPlace, look_at_shop};

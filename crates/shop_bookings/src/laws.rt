@@ -1,0 +1,35 @@
+//! What holds of reservations that were planned together.
+
+ghost use Rattle.std.specs.Prelude.{List, All};
+ghost use Rattle.shop_records.specs.declared.messages.Message.{Message};
+ghost use Rattle.shop_records.specs.declared.messages.Reply.{Reply};
+ghost use Rattle.shop_records.specs.Content.{Content};
+ghost use Rattle.shop_records.specs.Messages.{Texts};
+ghost use Rattle.shop_records.specs.Soundness.{IsSound};
+ghost use Rattle.shop_machine.specs.Machine.{Run};
+ghost use Rattle.shop_plans.specs.declared.answers.PlansReply.{PlansReply};
+ghost use Rattle.shop_plans.specs.declared.questions.PlansQuery.{PlansQuery};
+ghost use Rattle.shop_planning.specs.declared.posed.Posed.{Posed as PosedQuestion};
+ghost use Rattle.shop_planning.specs.Answers.{IsPlansReply};
+ghost use Rattle.shop_planning.specs.Questions.{IsPosed};
+ghost use Rattle.shop_bookings.specs.Bookings.{Booking, AreBookable, OnlySpent, sent_by};
+ghost use Rattle.shop_bookings.specs.Told.{AreBookedBy};
+
+/// Reservations of different standing parts, whose plans have together no more pieces of a demand than are left of it, are
+/// accepted one after another, in whatever order they come: refused are only those for which numbers are spent, want of
+/// memory and a failed store aside.
+pub fn bookings_stand_together()
+    ensures { (texts : Texts) (old new : Content) (bookings : List Booking) (answers : List Reply)
+        → IsSound texts old → AreBookable old bookings
+        → Run texts old (sent_by bookings) answers new → All OnlySpent answers }
+{}
+
+/// As long as nothing else happens in between, each plan that is told for a part can be reserved, in any order, all of them
+/// or some: refused are only those for which numbers are spent, want of memory and a failed store aside.
+pub fn told_plans_are_reserved()
+    ensures { (texts : Texts) (old new : Content) (q : PlansQuery) (posed : PosedQuestion)
+        (reply : PlansReply) (messages : List Message) (answers : List Reply)
+        → IsSound texts old → IsPosed old q posed → IsPlansReply posed reply
+        → AreBookedBy old reply messages → Run texts old messages answers new
+        → All OnlySpent answers }
+{}

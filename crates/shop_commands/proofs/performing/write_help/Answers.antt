@@ -1,0 +1,11 @@
+use Rattle.std.proofs.Common.{inr, subst}
+use Rattle.shop_commands.specs.Performs.{TellsFault}
+use Rattle.shop_commands.specs.Sinks.{change_of}
+use Rattle.shop_commands.proofs.performing.write_help.Goals as goal
+
+pub returns-in-Err : goal.returns-in-Err
+returns-in-Err g c =
+    let err = change_of g.E.Sink c.args.errors.now c.report_fault.new.errors in
+    let told = subst (λ fault. TellsFault fault err) c.in-Err.ensures.err.0 c.report_fault.ensures.told in
+    let front = c.write_text.ensures.front in
+    inr (c.report_fault.ensures.status, (front.0, front.3), c.in-Err.ensures.err.1, told)

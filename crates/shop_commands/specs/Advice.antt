@@ -1,0 +1,129 @@
+-- The second line of a fault: what it was, and why.
+use Rattle.std.specs.Prelude.{◌≡◌, ◌⊎◌, ⊤, ℕ, ◌==◌, Bool, true, false, List, [], ◌∷◌, ◌++◌, codes, string_bytes}
+use Rattle.std.specs.List.{list_any}
+use Rattle.shop_files.specs.declared.problems.TextCause.{TextCause}
+use Rattle.shop_files.specs.declared.problems.TextCause.TheVariants as text
+use Rattle.shop_records.specs.declared.refusals.Refusal.{Refusal}
+use Rattle.shop_records.specs.declared.refusals.Refusal.TheVariants as refusal
+use Rattle.shop_advice.specs.Causes.{file_text, store_text, version_text, shop_text}
+use Rattle.shop_serve.specs.declared.ports.PortCause.{PortCause}
+use Rattle.shop_serve.specs.declared.ports.PortCause.TheVariants as port
+use Rattle.shop_commands.specs.declared.advice.Advice.{Advice}
+use Rattle.shop_commands.specs.declared.advice.Cause.{Cause}
+use Rattle.shop_commands.specs.declared.advice.Cause.TheVariants as cause
+use Rattle.shop_commands.specs.declared.faults.Fault.{Fault}
+use Rattle.shop_commands.specs.declared.faults.Fault.TheVariants.{File, Text, Order, ShopText, ShopEntry, Entry, Refused, Read, Write, NoMemory, Store, Version, Port}
+use Rattle.shop_commands.specs.Faults.{fault_text}
+
+-- ---- what is told of each cause
+
+-- of the first fault of a problem's text
+abbrev pub problem_text : TextCause → List ℕ
+problem_text text.Long = codes "the text is over 65536 bytes long, or this number is one too many"
+problem_text text.Byte = codes "only digits, spaces, tabs and line ends may stand here"
+problem_text text.Number = codes "this number is out of its range"
+problem_text text.Short = codes "the text ends before its last number"
+problem_text text.NoMemory = codes "memory ran out"
+
+-- of a refusal: of a ticket, a report, a plan, or an entry of a shop file
+abbrev pub refused_text : Refusal → List ℕ
+refused_text refusal.NumberReused = codes "another entry was read here before; put it back, and write new ones behind the last"
+refused_text refusal.NoMaterial = codes "it has no such material"
+refused_text refusal.MaterialExists = codes "the store has this material with another kind, kerf or limits"
+refused_text refusal.BadMaterial = codes "the kerf or a limit is out of its range for this kind"
+refused_text refusal.NoJob = codes "it has no such job"
+refused_text refusal.NothingFits = codes "no piece fits the rectangle"
+refused_text refusal.TableTooLarge = codes "the rectangle is too large for the planner; give a greater step, or a smaller one"
+refused_text refusal.BadStep = codes "the step is 0, or over some piece's side and a kerf; give another"
+refused_text refusal.BadWant = codes "it has too many kinds of pieces; write at most 40, and 100 with --whole"
+refused_text refusal.NoMemory = codes "memory ran out"
+refused_text refusal.StoreFault = codes "the store failed, or its rows contradict each other; look at its disk"
+refused_text r = codes "the shop refuses it"
+
+abbrev pub port_text : PortCause → List ℕ
+port_text port.InUse = codes "another program listens to it; end that one, or take another port"
+port_text port.NotAllowed = codes "this account may not listen to it; take one from 1024 on"
+port_text port.Refused = codes "the system refuses it, or accepts no connection any more"
+
+abbrev pub cause_text : Cause → List ℕ
+cause_text (cause.File c) = file_text c
+cause_text (cause.Problem c) = problem_text c
+cause_text (cause.Shop c) = shop_text c
+cause_text (cause.Refused r) = refused_text r
+cause_text cause.Made = codes "there was no store, and an empty one was made"
+cause_text (cause.Store c) = store_text c
+cause_text (cause.Version c) = version_text c
+cause_text (cause.Port c) = port_text c
+cause_text cause.Input = codes "it can't be read to its end"
+cause_text cause.Output = codes "it can't be written; is its disk full, or its reader gone?"
+
+-- ---- which cause stands behind which line
+
+-- This cause may be told behind the line of this fault: `fault store` speaks of stores, and of the cause that the fault has.
+abbrev pub Fits : Fault → Cause → Type 0
+Fits File (cause.File c) = ⊤
+Fits (Text fault) (cause.Problem c) = c ≡ fault.cause
+Fits ShopText (cause.Shop c) = ⊤
+Fits (ShopEntry entry) (cause.Shop c) = ⊤
+Fits (Entry e) (cause.Refused r) = r ≡ e.refusal
+Fits (Refused r) (cause.Refused s) = s ≡ r
+Fits (Refused r) cause.Made = ⊤
+Fits Read cause.Input = ⊤
+Fits Write cause.Output = ⊤
+Fits (Store c) (cause.Store d) = d ≡ c
+Fits (Version c) (cause.Version d) = d ≡ c
+Fits (Port c) (cause.Port d) = d ≡ c
+Fits fault c = ⊥
+
+abbrev pub has_line_feed : List ℕ → Bool
+has_line_feed words = list_any (λ b. b == 10) words
+
+-- it is on one line
+abbrev pub IsPlain : List ℕ → Type 0
+IsPlain words = has_line_feed words ≡ false
+
+-- an advice of this cause, which is one line
+pub record IsOf (c : Cause) (a : Advice) : Type 0 where
+  pub cause : a.cause ≡ c
+  pub about : IsPlain (string_bytes a.about)
+  pub word : IsPlain (string_bytes a.word)
+
+-- an advice for a fault, which is one line
+pub record IsAdviceOf (fault : Fault) (a : Advice) : Type 0 where
+  pub fits : Fits fault a.cause
+  pub about : IsPlain (string_bytes a.about)
+  pub word : IsPlain (string_bytes a.word)
+
+-- the second line: what it was, and why
+abbrev pub advice_line : Advice → List ℕ
+advice_line a = codes "  " ++ string_bytes a.about ++ codes ": " ++ cause_text a.cause ++ string_bytes a.word ++ codes "\n"
+
+-- the second line where memory ran out
+abbrev pub no_memory_line : List ℕ
+no_memory_line = codes "  memory ran out; end other programs, or give this one more\n"
+
+-- ---- the lines of a fault
+
+-- the line of a fault
+abbrev pub fault_line : Fault → List ℕ
+fault_line fault = fault_text fault ++ 10 ∷ []
+
+-- the fault is an order file's, whose line tells all
+abbrev pub is_order : Fault → Bool
+is_order (Order fault) = true
+is_order fault = false
+
+-- What stands behind a fault's line: nothing behind an order file's; else one line, which tells a cause that fits, or that memory
+-- ran out.
+abbrev pub IsBehind : Fault → List ℕ → Type 0
+IsBehind fault line =
+    ((is_order fault ≡ true) × (line ≡ []))
+    ⊎ ((is_order fault ≡ false) × ((line ≡ no_memory_line) ⊎ ((a : Advice) × IsAdviceOf fault a × (line ≡ advice_line a))))
+
+-- one line, which begins with two spaces: no line feed stands before its end
+abbrev pub IsSecondLine : List ℕ → Type 0
+IsSecondLine line = (words : List ℕ) × IsPlain words × (line ≡ codes "  " ++ words ++ codes "\n")
+
+-- a fault's line, and what stands behind it
+abbrev pub IsToldOf : Fault → List ℕ → Type 0
+IsToldOf fault told = (line : List ℕ) × IsBehind fault line × (told ≡ fault_line fault ++ line)

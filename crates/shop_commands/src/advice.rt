@@ -1,0 +1,437 @@
+//! The second line of a fault: which file, entry or port it was, and why, in words to act on.
+
+ghost use Rattle.std.specs.Prelude.{◌≡◌, ◌++◌, ℕ, List, false, IfSome, IfOk, string_bytes};
+ghost use Rattle.shop_advice.specs.declared.causes.ShopCause.{ShopCause as ShopCauseOf};
+ghost use Rattle.shop_commands.specs.Advice as spec;
+ghost use Rattle.shop_commands.specs.Advice.{IsAdviceOf, IsOf, IsPlain};
+ghost use Rattle.shop_commands.specs.declared.advice.Cause.TheVariants as kind;
+ghost use Rattle.shop_commands.specs.declared.faults.Fault.{Fault as FaultOf};
+ghost use Rattle.shop_commands.specs.declared.faults.Fault.TheVariants as fault;
+
+use crate::faults::Fault;
+use crate::files::read_file;
+use shop_advice::{
+    FileCause, ShopCause, StoreCause, VersionCause, is_there, look_at_file, look_at_shop,
+};
+use shop_files::TextCause;
+use shop_records::Refusal;
+use shop_serve::PortCause;
+use shop_words::Request;
+use std::alloc::{AllocError, Global};
+use std::fs::Files;
+
+/// What stands behind the line of a fault where memory ran out.
+const NO_MEMORY: &str = "  memory ran out; end other programs, or give this one more\n";
+
+/// What is told where no memory is there to tell a fault.
+pub(crate) const NO_MEMORY_TOLD: &str =
+    "fault memory\n  memory ran out; end other programs, or give this one more\n";
+
+/// Why a fault came, as far as it is known.
+#[derive(Clone, Copy, Debug, PartialEq, Eq)]
+pub enum Cause {
+    /// A file can't be read.
+    File(FileCause),
+    /// A problem's text has a fault.
+    Problem(TextCause),
+    /// A shop file has a fault.
+    Shop(ShopCause),
+    /// This is refused.
+    Refused(Refusal),
+    /// The store wasn't there, and was made.
+    Made,
+    /// A store can't be opened.
+    Store(StoreCause),
+    /// A database is no store of this program.
+    Version(VersionCause),
+    /// A port can't be listened to.
+    Port(PortCause),
+    /// Standard input can't be read.
+    Input,
+    /// Standard output can't be written.
+    Output,
+}
+
+/// What a second line says: of what, why, and a word behind that, or none.
+#[derive(Drop)]
+pub struct Advice {
+    pub about: String,
+    pub cause: Cause,
+    pub word: String,
+}
+
+// What is told of the first fault of a problem's text.
+fn problem_text(cause: TextCause) -> &'static str
+    ensures { result.now ≡ spec.problem_text cause }
+{
+    match cause {
+        TextCause::Long => "the text is over 65536 bytes long, or this number is one too many",
+        TextCause::Byte => "only digits, spaces, tabs and line ends may stand here",
+        TextCause::Number => "this number is out of its range",
+        TextCause::Short => "the text ends before its last number",
+        TextCause::NoMemory => "memory ran out",
+    }
+}
+
+// What is told of a refusal.
+fn refused_text(refusal: Refusal) -> &'static str
+    ensures { result.now ≡ spec.refused_text refusal }
+{
+    match refusal {
+        Refusal::NumberReused => {
+            "another entry was read here before; put it back, and write new ones behind the last"
+        }
+        Refusal::NoMaterial => "it has no such material",
+        Refusal::MaterialExists => {
+            "the store has this material with another kind, kerf or limits"
+        }
+        Refusal::BadMaterial => "the kerf or a limit is out of its range for this kind",
+        Refusal::NoJob => "it has no such job",
+        Refusal::NothingFits => "no piece fits the rectangle",
+        Refusal::TableTooLarge => {
+            "the rectangle is too large for the planner; give a greater step, or a smaller one"
+        }
+        Refusal::BadStep => "the step is 0, or over some piece's side and a kerf; give another",
+        Refusal::BadWant => {
+            "it has too many kinds of pieces; write at most 40, and 100 with --whole"
+        }
+        Refusal::NoMemory => "memory ran out",
+        Refusal::StoreFault => {
+            "the store failed, or its rows contradict each other; look at its disk"
+        }
+        _ => "the shop refuses it",
+    }
+}
+
+// What is told of a port.
+fn port_text(cause: PortCause) -> &'static str
+    ensures { result.now ≡ spec.port_text cause }
+{
+    match cause {
+        PortCause::InUse => "another program listens to it; end that one, or take another port",
+        PortCause::NotAllowed => "this account may not listen to it; take one from 1024 on",
+        PortCause::Refused => "the system refuses it, or accepts no connection any more",
+    }
+}
+
+// What is told of a cause.
+fn cause_text(cause: Cause) -> &'static str
+    ensures { result.now ≡ spec.cause_text cause }
+{
+    match cause {
+        Cause::File(cause) => cause.text(),
+        Cause::Problem(cause) => problem_text(cause),
+        Cause::Shop(cause) => cause.text(),
+        Cause::Refused(refusal) => refused_text(refusal),
+        Cause::Made => "there was no store, and an empty one was made",
+        Cause::Store(cause) => cause.text(),
+        Cause::Version(cause) => cause.text(),
+        Cause::Port(cause) => port_text(cause),
+        Cause::Input => "it can't be read to its end",
+        Cause::Output => "it can't be written; is its disk full, or its reader gone?",
+    }
+}
+
+fn has_line_feed(text: &str) -> bool
+    ensures { result ≡ spec.has_line_feed text.now }
+{
+    text.as_bytes().contains(&b'\n')
+}
+
+// A text, or where it has a line feed, other words.
+fn shown<'a>(text: &'a str) -> &'a str
+    ensures { IsPlain result.now }
+{
+    if has_line_feed(text) {
+        "a name of two lines"
+    } else {
+        text
+    }
+}
+
+// The same, as a text of its own. None for want of memory, as below.
+fn plain(alloc: Global, text: &str) -> Option<String>
+    ensures { IfSome result (λ plain. IsPlain (string_bytes plain)) }
+{
+    let text = shown(text);
+    format!(in alloc; "{text}").ok()
+}
+
+// An advice of a cause.
+fn advice_of(alloc: Global, about: &str, cause: Cause, word: &str) -> Option<Advice>
+    ensures { IfSome result (IsOf cause) }
+{
+    let about = plain(alloc, about)?;
+    let word = plain(alloc, word)?;
+    Some(Advice { about, cause, word })
+}
+
+// What is wrong at a place of a file.
+fn advice_at(alloc: Global, path: &str, place: &str, number: usize, cause: Cause) -> Option<Advice>
+    ensures { IfSome result (IsOf cause) }
+{
+    let about = format!(in alloc; "{path}, {place} {number}").ok()?;
+    advice_of(alloc, about.as_str(), cause, "")
+}
+
+// The file that a request reads first, or its store.
+fn first_name<'a>(request: &Request<'a>) -> &'a str {
+    match request {
+        Request::Replay => "",
+        Request::Plan { file, .. } => file,
+        Request::PlanOrder { file, .. } => file,
+        Request::Orders { file, .. } => file,
+        Request::Serve { shop, .. } => shop,
+        Request::Ticket { store, .. } => store,
+        Request::Yield { store, .. } => store,
+    }
+}
+
+// The store of a request.
+fn store_name<'a>(request: &Request<'a>) -> &'a str {
+    match request {
+        Request::Serve { store, .. } => store,
+        _ => first_name(request),
+    }
+}
+
+// The file that can't be read: the page where the shop file can be.
+fn unread_name<'a, R: Files>(rt: &R, request: &Request<'a>) -> &'a str {
+    match request {
+        Request::Serve {
+            shop,
+            page: Some(page),
+            ..
+        } => {
+            if look_at_file(rt, shop) == FileCause::NoText {
+                page
+            } else {
+                shop
+            }
+        }
+        _ => first_name(request),
+    }
+}
+
+// Why a file can't be used that can be read: it is too long for a page, or no text of an order.
+fn unused_cause(request: &Request<'_>) -> FileCause {
+    match request {
+        Request::Serve { .. } => FileCause::Long,
+        Request::Orders { .. } => FileCause::NoText,
+        _ => FileCause::Unreadable,
+    }
+}
+
+// Why a file of a request can't be read.
+fn file_cause<R: Files>(rt: &R, request: &Request<'_>, path: &str) -> FileCause {
+    match look_at_file(rt, path) {
+        FileCause::NoText => unused_cause(request),
+        cause => cause,
+    }
+}
+
+// Why a file of a request can't be read.
+fn file_advice<R: Files>(rt: &R, alloc: Global, request: &Request<'_>) -> Option<Advice>
+    ensures { IfSome result (IsAdviceOf fault.File) }
+{
+    let path = unread_name(rt, request);
+    let cause = file_cause(rt, request, path);
+    advice_of(alloc, path, Cause::File(cause), "")
+}
+
+// Where in a shop file a fault is.
+fn shop_about(
+    alloc: Global,
+    path: &str,
+    line: Option<usize>,
+    entry: Option<usize>,
+) -> Option<String> {
+    match (line, entry) {
+        (Some(line), _) => format!(in alloc; "{path}, line {line}").ok(),
+        (None, Some(entry)) => format!(in alloc; "{path}, material {entry}").ok(),
+        (None, None) => format!(in alloc; "{path}").ok(),
+    }
+}
+
+// What is wrong in a shop file, of which this entry is bad, from 1, or the whole.
+fn shop_advice<R: Files>(rt: &R, alloc: Global, path: &str, entry: Option<usize>) -> Option<Advice>
+    ensures { IfSome result (λ a. (c : ShopCauseOf) × IsOf (kind.Shop c) a) }
+{
+    let bytes = read_file(rt, alloc, path).ok()?;
+    let found = look_at_shop(alloc, &bytes, entry).ok()?;
+    let about = shop_about(alloc, path, found.line, entry)?;
+    advice_of(
+        alloc,
+        about.as_str(),
+        Cause::Shop(found.cause),
+        found.word.as_str(),
+    )
+}
+
+// Why a ticket, a report or a plan is refused.
+fn refused_advice(
+    alloc: Global,
+    request: &Request<'_>,
+    is_new: bool,
+    refusal: Refusal,
+) -> Option<Advice>
+    ensures { IfSome result (IsAdviceOf (fault.Refused refusal)) }
+{
+    let name = first_name(request);
+    if is_new {
+        advice_of(alloc, name, Cause::Made, "")
+    } else {
+        advice_of(alloc, name, Cause::Refused(refusal), "")
+    }
+}
+
+// The port of a request.
+fn port_of(request: &Request<'_>) -> u32 {
+    match request {
+        Request::Serve { port, .. } => *port,
+        _ => 0,
+    }
+}
+
+// Why a port can't be listened to.
+fn port_advice(alloc: Global, request: &Request<'_>, cause: PortCause) -> Option<Advice>
+    ensures { IfSome result (IsOf (kind.Port cause)) }
+{
+    let number = port_of(request);
+    let about = format!(in alloc; "port {number}").ok()?;
+    advice_of(alloc, about.as_str(), Cause::Port(cause), "")
+}
+
+/// Why a stream failed. None of another fault, and for want of memory.
+pub(crate) fn stream_advice(alloc: Global, fault: Fault) -> Option<Advice>
+    ensures { IfSome result (IsAdviceOf fault) }
+{
+    match fault {
+        Fault::Read => advice_of(alloc, "standard input", Cause::Input, ""),
+        Fault::Write => advice_of(alloc, "standard output", Cause::Output, ""),
+        _ => None,
+    }
+}
+
+// Why a store or a port of a request couldn't be used. None of another fault, and for want of memory.
+fn system_advice(alloc: Global, request: &Request<'_>, fault: Fault) -> Option<Advice>
+    ensures { IfSome result (IsAdviceOf fault) }
+{
+    match fault {
+        Fault::Store(cause) => advice_of(alloc, store_name(request), Cause::Store(cause), ""),
+        Fault::Version(cause) => advice_of(alloc, store_name(request), Cause::Version(cause), ""),
+        Fault::Port(cause) => port_advice(alloc, request, cause),
+        _ => stream_advice(alloc, fault),
+    }
+}
+
+/// Why the work on a request stopped; `is_new` where its store wasn't there before. None for want of memory, and of an order
+/// file's fault.
+pub(crate) fn advise<R: Files>(
+    rt: &R,
+    alloc: Global,
+    request: &Request<'_>,
+    is_new: bool,
+    fault: Fault,
+) -> Option<Advice>
+    ensures { IfSome result (IsAdviceOf fault) }
+{
+    let name = first_name(request);
+    match fault {
+        Fault::File => file_advice(rt, alloc, request),
+        Fault::Text(text) => advice_at(
+            alloc,
+            name,
+            "byte",
+            text.offset,
+            Cause::Problem(text.cause),
+        ),
+        Fault::ShopText => shop_advice(rt, alloc, name, None),
+        Fault::ShopEntry(entry) => shop_advice(rt, alloc, name, Some(entry)),
+        Fault::Entry(refused) => advice_at(
+            alloc,
+            name,
+            "material",
+            refused.entry,
+            Cause::Refused(refused.refusal),
+        ),
+        Fault::Refused(refusal) => refused_advice(alloc, request, is_new, refusal),
+        _ => system_advice(alloc, request, fault),
+    }
+}
+
+/// Whether a request on a store will make it, since none is there: what is found now.
+pub(crate) fn makes_store<R: Files>(rt: &R, request: &Request<'_>) -> bool {
+    match request {
+        Request::Ticket { store, .. } | Request::Yield { store, .. } => !is_there(rt, store),
+        _ => false,
+    }
+}
+
+// Whether a fault is an order file's.
+fn is_order(fault: Fault) -> bool
+    ensures { result ≡ spec.is_order fault }
+{
+    match fault {
+        Fault::Order(_) => true,
+        _ => false,
+    }
+}
+
+fn line_alone(alloc: Global, fault: Fault) -> Result<String, AllocError>
+    ensures { IfOk result (λ text. string_bytes text ≡ spec.fault_line fault) }
+{
+    let mut text = String::new(alloc);
+    write!(text, "{fault}\n")?;
+    Ok(text)
+}
+
+// Both lines of a fault.
+fn both_lines(alloc: Global, fault: Fault, advice: &Advice) -> Result<String, AllocError>
+    ensures { IfOk result
+        (λ text. string_bytes text ≡ spec.fault_line fault ++ spec.advice_line advice.now) }
+{
+    let mut text = line_alone(alloc, fault)?;
+    write!(
+        text,
+        "  {}: {}{}\n",
+        advice.about,
+        cause_text(advice.cause),
+        advice.word
+    )?;
+    Ok(text)
+}
+
+// The line of a fault of which memory ran out to say more.
+fn lines_without(alloc: Global, fault: Fault) -> Result<String, AllocError>
+    ensures { IfOk result
+        (λ text. string_bytes text ≡ spec.fault_line fault ++ spec.no_memory_line) }
+{
+    let mut text = line_alone(alloc, fault)?;
+    text.push_str(NO_MEMORY)?;
+    Ok(text)
+}
+
+/// The lines of a fault: its own, and but for an order file's the advice, or that memory ran out.
+pub(crate) fn fault_lines(
+    alloc: Global,
+    fault: Fault,
+    advice: Option<Advice>,
+) -> Result<String, AllocError>
+    requires { IfSome advice (IsAdviceOf fault) }
+    ensures { IfOk result (λ text. spec.IsToldOf fault (string_bytes text)) }
+{
+    if is_order(fault) {
+        return line_alone(alloc, fault);
+    }
+    match advice {
+        Some(advice) => both_lines(alloc, fault, &advice),
+        None => lines_without(alloc, fault),
+    }
+}
+
+/// Behind the line of a fault, an order file's aside, stands exactly one line, which begins with two spaces.
+pub fn second_lines_are_lines()
+    ensures { (fault : FaultOf) (line : List ℕ) → spec.is_order fault ≡ false
+        → spec.IsBehind fault line → spec.IsSecondLine line }
+{}

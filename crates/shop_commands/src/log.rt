@@ -1,0 +1,49 @@
+//! What a server tells of itself on standard error. A line that can't be made or written is left out.
+
+ghost use Rattle.std.specs.Prelude.{◌≡◌, IfOk, string_bytes};
+ghost use Rattle.shop_commands.specs.Log as spec;
+
+use shop_words::VERSION;
+use std::alloc::{AllocError, Global};
+use std::io::Eprint;
+
+// The line with which it begins, of a store that was made.
+fn new_line(alloc: Global, store: &str) -> Result<String, AllocError>
+    ensures { IfOk result (λ line. string_bytes line ≡ spec.new_line store.now) }
+{
+    format!(in alloc; "cutshop {VERSION}: serving {store}, a new store\n")
+}
+
+// The line with which it begins, of a store that was there.
+fn known_line(alloc: Global, store: &str) -> Result<String, AllocError>
+    ensures { IfOk result (λ line. string_bytes line ≡ spec.known_line store.now) }
+{
+    format!(in alloc; "cutshop {VERSION}: serving {store}, a store that was there\n")
+}
+
+// The line with which it ends.
+fn end_line(alloc: Global, store: &str) -> Result<String, AllocError>
+    ensures { IfOk result (λ line. string_bytes line ≡ spec.end_line store.now) }
+{
+    format!(in alloc; "cutshop {VERSION}: ended serving {store}\n")
+}
+
+fn note<R: Eprint>(rt: &R, line: Result<String, AllocError>) {
+    if let Ok(line) = line {
+        let _ = rt.eprint(line.as_str());
+    }
+}
+
+/// Tells that a store is served, which was made or was there.
+pub(crate) fn note_begin<R: Eprint>(rt: &R, alloc: Global, store: &str, is_new: bool) {
+    if is_new {
+        note(rt, new_line(alloc, store));
+    } else {
+        note(rt, known_line(alloc, store));
+    }
+}
+
+/// Tells that a store isn't served any more.
+pub(crate) fn note_end<R: Eprint>(rt: &R, alloc: Global, store: &str) {
+    note(rt, end_line(alloc, store));
+}

@@ -1,0 +1,37 @@
+-- The first rows that pass a test, of so many rows and of more.
+use Rattle.std.proofs.Common.{◌≡◌, ◌∙◌, ℕ, ◌≤◌, List, Bool, ap, sym, length, take, drop, arith}
+use Rattle.std.specs.Prelude.{filter, map, Option, Some}
+use Rattle.std.proofs.lemmas.List.{length-map, length-take, take-append-drop, take-append-le, take-take}
+use Rattle.std.proofs.lemmas.List.Elements.{filter-append}
+use Rattle.cut_measure.specs.declared.ranges.TheConstants.{MOST_NUMBERS}
+use Rattle.cut_measure.specs.declared.sizes.Kind.{Kind}
+use Rattle.cut_bound.specs.declared.limits.TheConstants.{MOST_ORDER_WANTS, MOST_PARTS}
+use Rattle.shop_records.specs.declared.records.Demand.{Demand}
+use Rattle.shop_records.specs.declared.records.Part.{Part}
+use Rattle.shop_answers.specs.declared.planning.FoundDemand.{FoundDemand}
+use Rattle.shop_planning.specs.declared.asking.TheConstants.{FIRST_ROWS}
+use Rattle.shop_planning.specs.Asked.{can_be_planned, first_left, first_planned, has_left, with_row}
+
+-- where as many as are wanted stand among the first k rows, more rows don't matter
+pub first_of_more : {A : Type 0} (p : A → Bool) (n k m : ℕ) (xs : List A) → k ≤ m → length (take n (filter p (take k xs))) ≡ n → take n (filter p (take k xs)) ≡ take n (filter p (take m xs))
+first_of_more p n k m xs le full =
+    let front = filter p (take k (take m xs)) in
+    let same : take k (take m xs) ≡ take k xs = take-take k m xs le in
+    let enough : n ≤ length front = omega (arith, full, length-take n (filter p (take k xs)), ap (λ l. length (filter p l)) same) in
+    ap (λ l. take n (filter p l)) (sym same)
+    ∙ sym (take-append-le n front (filter p (drop k (take m xs))) enough)
+    ∙ ap (take n) (sym (filter-append p (take k (take m xs)) (drop k (take m xs))))
+    ∙ ap (λ l. take n (filter p l)) (take-append-drop k (take m xs))
+
+pub left_enough : (rows : List Demand) (found : List FoundDemand) → found ≡ first_left (take FIRST_ROWS rows) → length found ≡ MOST_ORDER_WANTS → found ≡ first_left (take MOST_NUMBERS rows)
+left_enough rows found is full =
+    let few = take MOST_ORDER_WANTS (filter has_left (take FIRST_ROWS rows)) in
+    let enough : length few ≡ MOST_ORDER_WANTS = sym (length-map few with_row) ∙ ap length (sym is) ∙ full in
+    is ∙ ap (map with_row) (first_of_more has_left MOST_ORDER_WANTS FIRST_ROWS MOST_NUMBERS rows (omega arith) enough)
+
+pub planned_enough : (kind : Kind) (rows : List Part) (found : List (Option Part)) → found ≡ first_planned kind (take FIRST_ROWS rows) → length found ≡ MOST_PARTS
+    → found ≡ first_planned kind (take MOST_NUMBERS rows)
+planned_enough kind rows found is full =
+    let few = take MOST_PARTS (filter (can_be_planned kind) (take FIRST_ROWS rows)) in
+    let enough : length few ≡ MOST_PARTS = sym (length-map few Some) ∙ ap length (sym is) ∙ full in
+    is ∙ ap (map Some) (first_of_more (can_be_planned kind) MOST_PARTS FIRST_ROWS MOST_NUMBERS rows (omega arith) enough)

@@ -1,0 +1,7 @@
+pub mod Firsts
+pub mod Grouped
+pub mod FirstRows
+pub mod StockFacts
+pub mod EntryLists
+pub mod NamedOnce
+pub mod Told

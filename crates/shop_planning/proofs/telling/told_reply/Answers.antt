@@ -1,0 +1,20 @@
+use Rattle.std.proofs.Common.{◌∙◌, ap, map, refl, subst}
+use Rattle.shop_planning.specs.Answers.{AreToldMissing, told_price}
+use Rattle.shop_planning.specs.Entries.{AreToldPlans}
+use Rattle.shop_planning.proofs.telling.told_reply.Goals as goal
+
+pub returns : goal.returns
+returns c =
+    record {
+      plan = c.args.plan.now;
+      answers = c.requires;
+      plans = subst (λ us. AreToldPlans c.args.posed.now us c.in_ok-plans.plans.items) c.deref-4.ensures.value c.in_ok-plans.ensures;
+      missing = subst (λ ws. AreToldMissing ws c.args.plan.now.missing.items c.in_ok-missing.missing) c.deref.ensures.value
+          (subst (λ ns. AreToldMissing c.deref.result.now ns c.in_ok-missing.missing) c.deref-2.ensures.value c.in_ok-missing.ensures);
+      prices = c.in_ok-prices.ensures ∙ ap (map told_price) c.deref-3.ensures.value;
+      cost = refl;
+      bound = refl;
+      proved = refl;
+      short = refl;
+      step = refl;
+    }

@@ -1,0 +1,51 @@
+-- What is answered to a question.
+use Rattle.std.specs.Prelude.{◌≡◌, ℕ, ◌==◌, List, [], ◌∷◌, map, if◌then◌else◌}
+use Rattle.std.specs.List.Sorted.{IsPermutation, IsNonDecreasingBy}
+use Rattle.cut_wants.specs.declared.wants.Want.{Want}
+use Rattle.cut_bound.specs.declared.prices.Price.{Price}
+use Rattle.cut_order.specs.declared.answer.OrderPlan.{OrderPlan}
+use Rattle.cut_order.specs.Answers.{IsAnswerOf}
+use Rattle.shop_plans.specs.declared.answers.DemandPrice.{DemandPrice}
+use Rattle.shop_plans.specs.declared.answers.MissingPieces.{MissingPieces}
+use Rattle.shop_plans.specs.declared.answers.PlansReply.{PlansReply}
+use Rattle.shop_plans.specs.Told.{plans_text}
+use Rattle.shop_planning.specs.declared.posed.Posed.{Posed}
+use Rattle.shop_planning.specs.Entries.{AreToldPlans}
+
+-- a plan of the order that is asked for
+abbrev pub IsPlanOf : Posed → OrderPlan → Type 0
+IsPlanOf posed plan = IsAnswerOf posed.kind posed.kerf posed.step posed.sizes.items posed.wants.items plan
+
+-- how many pieces are missing, of each want of which any is
+abbrev pub missing_rows : List Want → (missing : List ℕ) → List MissingPieces
+missing_rows [] numbers = []
+missing_rows (x ∷ xs) [] = []
+missing_rows (x ∷ xs) (n ∷ ns) = if n == 0 then missing_rows xs ns else record { demand = x.demand; pieces = n } ∷ missing_rows xs ns
+
+-- these, by rising demand
+pub record AreToldMissing (wants : List Want) (missing : List ℕ) (told : List MissingPieces) : Type 0 where
+  pub all : IsPermutation (missing_rows wants missing) told
+  pub rising : IsNonDecreasingBy (λ (row : MissingPieces). row.demand) told
+
+abbrev pub told_price : Price → DemandPrice
+told_price p = record { demand = p.demand; worth = p.worth }
+
+-- The answer tells a plan of the order: its units with the parts that are cut, what is missing, its cost and its bound with
+-- the prices, whether it is proved best, and whether all parts fall short.
+pub record IsPlansReply (posed : Posed) (reply : PlansReply) : Type 0 where
+  pub plan : OrderPlan
+  pub answers : IsPlanOf posed plan
+  pub plans : AreToldPlans posed plan.units.items reply.plans.items
+  pub missing : AreToldMissing posed.wants.items plan.missing.items reply.missing
+  pub prices : reply.prices ≡ map told_price plan.prices.items
+  pub cost : reply.cost ≡ plan.cost
+  pub bound : reply.bound ≡ plan.bound
+  pub proved : reply.proved ≡ plan.proved
+  pub short : reply.short ≡ plan.short
+  pub step : reply.step ≡ posed.step
+
+-- the text of an answer
+pub record IsPlansText (posed : Posed) (text : List ℕ) : Type 0 where
+  pub reply : PlansReply
+  pub answer : IsPlansReply posed reply
+  pub says : text ≡ plans_text reply

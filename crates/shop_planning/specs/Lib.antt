@@ -1,0 +1,10 @@
+pub mod Lists
+pub mod Asked
+pub mod Stock
+pub mod Faults
+pub mod Shares
+pub mod Entries
+pub mod Naming
+pub mod Answers
+pub mod Questions
+pub mod Thoughts

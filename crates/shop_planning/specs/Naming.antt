@@ -1,0 +1,14 @@
+-- How often a part is named.
+use Rattle.std.specs.Prelude.{ℕ, List, count_by, sum_by}
+use Rattle.cut_measure.specs.Names.{Name}
+use Rattle.shop_records.specs.Same.{same_name}
+use Rattle.shop_plans.specs.declared.answers.ToldPlan.{ToldPlan}
+use Rattle.shop_planning.specs.declared.posed.StockPart.{StockPart}
+
+-- how often plans name a part
+abbrev pub times_named : List ToldPlan → Name → ℕ
+times_named told name = sum_by (λ (t : ToldPlan). count_by (λ n. same_name n name) t.parts) told
+
+-- how many parts of a stock have a name
+abbrev pub parts_named : List StockPart → Name → ℕ
+parts_named parts name = count_by (λ (part : StockPart). same_name part.name name) parts

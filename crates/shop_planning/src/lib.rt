@@ -1,0 +1,20 @@
+//! Plans of all that is open of a material, from parts that stand and from sizes that may be bought: what a question asks of
+//! a shop's content, the search for an answer, and the answer.
+#![tactic(auto)]
+
+mod asking;
+mod laws;
+mod lists;
+mod planning;
+mod posed;
+mod posing;
+mod shares;
+mod stock;
+mod telling;
+mod thought;
+
+pub use laws::parts_are_named_once;
+pub use planning::plan_all;
+pub use posed::{Posed, StockPart};
+pub use posing::pose;
+pub use thought::Thought;

@@ -1,0 +1,64 @@
+//! Whether the numbers of a question are in their ranges, and its lists are ones that are planned.
+
+ghost use Rattle.std.specs.Prelude.{◌≡◌, ◌≤◌, IsTrue, length};
+ghost use Rattle.std.specs.Prelude.{false};
+ghost use Rattle.shop_planning.specs.Lists as lists;
+
+use cut_bound::{MOST_BOUGHT_SIZES, MOST_CALLS, MOST_ORDER_WANTS, MOST_PARTS};
+use shop_plans::{NameList, PlansQuery};
+use shop_records::NumberList;
+
+/// Whether `remnant` and `calls` are in their ranges.
+pub fn is_in_range(query: &PlansQuery) -> bool
+    ensures value { result ≡ lists.is_in_range query.now }
+    ensures remnant { IsTrue result → query.now.remnant ≤ 100 }
+{
+    1 <= query.remnant && query.remnant <= 100 && 1 <= query.calls && query.calls <= MOST_CALLS
+}
+
+// Whether something stands twice.
+fn has_twice<T: PartialEq>(items: &[T]) -> bool
+    ensures { result ≡ lists.has_twice T.eq items.now }
+{
+    let [first, more @ ..] = items else {
+        return false;
+    };
+    more.contains(first) || has_twice(more)
+}
+
+// Whether demands are named that are no list of 1 to 100, each once.
+fn are_bad_demands(demands: &Option<NumberList>) -> bool
+    ensures { result ≡ lists.are_bad_demands demands.now }
+{
+    match demands {
+        None => false,
+        Some(numbers) => {
+            let numbers = numbers.as_slice();
+            numbers.is_empty() || numbers.len() > MOST_ORDER_WANTS || has_twice(numbers)
+        }
+    }
+}
+
+// Whether parts are named that are no list of at most 1000, each once.
+fn are_bad_parts(parts: &Option<NameList>) -> bool
+    ensures { result ≡ lists.are_bad_parts parts.now }
+{
+    match parts {
+        None => false,
+        Some(names) => {
+            let names = names.as_slice();
+            names.len() > MOST_PARTS as usize || has_twice(names)
+        }
+    }
+}
+
+/// Whether one of the lists is too long, or has something twice, or there is a list of no demand.
+pub fn has_bad_list(query: &PlansQuery) -> bool
+    ensures { result ≡ lists.has_bad_list query.now }
+{
+    let buy = query.buy.as_slice();
+    are_bad_demands(&query.demands)
+        || are_bad_parts(&query.parts)
+        || buy.len() > MOST_BOUGHT_SIZES
+        || has_twice(buy)
+}

@@ -1,0 +1,44 @@
+//! What a question asks: the stock, the wants, and how they are planned.
+
+ghost use Rattle.std.specs.Prelude.{◌≡◌, ◌≤◌, None};
+ghost use Rattle.cut_measure.specs.declared.ranges.TheConstants.{MOST_KERF};
+ghost use Rattle.cut_plan.specs.Proposals.{AreDemands};
+ghost use Rattle.cut_bound.specs.Orders.{order_fault};
+ghost use Rattle.cut_order.specs.Stocks.{IsStock};
+
+use cut_bound::StockSize;
+use cut_measure::{Kind, PartName, Size};
+use cut_plan::Want;
+
+/// A part that may be used.
+#[derive(Clone, Copy, Debug)]
+pub struct StockPart {
+    pub name: PartName,
+    /// Its sides as they are planned, in tenths of a millimetre: of a bar the height is 1.
+    pub size: Size,
+    /// 100 for each cell, and of a remnant as much as the question says.
+    pub cost: u64,
+    /// Its place in the stock's list, from 0 on.
+    pub place: usize,
+}
+
+/// What a question asks of a content.
+#[derive(Drop)]
+pub struct Posed {
+    pub kind: Kind,
+    /// In tenths of a millimetre: 0 to 200.
+    pub kerf: u32,
+    /// The step of the tables, in tenths of a millimetre: 0 for a bar.
+    pub step: u32,
+    /// So many tables the search makes at most.
+    pub calls: u32,
+    /// The parts that may be used, in their order.
+    pub parts: Vec<StockPart>,
+    /// The sizes of the parts, each with the number of its parts, and then those that may be bought.
+    pub sizes: Vec<StockSize>,
+    pub wants: Vec<Want>,
+    ghost narrow: { kerf ≤ MOST_KERF },
+    ghost stocked: { IsStock kind sizes.items },
+    ghost numbered: { AreDemands wants.items },
+    ghost faultless: { order_fault kind kerf step sizes.items wants.items ≡ None },
+}

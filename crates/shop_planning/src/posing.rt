@@ -1,0 +1,321 @@
+//! What a question asks of a book's content, or why it isn't answered.
+
+ghost use Rattle.std.specs.Prelude.{◌≡◌, ◌≢◌, ◌≤◌, All, Err, IfErr, IfNone, IfOk, None, Some, false, length};
+ghost use Rattle.cut_measure.specs.declared.ranges.TheConstants.{MOST_KERF};
+ghost use Rattle.cut_plan.specs.Proposals.{AreDemands};
+ghost use Rattle.cut_bound.specs.declared.limits.TheConstants.{MOST_BOUGHT_SIZES, MOST_PARTS};
+ghost use Rattle.cut_order.specs.Stocks.{IsStock};
+ghost use Rattle.shop_records.specs.declared.refusals.Refusal.TheVariants.{NoMemory, StoreFault};
+ghost use Rattle.shop_records.specs.Content.{material_at};
+ghost use Rattle.shop_answers.specs.Planning as planning;
+ghost use Rattle.shop_answers.specs.Planning.{HasNumber};
+ghost use Rattle.shop_book.specs.Kept.{Unchanged, OnContent};
+ghost use Rattle.shop_planning.specs.Asked as asked;
+ghost use Rattle.shop_planning.specs.Faults.{CountsRefusal};
+ghost use Rattle.shop_planning.specs.Lists.{has_bad_list};
+ghost use Rattle.shop_planning.specs.Questions as question;
+ghost use Rattle.shop_planning.specs.Questions.{AnswersPlans, IsPosed};
+ghost use Rattle.shop_planning.specs.Thoughts.{posed_in};
+
+use crate::asking::{AskedRows, asked_rows, left_of};
+use crate::lists::{has_bad_list, is_in_range};
+use crate::posed::{Posed, StockPart};
+use crate::stock::{sizes_of, step_for, stock_parts};
+use crate::thought::Thought;
+use cut_bound::{StockSize, cost_fault, order_fault};
+use cut_measure::{Code, Kind, MOST_NUMBERS, Size};
+use cut_plan::{PlanFault, Want};
+use shop_answers::FoundDemand;
+use shop_book::Book;
+use shop_plans::{BuySize, PlansQuery};
+use shop_records::{Material, Part, Refusal};
+use std::alloc::{AllocError, Global};
+use std::cmp::Ordering;
+
+// Why a demand isn't planned on this material, if it isn't.
+fn demand_refusal(material: &Code, found: &FoundDemand) -> Option<Refusal>
+    ensures refusal { result ≡ planning.demand_refusal material.now found.now.number
+        found.now.demand }
+    ensures number { IfNone result (HasNumber found.now) }
+    ensures store { result ≢ Some StoreFault }
+{
+    let Some(demand) = &found.demand else {
+        return Some(Refusal::NoDemand);
+    };
+    if found.number < 1 || found.number > MOST_NUMBERS {
+        return Some(Refusal::NoDemand);
+    }
+    if demand.material.order(material) != Ordering::Equal {
+        return Some(Refusal::WrongMaterial);
+    }
+    None
+}
+
+// The first refusal of demands.
+fn demands_refusal(material: &Code, found: &[FoundDemand]) -> Option<Refusal>
+    ensures refusal { result ≡ question.demands_refusal material.now found.now }
+    ensures numbers { IfNone result (All HasNumber found.now) }
+    ensures store { result ≢ Some StoreFault }
+{
+    let [first, more @ ..] = found else {
+        return None;
+    };
+    match demand_refusal(material, first) {
+        Some(refusal) => Some(refusal),
+        None => demands_refusal(material, more),
+    }
+}
+
+// Why a part isn't used for this material, if it isn't.
+fn part_refusal(material: &Code, part: &Option<Part>) -> Option<Refusal>
+    ensures value { result ≡ question.part_refusal material.now part.now }
+    ensures store { result ≢ Some StoreFault }
+{
+    let Some(part) = part else {
+        return Some(Refusal::NoPart);
+    };
+    if !part.state.is_free() {
+        return Some(Refusal::NotStanding);
+    }
+    if part.material.order(material) != Ordering::Equal {
+        return Some(Refusal::WrongMaterial);
+    }
+    None
+}
+
+// The first refusal of parts.
+fn parts_refusal(material: &Code, found: &[Option<Part>]) -> Option<Refusal>
+    ensures value { result ≡ question.parts_refusal material.now found.now }
+    ensures store { result ≢ Some StoreFault }
+{
+    let [first, more @ ..] = found else {
+        return None;
+    };
+    match part_refusal(material, first) {
+        Some(refusal) => Some(refusal),
+        None => parts_refusal(material, more),
+    }
+}
+
+// The refusal of sizes of which one isn't a size of the kind.
+fn sizes_refusal(kind: Kind, buy: &[BuySize]) -> Option<Refusal>
+    ensures value { result ≡ question.sizes_refusal kind buy.now }
+    ensures store { result ≢ Some StoreFault }
+{
+    let [first, more @ ..] = buy else {
+        return None;
+    };
+    match Size::new(kind, first.w, first.h) {
+        Some(_) => sizes_refusal(kind, more),
+        None => Some(Refusal::BadSize),
+    }
+}
+
+// The first refusal of demands, parts or sizes.
+fn rows_refusal(query: &PlansQuery, kind: Kind, rows: &AskedRows) -> Option<Refusal>
+    ensures refusal { result ≡ question.rows_refusal query.now kind rows.now.demands.items rows.now.parts.items }
+    ensures numbers { IfNone result (All HasNumber rows.now.demands.items) }
+    ensures store { result ≢ Some StoreFault }
+{
+    if let Some(refusal) = demands_refusal(&query.material, &rows.demands) {
+        return Some(refusal);
+    }
+    if let Some(refusal) = parts_refusal(&query.material, &rows.parts) {
+        return Some(refusal);
+    }
+    sizes_refusal(kind, query.buy.as_slice())
+}
+
+// What is left of a demand, if anything is.
+fn want_of(found: &FoundDemand) -> Option<Want>
+    ensures { result ≡ planning.want_of found.now.number found.now.demand }
+{
+    let demand = found.demand?;
+    let left = left_of(&demand);
+    if left == 0 {
+        return None;
+    }
+    Some(Want {
+        demand: found.number,
+        size: demand.size,
+        may_turn: demand.may_turn,
+        left,
+        worth: demand.worth,
+    })
+}
+
+// The wants for demands of which something is left.
+fn wants_of(alloc: Global, found: &[FoundDemand]) -> Result<Vec<Want>, AllocError>
+    requires { All HasNumber found.now }
+    ensures wants { IfOk result (λ wants. wants.items ≡ question.wants_of found.now) }
+    ensures demands { IfOk result (λ wants. AreDemands wants.items) }
+{
+    found.iter().filter_map(want_of).collect(alloc)
+}
+
+// The refusal that tells of a planner's fault.
+fn planner_refusal(fault: PlanFault) -> Refusal
+    ensures value { result ≡ planning.planner_refusal fault }
+    ensures store { result ≢ StoreFault }
+{
+    match fault {
+        PlanFault::BadWant => Refusal::BadWant,
+        PlanFault::BadStep => Refusal::BadStep,
+        PlanFault::TableTooLarge => Refusal::TableTooLarge,
+        PlanFault::NothingFits => Refusal::NothingFits,
+        PlanFault::NoMemory => Refusal::NoMemory,
+    }
+}
+
+// The stock and the wants of a question.
+#[derive(Drop)]
+struct Gathered {
+    parts: Vec<StockPart>,
+    sizes: Vec<StockSize>,
+    wants: Vec<Want>,
+}
+
+// Gathers the stock and the wants.
+fn gather(
+    alloc: Global,
+    query: &PlansQuery,
+    kind: Kind,
+    rows: &AskedRows,
+) -> Result<Gathered, AllocError>
+    requires remnant { query.now.remnant ≤ 100 }
+    requires parts { length rows.now.parts.items ≤ MOST_PARTS }
+    requires buy { length query.now.buy ≤ MOST_BOUGHT_SIZES }
+    requires numbers { All HasNumber rows.now.demands.items }
+    ensures is { IfOk result (question.IsGathered query.now kind rows.now.demands.items rows.now.parts.items) }
+    ensures stock { IfOk result (λ stock. IsStock kind stock.sizes.items) }
+    ensures demands { IfOk result (λ stock. AreDemands stock.wants.items) }
+{
+    let parts = stock_parts(alloc, kind, query.remnant, &rows.parts)?;
+    let sizes = sizes_of(alloc, kind, &parts, query.buy.as_slice())?;
+    let wants = wants_of(alloc, &rows.demands)?;
+    Ok(Gathered {
+        parts,
+        sizes,
+        wants,
+    })
+}
+
+// The first fault of the planner. A step that is given is judged as for one part.
+fn planner_fault(
+    kind: Kind,
+    kerf: u32,
+    given: Option<u32>,
+    step: u32,
+    sizes: &[StockSize],
+    wants: &[Want],
+) -> Option<PlanFault>
+    requires { kerf ≤ MOST_KERF }
+    ensures value { result ≡ question.planner_fault kind kerf given step sizes.now wants.now }
+{
+    match given {
+        Some(_) => cost_fault(kind, kerf, step, sizes, wants),
+        None => order_fault(kind, kerf, step, sizes, wants),
+    }
+}
+
+// What is asked of a stock, or the planner's fault.
+fn posed_on(query: &PlansQuery, material: &Material, stock: Gathered) -> Result<Posed, Refusal>
+    requires stock { IsStock material.now.kind stock.sizes.items }
+    requires demands { AreDemands stock.wants.items }
+    ensures ok { IfOk result (question.IsPosedOn query.now material.now stock) }
+    ensures err { IfErr result (λ refusal. question.stock_refusal query.now material.now stock.sizes.items stock.wants.items ≡ Some refusal) }
+    ensures store { IfErr result (λ refusal. refusal ≢ StoreFault) }
+{
+    let (kind, kerf) = (material.kind, material.limits.kerf());
+    let step = step_for(kind, kerf, query.step, &stock.sizes);
+    match planner_fault(kind, kerf, query.step, step, &stock.sizes, &stock.wants) {
+        Some(fault) => Err(planner_refusal(fault)),
+        None => Ok(Posed {
+            kind,
+            kerf,
+            step,
+            calls: query.calls,
+            parts: stock.parts,
+            sizes: stock.sizes,
+            wants: stock.wants,
+        }),
+    }
+}
+
+// What is asked of the rows that were found.
+fn posed_of(
+    alloc: Global,
+    query: &PlansQuery,
+    material: &Material,
+    rows: &AskedRows,
+) -> Result<Posed, Refusal>
+    requires remnant { query.now.remnant ≤ 100 }
+    requires parts { length rows.now.parts.items ≤ MOST_PARTS }
+    requires buy { length query.now.buy ≤ MOST_BOUGHT_SIZES }
+    ensures ok { IfOk result (question.IsPosedBy query.now material.now rows.now.demands.items rows.now.parts.items) }
+    ensures err { IfErr result (λ refusal. refusal ≢ NoMemory
+        → question.material_refusal query.now material.now rows.now.demands.items rows.now.parts.items ≡ Some refusal) }
+    ensures store { IfErr result (λ refusal. refusal ≢ StoreFault) }
+{
+    if let Some(refusal) = rows_refusal(query, material.kind, rows) {
+        return Err(refusal);
+    }
+    match gather(alloc, query, material.kind, rows) {
+        Ok(stock) => posed_on(query, material, stock),
+        Err(_) => Err(Refusal::NoMemory),
+    }
+}
+
+// What a question whose lists are planned asks of a material that is there.
+fn posed_for<B: Book>(
+    alloc: Global,
+    book: &mut B,
+    query: &PlansQuery,
+    material: &Material,
+) -> Result<Posed, Refusal>
+    requires remnant { query.now.remnant ≤ 100 }
+    requires lists { has_bad_list query.now ≡ false }
+    ensures ok { OnContent B.Book book.old book.new (λ m. IfOk result (question.IsPosedOf m query.now material.now)) }
+    ensures err { OnContent B.Book book.old book.new
+        (λ m. IfErr result (λ refusal. refusal ≢ NoMemory → refusal ≢ StoreFault
+        → question.refusal_of m query.now material.now ≡ Some refusal)) }
+    ensures keeps { Unchanged B.Book (CountsRefusal result) book.old book.new }
+{
+    match asked_rows(alloc, book, query, material.kind) {
+        Ok(rows) => posed_of(alloc, query, material, &rows),
+        Err(fault) => Err(Refusal::from(fault)),
+    }
+}
+
+// What a question asks, or its refusal.
+fn what_is_asked<B: Book>(alloc: Global, book: &mut B, query: &PlansQuery) -> Result<Posed, Refusal>
+    ensures ok { OnContent B.Book book.old book.new (λ m. IfOk result (IsPosed m query.now)) }
+    ensures err { OnContent B.Book book.old book.new
+        (λ m. IfErr result (λ refusal. refusal ≢ NoMemory → refusal ≢ StoreFault
+        → question.plans_refusal m query.now ≡ Some refusal)) }
+    ensures keeps { Unchanged B.Book (CountsRefusal result) book.old book.new }
+{
+    if !is_in_range(query) {
+        return Err(Refusal::BadMessage);
+    }
+    match book.material(query.material) {
+        Err(fault) => Err(Refusal::from(fault)),
+        Ok(None) => Err(Refusal::NoMaterial),
+        Ok(Some(_)) if has_bad_list(query) => Err(Refusal::BadWant),
+        Ok(Some(material)) => posed_for(alloc, book, query, &material),
+    }
+}
+
+/// What a question asks of a book's content: it may be thought about from then on, whatever becomes of the content. Refused
+/// in this order: `BadMessage` for numbers out of their ranges; `NoMaterial`; `BadWant` for a list that is too long or has
+/// something twice, or one of no demand; demand by demand `NoDemand`, `WrongMaterial`; part by part `NoPart`, `NotStanding`,
+/// `WrongMaterial`; `BadSize`; `BadWant` where nothing is left; `BadStep` for a step that is given; `TableTooLarge`;
+/// `NothingFits`. Want of memory and a failed store may come at any point.
+pub fn pose<B: Book>(alloc: Global, book: &mut B, query: &PlansQuery) -> Result<Thought, Refusal>
+    ensures answer { OnContent B.Book book.old book.new (λ m. IfOk result (λ thought. IsPosed m query.now (posed_in thought))) }
+    ensures refused { OnContent B.Book book.old book.new (λ m. IfErr result (λ refusal. AnswersPlans m query.now (Err refusal))) }
+    ensures keeps { Unchanged B.Book (CountsRefusal result) book.old book.new }
+{
+    let posed = what_is_asked(alloc, book, query)?;
+    Ok(Thought::new(posed))
+}

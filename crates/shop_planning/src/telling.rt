@@ -1,0 +1,323 @@
+//! The answer to a question: the plans with the parts that are cut by each, what is missing, and the prices.
+
+ghost use Rattle.std.specs.Prelude.{◌≡◌, ◌≤◌, ◌<◌, ◌+◌, IfOk, IfSome, OnOk, drop, filter, length, map, slice_get, take};
+ghost use Rattle.std.specs.List.Sorted.{IsPermutation, IsSorted};
+ghost use Rattle.cut_bound.specs.declared.limits.TheConstants.{MOST_BOUGHT_SIZES, MOST_PARTS, MOST_UNITS};
+ghost use Rattle.cut_order.specs.Places.{unit_count};
+ghost use Rattle.cut_tree.specs.Spelling.{text_of};
+ghost use Rattle.shop_planning.specs.Answers.{IsPlanOf, IsPlansReply, IsPlansText};
+ghost use Rattle.shop_planning.specs.Answers as answers;
+ghost use Rattle.shop_planning.specs.Entries as entries;
+
+use crate::posed::{Posed, StockPart};
+use crate::shares::shares_of;
+use cut_bound::{MOST_PARTS, PlannedUnit, Price, StockSize, units_at};
+use cut_order::OrderPlan;
+use cut_plan::Want;
+use cut_tree::Plan;
+use shop_plans::{DemandPrice, MissingPieces, NameList, PlansReply, ToldPlan, plans_text};
+use shop_records::{RowList, Text};
+use std::alloc::{AllocError, Global};
+
+/// A plan as it is told, and its place among the others: that in the stock's list of the part that stands there first, or
+/// behind all parts that of its size.
+#[derive(Drop)]
+pub struct Entry {
+    pub place: usize,
+    pub told: ToldPlan,
+}
+
+// Whether a part has this size.
+fn is_of(part: &StockPart, stock: &StockSize) -> bool
+    ensures { result ≡ entries.is_of stock.now part.now }
+{
+    part.size.w() == stock.size.w() && part.size.h() == stock.size.h() && part.cost == stock.cost
+}
+
+// The parts by rising name.
+fn ranked(alloc: Global, parts: &[StockPart]) -> Result<Vec<StockPart>, AllocError>
+    ensures { IfOk result (λ ranked. entries.IsRanked parts.now ranked.items) }
+{
+    let mut ranked = Vec::from_slice(alloc, parts)?;
+    ranked.sort_by_key(|part| (part.name.act(), part.name.node()))?;
+    Ok(ranked)
+}
+
+// The parts of a size.
+fn parts_of(
+    alloc: Global,
+    ranked: &[StockPart],
+    stock: &StockSize,
+) -> Result<Vec<StockPart>, AllocError>
+    ensures { IfOk result (λ parts. parts.items ≡ filter (entries.is_of stock.now) ranked.now) }
+{
+    ranked
+        .iter()
+        .filter(|part| is_of(part, stock))
+        .copied()
+        .collect(alloc)
+}
+
+// So many parts, behind those that were taken before.
+fn taken(parts: &[StockPart], before: u128, times: u32) -> &[StockPart]
+    ensures { result.now ≡ take times (drop before parts.now) }
+{
+    let left = &parts[before.min(parts.len() as u128) as usize..];
+    &left[..(times as usize).min(left.len())]
+}
+
+// The names of parts.
+fn names_of(alloc: Global, parts: &[StockPart]) -> Result<NameList, AllocError>
+    ensures { IfOk result (λ names. names ≡ map (λ p. p.name) parts.now) }
+{
+    let mut names = NameList::new(alloc);
+    for part in parts {
+        names.push(part.name)?;
+    }
+    Ok(names)
+}
+
+// The first place of parts in the stock's list.
+fn first_place(parts: &[StockPart]) -> usize
+    ensures { result ≡ entries.first_place parts.now }
+{
+    let mut first = MOST_PARTS as usize;
+    for part in parts {
+        first = first.min(part.place);
+    }
+    first
+}
+
+// The text of a plan's tree.
+fn tree_text(alloc: Global, plan: &Plan) -> Result<Text, AllocError>
+    ensures { IfOk result (λ text. text ≡ text_of plan.now.tree) }
+{
+    let mut text = String::new(alloc);
+    plan.write(&mut text)?;
+    Ok(Text::of(text))
+}
+
+// A plan by which parts of a size are cut.
+fn part_entry(
+    alloc: Global,
+    ranked: &[StockPart],
+    stock: &StockSize,
+    before: u128,
+    unit: &PlannedUnit,
+) -> Result<Entry, AllocError>
+    ensures { IfOk result (λ entry. entry ≡ entries.part_entry ranked.now before unit.now stock.now) }
+{
+    let parts = parts_of(alloc, ranked, stock)?;
+    let parts = taken(&parts, before, unit.times);
+    let names = names_of(alloc, parts)?;
+    let tree = tree_text(alloc, &unit.plan)?;
+    Ok(Entry {
+        place: first_place(parts),
+        told: ToldPlan {
+            buy: 0,
+            h: stock.size.h(),
+            parts: names,
+            tree,
+            w: stock.size.w(),
+        },
+    })
+}
+
+// A plan by which bought units are cut.
+fn bought_entry(alloc: Global, stock: &StockSize, unit: &PlannedUnit) -> Result<Entry, AllocError>
+    requires { unit.now.place ≤ MOST_PARTS + MOST_BOUGHT_SIZES }
+    ensures { IfOk result (λ entry. entry ≡ entries.bought_entry unit.now stock.now) }
+{
+    let tree = tree_text(alloc, &unit.plan)?;
+    Ok(Entry {
+        place: MOST_PARTS as usize + unit.place,
+        told: ToldPlan {
+            buy: unit.times,
+            h: stock.size.h(),
+            parts: NameList::new(alloc),
+            tree,
+            w: stock.size.w(),
+        },
+    })
+}
+
+// A plan as it is told.
+fn entry_of(
+    alloc: Global,
+    ranked: &[StockPart],
+    stock: &StockSize,
+    before: u128,
+    unit: &PlannedUnit,
+) -> Result<Entry, AllocError>
+    requires { unit.now.place ≤ MOST_PARTS + MOST_BOUGHT_SIZES }
+    ensures { IfOk result (λ entry. entry ≡ entries.entry_of ranked.now before unit.now stock.now) }
+{
+    match stock.limit {
+        Some(_) => part_entry(alloc, ranked, stock, before, unit),
+        None => bought_entry(alloc, stock, unit),
+    }
+}
+
+// The size at a place.
+fn size_at(sizes: &[StockSize], place: usize) -> Option<StockSize>
+    ensures value { result ≡ slice_get sizes.now place }
+    ensures within { IfSome result (λ _. place < length sizes.now) }
+{
+    sizes.get(place).copied()
+}
+
+// The plans of units of these sizes.
+fn entries_of(
+    alloc: Global,
+    sizes: &[StockSize],
+    ranked: &[StockPart],
+    shares: &[PlannedUnit],
+) -> Result<Vec<Entry>, AllocError>
+    requires { length sizes.now ≤ MOST_PARTS + MOST_BOUGHT_SIZES }
+    ensures { IfOk result (λ list. list.items ≡ entries.entries_of sizes.now ranked.now shares.now) }
+{
+    let mut list = Vec::new(alloc);
+    for i in 0..shares.len() {
+        let unit = &shares[i];
+        match size_at(sizes, unit.place) {
+            Some(stock) => {
+                let before = units_at(&shares[..i], unit.place);
+                let entry = entry_of(alloc, ranked, &stock, before, unit)?;
+                list.push(entry)?;
+            }
+            None => {}
+        }
+    }
+    Ok(list)
+}
+
+// Puts plans in the order in which they are told.
+fn sort_entries(list: &mut Vec<Entry>) -> Result<(), AllocError>
+    ensures { OnOk result (IsPermutation list.old.items list.new.items × IsSorted entries.in_order list.new.items) }
+{
+    list.sort_by(|a, b| {
+        a.place
+            .cmp(&b.place)
+            .then(a.told.tree.as_str().cmp(b.told.tree.as_str()))
+    })?;
+    Ok(())
+}
+
+// The plans alone.
+fn told_entries(alloc: Global, list: Vec<Entry>) -> Result<Vec<ToldPlan>, AllocError>
+    ensures { IfOk result (λ plans. plans.items ≡ map (λ e. e.told) list.items) }
+{
+    let mut plans = Vec::new(alloc);
+    for entry in list {
+        plans.push(entry.told)?;
+    }
+    Ok(plans)
+}
+
+// The plans with the parts that are cut by each.
+fn told_plans(
+    alloc: Global,
+    posed: &Posed,
+    units: &[PlannedUnit],
+) -> Result<Vec<ToldPlan>, AllocError>
+    requires { unit_count units.now ≤ MOST_UNITS }
+    ensures { IfOk result (λ plans. entries.AreToldPlans posed.now units.now plans.items) }
+{
+    let ranked = ranked(alloc, &posed.parts)?;
+    let shares = shares_of(alloc, units)?;
+    let mut list = entries_of(alloc, &posed.sizes, &ranked, &shares)?;
+    sort_entries(&mut list)?;
+    let plans = told_entries(alloc, list)?;
+    Ok(plans)
+}
+
+// How many pieces are missing of the wants of which any is.
+fn missing_rows(
+    alloc: Global,
+    wants: &[Want],
+    missing: &[u32],
+) -> Result<Vec<MissingPieces>, AllocError>
+    ensures { IfOk result (λ rows. rows.items ≡ answers.missing_rows wants.now missing.now) }
+{
+    let mut rows = Vec::new(alloc);
+    for i in 0..wants.len().min(missing.len()) {
+        let want = &wants[i];
+        let pieces = missing[i];
+        if pieces != 0 {
+            rows.push(MissingPieces {
+                demand: want.demand,
+                pieces,
+            })?;
+        }
+    }
+    Ok(rows)
+}
+
+// Copies of rows.
+fn listed(alloc: Global, rows: &[MissingPieces]) -> Result<RowList<MissingPieces>, AllocError>
+    ensures { IfOk result (λ list. list ≡ rows.now) }
+{
+    let mut list = RowList::new(alloc);
+    for row in rows {
+        list.push(*row)?;
+    }
+    Ok(list)
+}
+
+// What is missing, by rising demand.
+fn told_missing(
+    alloc: Global,
+    wants: &[Want],
+    missing: &[u32],
+) -> Result<RowList<MissingPieces>, AllocError>
+    ensures { IfOk result (answers.AreToldMissing wants.now missing.now) }
+{
+    let mut rows = missing_rows(alloc, wants, missing)?;
+    rows.sort_by_key(|row| row.demand)?;
+    let told = listed(alloc, &rows)?;
+    Ok(told)
+}
+
+// The prices of the bound.
+fn told_prices(alloc: Global, prices: &[Price]) -> Result<RowList<DemandPrice>, AllocError>
+    ensures { IfOk result (λ told. told ≡ map answers.told_price prices.now) }
+{
+    let mut told = RowList::new(alloc);
+    for price in prices {
+        told.push(DemandPrice {
+            demand: price.demand,
+            worth: price.worth,
+        })?;
+    }
+    Ok(told)
+}
+
+// The answer that tells a plan.
+fn told_reply(alloc: Global, posed: &Posed, plan: &OrderPlan) -> Result<PlansReply, AllocError>
+    requires { IsPlanOf posed.now plan.now }
+    ensures { IfOk result (IsPlansReply posed.now) }
+{
+    let missing = told_missing(alloc, &posed.wants, &plan.missing)?;
+    let prices = told_prices(alloc, &plan.prices)?;
+    let plans = told_plans(alloc, posed, &plan.units)?;
+    Ok(PlansReply {
+        bound: plan.bound,
+        cost: plan.cost,
+        missing,
+        plans,
+        prices,
+        proved: plan.proved,
+        short: plan.short,
+        step: posed.step,
+    })
+}
+
+/// The text of the answer that tells a plan.
+pub fn told_text(alloc: Global, posed: &Posed, plan: &OrderPlan) -> Result<Text, AllocError>
+    requires { IsPlanOf posed.now plan.now }
+    ensures { IfOk result (IsPlansText posed.now) }
+{
+    let reply = told_reply(alloc, posed, plan)?;
+    let text = plans_text(alloc, &reply)?;
+    Ok(text)
+}

@@ -1,0 +1,8 @@
+//! The question for plans of all that is open of a material, and its answer, in JSON.
+#![tactic(auto)]
+
+mod answers;
+mod questions;
+
+pub use answers::{DemandPrice, MissingPieces, PlansReply, ToldPlan, plans_text};
+pub use questions::{BuyList, BuySize, NameList, PlansQuery, read_plans};

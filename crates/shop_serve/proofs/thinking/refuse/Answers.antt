@@ -1,0 +1,14 @@
+use Rattle.std.proofs.Common.{◌∙◌, ℕ, ap}
+use Rattle.std.specs.declared.alloc.Global.{Global}
+use Rattle.std.specs.Prelude.{Vec}
+use Rattle.shop_serve.proofs.thinking.refuse.Goals as goal
+
+pub returns-in-Ok-clause-answered : goal.returns-in-Ok-clause-answered
+returns-in-Ok-clause-answered g c told =
+    record {
+      answer = c.into_bytes.result;
+      now = c.now.result;
+      read = c.now.ensures;
+      told = ap (λ (v : Vec ℕ Global). v.items) c.into_bytes.ensures.value ∙ c.in-Ok.ensures;
+      kept = c.put_answer.ensures;
+    }

@@ -1,0 +1,44 @@
+use Rattle.std.proofs.Common.{◌∙◌, ℕ, Some, inr, refl, sym, ap, subst}
+use Rattle.std.specs.declared.alloc.Global.{Global}
+use Rattle.std.specs.Prelude.{Vec, IfSome, string_bytes}
+use Rattle.shop_planning.specs.Thoughts.{posed_in}
+use Rattle.shop_serve.specs.Making.{IsPlansAnswer}
+use Rattle.shop_serve.proofs.thinking.think_once.Goals as goal
+
+pub returns-in-Ok-None-clause-goes_on : goal.returns-in-Ok-None-clause-goes_on
+returns-in-Ok-None-clause-goes_on g c done =
+    (record {
+      thinking = c.in-Some.thinking;
+      next = record { thought = c.advance.new.thought; last = Some c.args.now };
+      asks = sym c.in-Some.ensures.value;
+      same = c.advance.ensures.asks;
+      last = refl;
+      kept = ap (λ t. record c.args.line.now { thought = t }) c.replace.ensures.after;
+    }, refl)
+
+pub returns-in-Ok-Some-clause-answered : goal.returns-in-Ok-Some-clause-answered
+returns-in-Ok-Some-clause-answered g c done =
+    record {
+      thinking = c.in-Some.thinking;
+      asks = sym c.in-Some.ensures.value;
+      answer = c.into_bytes.result;
+      now = c.now.result;
+      read = c.now.ensures;
+      told = subst (IsPlansAnswer (posed_in c.in-Some.thinking.thought)) (sym (ap (λ (v : Vec ℕ Global). v.items) c.into_bytes.ensures.value))
+          (subst (λ answer. IsPlansAnswer (posed_in c.in-Some.thinking.thought) (string_bytes answer)) (sym c.in-Ok-Some.answer-is)
+          (subst (λ o. IfSome o (λ answer. IsPlansAnswer (posed_in c.in-Some.thinking.thought) (string_bytes answer))) c.in-Ok-Some.field-0-is c.in-Ok-Some.ensures.told));
+      kept = c.put_answer.ensures;
+    }
+
+pub returns-in-Err-clause-answered : goal.returns-in-Err-clause-answered
+returns-in-Err-clause-answered g c done =
+    let refused = c.refuse.ensures.answered done in
+    record {
+      thinking = c.in-Some.thinking;
+      asks = sym c.in-Some.ensures.value;
+      answer = refused.answer;
+      now = refused.now;
+      read = refused.read;
+      told = inr refused.told;
+      kept = refused.kept;
+    }

@@ -1,0 +1,54 @@
+-- What is made of a request: its answer, or what it asks; and what an answer to a question says.
+use Rattle.std.specs.Prelude.{◌≡◌, ◌⊎◌, ℕ, List, Option, Some, None, Vec}
+use Rattle.std.specs.declared.alloc.Global.{Global}
+use Rattle.std.specs.declared.time.Instant.{Instant}
+use Rattle.shop_book.specs.declared.books.Book.{Ghosts}
+use Rattle.shop_planning.specs.Answers.{IsPlansText}
+use Rattle.shop_planning.specs.Thoughts.{posed_in}
+use Rattle.shop_planning.specs.declared.posed.Posed.{Posed}
+use Rattle.shop_planning.specs.declared.thought.Thought.{Thought as Thoughts}
+use Rattle.shop_records.specs.declared.messages.Reply.TheVariants.{Refused}
+use Rattle.shop_records.specs.declared.refusals.Refusal.TheVariants.{NoMemory}
+use Rattle.shop_request.specs.Guards.{HasRuling}
+use Rattle.shop_request.specs.declared.guards.Ruling.TheVariants.{Routed}
+use Rattle.shop_request.specs.declared.routes.Route.TheVariants.{Plans}
+use Rattle.shop_serve.specs.declared.answers.Made.{Made}
+use Rattle.shop_serve.specs.declared.answers.Made.TheVariants.{Answer, Thought}
+use Rattle.shop_serve.specs.declared.lines.Line.{Line}
+use Rattle.shop_serve.specs.declared.sites.Site.{Site}
+use Rattle.shop_serve.specs.Serving.{IsAnswered}
+use Rattle.shop_wire.specs.AnswerBytes.{answer_bytes, printed, replied, telling_answer}
+use Rattle.shop_wire.specs.Serves.{IsBegun}
+
+-- By their head some bytes went to their route, and are a question; this is what it asks of the content. Nothing is done.
+abbrev pub IsAsked : Site → {B : Type 0} → Ghosts B → B → B → (came : List ℕ) → Posed → Type 0
+IsAsked site book before after came posed =
+    HasRuling site.guard.port site.guard.has_page came Routed × IsBegun book before after (Some came) posed
+
+-- what was made of some bytes
+abbrev pub IsMade : Site → {B : Type 0} → Ghosts B → B → B → (came : List ℕ) → Made → Type 0
+IsMade site book before after came (Answer answer) = IsAnswered site book before after came answer.items
+IsMade site book before after came (Thought thought) = IsAsked site book before after came (posed_in thought)
+
+-- the answer that memory was wanting for a question
+abbrev pub plans_refused : List ℕ
+plans_refused = answer_bytes (telling_answer Plans (replied (Refused NoMemory)))
+
+-- the answer to a question: it tells plans for just what was asked, or that memory was wanting
+abbrev pub IsPlansAnswer : Posed → List ℕ → Type 0
+IsPlansAnswer posed answer =
+    ((text : List ℕ) × IsPlansText posed text × (answer ≡ answer_bytes (telling_answer Plans (printed text))))
+    ⊎ (answer ≡ plans_refused)
+
+-- it has this answer from now on, and took nothing of it
+abbrev pub put_answer : {C : Type 0} → Line C → Vec ℕ Global → Instant → Line C
+put_answer line answer now = record line { thought = None; answer = Some answer; sent = 0; since = now }
+
+-- it has this question from now on, which waits
+abbrev pub put_thought : {C : Type 0} → Line C → Thoughts → Instant → Line C
+put_thought line thought now = record line { thought = Some (record { thought = thought; last = None }); answer = None; sent = 0; since = now }
+
+-- what was made is put into its connection
+abbrev pub put_made : {C : Type 0} → Line C → Made → Instant → Line C
+put_made line (Answer answer) now = put_answer line answer now
+put_made line (Thought thought) now = put_thought line thought now

@@ -1,0 +1,51 @@
+-- Each connection has its own: its question and its answer are those of the bytes that came of it.
+use Rattle.std.specs.Prelude.{◌≡◌, ◌⊎◌, ℕ, List, Some, None, IfSome}
+use Rattle.slab.specs.Slab.{Slab, get}
+use Rattle.shop_book.specs.declared.books.Book.{Ghosts}
+use Rattle.shop_planning.specs.Thoughts.{posed_in}
+use Rattle.shop_planning.specs.declared.posed.Posed.{Posed}
+use Rattle.shop_serve.specs.declared.connections.Connection.{Ghosts as ConnectionGhosts}
+use Rattle.shop_serve.specs.declared.lines.Line.{Line}
+use Rattle.shop_serve.specs.declared.sites.Site.{Site}
+use Rattle.shop_serve.specs.Making.{IsAsked, IsPlansAnswer}
+use Rattle.shop_serve.specs.Rounds.{AreRounds, Round}
+use Rattle.shop_serve.specs.Serving.{HasServed, IsAnswered}
+use Rattle.shop_serve.specs.Times.{Times}
+
+module _ (site : Site) {B : Type 0} (book : Ghosts B) where
+  -- requests led from one book to another: what is honest at last was honest at first
+  pub record Leads (before after : B) : Type 0 where
+    pub honest : book.is_honest after → book.is_honest before
+    pub count : ℕ
+    pub served : HasServed site book before after count
+
+  -- This was done with a book that requests led to, and it led to what there is now.
+  pub record WasDone (before after : B) (done : B → B → Type 0) : Type 0 where
+    pub old : B
+    pub new : B
+    pub earlier : Leads before old
+    pub step : done old new
+    pub honest : book.is_honest new → book.is_honest old
+    pub later : Leads new after
+
+  -- these bytes are a question that was asked then, and this is what it asks of the content that the book had
+  abbrev pub WasAsked : B → B → List ℕ → Posed → Type 0
+  WasAsked before after came posed = WasDone before after (λ old new. IsAsked site book old new came posed)
+
+  -- this is the answer to these bytes that was made then; or they are a question, and it is the answer to that
+  abbrev pub WasAnswered : B → B → List ℕ → List ℕ → Type 0
+  WasAnswered before after came answer =
+      WasDone before after (λ old new. IsAnswered site book old new came answer)
+      ⊎ ((posed : Posed) × WasAsked before after came posed × IsPlansAnswer posed answer)
+
+  -- a connection's question and its answer are those of its own bytes
+  abbrev pub HasItsOwn : {C : Type 0} → B → B → Line C → Type 0
+  HasItsOwn before after line =
+      IfSome line.thought (λ t. WasAsked before after line.came.items (posed_in t.thought))
+      × IfSome line.answer (λ answer. WasAnswered before after line.came.items answer.items)
+
+-- where none is open at first, each that is open behind the turns has its own
+abbrev pub EachHasItsOwn : {C : Type 0} → ConnectionGhosts C → Site → {B : Type 0} → Ghosts B → Type 0 → Type 0
+EachHasItsOwn {C} connection site {B} book deaf =
+    (rounds : List (Round C)) (first last : Slab (Line C)) (before after : B) (seen seeing : Times) → AreRounds connection site book deaf rounds first last before after seen seeing
+    → ((key : ℕ) → get first key ≡ None) → (key : ℕ) (line : Line C) → get last key ≡ Some line → HasItsOwn site book before after line

@@ -1,0 +1,72 @@
+-- Thinking beside serving: once a turn, on the question of one connection.
+use Rattle.std.specs.Prelude.{◌≡◌, ◌≢◌, ◌⊎◌, ℕ, Option, Some, None, IsSome, Vec}
+use Rattle.std.specs.declared.alloc.Global.{Global}
+use Rattle.std.specs.declared.time.Instant.{Instant}
+use Rattle.slab.specs.Slab.{Slab, get}
+use Rattle.shop_book.specs.declared.books.Book.{Ghosts}
+use Rattle.shop_planning.specs.Thoughts.{posed_in}
+use Rattle.shop_serve.specs.declared.connections.Connection.{Ghosts as ConnectionGhosts}
+use Rattle.shop_serve.specs.declared.lines.Fate.{Fate}
+use Rattle.shop_serve.specs.declared.lines.Line.{Line}
+use Rattle.shop_serve.specs.declared.sites.Site.{Site}
+use Rattle.shop_serve.specs.declared.thinking.Thinking.{Thinking as ThinkingOf}
+use Rattle.shop_serve.specs.declared.thinking.Progress.{Progress}
+use Rattle.shop_serve.specs.declared.thinking.Progress.TheVariants.{GoesOn, Answered, NoMemory}
+use Rattle.shop_serve.specs.Lines.{IsAttendedAt, NoneAsks}
+use Rattle.shop_serve.specs.Making.{IsPlansAnswer, plans_refused, put_answer}
+use Rattle.shop_serve.specs.Times.{Times, Tells, TellsNone}
+
+module _ {C : Type 0} where
+  -- its question was thought on now: it asks the same, and nothing else of the connection changed
+  pub record IsThoughtOnce (now : Instant) (old new : Line C) : Type 0 where
+    pub thinking : ThinkingOf
+    pub next : ThinkingOf
+    pub asks : old.thought ≡ Some thinking
+    pub same : posed_in next.thought ≡ posed_in thinking.thought
+    pub last : next.last ≡ Some now
+    pub kept : new ≡ record old { thought = Some next }
+
+  -- It has the answer to its own question, and took nothing of it. Its seconds begin anew, at the time that is read then.
+  pub record IsThoughtOut (old new : Line C) (seen seeing : Times) : Type 0 where
+    pub thinking : ThinkingOf
+    pub asks : old.thought ≡ Some thinking
+    pub answer : Vec ℕ Global
+    pub now : Instant
+    pub read : Tells seen seeing now
+    pub told : IsPlansAnswer (posed_in thinking.thought) answer.items
+    pub kept : new ≡ put_answer old answer now
+
+  -- It is told that memory was wanting for its question, and took nothing of that.
+  pub record IsRefused (old new : Line C) (seen seeing : Times) : Type 0 where
+    pub answer : Vec ℕ Global
+    pub now : Instant
+    pub read : Tells seen seeing now
+    pub told : answer.items ≡ plans_refused
+    pub kept : new ≡ put_answer old answer now
+
+  -- The connection of this key has a question, and no other connection changed. It goes on, it is answered, or memory was wanting
+  -- for that and it is closed.
+  pub record IsThoughtAt (progress : Progress) (now : Instant) (key : ℕ) (old new : Slab (Line C)) (seen seeing : Times) : Type 0 where
+    pub line : Line C
+    pub there : get old key ≡ Some line
+    pub asks : IsSome line.thought
+    pub others : (other : ℕ) → other ≢ key → get new other ≡ get old other
+    pub goes_on : progress ≡ GoesOn → (left : Line C) × (get new key ≡ Some left) × IsThoughtOnce now line left × TellsNone seen seeing
+    pub answered : progress ≡ Answered → (left : Line C) × (get new key ≡ Some left) × IsThoughtOut line left seen seeing
+    pub closed : progress ≡ NoMemory → (get new key ≡ None) × TellsNone seen seeing
+
+module _ {C : Type 0} (connection : ConnectionGhosts C) (site : Site) {B : Type 0} (book : Ghosts B) where
+  -- One question was thought on. Where its answer was made its connection is attended to at once.
+  pub record IsThoughtOn (now : Instant) (old new : Slab (Line C)) (before after : B) (seen seeing : Times) : Type 0 where
+    pub key : ℕ
+    pub progress : Progress
+    pub lines : Slab (Line C)
+    pub between : Times
+    pub thought : IsThoughtAt progress now key old lines seen between
+    pub goes_on : progress ≢ Answered → (new ≡ lines) × (after ≡ before) × TellsNone between seeing
+    pub answered : progress ≡ Answered → (fate : Fate) × IsAttendedAt connection site book fate key lines new before after between seeing
+
+  -- one was, or none has a question and nothing is done
+  abbrev pub Thinks : Instant → Slab (Line C) → Slab (Line C) → B → B → (seen seeing : Times) → Type 0
+  Thinks now old new before after seen seeing =
+      (NoneAsks old × (new ≡ old) × (after ≡ before) × TellsNone seen seeing) ⊎ IsThoughtOn now old new before after seen seeing

@@ -1,0 +1,261 @@
+//! Questions that are thought about beside serving: one of them, once a turn.
+
+ghost use Rattle.std.specs.Prelude.{◌≡◌, ◌≢◌, ◌≤◌, ℕ, None, false, IfOk, IfSome, IsSome, string_bytes};
+ghost use Rattle.std.specs.Duration.{as_nanos};
+ghost use Rattle.shop_planning.specs.Thoughts.{posed_in};
+ghost use Rattle.shop_serve.specs.Lines.{AsksAt, NoneAsks, unanswered};
+ghost use Rattle.shop_serve.specs.Making.{IsPlansAnswer};
+ghost use Rattle.shop_serve.specs.Serving.{Advances};
+ghost use Rattle.shop_serve.specs.Thinking.{IsRefused, IsThoughtAt, IsThoughtOnce, IsThoughtOut, Thinks};
+ghost use Rattle.shop_serve.specs.Times.{TellsNone};
+ghost use Rattle.shop_serve.specs.declared.thinking.Progress.TheVariants as progress;
+
+use crate::connections::Connection;
+use crate::lines::{Line, attend_at, is_begun, put_answer};
+use crate::sites::Site;
+use crate::watches::Watch;
+use shop_book::Book;
+use shop_planning::Thought;
+use shop_wire::{plans_answer, plans_refused};
+use slab::Slab;
+use std::alloc::{AllocError, Global};
+use std::time::{Duration, Instant};
+
+/// How many questions are thought about at once at most.
+pub const MOST_THOUGHTS: usize = 8;
+
+/// A question that is thought about, with what was found so far, and when that was done last. It waits where it wasn't yet.
+#[derive(Drop)]
+pub(crate) struct Thinking {
+    pub(crate) thought: Thought,
+    pub(crate) last: Option<Instant>,
+}
+
+// A place in the row of questions: those that have to wait are behind the others, and each is behind those that wait longer.
+#[derive(Clone, Copy)]
+struct Place {
+    has_to_wait: bool,
+    since: Instant,
+}
+
+impl Place {
+    fn is_before(self, other: Place) -> bool {
+        if self.has_to_wait == other.has_to_wait {
+            return self.since < other.since;
+        }
+        other.has_to_wait
+    }
+}
+
+// The place of a connection's question, where others may be begun or not.
+fn place_of<C>(line: &Line<C>, is_full: bool) -> Option<Place>
+    ensures some { IsSome result → IsSome line.now.thought }
+    ensures none { result ≡ None → line.now.thought ≡ None }
+{
+    match &line.thought {
+        None => None,
+        Some(thinking) => match thinking.last {
+            Some(since) => Some(Place {
+                has_to_wait: false,
+                since,
+            }),
+            None => Some(Place {
+                has_to_wait: is_full,
+                since: line.since,
+            }),
+        },
+    }
+}
+
+// Whether a place is before that of what was found so far.
+fn is_first(found: Option<(usize, Place)>, place: Place) -> bool
+    ensures { result ≡ false → IsSome found }
+{
+    found.is_none_or(|(_, first)| place.is_before(first))
+}
+
+// How many questions were begun.
+fn count_begun<C>(lines: &Slab<Line<C>>) -> usize {
+    let mut begun = 0usize;
+    for (_, line) in lines.iter() {
+        if is_begun(line) {
+            begun = begun.saturating_add(1);
+        }
+    }
+    begun
+}
+
+// The key of the connection whose question is thought on next: of those that were begun, at most eight, and as long as they
+// are fewer of those that wait too, the one that waits longest since it was thought on or read.
+fn next_thought<C>(lines: &Slab<Line<C>>) -> Option<usize>
+    ensures some { IfSome result (AsksAt lines.now) }
+    ensures none { result ≡ None → NoneAsks lines.now }
+{
+    let is_full = count_begun(lines) >= MOST_THOUGHTS;
+    let mut found: Option<(usize, Place)> = None;
+    for (key, line) in lines.iter() {
+        let place = match place_of(line, is_full) {
+            Some(place) => place,
+            None => continue,
+        };
+        if is_first(found, place) {
+            found = Some((key, place));
+        }
+    }
+    match found {
+        Some((key, _)) => Some(key),
+        None => None,
+    }
+}
+
+// Thinks once on a question. Gives its answer where that is done.
+fn advance(alloc: Global, thought: &mut Thought) -> Result<Option<String>, AllocError>
+    ensures asks { posed_in thought.new ≡ posed_in thought.old }
+    ensures told { IfOk result
+        (λ done. IfSome done (λ answer. IsPlansAnswer (posed_in thought.old) (string_bytes answer))) }
+{
+    if thought.advance(alloc)? {
+        return Ok(None);
+    }
+    let text = thought.tell(alloc)?;
+    let answer = plans_answer(alloc, &text)?;
+    Ok(Some(answer))
+}
+
+/// What came of thinking on a question: it goes on, or its answer was made, or there was no memory to refuse it.
+#[derive(Clone, Copy)]
+pub(crate) enum Progress {
+    GoesOn,
+    Answered,
+    NoMemory,
+}
+
+// Tells that memory was wanting for a connection's question, where there is memory for that.
+fn refuse<C, K: Watch>(alloc: Global, line: &mut Line<C>, watch: &mut K) -> Progress
+    ensures goes_on { result ≢ progress.GoesOn }
+    ensures answered { result ≡ progress.Answered
+        → IsRefused line.old line.new (K.times watch.old) (K.times watch.new) }
+    ensures closed { result ≡ progress.NoMemory
+        → TellsNone (K.times watch.old) (K.times watch.new) }
+{
+    match plans_refused(alloc) {
+        Ok(answer) => {
+            watch.note(answer.as_str().as_bytes());
+            put_answer(line, answer.into_bytes(), watch.now());
+            Progress::Answered
+        }
+        Err(_) => Progress::NoMemory,
+    }
+}
+
+// Thinks once on a connection's question, and notes when. Where memory is wanting what was found is let go first.
+fn think_once<C, K: Watch>(
+    alloc: Global,
+    line: &mut Line<C>,
+    now: Instant,
+    watch: &mut K,
+) -> Progress
+    requires { IsSome line.old.thought }
+    ensures goes_on { result ≡ progress.GoesOn → IsThoughtOnce now line.old line.new
+        × TellsNone (K.times watch.old) (K.times watch.new) }
+    ensures answered { result ≡ progress.Answered
+        → IsThoughtOut line.old line.new (K.times watch.old) (K.times watch.new) }
+    ensures closed { result ≡ progress.NoMemory
+        → TellsNone (K.times watch.old) (K.times watch.new) }
+{
+    let Some(mut thinking) = line.thought.take() else {
+        unreachable!()
+    };
+    thinking.last = Some(now);
+    match advance(alloc, &mut thinking.thought) {
+        Ok(None) => {
+            drop(line.thought.replace(thinking));
+            Progress::GoesOn
+        }
+        Ok(Some(answer)) => {
+            drop(thinking);
+            put_answer(line, answer.into_bytes(), watch.now());
+            Progress::Answered
+        }
+        Err(_) => {
+            drop(thinking);
+            refuse(alloc, line, watch)
+        }
+    }
+}
+
+// Thinks once on the question of a key's connection, and closes it where memory is wanting. Tells what came of it.
+fn think_at<C: Drop, K: Watch>(
+    alloc: Global,
+    lines: &mut Slab<Line<C>>,
+    key: usize,
+    now: Instant,
+    watch: &mut K,
+) -> Progress
+    requires { AsksAt lines.old key }
+    ensures at { IsThoughtAt result now key lines.old lines.new (K.times watch.old)
+        (K.times watch.new) }
+    ensures fewer { unanswered lines.new ≤ unanswered lines.old }
+{
+    let Some(line) = lines.get_mut(key) else {
+        return Progress::GoesOn;
+    };
+    match think_once(alloc, line, now, watch) {
+        Progress::GoesOn => Progress::GoesOn,
+        Progress::Answered => Progress::Answered,
+        Progress::NoMemory => {
+            drop(lines.try_remove(key));
+            Progress::NoMemory
+        }
+    }
+}
+
+/// Thinks once on one of the questions, where there is any, and hands over its answer where that is done.
+pub(crate) fn think<C: Connection + Drop, K: Watch, B: Book>(
+    alloc: Global,
+    site: &Site,
+    lines: &mut Slab<Line<C>>,
+    now: Instant,
+    watch: &mut K,
+    book: &mut B,
+)
+    ensures thinks { Thinks C.Connection site.now B.Book now lines.old lines.new book.old book.new
+        (K.times watch.old) (K.times watch.new) }
+    ensures run { Advances site.now B.Book book.old book.new (unanswered lines.old)
+        (unanswered lines.new) }
+    ensures honest { B.is_honest book.new → B.is_honest book.old }
+{
+    let Some(key) = next_thought(lines) else {
+        return;
+    };
+    match think_at(alloc, lines, key, now, watch) {
+        Progress::GoesOn => (),
+        Progress::NoMemory => (),
+        Progress::Answered => {
+            let _ = attend_at(alloc, site, lines, key, watch, book);
+        }
+    }
+}
+
+// For how long is waited, where that may be so long.
+fn time_to_wait<C>(lines: &Slab<Line<C>>, wait: Duration) -> Duration
+    ensures idle { NoneAsks lines.now → result ≡ wait }
+    ensures asks { (key : ℕ) → AsksAt lines.now key → as_nanos result ≡ 0 }
+{
+    if next_thought(lines).is_some() {
+        return Duration::ZERO;
+    }
+    wait
+}
+
+/// For how long is waited next, where one may wait: for no time, while a question is thought about.
+pub(crate) fn next_wait<C>(lines: &Slab<Line<C>>, wait: Option<Duration>) -> Option<Duration>
+    ensures never { wait ≡ None → result ≡ None }
+    ensures idle { NoneAsks lines.now → result ≡ wait }
+    ensures asks { IfSome result (λ w. (key : ℕ) → AsksAt lines.now key → as_nanos w ≡ 0) }
+{
+    match wait {
+        None => None,
+        Some(wait) => Some(time_to_wait(lines, wait)),
+    }
+}

@@ -1,0 +1,93 @@
+-- Questions for plans that were answered or begun.
+use Rattle.std.proofs.Common.{◌≡◌, ℕ, ap, inl, inr, List, Option, Some, Result, Ok, Err, refl, sym, subst}
+use Rattle.std.specs.Prelude.{IfOk, IfErr, IfSome}
+use Rattle.shop_records.specs.declared.messages.Reply.TheVariants.{Refused}
+use Rattle.shop_records.specs.declared.refusals.Refusal.{Refusal}
+use Rattle.shop_records.specs.declared.refusals.Refusal.TheVariants.{StoreFault}
+use Rattle.shop_records.specs.Content.{Content}
+use Rattle.shop_records.specs.Soundness.{IsSound}
+use Rattle.shop_forms.specs.Forms.{json_texts}
+use Rattle.shop_book.specs.declared.books.Book.{Ghosts}
+use Rattle.shop_book.specs.Kept.{OnContent, Unchanged}
+use Rattle.shop_desk.specs.Faults.{CountsUp, StoreFailed}
+use Rattle.shop_desk.proofs.Blame.{up_reply}
+use Rattle.shop_plans.specs.declared.questions.PlansQuery.{PlansQuery}
+use Rattle.shop_planning.specs.declared.thought.Thought.{Thought}
+use Rattle.shop_planning.specs.Faults.{CountsRefusal}
+use Rattle.shop_planning.specs.Questions.{AnswersPlans, IsPosed}
+use Rattle.shop_planning.specs.Thoughts.{posed_in}
+use Rattle.shop_request.specs.declared.routes.Route.TheVariants.{Plans}
+use Rattle.shop_request.specs.Requests.{HasSense, asking}
+use Rattle.shop_wire.specs.AnswerBytes.{Telling, replied}
+use Rattle.shop_wire.specs.Serves.{HasServed, IsBegun, body_plans}
+use Rattle.shop_wire.specs.Tellings.{IsRead, IsUnread}
+use Rattle.shop_wire.proofs.Answered.{plans_answered_to, plans_unread, tells_refusal}
+use Rattle.shop_wire.proofs.Acted.{plans_served, store_failed}
+use Rattle.shop_wire.proofs.Meant.{unread_not_store}
+
+-- ---- what was read
+
+pub asked_some : (r : Result PlansQuery Refusal) (meant : Option PlansQuery) (question : PlansQuery) → r ≡ Ok question → IsRead (λ (q : PlansQuery). q) r meant → meant ≡ Some question
+asked_some r meant question is read = subst (λ r. IsRead (λ (q : PlansQuery). q) r meant) is read
+
+pub asked_none : (r : Result PlansQuery Refusal) (meant : Option PlansQuery) (refusal : Refusal) → r ≡ Err refusal → IsRead (λ (q : PlansQuery). q) r meant → IsUnread refusal meant
+asked_none r meant refusal is read = subst (λ r. IsRead (λ (q : PlansQuery). q) r meant) is read
+
+pub told_refusal : (refusal other : Refusal) (telling : Telling) → telling ≡ replied (Refused refusal) → telling ≡ replied (Refused other) → refusal ≡ other
+told_refusal refusal other telling told e = cc
+
+-- ---- failures
+
+pub up_plans : {T : Type 0} (r : Result T Refusal) (a b : ℕ) → CountsRefusal r a b → CountsUp a b
+up_plans (Ok x) a b is = inl (is.others (λ e. cc))
+up_plans (Err StoreFault) a b is = up_reply a b (Refused StoreFault) (is.store_fault refl)
+up_plans (Err _) a b is = inl (is.others (λ e. cc))
+
+pub plans_blame : (T : Type 0) (refusal : Refusal) (a b : ℕ) → refusal ≡ StoreFault → CountsRefusal {T = T} (Err refusal) a b → StoreFailed a b
+plans_blame T refusal a b is counts = store_failed a b (counts.store_fault (ap Err is))
+
+-- what isn't read touches no store
+pub unread_counts : {B : Type 0} (T : Type 0) (refusal : Refusal) (o : Option B) (n : ℕ) → IsUnread refusal o → CountsRefusal {T = T} (Err refusal) n n
+unread_counts T refusal o n why = record { store_fault = λ e. absurd (unread_not_store refusal o why cc); others = λ _. refl }
+
+-- ---- a question that was posed, or is refused
+
+module _ {B : Type 0} (book : Ghosts B) (before after : B) (body : List ℕ) where
+  pub posed_begun : (question : PlansQuery) (left : Option (List ℕ)) (r : Result Thought Refusal) → body_plans body ≡ Some question → IfSome left (λ input. HasSense input (asking Plans body))
+      → OnContent book before after (λ m. IfOk r (λ thought. IsPosed m question (posed_in thought))) → Unchanged book (CountsRefusal r) before after
+      → IfOk r (λ thought. IsBegun book before after left (posed_in thought))
+  posed_begun question left (Ok thought) asks sense poses keeps =
+      record {
+        body = body;
+        query = question;
+        sense = sense;
+        asks = asks;
+        run = λ honest m held sound. (keeps.stays honest m held, poses honest m held);
+        keeps = record { honest = keeps.honest; stays = keeps.stays; crash = keeps.crash; failures = keeps.failures.others (λ e. cc) };
+      }
+  posed_begun question left (Err refusal) asks sense poses keeps = tt
+
+  refused_served : (question : PlansQuery) (refusal : Refusal) (m : Content) → body_plans body ≡ Some question → AnswersPlans m question (Err refusal) → book.holds after m → IsSound json_texts m
+      → (refusal ≡ StoreFault → StoreFailed (book.failed before) (book.failed after)) → HasServed book before after m (asking Plans body) (replied (Refused refusal))
+  refused_served question refusal m asks answers held sound blame =
+      plans_served book before after m held sound body (replied (Refused refusal))
+      (plans_answered_to m (body_plans body) question (replied (Refused refusal)) asks (tells_refusal m question refusal (replied (Refused refusal)) refl answers))
+      (λ e. blame (told_refusal refusal StoreFault (replied (Refused refusal)) refl e))
+
+  pub posed_refused : (question : PlansQuery) (r : Result Thought Refusal) → body_plans body ≡ Some question
+      → OnContent book before after (λ m. IfErr r (λ refusal. AnswersPlans m question (Err refusal))) → Unchanged book (CountsRefusal r) before after
+      → IfErr r (λ refusal. OnContent book before after (λ m. IsSound json_texts m → HasServed book before after m (asking Plans body) (replied (Refused refusal))))
+  posed_refused question (Ok thought) asks answers keeps = tt
+  posed_refused question (Err refusal) asks answers keeps = λ honest m held sound.
+      refused_served question refusal m asks (answers honest m held) (keeps.stays honest m held) sound (λ is. plans_blame Thought refusal (book.failed before) (book.failed after) is keeps.failures)
+
+  pub unread_served : (refusal : Refusal) (m : Content) → IsUnread refusal (body_plans body) → book.holds after m → IsSound json_texts m
+      → HasServed book before after m (asking Plans body) (replied (Refused refusal))
+  unread_served refusal m unread held sound =
+      plans_served book before after m held sound body (replied (Refused refusal)) (plans_unread m (body_plans body) refusal (replied (Refused refusal)) unread refl)
+      (λ e. absurd (unread_not_store refusal (body_plans body) unread (told_refusal refusal StoreFault (replied (Refused refusal)) refl e)))
+
+  pub refused_told : (refusal : Refusal) (telling : Telling) → telling ≡ replied (Refused refusal)
+      → OnContent book before after (λ m. IsSound json_texts m → HasServed book before after m (asking Plans body) (replied (Refused refusal)))
+      → OnContent book before after (λ m. IsSound json_texts m → HasServed book before after m (asking Plans body) telling)
+  refused_told refusal telling told served = subst (λ t. OnContent book before after (λ m. IsSound json_texts m → HasServed book before after m (asking Plans body) t)) (sym told) served

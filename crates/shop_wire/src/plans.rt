@@ -1,0 +1,104 @@
+//! Questions for plans of a whole order: answered at once, or posed for whoever thinks about them.
+
+ghost use Rattle.std.specs.Prelude.{◌≡◌, ℕ, List, Option, IfErr, IfOk, IfSome};
+ghost use Rattle.shop_records.specs.declared.messages.Reply.TheVariants.{Refused};
+ghost use Rattle.shop_records.specs.declared.refusals.Refusal.TheVariants.{StoreFault};
+ghost use Rattle.shop_records.specs.Soundness.{IsSound};
+ghost use Rattle.shop_forms.specs.Forms.{json_texts};
+ghost use Rattle.shop_book.specs.Kept.{OnContent, Unchanged};
+ghost use Rattle.shop_desk.specs.Faults.{CountsUp, StoreFailed};
+ghost use Rattle.shop_plans.specs.declared.questions.PlansQuery.{PlansQuery as PlansQueryOf};
+ghost use Rattle.shop_planning.specs.Faults.{CountsRefusal};
+ghost use Rattle.shop_planning.specs.Thoughts.{posed_in};
+ghost use Rattle.shop_request.specs.Requests.{HasSense, asking};
+ghost use Rattle.shop_request.specs.declared.routes.Route.TheVariants.{Plans as AtPlans};
+ghost use Rattle.shop_wire.specs.AnswerBytes.{replied};
+ghost use Rattle.shop_wire.specs.Replays.{PlansStep, TellsPlans};
+ghost use Rattle.shop_wire.specs.Serves.{HasServed, IsBegun, body_plans};
+ghost use Rattle.shop_wire.specs.Tellings.{IsPrinted, IsRead, telling_of};
+
+use crate::answers::value_in;
+use crate::told::{Told, refused};
+use shop_book::Book;
+use shop_planning::{Thought, plan_all, pose};
+use shop_plans::{PlansQuery, read_plans};
+use shop_rules::Refusal;
+use std::alloc::Global;
+
+// The answer to a question for plans.
+fn question_told<B: Book>(alloc: Global, book: &mut B, question: &PlansQuery) -> Told
+    ensures answer { OnContent B.Book book.old book.new
+        (λ m. TellsPlans m question.now (telling_of result)) }
+    ensures printed { IsPrinted result }
+    ensures keeps { Unchanged B.Book CountsUp book.old book.new }
+    ensures store_fault { telling_of result ≡ replied (Refused StoreFault)
+        → StoreFailed (B.failed book.old) (B.failed book.new) }
+{
+    match plan_all(alloc, book, question) {
+        Ok(text) => Told::Text(text),
+        Err(refusal) => refused(refusal),
+    }
+}
+
+/// The answer to what was read as a question for plans.
+pub(crate) fn plans_told<B: Book>(
+    alloc: Global,
+    book: &mut B,
+    asked: Result<PlansQuery, Refusal>,
+) -> Told
+    ensures answer { (meant : Option PlansQueryOf) → IsRead (λ question. question) asked meant
+        → OnContent B.Book book.old book.new (λ m. PlansStep m meant (telling_of result) m) }
+    ensures printed { IsPrinted result }
+    ensures keeps { Unchanged B.Book CountsUp book.old book.new }
+    ensures store_fault { (meant : Option PlansQueryOf) → IsRead (λ question. question) asked meant
+        → telling_of result ≡ replied (Refused StoreFault)
+        → StoreFailed (B.failed book.old) (B.failed book.new) }
+{
+    match asked {
+        Ok(question) => question_told(alloc, book, &question),
+        Err(refusal) => refused(refusal),
+    }
+}
+
+// The question for plans that a body is.
+fn plans_in(alloc: Global, body: &[u8]) -> Result<PlansQuery, Refusal>
+    ensures { IsRead (λ question. question) result (body_plans body.now) }
+{
+    let value = value_in(alloc, body)?;
+    let question = read_plans(alloc, &value)?;
+    Ok(question)
+}
+
+/// What a body is told as a question for plans.
+pub(crate) fn body_told<B: Book>(alloc: Global, book: &mut B, body: &[u8]) -> Told
+    ensures served { OnContent B.Book book.old book.new
+        (λ m. IsSound json_texts m
+        → HasServed B.Book book.old book.new m (asking AtPlans body.now) (telling_of result)) }
+    ensures printed { IsPrinted result }
+    ensures honest { B.is_honest book.new → B.is_honest book.old }
+    ensures failures { CountsUp (B.failed book.old) (B.failed book.new) }
+{
+    plans_told(alloc, book, plans_in(alloc, body))
+}
+
+/// What a body asks of a book's content as a question for plans, or why it is refused.
+pub(crate) fn pose_body<B: Book>(
+    alloc: Global,
+    book: &mut B,
+    body: &[u8],
+) -> Result<Thought, Refusal>
+    ensures posed { (left : Option (List ℕ))
+        → IfSome left (λ input. HasSense input (asking AtPlans body.now))
+        → IfOk result (λ thought. IsBegun B.Book book.old book.new left (posed_in thought)) }
+    ensures refused { IfErr result
+        (λ refusal. OnContent B.Book book.old book.new
+        (λ m. IsSound json_texts m
+        → HasServed B.Book book.old book.new m (asking AtPlans body.now)
+        (replied (Refused refusal)))) }
+    ensures keeps { Unchanged B.Book (CountsRefusal result) book.old book.new }
+{
+    match plans_in(alloc, body) {
+        Ok(question) => pose(alloc, book, &question),
+        Err(refusal) => Err(refusal),
+    }
+}

@@ -1,0 +1,239 @@
+"""The second line of a fault: which file, entry or port it was, and why; and what a server tells of itself."""
+
+import errno
+import os
+import sqlite3
+import subprocess
+
+from cases.command_line import STEEL, serving, taken_port
+from cases.connections import GLASS as MATERIAL
+from cases.stores import numbers
+from kit import tables
+from kit.case import Skipped, case
+from kit.faults import Faults
+from kit.shop import answer, begin_line, end_line
+
+GLASS = STEEL.replace("STEEL", "GLASS")
+MISSING = "there is no such file"
+FOLDER = "it is a folder; name a file"
+NOT_ALLOWED = "this account may not read it"
+
+
+@case("why a file can't be read", "A file that isn't there and a folder are told by their names, as problem, order, shop file and page.")
+def files(trial):
+    trial.write("shop.toml", STEEL)
+    for name, why in (("no.txt", MISSING), ("no/such.txt", MISSING), (".", FOLDER)):
+        for words in (("plan", name, "--kerf", "0", "--step", "1"), ("orders", name)):
+            trial.ended(trial.run(*words), 1, err="fault file\n", why=f"{name}: {why}")
+        serve = ("serve", "--port", "1", "--store", "a.db")
+        trial.ended(trial.run(*serve, "--shop", name), 1, err="fault file\n", why=f"{name}: {why}")
+        trial.ended(trial.run(*serve, "--shop", "shop.toml", "--page", name), 1, err="fault file\n", why=f"{name}: {why}")
+    trial.write("long.html", "x" * 1048577)
+    ran = trial.run(*serve, "--shop", "shop.toml", "--page", "long.html")
+    trial.ended(ran, 1, err="fault file\n", why="long.html: it is over 1048576 bytes long")
+
+
+@case("a name of two lines", "A file whose name has a line feed is told by other words, so that one line stands behind the fault's.")
+def two_lines(trial):
+    for name in ("a\nb", "no\n", "\n"):
+        ran = trial.run("plan", name, "--kerf", "0", "--step", "1")
+        trial.ended(ran, 1, err="fault file\n", why=f"a name of two lines: {MISSING}", sent=name)
+
+
+@case("why a problem has no plan", "The byte of a text's fault and the planner's refusal are told in words.")
+def problems(trial):
+    wanted = [
+        ("2 10 8 4 3 2 66.0 5 8 1 40", "0", "1", "fault text 15 Byte", "p.txt, byte 15: only digits, spaces, tabs and line ends may stand here"),
+        ("2 10 8 4 3", "0", "1", "fault text 10 Short", "p.txt, byte 10: the text ends before its last number"),
+        ("0 10 8", "0", "1", "fault text 0 Number", "p.txt, byte 0: this number is out of its range"),
+        ("1 2 2 4 3 1 12", "0", "1", "refused 90 NothingFits", "p.txt: no piece fits the rectangle"),
+        ("1 9 9 4 3 1 12", "0", "0", "refused 92 BadStep", "p.txt: the step is 0, or over some piece's side and a kerf; give another"),
+    ]
+    for text, kerf, step, line, why in wanted:
+        trial.write("p.txt", text)
+        ran = trial.run("plan", "p.txt", "--kerf", kerf, "--step", step)
+        trial.ended(ran, 1, err=f"{line}\n", why=why, sent=text)
+
+
+SHOPS = [
+    ("material = {}", "fault shop text", "line 1: material is no list; write [[material]] above each material"),
+    ("\n\nx = 1\n" + STEEL, "fault shop text", "line 3: write [[material]] above each material, and no key named x"),
+    ("# shop\n[[material]]\ncode\n", "fault shop text", "line 3: it is no TOML: key with no value, expected `=`"),
+    ("\n" * 65537, "fault shop text", ": it is over 65536 bytes long"),
+    (b"\xff", "fault shop text", ": it is no UTF-8 text"),
+    ("material = [" + "1," * 1001 + "]", "fault shop text", ": it has over 1000 materials"),
+    ("material = [1]", "fault shop entry 1", "material 1: it is no table; write [[material]] above each material"),
+    (STEEL.replace("kerf", "kerff"), "fault shop entry 1", "line 4: no key is named kerff"),
+    (STEEL + "[[material]]\ncode = 1\n", "fault shop entry 2", "line 7: the material has no key kind"),
+    (STEEL + GLASS.replace('"bar"', '"rod"'), "fault shop entry 2", 'line 9: the kind is "bar" or "sheet"'),
+    (STEEL.replace('"STEEL"', '"steel"'), "fault shop entry 1", 'line 2: the code is 1 to 16 of A-Z, 0-9 and -; write it as "STEEL-40"'),
+    (
+        STEEL.replace('"0.3"', "0.3"),
+        "fault shop entry 1",
+        'line 4: write millimetres as a text, as "1250.5", with 1 to 6 digits, and one behind a point: kerf',
+    ),
+]
+
+
+@case("why a shop file is bad", "The line of a shop file's fault is told, where it is found, and what to write there.")
+def shops(trial):
+    for text, line, why in SHOPS:
+        trial.write("shop.toml", text)
+        why = f"shop.toml{why}" if why.startswith(":") else f"shop.toml, {why}"
+        trial.ended(serving(trial, 1, ".", "shop.toml"), 1, err=f"{line}\n", why=why, sent=text)
+
+
+@case("why an entry is refused", "An entry of the shop file that the shop refuses is told by its number, with the refusal in words.")
+def entries(trial):
+    changed = "another entry was read here before; put it back, and write new ones behind the last"
+    other = "the store has this material with another kind, kerf or limits"
+    bad = "the kerf or a limit is out of its range for this kind"
+    with taken_port() as port:
+        for text, line, why in (
+            (STEEL, "fault port", None),
+            (STEEL.replace("0.3", "0.4"), "shop entry 1 refused 11 NumberReused", f"shop.toml, material 1: {changed}"),
+            (STEEL + STEEL.replace("0.3", "0.4"), "shop entry 2 refused 21 MaterialExists", f"shop.toml, material 2: {other}"),
+        ):
+            trial.write("shop.toml", text)
+            trial.ended(serving(trial, port, "a.db", "shop.toml"), 1, err=f"{line}\n", why=why, sent=text)
+        trial.write("shop.toml", STEEL.replace("2.0", "0.0"))
+        ran = serving(trial, port, "b.db", "shop.toml")
+        trial.ended(ran, 1, err="shop entry 1 refused 22 BadMaterial\n", why=f"shop.toml, material 1: {bad}")
+        trial.write("shop.toml", STEEL)
+        why = f"port {port}: another program listens to it; end that one, or take another port"
+        trial.ended(serving(trial, port, "c.db", "shop.toml"), 1, err="fault port\n", why=why)
+
+
+@case(
+    "why a store can't be opened",
+    "A folder that isn't there, a folder, another program that has it open, no database, a hard link, a rollback journal and a "
+    "damaged file are told, each by its words.",
+)
+def stores(trial):
+    shop = trial.shop("used.db")
+    trial.write("junk.db", "no database, but a text")
+    os.link(trial.write("one.db", ""), trial.path("two.db"))
+    made = trial.run("ticket", "--store", "whole.db", "1")
+    trial.equal(made.status, 1)
+    with open(trial.path("whole.db"), "rb") as file:
+        content = file.read()
+    trial.write("damaged.db", content[:16] + b"\xff" * 4096)
+    trial.write("journal.db", content)
+    trial.write("journal.db-journal", b"\xd9\xd5\x05\xf9 \xa1c\xd7" + b"\x00" * 504)
+    for name, why in (
+        ("no/such.db", "its folder isn't there; make it first"),
+        ("whole.db/such.db", "its folder isn't there; make it first"),
+        (".", "it is a folder; name a file in it"),
+        (shop.store, "another program has it open"),
+        ("junk.db", "it is no SQLite database; name another file"),
+        ("two.db", "it is no plain file with one name; name one, and no hard link to it"),
+        ("damaged.db", "it or its disk is damaged; put a copy of it and its log in its place"),
+        ("journal.db", "a rollback journal lies beside it; open it once with sqlite3"),
+    ):
+        for words in (("ticket", "--store", name, "1"), ("yield", "--store", name, "STEEL")):
+            trial.ended(trial.run(*words), 1, err="fault store\n", why=f"{name}: {why}", sent=name)
+    trial.write("shop.toml", STEEL)
+    ran = serving(trial, 1, "junk.db", "shop.toml")
+    trial.ended(ran, 1, err="fault store\n", why="junk.db: it is no SQLite database; name another file")
+
+
+@case(
+    "why tables are no shop's",
+    "Tables of another program, of a later version, and totals that aren't their sums are told apart.",
+)
+def versions(trial):
+    with sqlite3.connect(trial.path("other.db")) as other:
+        other.execute("CREATE TABLE parts (name TEXT) STRICT")
+    other.close()
+    for name, change in (("newer.db", None), ("sums.db", "UPDATE totals2 SET received = received + 1")):
+        shop = trial.shop(name, shop_file=trial.write("shop.toml", STEEL))
+        shop.kill()
+        if change:
+            tables.change(shop.store, change)
+        else:
+            numbers(shop.store, "version", 3)
+    for name, why in (
+        ("other.db", "it has the tables of another program; name another file"),
+        ("newer.db", "a newer cutshop made it; run that one"),
+        ("sums.db", "its totals or rows contradict each other; put a copy of it and its log in its place"),
+    ):
+        trial.ended(trial.run("ticket", "--store", name, "1"), 1, err="fault version\n", why=f"{name}: {why}", sent=name)
+
+
+@case(
+    "what a store hasn't, and one that is made",
+    "`ticket` and `yield` tell that the store has no such job or material, and of one that wasn't there that it was made.",
+)
+def made(trial):
+    for words, line, why in (
+        (("ticket", "--store", "new.db", "1"), "refused 70 NoJob", "there was no store, and an empty one was made"),
+        (("ticket", "--store", "new.db", "1"), "refused 70 NoJob", "it has no such job"),
+        (("yield", "--store", "new.db", "STEEL"), "refused 20 NoMaterial", "it has no such material"),
+        (("yield", "--store", "newer.db", "STEEL"), "refused 20 NoMaterial", "there was no store, and an empty one was made"),
+    ):
+        trial.ended(trial.run(*words), 1, err=f"{line}\n", why=f"{words[2]}: {why}")
+
+
+@case("why a stream failed", "Where standard output takes no byte, or standard input is a folder, the second line names it.")
+def streams(trial):
+    def over(*words, given=os.devnull, out=os.devnull):
+        with open(out, "wb") as sink:
+            source = os.open(given, os.O_RDONLY)
+            try:
+                ran = subprocess.run([trial.program, *words], stdin=source, stdout=sink, stderr=subprocess.PIPE)
+            finally:
+                os.close(source)
+        return ran.returncode, ran.stderr
+
+    wanted = b"fault write\n  standard output: it can't be written; is its disk full, or its reader gone?\n"
+    trial.equal(over("replay", given=trial.write("lines", "\n"), out="/dev/full"), (1, wanted))
+    trial.equal(over("--version", out="/dev/full"), (1, wanted))
+    trial.equal(over("replay", given=trial.folder), (1, b"fault read\n  standard input: it can't be read to its end\n"))
+
+
+@case("what a server tells of itself", "It tells its version and its store when it begins, and that it ended.")
+def log(trial):
+    for is_new in (True, False):
+        shop = trial.shop("day.db", limit=1)
+        shop.get("/materials")
+        trial.equal(shop.end(), (0, f"listening on 127.0.0.1:{shop.port}\n".encode(), begin_line(shop.store, is_new) + end_line(shop.store)))
+
+
+FAILED = b"cutshop: answered 99 StoreFault; look at the store's disk, and start this program anew\n"
+
+
+@case(
+    "a disk that gets full",
+    "A store that can't be made since the disk is full is told so; where it gets full while it is served messages are refused 99, "
+    "each with a line on standard error, and questions are answered.",
+)
+def full_disk(trial):
+    none = trial.path("none.db")
+    full = Faults(trial, "files", at=1, on=True, error=errno.ENOSPC)
+    ran = trial.run("ticket", "--store", none, "1", environment=full.environment)
+    trial.ended(ran, 1, err="fault store\n", why=f"{none}: the disk is full; make room")
+    start = Faults(trial, "files")
+    shop = trial.shop("a.db", environment=start.environment)
+    shop.get("/materials")
+    calls = start.calls()
+    shop.kill()
+    full = Faults(trial, "files", at=calls + 1, on=True, error=errno.ENOSPC)
+    shop = trial.shop("b.db", environment=full.environment)
+    for _ in range(2):
+        trial.equal(shop.reply(MATERIAL), b'{"name":"StoreFault","refused":99}')
+        trial.equal(shop.get("/materials"), answer(200, '{"materials":[],"ok":"materials"}'))
+    shop.process.terminate()
+    _, told = shop.process.communicate()
+    trial.equal(told, begin_line(shop.store) + 2 * FAILED)
+
+
+@case("files of others", "A file and a store that this account may not read are told so.")
+def not_allowed(trial):
+    if os.geteuid() == 0:
+        raise Skipped("it runs as root, which may read all")
+    for name in ("p.txt", "a.db"):
+        os.chmod(trial.write(name, ""), 0)
+    ran = trial.run("plan", "p.txt", "--kerf", "0", "--step", "1")
+    trial.ended(ran, 1, err="fault file\n", why=f"p.txt: {NOT_ALLOWED}")
+    why = "a.db: this account may not read and write it, or may not write in its folder"
+    trial.ended(trial.run("ticket", "--store", "a.db", "1"), 1, err="fault store\n", why=why)
