@@ -161,15 +161,30 @@ class Browser:
 
     def click(self, find):
         """A click in the middle of what an expression finds, once it can be clicked and stays where it is."""
+        self.clicks += 1
+        end = time.monotonic() + SECONDS
+        while not self.press(find) and time.monotonic() < end:
+            self.mouse("mouseReleased", 0, 0)
+        self.mouse("mouseReleased", *self.pressed)
+
+    def press(self, find):
+        """Presses the mouse's button on what an expression finds, and tells whether that wasn't elsewhere by then."""
         self.until(f"(() => {{ const e = {find}; return e && !e.disabled && e.getBoundingClientRect().width > 0; }})()")
         before, place = None, self.place(find)
         while place != before:
             time.sleep(0.02)
             before, place = place, self.place(find)
-        self.clicks += 1
-        x, y = place
-        for kind in ("mousePressed", "mouseReleased"):
-            self.call("Input.dispatchMouseEvent", type=kind, x=x, y=y, button="left", clickCount=1)
+        self.pressed = place
+        self.value(
+            f"(() => {{ const top = document.elementFromPoint({place[0]}, {place[1]}), e = {find}; window.isPressed = true; "
+            "if (e.contains(top)) addEventListener('mousedown', event => { "
+            f"window.isPressed = !!({find}) && ({find}).contains(event.target); }}, {{ capture: true, once: true }}); }})()"
+        )
+        self.mouse("mousePressed", *place)
+        return self.value("window.isPressed")
+
+    def mouse(self, kind, x, y):
+        self.call("Input.dispatchMouseEvent", type=kind, x=x, y=y, button="left", clickCount=1)
 
     def place(self, find):
         """The middle of what an expression finds, brought in sight."""

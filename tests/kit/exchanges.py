@@ -79,13 +79,14 @@ def replay(trial, steps):
 def serve(trial, steps):
     """Sends each line and request to `cutshop serve` over a file, which ends by itself behind the last of them."""
     sends = [(it, size) for it in steps for size in (PIECES if it.is_request else (None,))]
-    shop = trial.shop(limit=len(sends))
+    is_new = not os.path.exists(trial.path("shop.db"))
+    shop = trial.shop("shop.db", limit=len(sends))
     trial.holds(shop.is_open, "the shop doesn't open")
     for step, size in sends:
         request = step.sent if step.is_request else request_of(step.sent, step.wanted)
         got = shop.exchange(request, size)
         trial.equal(got, step.answer(), request if size is None else f"in pieces of {size}: {cases.short(request)}", step.at)
-    log = begin_line(shop.store) + end_line(shop.store)
+    log = begin_line(shop.store, is_new) + end_line(shop.store)
     trial.equal(shop.end(), (0, f"listening on 127.0.0.1:{shop.port}\n".encode(), log), "serve")
 
 
