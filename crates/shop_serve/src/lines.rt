@@ -101,10 +101,12 @@ pub(crate) fn put_answer<C>(line: &mut Line<C>, answer: Vec<u8>, now: Instant)
 fn put_thought<C>(line: &mut Line<C>, thought: Thought, now: Instant)
     ensures { line.new ≡ put_thought line.old thought now }
 {
-    drop(line.thought.replace(Thinking {
-        thought,
-        last: None,
-    }));
+    drop(
+        line.thought.replace(Thinking {
+            thought,
+            last: None,
+        }),
+    );
     line.answer = None;
     line.sent = 0;
     line.since = now;

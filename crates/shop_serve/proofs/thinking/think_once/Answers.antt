@@ -6,15 +6,17 @@ use Rattle.shop_serve.specs.Making.{IsPlansAnswer}
 use Rattle.shop_serve.proofs.thinking.think_once.Goals as goal
 
 pub returns-in-Ok-None-clause-goes_on : goal.returns-in-Ok-None-clause-goes_on
-returns-in-Ok-None-clause-goes_on g c done =
-    (record {
-      thinking = c.in-Some.thinking;
-      next = record { thought = c.advance.new.thought; last = Some c.args.now };
-      asks = sym c.in-Some.ensures.value;
-      same = c.advance.ensures.asks;
-      last = refl;
-      kept = ap (λ t. record c.args.line.now { thought = t }) c.replace.ensures.after;
-    }, refl)
+returns-in-Ok-None-clause-goes_on g c done = (
+  record {
+    thinking = c.in-Some.thinking;
+    next = record { thought = c.advance.new.thought; last = Some c.args.now };
+    asks = sym c.in-Some.ensures.value;
+    same = c.advance.ensures.asks;
+    last = refl;
+    kept = ap (λ t. record c.args.line.now { thought = t }) c.replace.ensures.after;
+  },
+  refl,
+)
 
 pub returns-in-Ok-Some-clause-answered : goal.returns-in-Ok-Some-clause-answered
 returns-in-Ok-Some-clause-answered g c done =
