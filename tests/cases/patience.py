@@ -105,7 +105,7 @@ def nobody_reads(trial):
     path = filled(trial, exchanges=DAY[:2])
     many_parts(path, "GLASS", MANY, 200000, 60000, first_act=2000000000)
     shop = trial.shop(limit=1)
-    with crowds.unread(shop, "/rack/GLASS") as it:
+    with crowds.unread(shop, "/rack/GLASS", 1 << 16) as it:
         trial.holds(select.select([it], [], [], 3 * PATIENCE)[0], "no answer comes")
         begin = time.monotonic()
         trial.equal(shop.end()[0], 0)

@@ -6,7 +6,7 @@ import os
 from cases.memory import opened, sent, sweep
 from cases.whole_orders import SMALL, planned
 from kit import tables
-from kit.case import case
+from kit.case import case, fault_in
 from kit.days import REFUSED, Replay
 from kit.faults import Faults
 from kit.questions import compact
@@ -35,7 +35,7 @@ def whole_orders(trial):
 
         def run(faults, words=words, text=text):
             ran = trial.run(*words, environment=faults.environment)
-            told = (ran.status, ran.out, ran.err)
+            told = (ran.status, ran.out, fault_in(ran.err))
             trial.equal(told in ((0, text, b""), (1, b"", b"fault memory\n")), True, f"{words}, request {faults.at}: {told}")
 
         spread(trial, run)
@@ -78,7 +78,8 @@ def lines_case(kind):
                 if got == REFUSED:
                     got = shop.reply(line)
                 if not got:
-                    trial.equal(shop.end(), (1, b"fault memory\n"), line)
+                    status, errors = shop.end()
+                    trial.equal((status, fault_in(errors)), (1, b"fault memory\n"), line)
                     return first
                 trial.equal(got, answer, f"{line}, request {faults.at}")
             trial.equal(shop.end()[0] in (0, 1), True, "the end")
@@ -107,7 +108,8 @@ def served_case(kind):
             for line, answer in zip(asked, wanted):
                 got = sent(shop.reply, line)
                 if got in (b"", REFUSED) and shop.has_ended(0.05):
-                    trial.equal(shop.end()[::2], (1, b"fault memory\n"), line)
+                    status, _, errors = shop.end()
+                    trial.equal((status, fault_in(errors)), (1, b"fault memory\n"), line)
                     shop = trial.shop(f"{faults.at:06}.db")
                 got = shop.reply(line) if got in (b"", REFUSED) else got
                 trial.equal(got, answer, f"{line}, request {faults.at}")

@@ -58,10 +58,10 @@ def dripping(shop, count, pause=0.1):
 
 
 @contextmanager
-def unread(shop, path):
-    """A connection that asks for what is at a path and never reads it."""
+def unread(shop, path, room=4096):
+    """A connection that asks for what is at a path and never reads it, with so many bytes of room for what comes."""
     with shop.connect() as it:
-        it.setsockopt(socket.SOL_SOCKET, socket.SO_RCVBUF, 4096)
+        it.setsockopt(socket.SOL_SOCKET, socket.SO_RCVBUF, room)
         it.sendall(f"GET {path} HTTP/1.1\r\nHost: shop\r\n\r\n".encode())
         yield it
 
