@@ -183,6 +183,8 @@ def changes(trial):
     news.receive(crowds.LARGE, 2000, 2000)
     news.order(crowds.LARGE, (500, 600, 3, False))
     with crowds.thinking(shop, 2, asked) as held:
+        # (who comes behind them is answered once both were read)
+        shop.reply(crowds.QUESTION)
         news.fill(trial, shop)
         trial.equal(answers_of(held), [wanted] * 2)
     news.fill(trial, lines)
