@@ -175,7 +175,7 @@ def changes(trial):
     yard = crowds.large_yard(12)
     yard.receive(crowds.LARGE, crowds.LARGE_W, crowds.LARGE_H, 3)
     lines, shop = yard.replay(trial), yard.serve(trial)
-    asked = question(crowds.LARGE, calls=60, step=crowds.fitting_step(shop))
+    asked = question(crowds.LARGE, calls=200, step=crowds.fitting_step(shop))
     wanted = lines.reply(compact(asked))
     news = Yard(97)
     for node in range(3):
@@ -183,8 +183,8 @@ def changes(trial):
     news.receive(crowds.LARGE, 2000, 2000)
     news.order(crowds.LARGE, (500, 600, 3, False))
     with crowds.thinking(shop, 2, asked) as held:
-        # (who comes behind them is answered once both were read)
-        shop.reply(crowds.QUESTION)
+        # (so long that both were read)
+        time.sleep(0.2)
         news.fill(trial, shop)
         trial.equal(answers_of(held), [wanted] * 2)
     news.fill(trial, lines)
