@@ -160,12 +160,12 @@ class Browser:
             return self.value("document.getElementById('notices').textContent")
 
     def click(self, find):
-        """A click in the middle of what an expression finds, once it can be clicked and stays where it is."""
+        """A click in the middle of what an expression finds, once it can be clicked and stays where it is. Where it moved
+        meanwhile, so that nothing was clicked, it is tried again."""
         self.clicks += 1
         end = time.monotonic() + SECONDS
-        while not self.press(find) and time.monotonic() < end:
+        while not (self.press(find) and self.release()) and time.monotonic() < end:
             self.mouse("mouseReleased", 0, 0)
-        self.mouse("mouseReleased", *self.pressed)
 
     def press(self, find):
         """Presses the mouse's button on what an expression finds, and tells whether that wasn't elsewhere by then."""
@@ -176,12 +176,24 @@ class Browser:
             before, place = place, self.place(find)
         self.pressed = place
         self.value(
-            f"(() => {{ const top = document.elementFromPoint({place[0]}, {place[1]}), e = {find}; window.isPressed = true; "
-            "if (e.contains(top)) addEventListener('mousedown', event => { "
-            f"window.isPressed = !!({find}) && ({find}).contains(event.target); }}, {{ capture: true, once: true }}); }})()"
+            f"(() => {{ const top = document.elementFromPoint({place[0]}, {place[1]}); window.hit = true; "
+            f"window.isSeen = ({find}).contains(top); if (isSeen) addEventListener('mousedown', event => {{ "
+            f"window.held = {find}; window.hit = !!window.held && window.held.contains(event.target); }}, "
+            "{ capture: true, once: true }); })()"
         )
         self.mouse("mousePressed", *place)
-        return self.value("window.isPressed")
+        if not self.value("window.hit"):
+            return False
+        self.value(
+            "if (window.isSeen) { window.hit = false; addEventListener('click', event => { "
+            "window.hit = window.held.contains(event.target); }, { capture: true, once: true }); }"
+        )
+        return True
+
+    def release(self):
+        """Lets go of what was pressed, and tells whether it was clicked. (Where that opened another page nothing is known.)"""
+        self.mouse("mouseReleased", *self.pressed)
+        return self.value("window.hit") is not False
 
     def mouse(self, kind, x, y):
         self.call("Input.dispatchMouseEvent", type=kind, x=x, y=y, button="left", clickCount=1)

@@ -120,7 +120,14 @@ class Typist:
 
     def open(self, line):
         shell = ["sh", "-c", f"{self.before}exec {line}"]
-        self.served = subprocess.Popen(shell, cwd=self.trial.folder, stdout=subprocess.PIPE, stderr=subprocess.PIPE)
+        # (where the suite runs in the background, ctrl-C is ignored below it)
+        self.served = subprocess.Popen(
+            shell,
+            cwd=self.trial.folder,
+            stdout=subprocess.PIPE,
+            stderr=subprocess.PIPE,
+            preexec_fn=lambda: signal.signal(signal.SIGINT, signal.SIG_DFL),
+        )
         told = self.served.stdout.readline().decode()
         self.trial.equal(told, f"listening on 127.0.0.1:{self.port}\n", line)
 
