@@ -15,6 +15,9 @@ from kit.case import Failed, Skipped
 # What a page is to show comes within so many seconds.
 SECONDS = 120
 
+# So often it is looked whether what is to be clicked stays where it is, and nothing lies over it.
+MOST_LOOKS = 100
+
 # A click, a typed text and a key are Chromium's own input events, so that what can't be seen or reached isn't clicked.
 KEYS = {"Enter": 13, "Tab": 9, "Escape": 27, " ": 32, "ArrowDown": 40, "ArrowUp": 38}
 
@@ -170,16 +173,18 @@ class Browser:
     def press(self, find):
         """Presses the mouse's button on what an expression finds, and tells whether that wasn't elsewhere by then."""
         self.until(f"(() => {{ const e = {find}; return e && !e.disabled && e.getBoundingClientRect().width > 0; }})()")
-        before, place = None, self.place(find)
-        while place != before:
+        place, is_seen = self.place(find), False
+        for _ in range(MOST_LOOKS):
             time.sleep(0.02)
             before, place = place, self.place(find)
+            is_seen = place == before and self.value(f"({find}).contains(document.elementFromPoint({place[0]}, {place[1]}))")
+            if is_seen:
+                break
         self.pressed = place
         self.value(
-            f"(() => {{ const top = document.elementFromPoint({place[0]}, {place[1]}); window.hit = true; "
-            f"window.isSeen = ({find}).contains(top); if (isSeen) addEventListener('mousedown', event => {{ "
+            f"window.isSeen = {json.dumps(is_seen)}; window.hit = true; if (isSeen) addEventListener('mousedown', event => {{ "
             f"window.held = {find}; window.hit = !!window.held && window.held.contains(event.target); }}, "
-            "{ capture: true, once: true }); })()"
+            "{ capture: true, once: true })"
         )
         self.mouse("mousePressed", *place)
         if not self.value("window.hit"):
@@ -243,6 +248,7 @@ class Browser:
                 return os.path.join(folder, fresh[0])
             self.value("0")
             time.sleep(0.05)
+        self.shot("failed")
         raise Failed(f"\n  nothing was saved by {find}\n  told: {self.told()}")
 
     def shot(self, name):
