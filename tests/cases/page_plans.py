@@ -51,10 +51,14 @@ def is_slow(shop):
     return min(times) > 0.03
 
 
+# Beside other cases, which take all processors, so many times as long is allowed.
+BESIDE = 3
+
+
 def in_time(it, begin, most, what):
-    """What was awaited came within so many seconds. Of a slow program no time is wanted."""
+    """What was awaited came within so many seconds of a browser that has a processor. Of a slow program no time is wanted."""
     took = time.monotonic() - begin
-    it.trial.holds(took <= most or is_slow(it.shop), f"{what} took {took:.1f} s, {most} wanted")
+    it.trial.holds(took <= BESIDE * most or is_slow(it.shop), f"{what} took {took:.1f} s, {most} wanted")
 
 
 def skip_slow(shop):
