@@ -1,4 +1,4 @@
-"""Orders of many lines, many parts of a material in memory, and what a question costs behind a long history."""
+"""Orders of many lines, many orders, many parts of a material in memory, and what a question costs behind a long history."""
 
 import itertools
 import json
@@ -45,6 +45,81 @@ def check_demands(trial, shop, wanted):
     trial.equal((one["order"], one["line"], one["wanted"], one["made"]), (wanted[-1][1], wanted[-1][2], wanted[-1][5], 0))
 
 
+def lines_of(shop, order):
+    """The lines that are told of an order, as what is wanted, reserved and made of each."""
+    told = json.loads(shop.reply(compact({"ask": "lines", "order": order})))
+    return [tuple(it[key] for key in ("demand", "line", "wanted", "reserved", "made")) for it in told["lines"]]
+
+
+def orders_of(shop, after=""):
+    """The orders that are told behind a code, as tuples of all that is told of each, and whether others follow."""
+    told = json.loads(shop.reply(compact({"after": after, "ask": "orders"})))
+    keys = ("order", "lines", "wanted", "reserved", "made")
+    return [tuple(it[key] for key in keys) for it in told["orders"]], told["more"]
+
+
+@case(
+    "an order of 200 lines that are amended",
+    "All 200 lines of an order are told, whatever becomes of them: each is amended, some are reserved and made, and the sums of "
+    "the order are those of its lines, also when the shop is opened again.",
+)
+def amended_lines(trial):
+    yard, order = Yard(), "A-1-2"
+    yard.material("STEEL", 3)
+    yard.receive("STEEL", 1000, 1, 3)
+    first = yard.bars("STEEL", *[(it, 1000000) for it in range(1, 201)])
+    wanted = {it: [it, it, 1000000, 0, 0] for it in range(first, first + 200)}
+    for it in wanted:
+        yard.amend(it, (it * 7919) % 1000001 if it % 3 else 0)
+        wanted[it][2] = (it * 7919) % 1000001 if it % 3 else 0
+    yard.cut("1/0", "x10 p10 x10 p10 x20 p20 r")
+    yard.reserve("1/1", "x200 p200 x10 p10 x10 p10 x10 p10 r")
+    yard.amend(20, 1)
+    yard.amend(10, 5)
+    for it, keys in ((10, (5, 3, 2)), (20, (1, 0, 1)), (200, ((200 * 7919) % 1000001, 1, 0))):
+        wanted[it][2:] = keys
+    rows = [tuple(it) for it in wanted.values()]
+    sums = (order, 200, *[sum(it[at] for it in rows) for at in (2, 3, 4)])
+    open_rows = [it[0] for it in rows if it[4] < it[2]]
+    for open_book in (yard.replay, yard.serve):
+        shop = open_book(trial)
+        check_order(trial, shop, order, rows, sums, open_rows)
+    shop.kill()
+    check_order(trial, trial.shop(), order, rows, sums, open_rows)
+
+
+def check_order(trial, shop, order, rows, sums, open_rows):
+    trial.equal(lines_of(shop, order), rows)
+    trial.equal(orders_of(shop), ([sums], False))
+    trial.equal([it["demand"] for it in rows_of(shop.reply, "demands", "demand", 0)], open_rows)
+
+
+@case(
+    "lists of 100 and of 101 orders",
+    "100 orders are told at once, and of 101 the first 100 and that others follow; page by page all are told once, with the sums "
+    "of their lines, and behind any code those that are greater.",
+)
+def many_orders(trial):
+    yard, wanted = Yard(), {}
+    yard.material("STEEL", 3)
+    for it in range(101):
+        # (as texts A-1-10 comes before A-1-2)
+        lines = [(30, 1 + it + line) for line in range(1 + it % 3)]
+        first, code = yard.bars("STEEL", *lines), json.loads(yard.lines[-1])["order"]
+        wanted[code] = (code, len(lines), sum(count for _, count in lines), 0, 0)
+        if it % 5 == 1:
+            yard.amend(first, 0)
+            wanted[code] = (code, len(lines), sum(count for _, count in lines[1:]), 0, 0)
+    last, rows = yard.lines.pop(), [wanted[it] for it in sorted(wanted)]
+    for open_book in (yard.replay, yard.serve):
+        shop = open_book(trial)
+        trial.equal(orders_of(shop), ([it for it in rows if it[0] != code], False))
+        trial.holds(b'"ok"' in shop.reply(last), last)
+        for after in ("", "A", "A-1-", "A-1-1", "A-1-2ZZ", "A-1-99", rows[0][0], rows[50][0], *[it[0] for it in rows[99:]], "Z"):
+            behind = [it for it in rows if it[0] > after]
+            trial.equal(orders_of(shop, after), (behind[:100], len(behind) > 100), after)
+
+
 @case(
     "70000 parts of a material in memory",
     "A material of which 70000 units stand in `replay` is counted, listed from any name on, cut, scrapped and returned.",
@@ -79,10 +154,13 @@ HISTORY = 1000000
 # The least of so many rounds counts, in each of which a question is asked so many times.
 ROUNDS, TIMES = 4, 25
 
+RECEIVE = {"batch": "B", "count": 1, "do": "receive", "h": 1, "material": "STEEL", "w": 100}
+AMEND = {"demand": 40, "do": "amend", "wanted": 7}
+
 
 def old_store(trial, count):
-    """A store with 20 units, 20 waiting jobs, 20 remnants and 40 open demands, and between them so many parts that were
-    scrapped, as many jobs that are done, and demands that are made."""
+    """A store with 20 units, 20 waiting jobs, 20 remnants and an order of 40 open demands, and between them so many parts that
+    were scrapped, as many jobs that are done, and orders of a demand that is made."""
     yard = Yard()
     yard.material("STEEL", 3)
     demand = yard.bars("STEEL", *[(30, 9)] * 40)
@@ -93,10 +171,11 @@ def old_store(trial, count):
     shop.kill()
     parts = ",".join(f"({HISTORY + it}, 0, 'STEEL', 'B', 1, 0, 0, 0, 100, 1, 5, 0)" for it in range(count))
     jobs = ",".join(f"({HISTORY + it}, {HISTORY + it}, 0, 'x30 p1 r', 1)" for it in range(count))
-    demands = ",".join(f"({HISTORY + it}, 'OLD', {it + 1}, 'STEEL', 30, 1, 0, 1, 1, 0, 1)" for it in range(count))
+    orders = ",".join(f"('OLD-{it}')" for it in range(count))
+    demands = ",".join(f"({HISTORY + it}, 'OLD-{it}', 1, 'STEEL', 30, 1, 0, 1, 1, 0, 1)" for it in range(count))
     tables.change(
         shop.store,
-        f"INSERT INTO parts VALUES {parts}; INSERT INTO jobs VALUES {jobs}; INSERT INTO orders VALUES ('OLD');"
+        f"INSERT INTO parts VALUES {parts}; INSERT INTO jobs VALUES {jobs}; INSERT INTO orders VALUES {orders};"
         f"INSERT INTO demands VALUES {demands}; UPDATE totals2 SET scrap = scrap + {100 * count};"
         f"UPDATE meta SET value = {HISTORY + count} WHERE name <> 'version'",
     )
@@ -124,15 +203,18 @@ def costs(trial, shop):
         "job": f'{{"ask":"job","job":{HISTORY}}}',
         "rack": '{"ask":"rack","material":"STEEL"}',
         "terminal": '{"ask":"terminal","terminal":1}',
+        "orders": '{"after":"","ask":"orders"}',
+        "orders behind": '{"after":"OLD-5","ask":"orders"}',
+        "lines": '{"ask":"lines","order":"A-1-1"}',
+        "lines of an old order": '{"ask":"lines","order":"OLD-500"}',
     }
     told, number = {}, 0
     for _ in range(ROUNDS):
-        for name, line in [*asked.items(), ("message", None)]:
+        for name, keys in [*asked.items(), ("message", RECEIVE), ("amend", AMEND)]:
             before = shop.busy()
             for _ in range(TIMES):
                 number += 1
-                keys = {"batch": "B", "count": 1, "do": "receive", "h": 1, "material": "STEEL", "w": 100}
-                reply = shop.reply(line or compact({**keys, "number": number, "terminal": 7}))
+                reply = shop.reply(keys if isinstance(keys, str) else compact({**keys, "number": number, "terminal": 7}))
                 trial.holds(b'"ok"' in reply, f"{name}: {reply}")
             told.setdefault(name, []).append(shop.busy() - before)
     return {name: min(its) for name, its in told.items()}
@@ -140,8 +222,8 @@ def costs(trial, shop):
 
 @case(
     "questions and messages of an old shop",
-    "Behind 100000 parts, jobs and demands of history each list, a job, a rack, the totals and a message take at most three "
-    "times the processor time that they take behind 1000.",
+    "Behind 100000 parts, jobs and orders of history each list, a job, an order, a rack, the totals, a message and an amend take "
+    "at most three times the processor time that they take behind 1000.",
 )
 def old_shop(trial):
     few, many = [costs(trial, old_store(trial, it)) for it in (1000, 100000)]

@@ -193,7 +193,7 @@ def widths(trial):
         it.order_file("a-1", "bad.csv", GERMAN.format(bad="20,55"))
         it.at_widths("orders-bad")
         order(it)
-        it.until(f"{by_id('openOrders')}.querySelector('h3')")
+        it.until(f"{by_id('orderList')}.querySelector('form')")
         it.at_widths("orders")
         it.propose_by_grids("GLASS")
         it.at_widths("to-cut")

@@ -302,8 +302,7 @@ def left_out(trial):
 
 @case(
     "whose piece it is, and whether its order is finished",
-    "A trace of a piece tells its order and line, and leads to the order; any order that this browser saw open is shown by "
-    "its code, another by the number of a demand, with all its lines, and whether all pieces are made.",
+    "A trace of a piece tells its order and line, and leads to the order with all its lines, and whether all pieces are made.",
 )
 def finished(trial):
     with Terminal(trial, open_shop(trial)) as it:
@@ -312,41 +311,22 @@ def finished(trial):
         send(do="receive", material="STEEL", batch="S-1", w=60000, h=1, count=2)
         for code in ("A-1", "B-1", "C-1"):
             send(do="order", order=code, lines=[LINE, {**LINE, "line": 9, "count": 2}])
-        trial.equal(send(do="reserve", part="1/0", tree="x10000 p5 x10000 p6 x10000 p6 r")["job"], 2)
+        send(do="reserve", part="1/0", tree="x10000 p5 x10000 p6 x10000 p6 x10000 p3 r")
         send(do="done", job=2)
         it.begin(7)
-        it.view("stock")
-        it.type(by_id("tracePart"), "2/3")
-        it.key("Enter")
-        it.until(f"{by_id('traceWords')}.textContent.includes('a piece of order C-1, line 9 (no. 6).')")
-        it.click(f"{by_id('traceWords')}.querySelector('button')")
-        shown = f"{by_id('foundOrder')}.innerText"
-        it.until(f"{shown}.startsWith('Order C-1 is finished')")
-        rows = f"[...{by_id('foundOrder')}.querySelectorAll('tr')].map(row => [...row.cells].map(cell => cell.textContent))"
+        shown = f"[...{by_id('foundOrder')}.querySelectorAll('h3, p, form')].map(e => e.innerText.split('\\n').slice(0, 2).join(' '))"
         made = "{0} made · 0 reserved · {1} left of {2}"
-        done = [["line 7", "STEEL", "pieces no. 5", made.format(1, 0, 1)], ["line 9", "STEEL", "pieces no. 6", made.format(2, 0, 2)]]
-        trial.equal(it.value(rows), done)
-        it.until("seenOrders.has('B-1')")
-        for text in ("b-1", "4"):
-            it.type(by_id("findOrder"), text)
+        for part, demand, order, line, state in (("2/3", 6, "C-1", 9, "finished"), ("2/7", 3, "B-1", 7, "open")):
+            it.view("stock")
+            it.type(by_id("tracePart"), part)
             it.key("Enter")
-            it.until(f"{shown}.startsWith('Order B-1 is open')")
-            trial.equal([row[2] for row in it.value(rows)], ["pieces no. 3", "pieces no. 4"])
-        send(do="reserve", part="1/1", tree="x10000 p3 x10000 p4 x10000 p4 r")
-        send(do="done", job=3)
-        it.call("Page.reload")
-        it.until(f"document.readyState === 'complete' && {by_id('openOrders')}.textContent.includes('A-1')")
-        it.type(by_id("findOrder"), "B-1")
-        it.key("Enter")
-        it.until(f"{shown}.startsWith('Order B-1 is finished')")
-        it.type(by_id("findOrder"), "C-2")
-        it.key("Enter")
-        unseen = "order “C-2” wasn't seen open in this browser: write the number of pieces wanted of it"
-        faulty(it, by_id("findOrder"), unseen)
-        trial.equal(it.text("foundOrder"), "", "another order is shown below the fault")
-        it.type(by_id("findOrder"), "7")
-        it.key("Enter")
-        it.until(f"{shown}.includes('there are no such pieces wanted (42 NoDemand)')")
+            it.until(f"{by_id('traceWords')}.textContent.includes('a piece of order {order}, line {line} (no. {demand}).')")
+            it.click(f"{by_id('traceWords')}.querySelector('button')")
+            it.until(f"{shown}[0] === 'Order {order} {state}'")
+            counts = (3, 1, 2) if order == "C-1" else (1, 1, 0)
+            wanted = [made.format(it, of - it, of) for it, of in zip(counts, (3, 1, 2))]
+            lines = [f"line {number}: STEEL 1000.0\u00a0mm {words}" for number, words in ((7, wanted[1]), (9, wanted[2]))]
+            trial.equal(it.value(shown)[1:], [wanted[0], *lines])
         is_quiet(it)
 
 

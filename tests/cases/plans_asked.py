@@ -133,7 +133,7 @@ def million(trial):
 
 
 def shop_by_chance(dice, kind):
-    """A yard of a material with units, remnants and demands, and its kerf."""
+    """A yard of a material with units, remnants and demands, of which each third one is amended."""
     yard, kerf = Yard(), dice.randint(0, 4)
     most_w, most_h = (120, 1) if kind == "bar" else (60, 45)
 
@@ -149,7 +149,9 @@ def shop_by_chance(dice, kind):
     for _ in range(dice.randint(1, 7)):
         w, h = dice.randint(3, most_w // 2), max(1, dice.randint(most_h // 8, most_h // 2))
         lines.append((w, h, dice.randint(1, 8), kind == "sheet" and dice.random() < 0.5))
-    yard.order("M", *lines)
+    first = yard.order("M", *lines)
+    for at in range(1, len(lines), 3):
+        yard.amend(first + at, 9 - lines[at][2])
     return yard
 
 
@@ -197,8 +199,9 @@ def by_chance(trial, kind, seed, count):
 
 @case(
     "plans of bars by chance",
-    "Questions by chance to shops by chance: each answer has everything that holds of one, the bound that its prices give, "
-    "is the same when it is asked again, and each plan of a part is reserved, in an order by chance.",
+    "Questions by chance to shops by chance, of whose demands some were amended: each answer has everything that holds of one, "
+    "the bound that its prices give, is the same when it is asked again, and each plan of a part is reserved, in an order by "
+    "chance.",
 )
 def bars_by_chance(trial):
     by_chance(trial, "bar", 3, 40 if trial.whole else 12)

@@ -19,6 +19,7 @@ OF_STD = {"push", "extend_from_slice", "Vec::with_capacity", "Vec::from_slice", 
 # and why there is one behind it.
 LISTED = {
     "cut_order/src/answer.rt want_of_memory": "the check of units that are a plan of the order, whose only fault then is this one, by its contract",
+    "shop_commands/src/storeless.rt lines_of": "the book in memory: of an order no two demands have the same line, and it has no other fault then",
     "shop_commands/src/storeless.rt next_act": "the book in memory, whose only fault is want of memory by its contract",
     "shop_commands/src/storeless.rt next_demand": "the book in memory, as above",
     "shop_commands/src/storeless.rt totals": "the book in memory, as above",
@@ -26,7 +27,7 @@ LISTED = {
     "shop_files/src/orders.rt next_row": "a record of a slice, of any length: the reader has no other error",
     "shop_forms/src/writing.rt value_of": "a text that was written by the port's own writer: it is read but for want of memory",
     "shop_planning/src/thought.rt want_of_memory": "a search for what was judged before, whose only fault then is this one, by its contract",
-    "shop_request/src/routes.rt new": "the router takes the eighteen routes, which are constants, but for want of memory",
+    "shop_request/src/routes.rt new": "the router takes the routes, which are constants, but for want of memory",
     "shop_rows/src/part_rows.rt reserve": "a number of origins of 32 bits: acts end at 2147483647, and each begins one at most",
     "shop_serve/src/lines.rt ask": "there is no answer where memory is wanting for it",
     "shop_store/src/named_parts.rt searched_parts": "the taker of parts stops where its list has no room",

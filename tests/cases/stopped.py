@@ -8,7 +8,7 @@ from dataclasses import dataclass
 
 from kit import tables
 from kit.case import case, fault_in
-from kit.days import Day, day_of, questions_of
+from kit.days import AMENDED, Day, day_of, questions_of
 from kit.faults import Faults
 
 # The day whose calls are disturbed.
@@ -32,8 +32,8 @@ class Course:
 
 
 def courses(trial):
-    """The day from an empty folder; a start behind a stop, with all in the log; and a start on a file of version 1. Each ends
-    by itself, and puts the log into the file then."""
+    """The day from an empty folder; a start behind a stop, with all in the log; a start on a file of version 1; and a day with
+    amends from an empty folder. Each ends by itself, and puts the log into the file then."""
     day = day_of(trial, NAME)
     end = len(day.lines)
     shop = trial.shop("stopped.db")
@@ -53,6 +53,7 @@ def courses(trial):
         Course("day", day, lambda path: None, 0),
         Course("again", day, copy, end),
         Course("earlier", day, lambda path: shutil.copy(earlier, path), end),
+        Course("amended", day_of(trial, AMENDED), lambda path: None, 0),
     ]
 
 
@@ -138,8 +139,8 @@ def sweep(trial, stride, *faults, of="files"):
 
 @case(
     "a call on the store's files fails once",
-    "Each call that changes the files of “remnant cut again”, of a start behind a stop and of a move from version 1 "
-    "fails in turn: refused 99, and sent again its reply, or `fault store` at a start; nothing is lost.",
+    "Each call that changes the files of “remnant cut again”, of “amended order”, of a start behind a stop and of a move "
+    "from version 1 fails in turn: refused 99, and sent again its reply, or `fault store` at a start; nothing is lost.",
 )
 def fails_once(trial):
     sweep(trial, 3, {"error": errno.EIO})
@@ -147,8 +148,8 @@ def fails_once(trial):
 
 @case(
     "a disk that is full from some call on",
-    "From each call that changes the files of “remnant cut again” on none works: nothing acknowledged is lost, and "
-    "all sent again with room come to the same tables.",
+    "From each call that changes the files of “remnant cut again”, and of “amended order”, on none works: nothing acknowledged "
+    "is lost, and all sent again with room come to the same tables.",
 )
 def fails_on(trial):
     sweep(trial, 3, {"error": errno.ENOSPC, "on": True})
@@ -156,8 +157,8 @@ def fails_on(trial):
 
 @case(
     "a read of the store's files fails",
-    "Each call that opens, locks or reads the files of “remnant cut again” fails once or from then on: 99 or `fault "
-    "store`, and nothing is lost.",
+    "Each call that opens, locks or reads the files of “remnant cut again”, and of “amended order”, fails once or from then on: "
+    "99 or `fault store`, and nothing is lost.",
 )
 def looks_fail(trial):
     sweep(trial, 11, {"error": errno.EIO}, {"error": errno.EIO, "on": True}, of="looks")
@@ -166,8 +167,8 @@ def looks_fail(trial):
 def stopped(how, says, seeds=(0,)):
     @case(
         f"stopped with unsynced writes {how}",
-        "Stopped at each call that changes files (“remnant cut again”, a start behind a stop, a move from version 1), "
-        f"{says}: what was acknowledged is there, and all sent again come to the same tables.",
+        "Stopped at each call that changes files (“remnant cut again”, “amended order”, a start behind a stop, a move from version "
+        f"1), {says}: what was acknowledged is there, and all sent again come to the same tables.",
     )
     def body(trial):
         sweep(trial, 2, *[{"stop": how, "seed": it} for it in (seeds if trial.whole else seeds[:2])])

@@ -10,10 +10,12 @@ from kit.case import SECONDS
 
 QUESTIONS = [f'{{"ask":"totals","material":"{it}"}}' for it in ("STEEL", "GLASS")]
 QUESTIONS += ['{"ask":"rack","material":"GLASS"}', '{"ask":"demand","demand":1}', '{"ask":"demand","demand":3}']
+QUESTIONS += ['{"after":0,"ask":"demands"}', '{"after":"","ask":"orders"}', '{"ask":"lines","order":"A-1"}']
 QUESTIONS += [f'{{"ask":"trace","part":"{it}"}}' for it in ("1/0", "2/0", "2/4", "3/1")]
 
 # The examples whose days are disturbed.
-NAMES = ("two bars", "three pieces", "broken sheet", "remnant cut again", "released and repeated", "import twice")
+AMENDED = "amended order"
+NAMES = ("two bars", "three pieces", "broken sheet", "remnant cut again", "released and repeated", "import twice", AMENDED)
 
 # The day of all questions: “remnant cut again”, an order, and what is asked then.
 ASKED = "all questions"

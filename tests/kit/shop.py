@@ -47,7 +47,7 @@ def status_of(line, reply):
         return 400
     if number in (98, 99):
         return 503
-    return 404 if number in (20, 42, 50, 70) and path_of(line) else 409
+    return 404 if number in (20, 42, 43, 50, 70) and path_of(line) else 409
 
 
 def value_of(line):
@@ -73,11 +73,14 @@ def path_of(line):
         "jobs": ("after",),
         "job": ("job",),
         "terminal": ("terminal",),
+        "orders": ("after",),
+        "lines": ("order",),
     }
     keys = rows.get(word)
     if keys is None or sorted(value) != sorted(("ask", *keys)):
         return None
-    return "/".join(["", word, *(str(value[key]) for key in keys if value[key] != "")])
+    route = "order" if word == "lines" else word
+    return "/".join(["", route, *(str(value[key]) for key in keys if value[key] != "")])
 
 
 def request_of(line, reply=None):

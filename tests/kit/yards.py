@@ -37,6 +37,10 @@ class Yard:
         """Orders bars of (length, count)."""
         return self.order(code, *[(length, 1, count, False) for length, count in lines])
 
+    def amend(self, demand, wanted):
+        """So many pieces of a demand are wanted from now on."""
+        self.send(do="amend", demand=demand, wanted=wanted)
+
     def reserve(self, part, tree):
         """Reserves a part, and gives the job."""
         self.send(do="reserve", part=part, tree=tree)

@@ -1,5 +1,6 @@
 -- asking for a plan, or for a bound
 pub mod PlanningDecision
 pub mod PlanningReply
--- asking for lists, for a job and for a terminal
+-- asking for lists, for a job, for orders and for a terminal
 pub mod ListingReply
+pub mod OrdersReply

@@ -1,5 +1,6 @@
--- What is told of a content by lists, which are cut after so many rows; of a job with its plan; and of a terminal.
-use Rattle.std.specs.Prelude.{◌≡◌, ℕ, List, length, take, filter_map, Bool, true, false, nat_lt, Option, Some, None, is_some, option_map, option_and_then}
+-- What is told of a content by lists, which are cut after so many rows; of a job with its plan; of an order with its lines;
+-- and of a terminal.
+use Rattle.std.specs.Prelude.{◌≡◌, ℕ, ◌+◌, ◌^◌, ◌<◌, ◌≤◌, List, [], ◌∷◌, length, take, filter_map, Bool, true, false, nat_lt, Option, Some, None, is_some, option_map, option_and_then}
 use Rattle.cut_tree.specs.Tree.{cut_count}
 use Rattle.cut_tree.specs.Spelling.{text_of}
 use Rattle.shop_answers.specs.declared.listing.TheConstants.{MOST_TOLD}
@@ -8,11 +9,12 @@ use Rattle.shop_records.specs.declared.records.Part.{Part}
 use Rattle.shop_records.specs.declared.records.Job.{Job}
 use Rattle.shop_records.specs.declared.records.JobRow.{JobRow}
 use Rattle.shop_records.specs.declared.records.Demand.{Demand}
-use Rattle.shop_records.specs.declared.refusals.Refusal.TheVariants.{NoMaterial, NoJob}
+use Rattle.shop_records.specs.declared.records.OrderRow.{OrderRow}
+use Rattle.shop_records.specs.declared.refusals.Refusal.TheVariants.{NoMaterial, NoOrder, NoJob}
 use Rattle.shop_records.specs.declared.messages.Reply.{Reply}
 use Rattle.shop_records.specs.declared.messages.Reply.TheVariants as reply
 use Rattle.shop_records.specs.Content.{Content, material_at, part_at, job_at}
-use Rattle.shop_records.specs.Lists.{IsLastNumber}
+use Rattle.shop_records.specs.Lists.{AreLines, order_row, IsLastNumber}
 
 -- the first rows of a list, as many as are told
 abbrev pub first_told : {T : Type 0} → List T → List T
@@ -57,6 +59,43 @@ abbrev pub told_job : Option (Job × Part) → Reply
 told_job None = reply.Refused NoJob
 told_job (Some (job, part)) =
     reply.Job (cut_count job.plan.tree) part.size.h job.act job.kerf part.material job.part job.state (text_of job.plan.tree) part.size.w
+
+-- a sum with one number more of 32 bits, exact where 64 bits hold it
+pub record IsAdded (sum more after : ℕ) : Type 0 where
+  pub few : more < 2 ^ 32
+  pub most : after ≤ sum + more
+  pub exact : sum + more < 2 ^ 64 → after ≡ sum + more
+
+-- the row of an order with the numbers of one line more in its sums
+pub record IsWithLine (before : OrderRow) (line : Demand) (after : OrderRow) : Type 0 where
+  pub place : line.line < 2 ^ 32
+  pub lines : after.lines ≡ before.lines
+  pub order : after.order ≡ before.order
+  pub made : IsAdded before.made line.made after.made
+  pub reserved : IsAdded before.reserved line.reserved after.reserved
+  pub wanted : IsAdded before.wanted line.wanted after.wanted
+
+-- the row of an order: how many lines it has, and the sums over all of them
+pub record IsOrderRow (content : Content) (order : List ℕ) (row : OrderRow) : Type 0 where
+  pub lines : List Demand
+  pub all : AreLines content order lines
+  pub is : row ≡ order_row order lines
+
+-- the rows of orders, one after another
+abbrev pub AreOrderRows : Content → List (List ℕ) → List OrderRow → Type 0
+AreOrderRows content [] [] = Unit {0}
+AreOrderRows content [] (row ∷ rows) = ⊥
+AreOrderRows content (order ∷ orders) [] = ⊥
+AreOrderRows content (order ∷ orders) (row ∷ rows) = IsOrderRow content order row × AreOrderRows content orders rows
+
+-- what may be told of orders with these codes: the first of them
+abbrev pub IsOrdersAnswer : Content → List (List ℕ) → Reply → Type 0
+IsOrdersAnswer content orders answer = (rows : List OrderRow) × AreOrderRows content (first_told orders) rows × (answer ≡ reply.Orders (are_more orders) rows)
+
+-- what may be told of the lines of an order: all of them, where it is there
+abbrev pub IsLinesAnswer : Content → (order : List ℕ) → (there : Bool) → Reply → Type 0
+IsLinesAnswer content order false answer = answer ≡ reply.Refused NoOrder
+IsLinesAnswer content order true answer = (lines : List Demand) × AreLines content order lines × (answer ≡ reply.Lines lines order)
 
 -- what may be told of a terminal
 abbrev pub IsTerminalAnswer : Content → ℕ → Reply → Type 0

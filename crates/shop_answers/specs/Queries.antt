@@ -11,10 +11,10 @@ use Rattle.shop_records.specs.declared.refusals.Refusal.TheVariants.{NoMaterial,
 use Rattle.shop_records.specs.declared.messages.Reply.{Reply}
 use Rattle.shop_records.specs.declared.messages.Reply.TheVariants as reply
 use Rattle.shop_records.specs.Columns.{state_word, state_of}
-use Rattle.shop_records.specs.Content.{Content, material_at, part_at, demand_at, totals_of, parts_of, rack_rows, material_of}
+use Rattle.shop_records.specs.Content.{Content, material_at, part_at, has_order, demand_at, totals_of, parts_of, rack_rows, material_of}
 use Rattle.shop_answers.specs.Planning.{IsPlanAnswer, IsBoundAnswer}
-use Rattle.shop_records.specs.Lists.{materials_of, parts_behind, open_demands, waiting_jobs, job_numbers}
-use Rattle.shop_answers.specs.Listing.{is_known, job_with_part, told_parts, told_demands, told_jobs, told_job, IsTerminalAnswer}
+use Rattle.shop_records.specs.Lists.{materials_of, parts_behind, open_demands, waiting_jobs, job_numbers, orders_behind}
+use Rattle.shop_answers.specs.Listing.{is_known, job_with_part, told_parts, told_demands, told_jobs, told_job, IsOrdersAnswer, IsLinesAnswer, IsTerminalAnswer}
 
 abbrev pub told_totals : Option Material → List ℕ → Totals → Reply
 told_totals None material t = reply.Refused NoMaterial
@@ -49,6 +49,8 @@ IsAnswer content (query.Demands after material) answer = answer ≡ told_demands
 IsAnswer content (query.Jobs after) answer = answer ≡ told_jobs content (job_numbers (waiting_jobs content after))
 IsAnswer content (query.Job job) answer = answer ≡ told_job (job_with_part content job)
 IsAnswer content (query.Terminal terminal) answer = IsTerminalAnswer content terminal answer
+IsAnswer content (query.Orders after) answer = IsOrdersAnswer content (orders_behind content after) answer
+IsAnswer content (query.Lines order) answer = IsLinesAnswer content order (has_order content order) answer
 
 -- the same, memory and the store aside; a query changes nothing
 abbrev pub Answers : Content → Query → Reply → Type 0

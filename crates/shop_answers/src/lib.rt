@@ -1,12 +1,13 @@
-//! What the machine answers to queries: a plan of a part, a bound, the rows of a list and a job.
+//! What the machine answers to queries: a plan of a part, a bound, the rows of a list, a job and an order.
 #![tactic(auto)]
 
 mod laws;
 mod listing;
 mod planning;
 
-pub use laws::told_plans_can_be_reserved;
+pub use laws::{orders_have_one_answer, told_plans_can_be_reserved};
 pub use listing::{
-    MOST_TOLD, answer_demands, answer_job, answer_parts, are_more, first_told, job_row,
+    MOST_TOLD, answer_demands, answer_job, answer_orders, answer_parts, are_more, first_told,
+    job_row, order_row,
 };
 pub use planning::{FoundDemand, FoundList, answer_bound, answer_plan, can_be_planned};

@@ -1,16 +1,18 @@
-//! Lists of what stands, is open or waits: the first rows, and whether others follow; and the answer on a job.
+//! Lists of what stands, is open, waits or was ordered: the first rows, and whether others follow; and the answer on a job.
 
-ghost use Rattle.std.specs.Prelude.{◌≡◌, ◌≢◌, ◌+◌, List, Some, IfOk, take};
+ghost use Rattle.std.specs.Prelude.{◌≡◌, ◌≢◌, ◌+◌, ◌<◌, ◌^◌, ℕ, List, Some, IfOk, AllPairs, take};
 ghost use Rattle.shop_answers.specs.declared.listing.TheConstants.{MOST_TOLD};
 ghost use Rattle.shop_records.specs.declared.records.Demand.{Demand as DemandOf};
 ghost use Rattle.shop_records.specs.declared.records.Part.{Part as PartOf};
 ghost use Rattle.shop_records.specs.declared.refusals.Refusal.TheVariants.{NoMemory, StoreFault};
 ghost use Rattle.shop_records.specs.declared.messages.Reply.TheVariants.{Refused, Parts, Demands};
+ghost use Rattle.shop_records.specs.Content.{Content};
 ghost use Rattle.shop_answers.specs.Listing as listing;
+ghost use Rattle.shop_records.specs.Lists as lists;
 
 use crate::planning::tree_text;
 use cut_measure::{Code, RowList};
-use shop_records::{Demand, Job, JobRow, Part, Refusal, Reply};
+use shop_records::{Demand, Job, JobRow, OrderList, OrderRow, Part, Refusal, Reply};
 use std::alloc::{AllocError, Global};
 
 /// The most rows that a list tells of parts, demands or jobs.
@@ -87,6 +89,65 @@ pub fn job_row(job: &Job, part: &Part) -> JobRow
         material: part.material,
         part: job.part,
         w: part.size.w(),
+    }
+}
+
+fn wide(n: u32) -> u64
+    ensures value { result ≡ n }
+    ensures range { result < 2 ^ 32 }
+{
+    u64::from(n)
+}
+
+// A sum with one number more, or the greatest number of 64 bits where it is greater.
+fn added(sum: u64, more: u32) -> u64
+    ensures { listing.IsAdded sum more result }
+{
+    sum.saturating_add(wide(more))
+}
+
+// The row of an order with one line more in its sums.
+fn with_line(row: &OrderRow, line: &Demand) -> OrderRow
+    ensures { listing.IsWithLine row.now line.now result }
+{
+    let _place = wide(line.line);
+    OrderRow {
+        made: added(row.made, line.made),
+        reserved: added(row.reserved, line.reserved),
+        wanted: added(row.wanted, line.wanted),
+        ..*row
+    }
+}
+
+/// How an order is told, from all its lines. Where they rise, 64 bits hold each sum.
+pub fn order_row(order: Code, lines: &[Demand]) -> OrderRow
+    ensures { AllPairs (λ (a b : DemandOf). a.line < b.line) lines.now
+        → result ≡ lists.order_row order lines.now }
+{
+    let mut row = OrderRow {
+        lines: lines.len() as u64,
+        made: 0,
+        order,
+        reserved: 0,
+        wanted: 0,
+    };
+    for line in lines {
+        row = with_line(&row, line);
+    }
+    row
+}
+
+/// The answer to a query for orders, from the codes of the first that are listed: all, or one more than are told; and from
+/// the rows of those that are told.
+pub fn answer_orders(codes: &[Code], orders: OrderList) -> Reply
+    ensures answer { (m : Content) (all : List (List ℕ)) → codes.now ≡ take (MOST_TOLD + 1) all
+        → listing.AreOrderRows m (listing.first_told codes.now) orders
+        → listing.IsOrdersAnswer m all result }
+    ensures store { result ≢ Refused StoreFault }
+{
+    Reply::Orders {
+        more: are_more(codes),
+        orders,
     }
 }
 

@@ -6,3 +6,5 @@ pub mod Tallied
 pub mod Handed
 -- the last number of a terminal
 pub mod Lasts
+-- the lines of an order
+pub mod LinesTold

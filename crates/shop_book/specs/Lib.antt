@@ -3,6 +3,7 @@ pub mod Failures
 pub mod Books
 pub mod Kept
 -- a book in memory
+pub mod Orders
 pub mod Memory
 pub mod Equal
 pub mod Tallies

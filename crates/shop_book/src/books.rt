@@ -2,7 +2,7 @@
 
 ghost use Rattle.std.specs.Prelude.{◌≡◌, ◌+◌, ◌≤◌, ◌⊎◌, ℕ, IfOk, IfSome, OnOk, OnErr, map, take};
 ghost use Rattle.shop_records.specs.Content.{Content, material_at, part_at, job_at, has_order, demand_at, kept_at, import_at, totals_of, parts_of as listed_parts, changed};
-ghost use Rattle.shop_records.specs.Lists.{IsLastNumber, materials_of, parts_behind, open_demands, waiting_jobs};
+ghost use Rattle.shop_records.specs.Lists.{AreLines, IsLastNumber, materials_of, orders_behind, parts_behind, open_demands, waiting_jobs};
 ghost use Rattle.shop_records.specs.Soundness.{Fits};
 ghost use Rattle.shop_records.specs.declared.records.Job.{Job as JobOf};
 ghost use Rattle.shop_book.specs.Failures.{CountsFailure};
@@ -11,8 +11,8 @@ ghost use Rattle.shop_records.specs.Visits.{IsVisit};
 
 use cut_measure::{Code, PartName};
 use shop_records::{
-    Change, Demand, DemandList, ImportRow, Job, Kept, Material, MaterialList, NumberList, Part,
-    PartList, PartVisitor, Refusal, Totals,
+    Change, CodeList, Demand, DemandList, ImportRow, Job, Kept, Material, MaterialList, NumberList,
+    Part, PartList, PartVisitor, Refusal, Totals,
 };
 use std::alloc::{AllocError, Global};
 use std::error::Error;
@@ -225,6 +225,25 @@ pub trait Book {
     ) -> Result<DemandList, BookFault>
         ensures rows { is_honest self.new → (m : Content) → holds self.old m
             → IfOk result (λ rows. rows ≡ take most (open_demands m after material)) }
+        ensures keeps { Keeps is_honest holds may_leave failed
+            (CountsFailure result) self.old self.new };
+
+    /// The lines of an order, by rising line: all of them, whatever became of them.
+    fn lines_of(&mut self, alloc: Global, order: Code) -> Result<DemandList, BookFault>
+        ensures rows { is_honest self.new → (m : Content) → holds self.old m
+            → IfOk result (λ rows. AreLines m order rows) }
+        ensures keeps { Keeps is_honest holds may_leave failed
+            (CountsFailure result) self.old self.new };
+
+    /// The codes of the first orders behind a code, or from the first on, rising: at most so many.
+    fn first_orders(
+        &mut self,
+        alloc: Global,
+        after: Option<Code>,
+        most: usize,
+    ) -> Result<CodeList, BookFault>
+        ensures rows { is_honest self.new → (m : Content) → holds self.old m
+            → IfOk result (λ codes. codes ≡ take most (orders_behind m after)) }
         ensures keeps { Keeps is_honest holds may_leave failed
             (CountsFailure result) self.old self.new };
 

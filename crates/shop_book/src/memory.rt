@@ -2,9 +2,9 @@
 
 ghost use Rattle.std.specs.Prelude.{◌≡◌, ◌+◌, ◌<◌, ◌^◌, ⊤, IfOk, IfErr, IfSome, IsOk, OnOk, OnErr, ◌-◌, map, take};
 ghost use Rattle.shop_records.specs.Content.{Content, material_at, part_at, job_at, has_order, demand_at, kept_at, import_at, totals_of, parts_of as listed_parts, changed};
-ghost use Rattle.shop_records.specs.Lists.{IsLastNumber, materials_of, open_demands, parts_behind, waiting_jobs};
+ghost use Rattle.shop_records.specs.Lists.{AreLines, IsLastNumber, materials_of, open_demands, orders_behind, parts_behind, waiting_jobs};
 ghost use Rattle.shop_records.specs.declared.records.Job.{Job as JobOf};
-ghost use Rattle.shop_records.specs.Soundness.{IsInRange};
+ghost use Rattle.shop_records.specs.Soundness.{AreDifferent, IsInRange};
 ghost use Rattle.shop_records.specs.Visits.{IsVisit};
 ghost use Rattle.shop_book.specs.declared.books.BookFault.{BookFault as Fault};
 
@@ -14,11 +14,13 @@ use crate::memory_lists::{
     copy_imports, copy_jobs, find_import, find_job, first_asked, put_demands, put_job, reserve_both,
 };
 use crate::memory_parts::{listed, put_stock, reserve_parts, visit};
-use crate::order_codes::{OrderCode, copy_orders, put_and_keep};
+use crate::order_codes::{
+    KnownOrder, copy_orders, first_codes, have_strays, order_lines, put_and_keep,
+};
 use cut_measure::{Code, PartName};
 use shop_records::{
-    Change, Demand, DemandList, ImportRow, Job, Kept, Material, MaterialList, NumberList, Pair,
-    Part, PartList, PartVisitor, RowList, Totals,
+    Change, CodeList, Demand, DemandList, ImportRow, Job, Kept, Material, MaterialList, NumberList,
+    Pair, Part, PartList, PartVisitor, RowList, Totals,
 };
 use shop_rows::{
     OpenRows, PartRows, Sums, copy_rows, find, first_rows, names_behind, numbers_behind, put_some,
@@ -35,8 +37,10 @@ pub struct MemBook {
     parts: PartRows,
     totals: Vec<Sums>,
     jobs: Vec<Job>,
-    orders: BTreeSet<OrderCode>,
+    orders: BTreeSet<KnownOrder>,
     demands: Vec<Demand>,
+    /// Whether a demand lies apart from those of its order, which no change does that fits.
+    strays: bool,
     kept: BTreeMap<Pair, KeptText>,
     imports: Vec<ImportRow>,
     last_act: u32,
@@ -75,6 +79,7 @@ impl MemBook {
             jobs: Vec::new(alloc),
             orders: BTreeSet::new(alloc),
             demands: Vec::new(alloc),
+            strays: false,
             kept: BTreeMap::new(alloc),
             imports: Vec::new(alloc),
             last_act: 0,
@@ -108,6 +113,7 @@ impl MemBook {
             jobs,
             orders,
             demands,
+            strays: self.strays,
             kept,
             imports,
             last_act: self.last_act,
@@ -259,7 +265,7 @@ impl Book for MemBook {
         ensures row { result ≡ Ok (has_order self.old.content code) }
         ensures same { self.new ≡ self.old }
     {
-        Ok(self.orders.contains(&OrderCode::of(code)))
+        Ok(self.orders.contains(&KnownOrder::of(code, &[])))
     }
 
     fn demand(&mut self, number: u32) -> Result<Option<Demand>, BookFault>
@@ -394,6 +400,34 @@ impl Book for MemBook {
         Ok(rows)
     }
 
+    fn lines_of(&mut self, alloc: Global, order: Code) -> Result<DemandList, BookFault>
+        ensures rows { IfOk result (λ rows. AreLines self.old.content order rows) }
+        ensures memory { AreDifferent self.old.content → IfErr result (λ fault. fault ≡ NoMemory) }
+        ensures content { self.new.content ≡ self.old.content }
+        ensures failures { CountsFailure result self.old.failures self.new.failures }
+    {
+        let found = order_lines(alloc, self.strays, &self.orders, &self.demands, order)?;
+        match found {
+            Some(lines) => Ok(lines),
+            None => Err(self.fault()),
+        }
+    }
+
+    fn first_orders(
+        &mut self,
+        alloc: Global,
+        after: Option<Code>,
+        most: usize,
+    ) -> Result<CodeList, BookFault>
+        ensures rows { IfOk result
+            (λ codes. codes ≡ take most (orders_behind self.old.content after)) }
+        ensures memory { IfErr result (λ fault. fault ≡ NoMemory) }
+        ensures same { self.new ≡ self.old }
+    {
+        let codes = first_codes(alloc, &self.orders, after, most)?;
+        Ok(codes)
+    }
+
     fn first_jobs(
         &mut self,
         alloc: Global,
@@ -440,8 +474,10 @@ impl Book for MemBook {
             &mut self.orders,
             &mut self.kept,
             change.order,
+            wanted,
             change.kept,
         )?;
+        self.strays = have_strays(self.strays, &self.orders, &self.demands, wanted);
         put_some(&mut self.materials, change.material);
         put_stock(
             &mut self.parts,

@@ -91,6 +91,7 @@ of_refusal refusal.NumbersSpent = refl
 of_refusal refusal.OrderExists = refl
 of_refusal refusal.BadLine = refl
 of_refusal refusal.NoDemand = refl
+of_refusal refusal.NoOrder = refl
 of_refusal refusal.NoPart = refl
 of_refusal refusal.NotStanding = refl
 of_refusal refusal.NotWhole = refl

@@ -5,14 +5,14 @@ ghost use Rattle.shop_records.specs.Content.{fresh};
 
 use cut_measure::{Code, PartName};
 use shop_records::{
-    Change, Demand, DemandList, ImportRow, Job, Kept, Material, MaterialList, NumberList, Part,
-    PartList, PartVisitor, Totals,
+    Change, CodeList, Demand, DemandList, ImportRow, Job, Kept, Material, MaterialList, NumberList,
+    Part, PartList, PartVisitor, Totals,
 };
 use shop_store::{Book, BookFault, MemBook};
 use std::alloc::Global;
 
-/// A book in memory, under which there is no store that could fail. Where a number or a sum is out of range, as no history
-/// makes it, it tells want of memory.
+/// A book in memory, under which there is no store that could fail. Where a number or a sum is out of range, or two lines of
+/// an order are the same, as no history makes it, it tells want of memory.
 #[derive(Drop)]
 pub struct StorelessBook {
     book: MemBook,
@@ -136,6 +136,22 @@ impl Book for StorelessBook {
         most: usize,
     ) -> Result<DemandList, BookFault> {
         self.book.first_demands(alloc, after, material, most)
+    }
+
+    fn lines_of(&mut self, alloc: Global, order: Code) -> Result<DemandList, BookFault> {
+        match self.book.lines_of(alloc, order) {
+            Ok(lines) => Ok(lines),
+            Err(_) => Err(BookFault::NoMemory),
+        }
+    }
+
+    fn first_orders(
+        &mut self,
+        alloc: Global,
+        after: Option<Code>,
+        most: usize,
+    ) -> Result<CodeList, BookFault> {
+        self.book.first_orders(alloc, after, most)
     }
 
     fn first_jobs(

@@ -5,4 +5,5 @@ pub mod Blame
 pub mod Accounts
 pub mod TakenParts
 pub mod TakenJobs
+pub mod TakenOrders
 pub mod Refusals

@@ -13,7 +13,7 @@ use Rattle.shop_records.specs.declared.messages.Message.{Message}
 use Rattle.shop_records.specs.declared.refusals.Refusal.{Refusal}
 use Rattle.shop_records.specs.declared.refusals.Refusal.TheVariants.{NoMemory, StoreFault, NumberReused}
 use Rattle.shop_records.specs.declared.messages.Reply.{Reply}
-use Rattle.shop_records.specs.declared.messages.Reply.TheVariants.{AddMaterial, Receive, AddOrder, Reserve, Done, Break, Release, Scrap, GiveBack, Import, Totals, Rack, Trace, Demand, Plan, Bound, Materials, Parts, Demands, Jobs, Job, Terminal, Refused}
+use Rattle.shop_records.specs.declared.messages.Reply.TheVariants.{AddMaterial, Receive, AddOrder, Reserve, Done, Break, Release, Scrap, GiveBack, Import, Amend, Totals, Rack, Trace, Demand, Plan, Bound, Materials, Parts, Demands, Jobs, Job, Terminal, Orders, Lines, Refused}
 use Rattle.shop_records.specs.Messages.{Texts, IsMessage, IsMade, refusal_in, is_accepted, pair_of}
 use Rattle.shop_records.specs.Readings.{Reading}
 use Rattle.shop_records.specs.Content.{Content, kept_at, changed}
@@ -82,6 +82,7 @@ module _ (texts : Texts) where
   none_made (Scrap part) made = refl
   none_made (GiveBack part) made = refl
   none_made (Import act count first order) made = refl
+  none_made (Amend demand wanted) made = refl
   none_made (Totals material received stock rack pieces kerf scrap returned) made = absurd made
   none_made (Rack material parts) made = absurd made
   none_made (Trace batch h of part root state w x y) made = absurd made
@@ -94,6 +95,8 @@ module _ (texts : Texts) where
   none_made (Jobs jobs more) made' = absurd made'
   none_made (Job cuts h job kerf material part state tree w) made' = absurd made'
   none_made (Terminal last terminal) made' = absurd made'
+  none_made (Orders more orders) made' = absurd made'
+  none_made (Lines lines order) made' = absurd made'
   none_made (Refused refusal) made = absurd made
 
   -- the kept reply to the kept message

@@ -8,7 +8,7 @@ ghost use Rattle.shop_records.specs.Content.{Content, demand_at};
 ghost use Rattle.shop_machine.specs.Recounts.{plan_leaves, AreDemandsFound, IsNumbered, leaves_in};
 ghost use Rattle.shop_book.specs.Failures.{CountsFailure};
 ghost use Rattle.shop_book.specs.Kept.{Unchanged, OnContent};
-ghost use Rattle.shop_records.specs.declared.messages.Command.TheVariants.{AddMaterial, Receive, AddOrder, Reserve, Done, Break, Release, Scrap, GiveBack};
+ghost use Rattle.shop_records.specs.declared.messages.Command.TheVariants.{AddMaterial, Receive, AddOrder, Reserve, Done, Break, Release, Scrap, GiveBack, Amend};
 ghost use Rattle.shop_records.specs.declared.messages.Reply.TheVariants.{Refused};
 ghost use Rattle.shop_records.specs.declared.refusals.Refusal.TheVariants.{BadMessage};
 ghost use Rattle.shop_forms.specs.Forms.{json_texts};
@@ -21,8 +21,8 @@ use cut_tree::{Halt, Plan};
 use shop_book::{Book, BookFault};
 use shop_rules::{
     Change, Code, Command, FoundLeaf, ImportRow, Job, KeptMessage, LineList, Material, Part,
-    Refusal, Reply, Text, Totals, decide_break, decide_done, decide_give_back, decide_material,
-    decide_order, decide_receive, decide_release, decide_reserve, decide_scrap,
+    Refusal, Reply, Text, Totals, decide_amend, decide_break, decide_done, decide_give_back,
+    decide_material, decide_order, decide_receive, decide_release, decide_reserve, decide_scrap,
 };
 use std::alloc::{AllocError, Global};
 
@@ -250,6 +250,16 @@ fn give_back<B: Book>(alloc: Global, book: &mut B, part: PartName) -> Result<Cha
     decide_give_back(alloc, row, totals)
 }
 
+// Says how many pieces of a demand are wanted from now on.
+fn amend<B: Book>(alloc: Global, book: &mut B, demand: u32, wanted: u32) -> Result<Change, Refusal>
+    ensures decision { Judges B.Book json_texts (Amend demand wanted) book.old result book.new }
+    ensures keeps { Unchanged B.Book (CountsOrDisagrees result) book.old book.new }
+    ensures told { IfOk result (λ change. IsTrue (is_accepted change.reply)) }
+{
+    let row = book.demand(demand)?;
+    decide_amend(alloc, row, wanted)
+}
+
 /// What is decided on a command, from the rows that it needs.
 pub fn decide<B: Book>(alloc: Global, book: &mut B, command: &Command) -> Result<Change, Refusal>
     ensures decision { Judges B.Book json_texts command.now book.old result book.new }
@@ -279,6 +289,7 @@ pub fn decide<B: Book>(alloc: Global, book: &mut B, command: &Command) -> Result
         Command::Scrap { part } => scrap(alloc, book, *part),
         Command::GiveBack { part } => give_back(alloc, book, *part),
         Command::Import { order, form, text } => import_order(alloc, book, *order, form, text),
+        Command::Amend { demand, wanted } => amend(alloc, book, *demand, *wanted),
     }
 }
 

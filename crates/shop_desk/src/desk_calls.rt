@@ -20,7 +20,7 @@ ghost use Rattle.shop_desk.specs.Handled.{BlamesStore, Handles, HasRun, IsHandle
 
 use crate::decided::{decide, keeping_message};
 use crate::found::{demands_for, material_for};
-use crate::listing::{demands, job, jobs, materials, parts, terminal};
+use crate::listing::{demands, job, jobs, lines, materials, orders, parts, terminal};
 use crate::racks::RackTaker;
 use cut_measure::PartName;
 use shop_book::{Book, BookFault};
@@ -361,6 +361,8 @@ pub fn ask<B: Book>(alloc: Global, book: &mut B, query: &Query) -> Reply
         Query::Jobs { after } => jobs(alloc, book, *after),
         Query::Job { job: number } => job(alloc, book, *number),
         Query::Terminal { terminal: number } => terminal(book, *number),
+        Query::Orders { after } => orders(alloc, book, *after),
+        Query::Lines { order } => lines(alloc, book, *order),
     }
 }
 

@@ -1,12 +1,13 @@
-//! Answers to the queries for lists, for a job and for a terminal, from a book's rows.
+//! Answers to the queries for lists, for a job, for the lines of an order and for a terminal, from a book's rows.
 
-ghost use Rattle.std.specs.Prelude.{◌≡◌, ◌≢◌, ◌∷◌, ◌++◌, [], IfOk, OnOk, Some, filter_map};
+ghost use Rattle.std.specs.Prelude.{◌≡◌, ◌≢◌, ◌+◌, ◌∷◌, ◌++◌, [], IfOk, OnOk, Some, filter_map, take, true};
 ghost use Rattle.shop_answers.specs.Queries.{Answers};
 ghost use Rattle.shop_records.specs.declared.messages.Query.TheVariants as query;
 ghost use Rattle.shop_records.specs.declared.messages.Reply.TheVariants.{Refused, Parts, Demands};
 ghost use Rattle.shop_records.specs.declared.refusals.Refusal.TheVariants.{NoMemory, StoreFault};
-ghost use Rattle.shop_answers.specs.Listing.{are_more, first_told, job_row_at, job_with_part};
-ghost use Rattle.shop_records.specs.Lists.{job_numbers, open_demands, parts_behind, waiting_jobs};
+ghost use Rattle.shop_answers.specs.declared.listing.TheConstants.{MOST_TOLD};
+ghost use Rattle.shop_answers.specs.Listing.{AreOrderRows, IsLinesAnswer, IsOrderRow, are_more, first_told, job_row_at, job_with_part};
+ghost use Rattle.shop_records.specs.Lists.{job_numbers, open_demands, orders_behind, parts_behind, waiting_jobs};
 ghost use Rattle.shop_book.specs.Failures.{CountsFailure};
 ghost use Rattle.shop_book.specs.Kept.{Unchanged, OnContent};
 ghost use Rattle.shop_desk.specs.Faults.{CountsReply};
@@ -15,8 +16,9 @@ ghost use Rattle.shop_desk.specs.ListedJobs.{told_row};
 use cut_measure::PartName;
 use shop_book::{Book, BookFault};
 use shop_rules::{
-    Code, Job, JobList, MOST_TOLD, Part, Refusal, Reply, answer_demands, answer_job, answer_parts,
-    are_more, first_told, job_row,
+    Code, CodeList, Job, JobList, MOST_TOLD, OrderList, OrderRow, Part, Refusal, Reply,
+    answer_demands, answer_job, answer_orders, answer_parts, are_more, first_told, job_row,
+    order_row,
 };
 use std::alloc::{AllocError, Global};
 
@@ -185,6 +187,82 @@ pub fn job<B: Book>(alloc: Global, book: &mut B, number: u32) -> Reply
         Err(fault) => Reply::Refused(Refusal::from(fault)),
         Ok(None) => Reply::Refused(Refusal::NoJob),
         Ok(Some((job, part))) => answer_job(alloc, &job, &part),
+    }
+}
+
+// How an order is told, from its lines.
+fn row_of_order<B: Book>(alloc: Global, book: &mut B, order: Code) -> Result<OrderRow, BookFault>
+    ensures row { OnContent B.Book book.old book.new (λ m. IfOk result (IsOrderRow m order)) }
+    ensures keeps { Unchanged B.Book (CountsFailure result) book.old book.new }
+{
+    let lines = book.lines_of(alloc, order)?;
+    Ok(order_row(order, lines.as_slice()))
+}
+
+// The rows of orders, as they are told.
+fn order_rows<B: Book>(alloc: Global, book: &mut B, orders: &[Code]) -> Result<OrderList, BookFault>
+    ensures rows { OnContent B.Book book.old book.new
+        (λ m. IfOk result (AreOrderRows m orders.now)) }
+    ensures keeps { Unchanged B.Book (CountsFailure result) book.old book.new }
+{
+    let mut rows = OrderList::new(alloc);
+    for order in orders {
+        let row = row_of_order(alloc, book, *order)?;
+        rows.push(row)?;
+    }
+    Ok(rows)
+}
+
+// The codes of the first orders behind a code, one more than are told, and the rows of those that are.
+fn first_orders<B: Book>(
+    alloc: Global,
+    book: &mut B,
+    after: Option<Code>,
+) -> Result<(CodeList, OrderList), BookFault>
+    ensures orders { OnContent B.Book book.old book.new (λ m. IfOk result (λ found.
+        (found.0 ≡ take (MOST_TOLD + 1) (orders_behind m after))
+        × AreOrderRows m (first_told found.0) found.1)) }
+    ensures keeps { Unchanged B.Book (CountsFailure result) book.old book.new }
+{
+    let codes = book.first_orders(alloc, after, MOST_TOLD + 1)?;
+    let rows = order_rows(alloc, book, first_told(codes.as_slice()))?;
+    Ok((codes, rows))
+}
+
+/// The first orders behind a code, or from the first on.
+pub fn orders<B: Book>(alloc: Global, book: &mut B, after: Option<Code>) -> Reply
+    ensures answer { OnContent B.Book book.old book.new
+        (λ m. Answers m (query.Orders after) result) }
+    ensures keeps { Unchanged B.Book (CountsReply result) book.old book.new }
+{
+    match first_orders(alloc, book, after) {
+        Err(fault) => Reply::Refused(Refusal::from(fault)),
+        Ok((codes, rows)) => answer_orders(codes.as_slice(), rows),
+    }
+}
+
+// The lines of an order that is there.
+fn known_lines<B: Book>(alloc: Global, book: &mut B, order: Code) -> Reply
+    ensures answer { OnContent B.Book book.old book.new
+        (λ m. result ≢ Refused NoMemory → result ≢ Refused StoreFault
+        → IsLinesAnswer m order true result) }
+    ensures keeps { Unchanged B.Book (CountsReply result) book.old book.new }
+{
+    match book.lines_of(alloc, order) {
+        Err(fault) => Reply::Refused(Refusal::from(fault)),
+        Ok(lines) => Reply::Lines { lines, order },
+    }
+}
+
+/// All lines of an order.
+pub fn lines<B: Book>(alloc: Global, book: &mut B, order: Code) -> Reply
+    ensures answer { OnContent B.Book book.old book.new (λ m. Answers m (query.Lines order) result) }
+    ensures keeps { Unchanged B.Book (CountsReply result) book.old book.new }
+{
+    match book.order(order) {
+        Err(fault) => Reply::Refused(Refusal::from(fault)),
+        Ok(true) => known_lines(alloc, book, order),
+        Ok(false) => Reply::Refused(Refusal::NoOrder),
     }
 }
 

@@ -8,7 +8,7 @@ use Rattle.cut_tree.specs.declared.halts.Halt.TheVariants.{First, Listed}
 use Rattle.std.specs.Option.{option_or}
 use Rattle.std.specs.Cmp.Derive.{both_true}
 use Rattle.shop_records.specs.declared.messages.Command.{Command}
-use Rattle.shop_records.specs.declared.messages.Command.TheVariants.{AddMaterial, Receive, AddOrder, Reserve, Done, Break, Release, Scrap, GiveBack, Import}
+use Rattle.shop_records.specs.declared.messages.Command.TheVariants.{AddMaterial, Receive, AddOrder, Reserve, Done, Break, Release, Scrap, GiveBack, Import, Amend}
 use Rattle.shop_records.specs.declared.imports.Form.TheVariants.{Csv, Cgcut}
 use Rattle.shop_records.specs.declared.messages.Message.{Message}
 use Rattle.shop_files.specs.declared.orders.OrderLine.{OrderLine}
@@ -30,10 +30,10 @@ use Rattle.serde_json.specs.Written.{compact_text, outline}
 use Rattle.serde_json.proofs.Numbers.{number_of-decimal}
 use Rattle.json.specs.Token.{Token}
 use Rattle.serde_json.proofs.Texts.{print-outline}
-use Rattle.shop_forms.specs.Forms.{message_of, sent_head, sent_of, from_one, command_of, material_command, receive_command, order_command, reserve_command, import_in, problem_command, import_by, import_command, query_of, asked_of, reply_of, made_of, order_made, reserve_made, ended_cells, first_cuts, listed_cuts, lost_cut, list_data, break_command, has_few_cuts, lines_data, message_data, reply_data, json_texts}
+use Rattle.shop_forms.specs.Forms.{message_of, sent_head, sent_of, from_one, command_of, material_command, receive_command, order_command, reserve_command, import_in, problem_command, import_by, import_command, amend_command, query_of, asked_of, reply_of, made_of, order_made, reserve_made, ended_cells, first_cuts, listed_cuts, lost_cut, list_data, break_command, has_few_cuts, lines_data, message_data, reply_data, json_texts}
 use Rattle.shop_forms.specs.Told.{HasWideNumbers}
 use Rattle.shop_records.specs.Refusals.{refusal_number}
-use Rattle.shop_forms.proofs.ListedRows.{cuts_there, cuts_numbers, cuts_shallow, cuts_json, lines_there, lines_numbers, lines_shallow, lines_json, rack_numbers, rack_shallow, rack_json, materials_numbers, materials_shallow, materials_json, parts_numbers, parts_shallow, parts_json, demands_numbers, demands_shallow, demands_json, jobs_numbers, jobs_shallow, jobs_json, shallow_first_of_two, shallow_first_of_three, shallow_fourth}
+use Rattle.shop_forms.proofs.ListedRows.{cuts_there, cuts_numbers, cuts_shallow, cuts_json, lines_there, lines_numbers, lines_shallow, lines_json, rack_numbers, rack_shallow, rack_json, materials_numbers, materials_shallow, materials_json, parts_numbers, parts_shallow, parts_json, demands_numbers, demands_shallow, demands_json, jobs_numbers, jobs_shallow, jobs_json, orders_numbers, orders_shallow, orders_json, shallow_first_of_two, shallow_first_of_three, shallow_fourth}
 use Rattle.shop_forms.specs.Fields.{kind_text, small, number_at}
 use Rattle.shop_forms.proofs.FieldFacts.{number_there, wide_there, flag_there, code_there, kind_there, name_there, text_there}
 
@@ -105,6 +105,10 @@ read_problem d material order text p q r h =
 read_import : (d : Data) (word : List ℕ) (command : Command) → get (codes "form") d ≡ Some (string word) → import_by word d ≡ Some command → import_command d ≡ Some command
 read_import d word command p is = rw (text_there (codes "form") d word p) is
 
+read_amend : (d : Data) (demand wanted : ℕ) → get (codes "demand") d ≡ Some (number (unsigned demand)) → get (codes "wanted") d ≡ Some (number (unsigned wanted))
+    → IsCommand (Amend demand wanted) → amend_command d ≡ Some (Amend demand wanted)
+read_amend d demand wanted p q h = rw (number_there (codes "demand") d demand p h.0, number_there (codes "wanted") d wanted q h.1) refl
+
 sent_back_by : (terminal n : ℕ) (command : Command) → IsNumber terminal → IsNumber n → IsCommand command
     → sent_of (message_data (record { terminal = terminal; number = n; command = command })) ≡ Some (record { terminal = terminal; number = n; command = command })
 sent_back_by terminal n (AddMaterial material kind kerf min_long min_short) p q h =
@@ -153,6 +157,9 @@ sent_back_by terminal n (Import order (Cgcut material) text) p q h =
     let d = message_data (record { terminal = terminal; number = n; command = Import order (Cgcut material) text }) in
     read_sent d (codes "import") terminal n (Import order (Cgcut material) text) refl refl refl refl p q
     (read_import d (codes "cgcut") (Import order (Cgcut material) text) refl (read_problem d material order text refl refl refl h))
+sent_back_by terminal n (Amend demand wanted) p q h =
+    let d = message_data (record { terminal = terminal; number = n; command = Amend demand wanted }) in
+    read_sent d (codes "amend") terminal n (Amend demand wanted) refl refl refl refl p q (read_amend d demand wanted refl refl h)
 
 pub sent_back : (message : Message) → IsMessage message → sent_of (message_data message) ≡ Some message
 sent_back message h = sent_back_by message.terminal message.number message.command h.terminal h.number h.command
@@ -202,6 +209,9 @@ reply_back (reply.GiveBack part) h = ap (option_map reply.GiveBack) (name_there 
 reply_back (reply.Import act count first order) h =
     let d = reply_data (reply.Import act count first order) in
     rw (number_there (codes "act") d act refl h.0, number_there (codes "count") d count refl h.1, number_there (codes "first") d first refl h.2, code_there (codes "order") d order refl h.3) refl
+reply_back (reply.Amend demand wanted) h =
+    let d = reply_data (reply.Amend demand wanted) in
+    rw (number_there (codes "demand") d demand refl h.0, number_there (codes "wanted") d wanted refl h.1) refl
 reply_back (reply.Totals material received stock rack pieces kerf scrap returned) h = absurd h
 reply_back (reply.Rack material parts) h = absurd h
 reply_back (reply.Trace batch h of part root state w x y) made = absurd made
@@ -214,6 +224,8 @@ reply_back (reply.Demands demands more) made = absurd made
 reply_back (reply.Jobs jobs more) made = absurd made
 reply_back (reply.Job cuts h job kerf material part state tree w) made = absurd made
 reply_back (reply.Terminal last terminal) made = absurd made
+reply_back (reply.Orders more orders) made = absurd made
+reply_back (reply.Lines lines order) made = absurd made
 reply_back (reply.Refused refusal) h = absurd h
 
 -- ---- texts
@@ -313,6 +325,10 @@ text_read_by terminal n (Import order (Cgcut material) text) p q h =
     let d = message_data (record { terminal = terminal; number = n; command = Import order (Cgcut material) text }) in
     read-compact d (tt, (tt, (tt, (IsNumber-decimal n (wide n q), (tt, (IsNumber-decimal terminal (wide terminal p), (tt, tt))))))) (omega arith)
     (rw (number_of-decimal n (wide n q), number_of-decimal terminal (wide terminal p)) refl)
+text_read_by terminal n (Amend demand wanted) p q h =
+    let d = message_data (record { terminal = terminal; number = n; command = Amend demand wanted }) in
+    read-compact d (IsNumber-decimal demand (wide demand h.0), (tt, (IsNumber-decimal n (wide n q), (IsNumber-decimal terminal (wide terminal p), (IsNumber-decimal wanted (wide wanted h.1), tt))))) (omega arith)
+    (rw (number_of-decimal demand (wide demand h.0), number_of-decimal n (wide n q), number_of-decimal terminal (wide terminal p), number_of-decimal wanted (wide wanted h.1)) refl)
 
 pub message_text_read : (message : Message) → IsMessage message → read (json_texts.of_message message) ≡ Some (message_data message)
 unfolding json_texts
@@ -340,6 +356,8 @@ reply_read (reply.GiveBack part) wide_ones =
     read-compact (reply_data (reply.GiveBack part)) (tt, (tt, tt)) (omega arith) refl
 reply_read (reply.Import act count first order) wide_ones =
     read-compact (reply_data (reply.Import act count first order)) (IsNumber-decimal act wide_ones.0, (IsNumber-decimal count wide_ones.1, (IsNumber-decimal first wide_ones.2, (tt, (tt, tt))))) (omega arith) (rw (number_of-decimal act wide_ones.0, number_of-decimal count wide_ones.1, number_of-decimal first wide_ones.2) refl)
+reply_read (reply.Amend demand wanted) wide_ones =
+    read-compact (reply_data (reply.Amend demand wanted)) (IsNumber-decimal demand wide_ones.0, (tt, (IsNumber-decimal wanted wide_ones.1, tt))) (omega arith) (rw (number_of-decimal demand wide_ones.0, number_of-decimal wanted wide_ones.1) refl)
 reply_read (reply.Totals material received stock rack pieces kerf scrap returned) wide_ones =
     read-compact (reply_data (reply.Totals material received stock rack pieces kerf scrap returned)) (IsNumber-decimal kerf wide_ones.0, (tt, (tt, (IsNumber-decimal pieces wide_ones.1, (IsNumber-decimal rack wide_ones.2, (IsNumber-decimal received wide_ones.3, (IsNumber-decimal returned wide_ones.4, (IsNumber-decimal scrap wide_ones.5, (IsNumber-decimal stock wide_ones.6, tt))))))))) (omega arith) (rw (number_of-decimal kerf wide_ones.0, number_of-decimal pieces wide_ones.1, number_of-decimal rack wide_ones.2, number_of-decimal received wide_ones.3, number_of-decimal returned wide_ones.4, number_of-decimal scrap wide_ones.5, number_of-decimal stock wide_ones.6) refl)
 reply_read (reply.Rack material parts) wide_ones =
@@ -364,6 +382,10 @@ reply_read (reply.Job cuts h job kerf material part state tree w) wide_ones =
     read-compact (reply_data (reply.Job cuts h job kerf material part state tree w)) (IsNumber-decimal cuts wide_ones.0, (IsNumber-decimal h wide_ones.1, (IsNumber-decimal job wide_ones.2, (IsNumber-decimal kerf wide_ones.3, (tt, (tt, (tt, (tt, (tt, (IsNumber-decimal w wide_ones.4, tt)))))))))) (omega arith) (rw (number_of-decimal cuts wide_ones.0, number_of-decimal h wide_ones.1, number_of-decimal job wide_ones.2, number_of-decimal kerf wide_ones.3, number_of-decimal w wide_ones.4) refl)
 reply_read (reply.Terminal last terminal) wide_ones =
     read-compact (reply_data (reply.Terminal last terminal)) (IsNumber-decimal last wide_ones.0, (tt, (IsNumber-decimal terminal wide_ones.1, tt))) (omega arith) (rw (number_of-decimal last wide_ones.0, number_of-decimal terminal wide_ones.1) refl)
+reply_read (reply.Orders more orders) wide_ones =
+    read-compact (reply_data (reply.Orders more orders)) (tt, (tt, (orders_numbers orders wide_ones, tt))) (shallow_last _ (orders_shallow orders)) (rw (orders_json orders wide_ones) refl)
+reply_read (reply.Lines lines order) wide_ones =
+    read-compact (reply_data (reply.Lines lines order)) (demands_numbers lines wide_ones, (tt, (tt, tt))) (shallow_first_of_three _ (demands_shallow lines)) (rw (demands_json lines wide_ones) refl)
 reply_read (reply.Refused refusal) wide_ones =
     read-compact (reply_data (reply.Refused refusal)) (tt, (IsNumber-decimal (refusal_number refusal) wide_ones, tt)) (omega arith) (rw (number_of-decimal (refusal_number refusal) wide_ones) refl)
 
@@ -379,6 +401,7 @@ made_wide (reply.Release job) h = wide job h
 made_wide (reply.Scrap part) h = tt
 made_wide (reply.GiveBack part) h = tt
 made_wide (reply.Import act count first order) h = (wide act h.0, wide count h.1, wide first h.2)
+made_wide (reply.Amend demand wanted) h = (wide demand h.0, wide wanted h.1)
 made_wide (reply.Totals material received stock rack pieces kerf scrap returned) h = absurd h
 made_wide (reply.Rack material parts) h = absurd h
 made_wide (reply.Trace batch h of part root state w x y) made = absurd made
@@ -391,6 +414,8 @@ made_wide (reply.Demands demands more) made = absurd made
 made_wide (reply.Jobs jobs more) made = absurd made
 made_wide (reply.Job cuts h job kerf material part state tree w) made = absurd made
 made_wide (reply.Terminal last terminal) made = absurd made
+made_wide (reply.Orders more orders) made = absurd made
+made_wide (reply.Lines lines order) made = absurd made
 made_wide (reply.Refused refusal) h = absurd h
 
 pub told_text_read : (answer : Reply) → HasWideNumbers answer → read (json_texts.of_reply answer) ≡ Some (reply_data answer)

@@ -14,13 +14,14 @@ use Rattle.shop_files.specs.declared.orders.OrderLine.{OrderLine}
 use Rattle.shop_records.specs.declared.records.Demand.{Demand}
 use Rattle.shop_records.specs.declared.records.JobRow.{JobRow}
 use Rattle.shop_records.specs.declared.records.Material.{Material}
+use Rattle.shop_records.specs.declared.records.OrderRow.{OrderRow}
 use Rattle.shop_records.specs.declared.records.Part.{Part}
 use Rattle.shop_records.specs.declared.records.RackRow.{RackRow}
 use Rattle.shop_records.specs.Columns.{state_of}
 use Rattle.shop_records.specs.Messages.{IsLine, IsNumber}
 use Rattle.shop_forms.specs.Fields.{number_of, numbers_at}
-use Rattle.shop_forms.specs.Forms.{line_fields, line_of, lines_at, line_data, lines_data, list_data, material_data, part_data, open_demand_data, job_row_data, rack_row_data}
-use Rattle.shop_forms.specs.Told.{HasWideSides, HasWideLimits, HasWidePart, HasWideDemand, HasWideJob}
+use Rattle.shop_forms.specs.Forms.{line_fields, line_of, lines_at, line_data, lines_data, list_data, material_data, part_data, demand_row_data, job_row_data, order_row_data, rack_row_data}
+use Rattle.shop_forms.specs.Told.{HasWideSides, HasWideLimits, HasWidePart, HasWideDemand, HasWideJob, HasWideOrder}
 use Rattle.shop_forms.proofs.FieldFacts.{small_is, number_there, code_there, flag_there}
 use Rattle.shop_forms.proofs.Lists.{rows_numbers, rows_shallow, rows_json, rows_there}
 
@@ -139,9 +140,9 @@ parts_shallow ps = rows_shallow part_data HasWidePart (λ p. omega arith) ps
 pub parts_json : (ps : List Part) → All HasWidePart ps → of_items (items_outline (items_of (map part_data ps))) ≡ Some (items_of (map part_data ps))
 parts_json ps h = rows_json part_data HasWidePart part_json ps h
 
--- ---- open demands
+-- ---- demands
 
-demand_numbers : (d : Demand) → HasWideDemand d → HasNumbers (outline (open_demand_data d))
+demand_numbers : (d : Demand) → HasWideDemand d → HasNumbers (outline (demand_row_data d))
 demand_numbers d h = (
   IsNumber-decimal d.number h.0,
   (
@@ -156,18 +157,18 @@ demand_numbers d h = (
   ),
 )
 
-demand_json : (d : Demand) → HasWideDemand d → of_json (outline (open_demand_data d)) ≡ Some (open_demand_data d)
+demand_json : (d : Demand) → HasWideDemand d → of_json (outline (demand_row_data d)) ≡ Some (demand_row_data d)
 demand_json d h =
     rw (number_of-decimal d.number h.0, number_of-decimal d.size.h h.1, number_of-decimal d.line h.2, number_of-decimal d.made h.3, number_of-decimal d.reserved h.4, number_of-decimal d.size.w h.5, number_of-decimal d.wanted h.6, number_of-decimal d.worth h.7) refl
 
-pub demands_numbers : (ds : List Demand) → All HasWideDemand ds → ItemsHaveNumbers (items_outline (items_of (map open_demand_data ds)))
-demands_numbers ds h = rows_numbers open_demand_data HasWideDemand demand_numbers ds h
+pub demands_numbers : (ds : List Demand) → All HasWideDemand ds → ItemsHaveNumbers (items_outline (items_of (map demand_row_data ds)))
+demands_numbers ds h = rows_numbers demand_row_data HasWideDemand demand_numbers ds h
 
-pub demands_shallow : (ds : List Demand) → items_depth (items_outline (items_of (map open_demand_data ds))) ≤ 1
-demands_shallow ds = rows_shallow open_demand_data HasWideDemand (λ d. omega arith) ds
+pub demands_shallow : (ds : List Demand) → items_depth (items_outline (items_of (map demand_row_data ds))) ≤ 1
+demands_shallow ds = rows_shallow demand_row_data HasWideDemand (λ d. omega arith) ds
 
-pub demands_json : (ds : List Demand) → All HasWideDemand ds → of_items (items_outline (items_of (map open_demand_data ds))) ≡ Some (items_of (map open_demand_data ds))
-demands_json ds h = rows_json open_demand_data HasWideDemand demand_json ds h
+pub demands_json : (ds : List Demand) → All HasWideDemand ds → of_items (items_outline (items_of (map demand_row_data ds))) ≡ Some (items_of (map demand_row_data ds))
+demands_json ds h = rows_json demand_row_data HasWideDemand demand_json ds h
 
 -- ---- waiting jobs
 
@@ -185,6 +186,23 @@ jobs_shallow js = rows_shallow job_row_data HasWideJob (λ j. omega arith) js
 
 pub jobs_json : (js : List JobRow) → All HasWideJob js → of_items (items_outline (items_of (map job_row_data js))) ≡ Some (items_of (map job_row_data js))
 jobs_json js h = rows_json job_row_data HasWideJob job_json js h
+
+-- ---- orders
+
+order_numbers : (o : OrderRow) → HasWideOrder o → HasNumbers (outline (order_row_data o))
+order_numbers o h = (IsNumber-decimal o.lines h.0, (IsNumber-decimal o.made h.1, (tt, (IsNumber-decimal o.reserved h.2, (IsNumber-decimal o.wanted h.3, tt)))))
+
+order_json : (o : OrderRow) → HasWideOrder o → of_json (outline (order_row_data o)) ≡ Some (order_row_data o)
+order_json o h = rw (number_of-decimal o.lines h.0, number_of-decimal o.made h.1, number_of-decimal o.reserved h.2, number_of-decimal o.wanted h.3) refl
+
+pub orders_numbers : (os : List OrderRow) → All HasWideOrder os → ItemsHaveNumbers (items_outline (items_of (map order_row_data os)))
+orders_numbers os h = rows_numbers order_row_data HasWideOrder order_numbers os h
+
+pub orders_shallow : (os : List OrderRow) → items_depth (items_outline (items_of (map order_row_data os))) ≤ 1
+orders_shallow os = rows_shallow order_row_data HasWideOrder (λ o. omega arith) os
+
+pub orders_json : (os : List OrderRow) → All HasWideOrder os → of_items (items_outline (items_of (map order_row_data os))) ≡ Some (items_of (map order_row_data os))
+orders_json os h = rows_json order_row_data HasWideOrder order_json os h
 
 -- ---- how deep their replies are
 

@@ -7,7 +7,7 @@ use Rattle.cut_tree.specs.declared.halts.Halt.{Halt}
 use Rattle.cut_tree.specs.declared.halts.Halt.TheVariants.{First, Listed}
 use Rattle.cut_tree.specs.declared.token.TheConstants.{MOST_CUTS}
 use Rattle.shop_records.specs.declared.messages.Command.{Command}
-use Rattle.shop_records.specs.declared.messages.Command.TheVariants.{AddMaterial, Receive, AddOrder, Reserve, Done, Break, Release, Scrap, GiveBack, Import}
+use Rattle.shop_records.specs.declared.messages.Command.TheVariants.{AddMaterial, Receive, AddOrder, Reserve, Done, Break, Release, Scrap, GiveBack, Import, Amend}
 use Rattle.shop_records.specs.declared.imports.Form.{Form}
 use Rattle.shop_records.specs.declared.imports.Form.TheVariants.{Csv, Cgcut}
 use Rattle.shop_records.specs.declared.messages.Message.{Message}
@@ -17,6 +17,7 @@ use Rattle.shop_records.specs.declared.records.Demand.{Demand}
 use Rattle.shop_records.specs.declared.records.JobRow.{JobRow}
 use Rattle.shop_records.specs.declared.records.JobState.{JobState}
 use Rattle.shop_records.specs.declared.records.Material.{Material}
+use Rattle.shop_records.specs.declared.records.OrderRow.{OrderRow}
 use Rattle.shop_records.specs.declared.records.Part.{Part}
 use Rattle.shop_records.specs.declared.records.RackRow.{RackRow}
 use Rattle.shop_records.specs.declared.messages.Query.TheVariants as query
@@ -29,7 +30,7 @@ use Rattle.serde_json.specs.Data.{Data, array, boolean, object, number, unsigned
 use Rattle.serde_json.specs.Read.{read}
 use Rattle.serde_json.specs.View.{items_of}
 use Rattle.serde_json.specs.Written.{compact_text}
-use Rattle.shop_forms.specs.Fields.{number_at, wide_at, numbers_at, flag_at, text_at, code_at, name_at, kind_at, behind_at, has_keys, word_at, elements_at, all_of, row, kind_text, state_text, job_state_text, text_member, number_member, name_member, flag_member}
+use Rattle.shop_forms.specs.Fields.{number_at, wide_at, numbers_at, flag_at, text_at, code_at, name_at, kind_at, behind_at, code_behind_at, has_keys, word_at, elements_at, all_of, row, kind_text, state_text, job_state_text, text_member, number_member, name_member, flag_member}
 
 -- A command has a row of keys that is read, the keys that are printed but `terminal` and `number`, in byte order, and the same
 -- of the reply to it.
@@ -289,6 +290,24 @@ import_told act count first order =
     object (number_member (codes "act") act (number_member (codes "count") count (number_member (codes "first") first
     (text_member (codes "ok") (codes "import") (text_member (codes "order") order no_members)))))
 
+-- ---- amending a demand
+
+abbrev pub amend_command : Data → Option Command
+amend_command d =
+    option_and_then (λ demand. option_map (λ wanted. Amend demand wanted) (number_at (codes "wanted") d)) (number_at (codes "demand") d)
+
+abbrev pub amend_members : (demand wanted : ℕ) → Members
+amend_members demand wanted =
+    number_member (codes "demand") demand (text_member (codes "do") (codes "amend") (number_member (codes "wanted") wanted no_members))
+
+abbrev pub amend_made : Data → Option Reply
+amend_made d =
+    option_and_then (λ demand. option_map (λ wanted. reply.Amend demand wanted) (number_at (codes "wanted") d)) (number_at (codes "demand") d)
+
+abbrev pub amend_told : (demand wanted : ℕ) → Data
+amend_told demand wanted =
+    object (number_member (codes "demand") demand (text_member (codes "ok") (codes "amend") (number_member (codes "wanted") wanted no_members)))
+
 -- ---- queries, and the replies to them
 
 abbrev pub totals_query : Data → Option Query
@@ -379,6 +398,12 @@ job_query d = option_map query.Job (number_at (codes "job") d)
 abbrev pub terminal_query : Data → Option Query
 terminal_query d = option_map query.Terminal (number_at (codes "terminal") d)
 
+abbrev pub orders_query : Data → Option Query
+orders_query d = option_map query.Orders (code_behind_at (codes "after") d)
+
+abbrev pub lines_query : Data → Option Query
+lines_query d = option_map query.Lines (code_at (codes "order") d)
+
 -- the rows of a list as a value
 abbrev pub rows_data : {T : Type 0} → (T → Data) → List T → Data
 rows_data said rows = array (items_of (map said rows))
@@ -404,8 +429,9 @@ parts_told material more parts =
     object (text_member (codes "material") material (flag_member (codes "more") more (text_member (codes "ok") (codes "parts")
     (member (codes "parts") (rows_data part_data parts) no_members))))
 
-abbrev pub open_demand_data : Demand → Data
-open_demand_data d =
+-- a demand as an object, its keys in byte order: an open one of a list, and each line of an order
+abbrev pub demand_row_data : Demand → Data
+demand_row_data d =
     object (number_member (codes "demand") d.number (number_member (codes "h") d.size.h (number_member (codes "line") d.line
     (number_member (codes "made") d.made (text_member (codes "material") d.material (text_member (codes "order") d.order
     (number_member (codes "reserved") d.reserved (flag_member (codes "turn") d.may_turn (number_member (codes "w") d.size.w
@@ -420,6 +446,21 @@ job_row_data j =
 abbrev pub behind_told : {T : Type 0} → List ℕ → (T → Data) → List T → Bool → Data
 behind_told word said rows more =
     object (member word (rows_data said rows) (flag_member (codes "more") more (text_member (codes "ok") word no_members)))
+
+-- an order as an object, its keys in byte order
+abbrev pub order_row_data : OrderRow → Data
+order_row_data o =
+    object (number_member (codes "lines") o.lines (number_member (codes "made") o.made (text_member (codes "order") o.order
+    (number_member (codes "reserved") o.reserved (number_member (codes "wanted") o.wanted no_members)))))
+
+abbrev pub orders_told : Bool → List OrderRow → Data
+orders_told more orders =
+    object (flag_member (codes "more") more (text_member (codes "ok") (codes "orders") (member (codes "orders") (rows_data order_row_data orders) no_members)))
+
+-- the lines of an order, each as in a list of demands
+abbrev pub lines_told : List Demand → List ℕ → Data
+lines_told lines order =
+    object (member (codes "lines") (rows_data demand_row_data lines) (text_member (codes "ok") (codes "lines") (text_member (codes "order") order no_members)))
 
 abbrev pub job_told : (cuts h job kerf : ℕ) → (material : List ℕ) → Name → JobState → (tree : List ℕ) → (w : ℕ) → Data
 job_told cuts h job kerf material part state tree w =
@@ -447,7 +488,9 @@ short_query word d =
     else (if bytes_eq word (codes "demand") then demand_query d
     else (if bytes_eq word (codes "jobs") then jobs_query d
     else (if bytes_eq word (codes "job") then job_query d
-    else (if bytes_eq word (codes "terminal") then terminal_query d else None))))))
+    else (if bytes_eq word (codes "terminal") then terminal_query d
+    else (if bytes_eq word (codes "orders") then orders_query d
+    else (if bytes_eq word (codes "lines") then lines_query d else None))))))))
 
 -- the rows by the word of `ask`, each with `ask`
 abbrev pub asked_of : List ℕ → Data → Option Query
@@ -473,7 +516,8 @@ command_of word d =
     else (if bytes_eq word (codes "release") then row 4 release_command d
     else (if bytes_eq word (codes "scrap") then row 4 scrap_command d
     else (if bytes_eq word (codes "return") then row 4 return_command d
-    else (if bytes_eq word (codes "import") then import_command d else None)))))))))
+    else (if bytes_eq word (codes "import") then import_command d
+    else (if bytes_eq word (codes "amend") then row 5 amend_command d else None))))))))))
 
 -- the word of `do`, the terminal and the number
 abbrev pub sent_head : Data → Option (List ℕ × ℕ × ℕ)
@@ -510,6 +554,7 @@ command_members (Release job) = release_members job
 command_members (Scrap part) = scrap_members part
 command_members (GiveBack part) = return_members part
 command_members (Import order form text) = import_members order form text
+command_members (Amend demand wanted) = amend_members demand wanted
 
 -- a command's keys with `terminal` and `number`, as an object
 abbrev pub sent_data : (terminal n : ℕ) → Members → Data
@@ -534,7 +579,8 @@ made_of word d =
     else (if bytes_eq word (codes "release") then row 2 release_made d
     else (if bytes_eq word (codes "scrap") then row 2 scrap_made d
     else (if bytes_eq word (codes "return") then row 2 return_made d
-    else (if bytes_eq word (codes "import") then row 5 import_made d else None)))))))))
+    else (if bytes_eq word (codes "import") then row 5 import_made d
+    else (if bytes_eq word (codes "amend") then row 3 amend_made d else None))))))))))
 
 abbrev pub reply_of : Data → Option Reply
 reply_of d = option_and_then (λ word. made_of word d) (text_at (codes "ok") d)
@@ -551,6 +597,7 @@ reply_data (reply.Release job) = release_told job
 reply_data (reply.Scrap part) = scrap_told part
 reply_data (reply.GiveBack part) = return_told part
 reply_data (reply.Import act count first order) = import_told act count first order
+reply_data (reply.Amend demand wanted) = amend_told demand wanted
 reply_data (reply.Totals material received stock rack pieces kerf scrap returned) = totals_told material received stock rack pieces kerf scrap returned
 reply_data (reply.Rack material parts) = rack_told material parts
 reply_data (reply.Trace batch h of part root state w x y) = trace_data batch (name_text part) (name_text root) (state_text state) h of w x y
@@ -559,10 +606,12 @@ reply_data (reply.Plan ceiling dropped tree worth) = plan_told ceiling dropped t
 reply_data (reply.Bound best units) = bound_told best units
 reply_data (reply.Materials materials) = materials_told materials
 reply_data (reply.Parts material more parts) = parts_told material more parts
-reply_data (reply.Demands demands more) = behind_told (codes "demands") open_demand_data demands more
+reply_data (reply.Demands demands more) = behind_told (codes "demands") demand_row_data demands more
 reply_data (reply.Jobs jobs more) = behind_told (codes "jobs") job_row_data jobs more
 reply_data (reply.Job cuts h job kerf material part state tree w) = job_told cuts h job kerf material part state tree w
 reply_data (reply.Terminal last terminal) = terminal_told last terminal
+reply_data (reply.Orders more orders) = orders_told more orders
+reply_data (reply.Lines lines order) = lines_told lines order
 reply_data (reply.Refused refusal) =
     object (text_member (codes "name") (refusal_name refusal) (number_member (codes "refused") (refusal_number refusal) no_members))
 

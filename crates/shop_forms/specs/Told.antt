@@ -7,6 +7,7 @@ use Rattle.shop_records.specs.declared.records.Material.{Material}
 use Rattle.shop_records.specs.declared.records.Part.{Part}
 use Rattle.shop_records.specs.declared.records.Demand.{Demand}
 use Rattle.shop_records.specs.declared.records.JobRow.{JobRow}
+use Rattle.shop_records.specs.declared.records.OrderRow.{OrderRow}
 use Rattle.shop_records.specs.Columns.{state_of}
 use Rattle.shop_records.specs.Messages.{IsWide}
 use Rattle.shop_records.specs.Refusals.{refusal_number}
@@ -15,7 +16,7 @@ use Rattle.shop_records.specs.Refusals.{refusal_number}
 abbrev pub HasWideSides : RackRow → Type 0
 HasWideSides row = IsWide row.h × IsWide row.w
 
--- the same of a row of a list: of a material, a part, an open demand and a waiting job
+-- the same of a row of a list: of a material, a part, a demand, a waiting job and an order
 abbrev pub HasWideLimits : Material → Type 0
 HasWideLimits m = IsWide m.limits.kerf × IsWide m.limits.min_long × IsWide m.limits.min_short
 
@@ -29,6 +30,9 @@ HasWideDemand d =
 abbrev pub HasWideJob : JobRow → Type 0
 HasWideJob j = IsWide j.cuts × IsWide j.h × IsWide j.job × IsWide j.w
 
+abbrev pub HasWideOrder : OrderRow → Type 0
+HasWideOrder o = IsWide o.lines × IsWide o.made × IsWide o.reserved × IsWide o.wanted
+
 -- each number of a reply has 64 bits
 abbrev pub HasWideNumbers : Reply → Type 0
 HasWideNumbers (reply.AddMaterial material) = Unit {0}
@@ -41,6 +45,7 @@ HasWideNumbers (reply.Release job) = IsWide job
 HasWideNumbers (reply.Scrap part) = Unit {0}
 HasWideNumbers (reply.GiveBack part) = Unit {0}
 HasWideNumbers (reply.Import act count first order) = IsWide act × IsWide count × IsWide first
+HasWideNumbers (reply.Amend demand wanted) = IsWide demand × IsWide wanted
 HasWideNumbers (reply.Totals material received stock rack pieces kerf scrap returned) =
     IsWide kerf × IsWide pieces × IsWide rack × IsWide received × IsWide returned × IsWide scrap × IsWide stock
 HasWideNumbers (reply.Rack material parts) = All HasWideSides parts
@@ -55,4 +60,6 @@ HasWideNumbers (reply.Demands demands more) = All HasWideDemand demands
 HasWideNumbers (reply.Jobs jobs more) = All HasWideJob jobs
 HasWideNumbers (reply.Job cuts h job kerf material part state tree w) = IsWide cuts × IsWide h × IsWide job × IsWide kerf × IsWide w
 HasWideNumbers (reply.Terminal last terminal) = IsWide last × IsWide terminal
+HasWideNumbers (reply.Orders more orders) = All HasWideOrder orders
+HasWideNumbers (reply.Lines lines order) = All HasWideDemand lines
 HasWideNumbers (reply.Refused refusal) = IsWide (refusal_number refusal)

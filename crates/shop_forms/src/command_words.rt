@@ -18,6 +18,7 @@ pub enum CommandWord {
     Scrap,
     GiveBack,
     Import,
+    Amend,
 }
 
 /// What a word of `do` asks for, and a word of `ok` tells of.
@@ -46,6 +47,8 @@ pub fn command_word_of(word: &str) -> Option<CommandWord>
         Some(CommandWord::GiveBack)
     } else if word == "import" {
         Some(CommandWord::Import)
+    } else if word == "amend" {
+        Some(CommandWord::Amend)
     } else {
         None
     }

@@ -12,7 +12,7 @@ use crate::words::{kind_word, state_word, wide};
 use crate::writing::{Member, write_object};
 use json::Writer;
 use serde_json::Value;
-use shop_records::{Demand, JobRow, Material, OrderLine, Part, RackRow};
+use shop_records::{Demand, JobRow, Material, OrderLine, OrderRow, Part, RackRow};
 use std::alloc::{AllocError, Global};
 
 // The line of an order at the keys of an object.
@@ -129,7 +129,7 @@ impl Listed for Part {
 }
 
 impl Listed for Demand {
-    ghost said = { form.open_demand_data };
+    ghost said = { form.demand_row_data };
 
     ghost is_wide = { told.HasWideDemand };
 
@@ -168,6 +168,32 @@ impl Listed for JobRow {
                 Member::Text("material", self.material.as_str()),
                 Member::Name("part", &self.part, alloc),
                 Member::Number("w", wide(self.w)),
+            ],
+        )
+    }
+}
+
+impl Listed for OrderRow {
+    ghost said = { form.order_row_data };
+
+    ghost is_wide = { told.HasWideOrder };
+
+    fn write(&self, _alloc: Global, writer: &mut Writer) -> Result<(), AllocError> {
+        let OrderRow {
+            lines,
+            made,
+            order,
+            reserved,
+            wanted,
+        } = self;
+        write_object(
+            writer,
+            &[
+                Member::Number("lines", *lines),
+                Member::Number("made", *made),
+                Member::Text("order", order.as_str()),
+                Member::Number("reserved", *reserved),
+                Member::Number("wanted", *wanted),
             ],
         )
     }

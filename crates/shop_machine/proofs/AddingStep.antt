@@ -44,6 +44,7 @@ module _ (texts : Texts) (message : Message) (m : Content) (code : List ℕ) (ki
         materials = λ c x found. still_there codes_total codes_same m.materials code row c x is found;
         parts = λ name p is. (p.state, is);
         demands = λ number h. h;
+        orders = λ code is. is;
         acts = omega arith;
       } in
       record {
@@ -59,6 +60,7 @@ module _ (texts : Texts) (message : Message) (m : Content) (code : List ℕ) (ki
         demands = λ number d is.
             let old = stock.demands number d is in
             demand_more m (after None) grows (omega arith) number d old (record { few = old.counted.few; reserved = old.counted.reserved; made = old.counted.made });
+        lines = stock.lines;
       }
 
   -- no part is of a material that is unknown

@@ -10,13 +10,15 @@ use Rattle.cut_tree.specs.Cells.{spot_of}
 use Rattle.shop_records.specs.declared.records.State.{State}
 use Rattle.shop_records.specs.declared.records.State.TheVariants as state
 use Rattle.shop_records.specs.declared.records.Material.{Material}
-use Rattle.shop_records.specs.declared.refusals.Refusal.TheVariants.{NoMaterial, BadSize, BadCount, TooMuch, NumbersSpent, MaterialExists, BadMaterial}
-use Rattle.shop_records.specs.declared.messages.Command.TheVariants.{AddMaterial, Receive, AddOrder, Reserve, Done}
+use Rattle.shop_records.specs.declared.records.Demand.{Demand}
+use Rattle.shop_records.specs.declared.refusals.Refusal.TheVariants.{NoMaterial, BadSize, BadCount, TooMuch, NumbersSpent, MaterialExists, BadMaterial, BadLine, NoDemand, TooMany}
+use Rattle.shop_records.specs.declared.messages.Command.TheVariants.{AddMaterial, Receive, AddOrder, Reserve, Done, Amend}
 use Rattle.shop_files.specs.declared.orders.OrderLine.{OrderLine}
 use Rattle.shop_records.specs.declared.records.Column.TheVariants as column
 use Rattle.shop_records.specs.Readings.{unread, Plan}
 use Rattle.shop_machine.specs.Receiving.{receive_refusal, received_totals}
 use Rattle.shop_machine.specs.Adding.{material_refusal}
+use Rattle.shop_machine.specs.Amending.{amend_refusal}
 use Rattle.shop_machine.specs.History.{Entry, deeds_of, Owner, acts_of, owner_of, cells_of_column, ordered_lines, nth_line, IsAccountOf}
 use Rattle.shop_records.specs.Messages.{Texts}
 use Rattle.shop_records.specs.Content.{Content, demand_at, no_totals}
@@ -130,6 +132,43 @@ first_line = refl
 second_line : nth_line 2 (ordered_lines (deeds_of two_orders)) ≡ Some (record { order = codes "A-2"; line = bar_line 1 20 })
 unfolding two_orders
 second_line = refl
+
+-- the second demand is amended, and then amended again: the last number counts, and the other lines stay
+amended_twice : List Entry
+amended_twice =
+    record { message = record { terminal = 1; number = 5; command = Amend 2 0 }; read = unread }
+    ∷ record { message = record { terminal = 1; number = 4; command = Amend 2 9 }; read = unread } ∷ two_orders
+
+amended_line : nth_line 2 (ordered_lines (deeds_of amended_twice)) ≡ Some (record { order = codes "A-2"; line = record (bar_line 1 20) { count = 0 } })
+unfolding amended_twice two_orders
+amended_line = refl
+
+line_before_it : nth_line 1 (ordered_lines (deeds_of amended_twice)) ≡ nth_line 1 (ordered_lines (deeds_of two_orders))
+unfolding amended_twice two_orders
+line_before_it = refl
+
+line_behind_it : nth_line 3 (ordered_lines (deeds_of amended_twice)) ≡ nth_line 3 (ordered_lines (deeds_of two_orders))
+unfolding amended_twice two_orders
+line_behind_it = refl
+
+-- as many as are reserved and made may be wanted, and as many as a line may ask for
+abbrev half_made : Demand
+half_made = record { number = 1; order = codes "A-1"; line = 1; material = codes "STEEL"; size = record { w = 20; h = 1 }; may_turn = false; worth = 10; wanted = 5; reserved = 1; made = 2 }
+
+enough_wanted : amend_refusal (Some half_made) 3 ≡ None
+enough_wanted = refl
+
+fewer_wanted : amend_refusal (Some half_made) 2 ≡ Some TooMany
+fewer_wanted = refl
+
+most_wanted : amend_refusal (Some half_made) 1000000 ≡ None
+most_wanted = refl
+
+more_wanted : amend_refusal (Some half_made) 1000001 ≡ Some BadLine
+more_wanted = refl
+
+of_no_demand : amend_refusal None 1000001 ≡ Some NoDemand
+of_no_demand = refl
 
 module _ (texts : Texts) (content : Content) (account : IsAccountOf texts two_orders content) where
   third_demand : demand_at content 3 ≡ Some (record {

@@ -9,7 +9,7 @@ use Rattle.cut_measure.specs.Names.{name_cmp}
 use Rattle.shop_records.specs.declared.changes.Change.{Change}
 use Rattle.shop_records.specs.declared.messages.Message.{Message}
 use Rattle.shop_records.specs.declared.messages.Command.{Command}
-use Rattle.shop_records.specs.declared.messages.Command.TheVariants.{AddMaterial, Receive, AddOrder, Reserve, Done, Break, Release, Scrap, GiveBack, Import}
+use Rattle.shop_records.specs.declared.messages.Command.TheVariants.{AddMaterial, Receive, AddOrder, Reserve, Done, Break, Release, Scrap, GiveBack, Import, Amend}
 use Rattle.shop_records.specs.Messages.{Texts}
 use Rattle.shop_records.specs.Readings.{Reading}
 use Rattle.shop_records.specs.Content.{Content, fresh, changed}
@@ -27,6 +27,7 @@ use Rattle.shop_machine.proofs.ImportingDeed.{by_import}
 use Rattle.shop_machine.proofs.ReservingDeed.{reserves}
 use Rattle.shop_machine.proofs.EndingDeed.{ends, breaks, releases}
 use Rattle.shop_machine.proofs.RetiringDeed.{scraps, gives_back}
+use Rattle.shop_machine.proofs.AmendingDeed.{amends}
 
 module _ (texts : Texts) (message : Message) (earlier : List Deed) (old : Content) (sound : IsSound texts old) (f : Follows earlier old) where
   abbrev Then : Command → Reading → Change → Type 0
@@ -47,6 +48,7 @@ module _ (texts : Texts) (message : Message) (earlier : List Deed) (old : Conten
   by_message (Scrap part) read change reads allowed makes = scraps texts message earlier old sound f part read change makes.0 allowed makes.1 makes.2
   by_message (GiveBack part) read change reads allowed makes = gives_back texts message earlier old sound f part read change makes.0 allowed makes.1 makes.2
   by_message (Import order form text) read change reads allowed makes = by_import texts message earlier old sound f order form text read change reads allowed makes
+  by_message (Amend demand wanted) read change reads allowed makes = amends texts message earlier old sound f demand wanted read change makes.0 makes.1 makes.2
 
   pub by_entry : (read : Reading) (change : Change) (command : Command) → Reads texts old command read → refusal_of old command read ≡ None → Makes old command read change
       → Follows (deeds command read ++ earlier) (changed old (keeping texts message change))

@@ -1,6 +1,9 @@
 -- What stays true of parts, jobs and demands when a content grows.
-use Rattle.std.proofs.Common.{◌≡◌, ℕ, ◌≤◌, ◌<◌, List, refl, sym, ap, ◌∙◌, arith, []}
-use Rattle.std.specs.Prelude.{Some, None, IsSome, AllPairs}
+use Rattle.std.proofs.Common.{◌≡◌, ℕ, ◌≤◌, ◌<◌, List, true, refl, sym, ap, ◌∙◌, arith, []}
+use Rattle.std.specs.Prelude.{Option, Some, None, IsSome, AllPairs, ◌||◌}
+use Rattle.std.specs.FinSet as set
+use Rattle.std.specs.Ordering.{eq_by_cmp}
+use Rattle.std.proofs.Math.Bool.{or-true}
 use Rattle.std.specs.declared.cmp.Ordering.TheVariants.{Less}
 use Rattle.std.specs.FinMap.{FinMap}
 use Rattle.std.proofs.lemmas.List.Elements.{All-nil}
@@ -13,14 +16,14 @@ use Rattle.shop_records.specs.declared.records.Part.{Part}
 use Rattle.shop_records.specs.declared.records.State.{State}
 use Rattle.shop_records.specs.declared.records.Job.{Job}
 use Rattle.shop_records.specs.declared.records.Demand.{Demand}
-use Rattle.shop_records.specs.Content.{Content, pair_cmp, material_at, part_at, job_at, demand_at, kept_at, in_state}
-use Rattle.shop_records.specs.Soundness.{IsInRange, IsKnown, IsPlaced, IsOnPart, IsWaiting, IsJob, IsDemand, IsCounted, IsSound, Fits}
+use Rattle.shop_records.specs.Content.{Content, pair_cmp, material_at, part_at, job_at, has_order, demand_at, kept_at, in_state, with_order}
+use Rattle.shop_records.specs.Soundness.{IsInRange, IsKnown, IsPlaced, IsOnPart, IsWaiting, IsJob, IsDemand, IsCounted, AreDifferent, IsSound, Fits}
 use Rattle.shop_records.specs.declared.messages.Message.{Message}
 use Rattle.shop_records.specs.declared.messages.Reply.{Reply}
 use Rattle.shop_records.specs.Messages.{Texts, pair_of}
 use Rattle.shop_machine.specs.Decisions.{no_change}
 use Rattle.shop_machine.specs.Machine.{keeping}
-use Rattle.shop_records.proofs.Basics.{same_some, none_at}
+use Rattle.shop_records.proofs.Basics.{codes_total, codes_same, tied, same_some, none_at}
 use Rattle.shop_records.proofs.Puts.{some_known, is_known}
 
 -- a content with other kept messages and imports
@@ -31,11 +34,12 @@ with_messages kept imports content = record content { kept = kept; imports = imp
 abbrev pub IsStill : Content → Name → Part → Type 0
 IsStill content name part = (s : State) × (part_at content name ≡ Some (in_state s part))
 
--- materials and demands that were there are there, and parts, in some state
+-- materials, demands and orders that were there are there, and parts, in some state
 pub record Grows (old new : Content) : Type 0 where
   pub materials : (code : List ℕ) (material : Material) → material_at old code ≡ Some material → material_at new code ≡ Some material
   pub parts : (name : Name) (part : Part) → part_at old name ≡ Some part → IsStill new name part
   pub demands : (number : ℕ) → IsSome (demand_at old number) → IsSome (demand_at new number)
+  pub orders : (code : List ℕ) → has_order old code ≡ true → has_order new code ≡ true
   pub acts : old.last_act ≤ new.last_act
 
 -- what a sound content has besides the messages and the imports that it keeps
@@ -45,6 +49,7 @@ pub record IsStock (content : Content) : Type 0 where
   pub parts : (name : Name) (part : Part) → part_at content name ≡ Some part → IsPlaced content name part
   pub jobs : (number : ℕ) (job : Job) → job_at content number ≡ Some job → IsJob content number job
   pub demands : (number : ℕ) (demand : Demand) → demand_at content number ≡ Some demand → IsDemand content number demand
+  pub lines : AreDifferent content
 
 module _ (old new : Content) (grows : Grows old new) where
   pub known_more : (code : List ℕ) → IsSome (material_at old code) → IsSome (material_at new code)
@@ -123,20 +128,44 @@ none_later content range name later = none_at (part_at content name) (λ part is
 pub demand_more : (old new : Content) → Grows old new → old.last_demand ≤ new.last_demand → (number : ℕ) (demand : Demand) → IsDemand old number demand → IsCounted new number demand → IsDemand new number demand
 demand_more old new grows more number demand d counted =
     let so_far = d.so_far in
-    record { numbered = d.numbered; least = d.least; so_far = omega (arith, so_far, more); known = known_more old new grows demand.material d.known; counted = counted }
+    record {
+      numbered = d.numbered;
+      least = d.least;
+      so_far = omega (arith, so_far, more);
+      ordered = grows.orders demand.order d.ordered;
+      known = known_more old new grows demand.material d.known;
+      counted = counted;
+    }
+
+-- where each demand has the order and the line of one that was there under its number, they are of different lines still
+pub different_more : (old new : Content)
+    → ((number : ℕ) (d : Demand) → demand_at new number ≡ Some d → (before : Demand) × (demand_at old number ≡ Some before) × (d.order ≡ before.order) × (d.line ≡ before.line))
+    → AreDifferent old → AreDifferent new
+different_more old new was different a b one other is is_too orders lines =
+    let p = was a one is in
+    let q = was b other is_too in
+    different a b p.0 q.0 p.1 q.1 (sym p.2 ∙ orders ∙ q.2) (sym p.3 ∙ lines ∙ q.3)
+
+-- an order that was there stays, and a new one is there
+pub order_kept : (m : Content) (change : Option (List ℕ)) (code : List ℕ) → has_order m code ≡ true → set.contains (with_order change m.orders) code ≡ true
+order_kept m None code is = is
+order_kept m (Some new) code is = set.contains-insert codes_total m.orders new code ∙ ap (λ b. eq_by_cmp code_cmp code new || b) is ∙ or-true (eq_by_cmp code_cmp code new)
+
+pub order_there : (m : Content) (code : List ℕ) → set.contains (set.insert m.orders code) code ≡ true
+order_there m code = set.contains-insert codes_total m.orders code code ∙ ap (λ b. b || set.contains m.orders code) (tied codes_total codes_same code code refl)
 
 pub no_pairs : {X : Type 0} (R : X → X → Type 0) → AllPairs R []
 no_pairs R i j d before within = absurd (omega arith)
 
 pub stock_of : (texts : Texts) (m : Content) → IsSound texts m → IsStock m
-stock_of texts m sound = record { in_range = sound.in_range; materials = sound.materials; parts = sound.parts; jobs = sound.jobs; demands = sound.demands }
+stock_of texts m sound = record { in_range = sound.in_range; materials = sound.materials; parts = sound.parts; jobs = sound.jobs; demands = sound.demands; lines = sound.lines }
 
 -- ---- what changes nothing but messages
 
 pub same_stock : (m : Content) (kept : FinMap pair_cmp Kept) (imports : FinMap code_cmp ImportRow) → IsStock m → IsStock (with_messages kept imports m)
 same_stock m kept imports stock =
     let after : Content = with_messages kept imports m in
-    let grows : Grows m after = record { materials = λ code x is. is; parts = λ name p is. (p.state, is); demands = λ number h. h; acts = omega arith } in
+    let grows : Grows m after = record { materials = λ code x is. is; parts = λ name p is. (p.state, is); demands = λ number h. h; orders = λ code is. is; acts = omega arith } in
     record {
       in_range = record { acts = stock.in_range.acts; last = stock.in_range.last; last_demand = stock.in_range.last_demand; received = stock.in_range.received; adds_up = stock.in_range.adds_up };
       materials = stock.materials;
@@ -145,6 +174,7 @@ same_stock m kept imports stock =
       demands = λ number d is.
           let old = stock.demands number d is in
           demand_more m after grows (omega arith) number d old (record { few = old.counted.few; reserved = old.counted.reserved; made = old.counted.made });
+      lines = stock.lines;
     }
 
 pub nothing_fits : (m : Content) (texts : Texts) (message : Message) (answer : Reply) → kept_at m (pair_of message) ≡ None → Fits m (keeping texts message (no_change answer))

@@ -44,6 +44,9 @@ pub mod EndingDeed
 -- a standing part as a whole gets another state
 pub mod RetiringStep
 pub mod RetiringDeed
+-- amending a demand
+pub mod AmendingStep
+pub mod AmendingDeed
 -- every command, every history and every run
 pub mod Sound
 pub mod Given

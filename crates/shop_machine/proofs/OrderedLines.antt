@@ -12,7 +12,8 @@ use Rattle.shop_files.specs.declared.orders.OrderLine.{OrderLine}
 use Rattle.shop_records.specs.Content.{Content, demand_at, with_demands}
 use Rattle.shop_machine.specs.Recounts.{AreRecounted}
 use Rattle.shop_machine.specs.Ordering.{new_demand, new_demands}
-use Rattle.shop_machine.specs.History.{Deed, OrderedLine, ordered_lines, nth_line, demand_of, DemandsAreLines}
+use Rattle.shop_machine.specs.Amending.{amended}
+use Rattle.shop_machine.specs.History.{Deed, OrderedLine, with_count, amended_behind, amended_lines, ordered_lines, nth_line, demand_of, DemandsAreLines}
 use Rattle.shop_records.specs.Soundness.{IsDemand, reserved_in, made_in}
 use Rattle.shop_records.proofs.Basics.{nat_cases, get_same, get_other, demand_cases}
 use Rattle.shop_machine.proofs.Moved.{LeavesOthers, row_recount}
@@ -90,6 +91,53 @@ lines_recounted lines demands recount tree rows recounted none same before numbe
           ap (option_map ordered_as) p.3 ∙ ap (λ d. Some (ordered_as d)) r.now ∙ ap Some (same (count_of tree number) r.before)
           ∙ ap (option_map ordered_as) (sym r.was) ∙ before number
       | inr q ↦ ap (option_map ordered_as) q.1 ∙ before number
+    ]
+
+-- ---- an amendment
+
+amended_length : (n count : ℕ) (lines : List OrderedLine) → length (amended_behind n count lines) ≡ length lines
+amended_length n count [] = refl
+amended_length zero count (l ∷ lines) = refl
+amended_length (suc n) count (l ∷ lines) = ap suc (amended_length n count lines)
+
+pub lines_amended : (number count : ℕ) (lines : List OrderedLine) → length (amended_lines number count lines) ≡ length lines
+lines_amended zero count lines = refl
+lines_amended (suc n) count lines = amended_length n count lines
+
+behind-same : (n count : ℕ) (lines : List OrderedLine) → slice_get (amended_behind n count lines) n ≡ option_map (with_count count) (slice_get lines n)
+behind-same n count [] = refl
+behind-same zero count (l ∷ lines) = refl
+behind-same (suc n) count (l ∷ lines) = behind-same n count lines
+
+behind-other : (n count : ℕ) (lines : List OrderedLine) (i : ℕ) → (i ≡ n → ⊥) → slice_get (amended_behind n count lines) i ≡ slice_get lines i
+behind-other n count [] i other = refl
+behind-other zero count (l ∷ lines) zero other = absurd (other refl)
+behind-other zero count (l ∷ lines) (suc i) other = refl
+behind-other (suc n) count (l ∷ lines) zero other = refl
+behind-other (suc n) count (l ∷ lines) (suc i) other = behind-other n count lines i (λ e. other (ap suc e))
+
+nth-amended : (number count : ℕ) (lines : List OrderedLine) → nth_line number (amended_lines number count lines) ≡ option_map (with_count count) (nth_line number lines)
+nth-amended zero count lines = refl
+nth-amended (suc n) count lines = behind-same n count lines
+
+nth-unamended : (number count : ℕ) (lines : List OrderedLine) (i : ℕ) → (i ≡ number → ⊥) → nth_line i (amended_lines number count lines) ≡ nth_line i lines
+nth-unamended zero count lines i other = refl
+nth-unamended (suc n) count lines zero other = refl
+nth-unamended (suc n) count lines (suc i) other = behind-other n count lines i (λ e. other (ap suc e))
+
+-- where a demand is amended, so is its line, and no other one
+pub line_amended : (lines : List OrderedLine) (demands : FinMap nat_cmp Demand) (row : Demand) (wanted : ℕ) → get demands row.number ≡ Some row → AskFor lines demands
+    → AskFor (amended_lines row.number wanted lines) (insert demands row.number (amended wanted row))
+line_amended lines demands row wanted found before number =
+    elim (nat_cases number row.number) [
+      | inl y ↦
+          ap (λ k. option_map ordered_as (get (insert demands row.number (amended wanted row)) k)) y.0
+          ∙ ap (option_map ordered_as) (get_same nat_cmp_total nat_cmp-IsAntisymmetric demands row.number (amended wanted row))
+          ∙ ap (option_map (with_count wanted)) (sym (ap (option_map ordered_as) found) ∙ before row.number)
+          ∙ sym (nth-amended row.number wanted lines) ∙ ap (λ k. nth_line k (amended_lines row.number wanted lines)) (sym y.0)
+      | inr n ↦
+          ap (option_map ordered_as) (get_other nat_cmp_total nat_cmp-IsAntisymmetric demands row.number (amended wanted row) number n.0)
+          ∙ before number ∙ sym (nth-unamended row.number wanted lines number n.0)
     ]
 
 -- ---- every demand

@@ -26,12 +26,12 @@ use Rattle.shop_records.specs.Content.{Content, pair_cmp, material_at, has_order
 use Rattle.shop_machine.specs.Ordering.{new_demand, new_demands, order_change, order_refusal, line_refusal, lines_refusal, is_good_line}
 use Rattle.shop_machine.specs.Machine.{keeping}
 use Rattle.shop_records.specs.Elements.{IsIn}
-use Rattle.shop_records.specs.Soundness.{IsDemand, IsNewDemand, Fits, reserved_in, made_in}
+use Rattle.shop_records.specs.Soundness.{IsDemand, IsNewDemand, AreDifferent, Fits, reserved_in, made_in}
 use Rattle.shop_machine.specs.Decisions.{first_of}
-use Rattle.shop_records.proofs.Basics.{names_total, names_same, same_some, none_at, demand_cases}
+use Rattle.shop_records.proofs.Basics.{names_total, names_same, same_some, none_at, pair_in, demand_cases}
 use Rattle.shop_records.proofs.Puts.{Pairwise, all_from, pairs_from, not_both, is_known, some_known, sum_no_rows}
 use Rattle.shop_machine.proofs.Allowed.{none_of, or_none}
-use Rattle.shop_machine.proofs.Grown.{with_messages, IsStock, Grows, placed_more, job_more, demand_more, no_pairs}
+use Rattle.shop_machine.proofs.Grown.{with_messages, IsStock, Grows, placed_more, job_more, demand_more, no_pairs, order_kept, order_there}
 use Rattle.shop_machine.proofs.Agreeing.{NoFault, either, nothing, other}
 
 -- ---- what is known of an order that isn't refused
@@ -188,12 +188,12 @@ module _ (m : Content) (stock : IsStock m) (order : List ℕ) (lines : List Orde
     abbrev after : Content
     after = with_messages kept imports (changed m (order_change order lines first))
 
-    found_after : (number : ℕ) (d : Demand) → demand_at after number ≡ Some d → (IsNew order first lines d × (d.number ≡ number)) ⊎ (demand_at m number ≡ Some d)
+    found_after : (number : ℕ) (d : Demand) → demand_at after number ≡ Some d → (IsIn d rows × (d.number ≡ number)) ⊎ (demand_at m number ≡ Some d)
     found_after number d is =
         elim (demand_cases rows m.demands number) [
           | inl q ↦
               let same : q.0 ≡ d = same_some q.0 d (sym q.3 ∙ is) in
-              inl (subst (IsNew order first lines) same (new_in order first lines q.0 q.1), ap (λ (x : Demand). x.number) (sym same) ∙ q.2)
+              inl (subst (λ (x : Demand). IsIn x rows) same q.1, ap (λ (x : Demand). x.number) (sym same) ∙ q.2)
           | inr q ↦ inr (sym q.1 ∙ is)
         ]
 
@@ -205,7 +205,7 @@ module _ (m : Content) (stock : IsStock m) (order : List ℕ) (lines : List Orde
         ]
 
     grows : Grows m after
-    grows = record { materials = λ code x is. is; parts = λ name p is. (p.state, is); demands = there_after; acts = omega arith }
+    grows = record { materials = λ code x is. is; parts = λ name p is. (p.state, is); demands = there_after; orders = order_kept m (Some order); acts = omega arith }
 
     row_new : (number : ℕ) (d : Demand) → IsNew order first lines d → d.number ≡ number → IsDemand after number d
     row_new number d r e =
@@ -218,6 +218,7 @@ module _ (m : Content) (stock : IsStock m) (order : List ℕ) (lines : List Orde
           numbered = e;
           least = omega (arith, least, same, e);
           so_far = omega (arith, most, same, e);
+          ordered = subst (λ (x : Demand). has_order after x.order ≡ true) (sym r.is) (order_there m order);
           known = subst (λ (x : Demand). IsSome (material_at m x.material)) (sym r.is) (ordered.known r.line r.there);
           counted = record {
             few = omega (arith, none, unmade);
@@ -225,6 +226,37 @@ module _ (m : Content) (stock : IsStock m) (order : List ℕ) (lines : List Orde
             made = unmade ∙ sym (none_made_yet number (omega (arith, least, same, e)));
           };
         }
+
+    -- a demand that was there is of another order than a new one
+    old_apart : (number : ℕ) (old new : Demand) → demand_at m number ≡ Some old → IsIn new rows → old.order ≡ new.order → ⊥
+    old_apart number old new is i e =
+        let of : new.order ≡ order = ap (λ (x : Demand). x.order) (new_in order first lines new i).is in
+        let yes : has_order m order ≡ true = subst (λ code. has_order m code ≡ true) (e ∙ of) (stock.demands number old is).ordered in
+        let no = ordered.unused in
+        cc
+
+    -- new demands of the same line are one
+    new_same : (a b : Demand) → IsIn a rows → IsIn b rows → a.line ≡ b.line → a.number ≡ b.number
+    new_same a b i j e =
+        elim (pair_in (λ (x y : Demand). x.line ≡ y.line → ⊥) rows (pairs_from (λ (x y : Demand). x.line ≡ y.line → ⊥) rows (lines_apart order first lines ordered.rising)) a b i j) [
+          | inl same ↦ ap (λ (x : Demand). x.number) same
+          | inr apart ↦ elim apart [ inl off ↦ absurd (off e) | inr off ↦ absurd (off (sym e)) ]
+        ]
+
+    different : AreDifferent after
+    different a b one other is is_too orders lines =
+        elim (found_after a one is) [
+          | inl p ↦
+              elim (found_after b other is_too) [
+                | inl q ↦ sym p.1 ∙ new_same one other p.0 q.0 lines ∙ q.1
+                | inr q ↦ absurd (old_apart b other one q p.0 (sym orders))
+              ]
+          | inr p ↦
+              elim (found_after b other is_too) [
+                | inl q ↦ absurd (old_apart a one other p q.0 orders)
+                | inr q ↦ stock.lines a b one other p q orders lines
+              ]
+        ]
 
     pub order_stock : IsStock after
     order_stock =
@@ -243,11 +275,12 @@ module _ (m : Content) (stock : IsStock m) (order : List ℕ) (lines : List Orde
           jobs = λ number j is. job_more m after grows number j (λ w. record { same = refl; none_yet = w.none_yet }) (stock.jobs number j is);
           demands = λ number d is.
               elim (found_after number d is) [
-                | inl q ↦ row_new number d q.0 q.1
+                | inl q ↦ row_new number d (new_in order first lines d q.0) q.1
                 | inr q ↦
                     let old = stock.demands number d q in
                     demand_more m after grows (omega (arith, some)) number d old (record { few = old.counted.few; reserved = old.counted.reserved; made = old.counted.made })
               ];
+          lines = different;
         }
 
   row_fits : (x : Demand) → IsNew order first lines x → IsNewDemand m order x

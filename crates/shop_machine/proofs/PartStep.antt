@@ -19,7 +19,7 @@ use Rattle.shop_records.specs.declared.messages.Message.{Message}
 use Rattle.shop_records.specs.declared.messages.Reply.{Reply}
 use Rattle.shop_records.specs.Messages.{Texts, pair_of}
 use Rattle.shop_records.specs.Columns.{is_there, is_piece_for}
-use Rattle.shop_records.specs.Content.{Content, material_at, part_at, job_at, demand_at, kept_at, changed, with_number, in_state, totals_of}
+use Rattle.shop_records.specs.Content.{Content, material_at, part_at, job_at, has_order, demand_at, kept_at, changed, with_number, in_state, totals_of}
 use Rattle.shop_machine.specs.Recounts.{AreRecounted}
 use Rattle.shop_machine.specs.Machine.{keeping}
 use Rattle.shop_records.specs.Elements.{IsIn}
@@ -28,7 +28,7 @@ use Rattle.shop_records.proofs.Basics.{at_in, names_total, same_some}
 use Rattle.shop_records.proofs.Puts.{Pairwise, all_from, pairs_from, pairs_more, not_both, found_one}
 use Rattle.shop_machine.proofs.AddedUp.{cells_as, cells_left, is_uncut}
 use Rattle.shop_machine.proofs.Moved.{LeavesOthers, IsRecount, row_recount, recount_of, demand_there, found_moved, still_moved, other_moved, received_moved, adds_up_moved, made_moved}
-use Rattle.shop_machine.proofs.Grown.{IsStock, Grows, Untouched, placed_more, job_more}
+use Rattle.shop_machine.proofs.Grown.{IsStock, Grows, Untouched, placed_more, job_more, different_more}
 
 standing_no_piece : (s : State) → is_there s ≡ true → (number : ℕ) → is_piece_for number s ≡ false
 standing_no_piece state.Standing e number = refl
@@ -102,6 +102,7 @@ module _ (m : Content) (stock : IsStock m) (row : Part) (s : State) (made : List
     materials = λ code x is. is;
     parts = still_moved m.parts row s made step.there step.new apart;
     demands = demand_there m.demands recount tree rows recounted none;
+    orders = λ code is. is;
     acts = step.more;
   }
 
@@ -148,9 +149,16 @@ module _ (m : Content) (stock : IsStock m) (row : Part) (s : State) (made : List
           numbered = ap (λ (x : Demand). x.number) is ∙ old.numbered;
           least = old.least;
           so_far = old.so_far;
+          ordered = subst (λ (code : List ℕ). has_order m code ≡ true) (sym (ap (λ (x : Demand). x.order) is)) old.ordered;
           known = subst (λ (code : List ℕ). IsSome (material_at m code)) (sym (ap (λ (x : Demand). x.material) is)) old.known;
           counted = subst (IsCounted after number) (sym r.now) (counts number r.before r.was);
         }
+
+    same_line : (number : ℕ) (d : Demand) → demand_at after number ≡ Some d → (before : Demand) × (demand_at m number ≡ Some before) × (d.order ≡ before.order) × (d.line ≡ before.line)
+    same_line number d found =
+        let r = recount_of m.demands recount tree rows recounted none number d found in
+        let is = r.now ∙ keeps (count_of tree number) r.before in
+        (r.before, r.was, ap (λ (x : Demand). x.order) is, ap (λ (x : Demand). x.line) is)
 
     pub step_stock : IsStock after
     step_stock = record {
@@ -195,6 +203,7 @@ module _ (m : Content) (stock : IsStock m) (row : Part) (s : State) (made : List
             | inr q ↦ job_more m after grows number j (others number j q.1 q.0) (stock.jobs number j q.1)
           ];
       demands = λ number d is. demand_after number d (recount_of m.demands recount tree rows recounted none number d is);
+      lines = different_more m after same_line stock.lines;
     }
 
   module _ (job_fits : MatchOption act (IsMovedJob m job) (λ a. IsNewJob m a job)) (totals_fit : TotalsFit m None totals)
@@ -207,7 +216,11 @@ module _ (m : Content) (stock : IsStock m) (row : Part) (s : State) (made : List
         record {
           before = r.before;
           found = r.was;
-          is = is ∙ (λ i. record r.before { reserved = (sym (ap (λ (d : Demand). d.reserved) r.now)) i; made = (sym (ap (λ (d : Demand). d.made) r.now)) i });
+          is = is ∙ (λ i. record r.before {
+            wanted = (sym (ap (λ (d : Demand). d.wanted) is)) i;
+            reserved = (sym (ap (λ (d : Demand). d.reserved) r.now)) i;
+            made = (sym (ap (λ (d : Demand). d.made) r.now)) i;
+          });
         }
 
     demand_wanted : (x : Demand) → IsRecount m.demands recount tree rows recounted none x.number x → IsSome (material_at m x.material) × (x.reserved + x.made ≤ x.wanted)

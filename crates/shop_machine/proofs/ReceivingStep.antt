@@ -172,7 +172,7 @@ module _ (m : Content) (stock : IsStock m) (material batch : List ℕ) (w h coun
     still_after name p is = (p.state, other_after name (λ e. let old = stock.in_range.acts name p is in omega (arith, old, e)) ∙ is)
 
     grows : Grows m after
-    grows = record { materials = λ code x is. is; parts = still_after; demands = λ number some. some; acts = omega arith }
+    grows = record { materials = λ code x is. is; parts = still_after; demands = λ number some. some; orders = λ code is. is; acts = omega arith }
 
     unit_received : (code : List ℕ) (b : Bool) → is_eq (code_cmp material code) ≡ b → (i : ℕ) → cells_as Received code (unit_part material batch size act i) ≡ (if b then w * h else 0)
     unit_received code b e i =
@@ -272,6 +272,7 @@ module _ (m : Content) (stock : IsStock m) (material batch : List ℕ) (w h coun
           let old = stock.demands number d is in
           demand_more m after grows (omega arith) number d old
           (record { few = old.counted.few; reserved = old.counted.reserved; made = old.counted.made ∙ sym (made_after number) });
+      lines = stock.lines;
     }
 
     -- whether a unit is counted in a column

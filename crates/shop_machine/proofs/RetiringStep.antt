@@ -71,7 +71,7 @@ module _ (m : Content) (stock : IsStock m) (name : Name) (row : Part) (found : p
   none_new x i = absurd i
 
   grows : Grows m after
-  grows = record { materials = λ code x is. is; parts = still_moved m.parts row s [] there none_new tt; demands = λ number h. h; acts = omega arith }
+  grows = record { materials = λ code x is. is; parts = still_moved m.parts row s [] there none_new tt; demands = λ number h. h; orders = λ code is. is; acts = omega arith }
 
   -- no job waits for a part that stands
   not_reserved : (number : ℕ) → row.state ≡ Reserved number → ⊥
@@ -139,6 +139,7 @@ module _ (m : Content) (stock : IsStock m) (name : Name) (row : Part) (found : p
         let old = stock.demands number d is in
         demand_more m after grows (omega arith) number d old
         (record { few = old.counted.few; reserved = old.counted.reserved; made = old.counted.made ∙ sym (made_same number) });
+    lines = stock.lines;
   }
 
   pub turn_fits : kept_at m (pair_of message) ≡ None → Fits m (keeping texts message (turn_change s row (totals_of m row.material) answer))

@@ -1,11 +1,10 @@
 -- Every history gives a sound content, and what is accepted on a sound content fits it.
 use Rattle.std.proofs.Common.{◌≡◌, ◌≢◌, ◌+◌, ◌≤◌, List, [], ◌∷◌, map, refl, sym, ap, subst, ◌∙◌, arith, inl, inr, length, ℕ, true}
-use Rattle.std.specs.Prelude.{Option, Some, None, length, IsSome, IfSome, ◌||◌}
+use Rattle.std.specs.Prelude.{Option, Some, None, length, IsSome, IfSome}
 use Rattle.std.specs.Option.{option_map}
-use Rattle.std.proofs.Math.Bool.{or-true}
 use Rattle.std.specs.FinSet as set
 use Rattle.std.specs.FinMap.{get, entries, get-empty, len-entries, len-empty, empty, values}
-use Rattle.std.specs.Ordering.{nat_cmp, eq_by_cmp}
+use Rattle.std.specs.Ordering.{nat_cmp}
 use Rattle.cut_measure.specs.Codes.{code_cmp}
 use Rattle.cut_measure.specs.Names.{Name, IsName, name_cmp}
 use Rattle.cut_tree.specs.declared.halts.Stop.TheVariants as stop
@@ -16,28 +15,29 @@ use Rattle.shop_records.specs.declared.records.Part.{Part}
 use Rattle.shop_records.specs.declared.records.State.TheVariants as state
 use Rattle.shop_records.specs.declared.changes.Change.{Change}
 use Rattle.shop_records.specs.declared.messages.Command.{Command}
-use Rattle.shop_records.specs.declared.messages.Command.TheVariants.{AddMaterial, Receive, AddOrder, Reserve, Done, Break, Release, Scrap, GiveBack, Import}
+use Rattle.shop_records.specs.declared.messages.Command.TheVariants.{AddMaterial, Receive, AddOrder, Reserve, Done, Break, Release, Scrap, GiveBack, Import, Amend}
 use Rattle.shop_records.specs.declared.messages.Message.{Message}
 use Rattle.shop_records.specs.declared.messages.Reply.TheVariants as reply
 use Rattle.shop_records.specs.declared.refusals.Refusal.TheVariants.{StoreFault}
 use Rattle.shop_records.specs.declared.texts.Pair.{Pair}
 use Rattle.shop_records.specs.declared.texts.Kept.{Kept}
-use Rattle.shop_records.specs.Messages.{Texts, IsMessage, IsMade, pair_of, IsCommand}
+use Rattle.shop_records.specs.Messages.{Texts, IsMessage, IsMade, pair_of, IsNumber, IsCommand}
 use Rattle.shop_records.specs.Readings.{Reading, plan_in}
 use Rattle.shop_records.specs.Content.{Content, fresh, pair_cmp, material_at, totals_in, AddsUp, has_order, kept_at, import_at, with_order, with_import, changed, part_at, demand_at, material_of, totals_of, totals_for}
 use Rattle.shop_machine.specs.Adding.{material_change}
 use Rattle.shop_machine.specs.Machine.{Reads, refusal_of, Makes, keeping}
 use Rattle.shop_machine.specs.History.{Entry, Gives}
 use Rattle.shop_records.specs.Soundness.{IsSound, Fits, IsKept, IsImport}
-use Rattle.shop_records.proofs.Basics.{codes_total, codes_same, tied}
+use Rattle.shop_records.proofs.Basics.{codes_total, codes_same}
 use Rattle.shop_machine.proofs.ImportingStep.{accepted, import_stock, import_fits, import_told, import_order, import_agrees}
-use Rattle.shop_records.proofs.Puts.{not_both, found_one, pairs_total, pairs_exact}
+use Rattle.shop_records.proofs.Puts.{not_both, found_one, still_there, pairs_total, pairs_exact}
 use Rattle.shop_machine.proofs.OrderingStep.{order_of, order_stock, order_fits, order_agrees}
 use Rattle.shop_machine.proofs.EndingStep.{job_waits, end_stock, end_fits, release_stock, release_fits, so_far, end_told, end_agrees}
 use Rattle.shop_machine.proofs.ReceivingStep.{receive_stock, receive_fits, receipt, receive_agrees}
 use Rattle.shop_machine.proofs.ReservingStep.{reserve_stock, reserve_fits, reading, fitting, reserve_agrees}
 use Rattle.shop_machine.proofs.RetiringStep.{scrap_stands, returned_stands, turn_stock, turn_fits, scrap_agrees, return_agrees, held_for}
-use Rattle.shop_machine.proofs.Grown.{IsStock, stock_of}
+use Rattle.shop_machine.proofs.AmendingStep.{amend_room, amend_stock, amend_fits, amend_agrees}
+use Rattle.shop_machine.proofs.Grown.{IsStock, stock_of, order_kept, order_there}
 use Rattle.shop_machine.proofs.AddingStep.{material_stock, material_fits, material_agrees, made_material}
 
 -- ---- by cases on the command
@@ -75,6 +75,9 @@ fits_by texts message m stock used (GiveBack part) read change reads allowed mak
     (turn_fits m stock part makes.0 makes.1 (returned_stands (part_at m part) makes.0 (totals_for m (part_at m part)) makes.1 allowed) state.Returned refl (λ number. refl) texts message (reply.GiveBack makes.0.name) new)
 fits_by texts message m stock used (Import order form text) read change reads allowed makes new =
     import_fits texts m order message form text read change stock (used order) (accepted texts m order form text read change reads allowed makes) new
+fits_by texts message m stock used (Amend demand wanted) read change reads allowed makes new =
+    subst (λ (c : Change). Fits m (keeping texts message c)) (sym makes.2)
+    (amend_fits m stock demand makes.0 makes.1 wanted (amend_room (demand_at m demand) makes.0 wanted makes.1 allowed) texts message new)
 
 stock_by : (texts : Texts) (message : Message) (m : Content) (stock : IsStock m) (command : Command) (read : Reading) (change : Change) → Reads texts m command read
     → refusal_of m command read ≡ None → Makes m command read change → IsStock (changed m (keeping texts message change))
@@ -109,6 +112,9 @@ stock_by texts message m stock (GiveBack part) read change reads allowed makes =
     (turn_stock m stock part makes.0 makes.1 (returned_stands (part_at m part) makes.0 (totals_for m (part_at m part)) makes.1 allowed) state.Returned refl (λ number. refl) texts message (reply.GiveBack makes.0.name))
 stock_by texts message m stock (Import order form text) read change reads allowed makes =
     import_stock texts m order message form text read change stock (accepted texts m order form text read change reads allowed makes)
+stock_by texts message m stock (Amend demand wanted) read change reads allowed makes =
+    subst (λ (c : Change). IsStock (changed m (keeping texts message c))) (sym makes.2)
+    (amend_stock m stock demand makes.0 makes.1 wanted (amend_room (demand_at m demand) makes.0 wanted makes.1 allowed) texts message)
 
 -- the reply to what is accepted is one that an accepted message can get
 told_by : (texts : Texts) (m : Content) (stock : IsStock m) (command : Command) (read : Reading) (change : Change) → Reads texts m command read → refusal_of m command read ≡ None
@@ -145,6 +151,8 @@ told_by texts m stock (GiveBack part) read change reads allowed makes is =
     subst (λ (c : Change). IsMade c.reply) (sym makes.2) (subst IsName (sym (stock.parts part makes.0 makes.1).named) is)
 told_by texts m stock (Import order form text) read change reads allowed makes is =
     import_told texts m order form text read change (accepted texts m order form text read change reads allowed makes) is.0
+told_by texts m stock (Amend demand wanted) read change reads allowed makes is =
+    subst (λ (c : Change). IsMade c.reply) (sym makes.2) (subst IsNumber (sym (stock.demands demand makes.0 makes.1).numbered) is.0, is.1)
 
 -- an import is kept with the order that it makes
 abbrev IsOrdered : Change → Type 0
@@ -167,6 +175,7 @@ ordered_by texts m (Scrap part) read change reads allowed makes = subst IsOrdere
 ordered_by texts m (GiveBack part) read change reads allowed makes = subst IsOrdered (sym makes.2) tt
 ordered_by texts m (Import order form text) read change reads allowed makes =
     import_order texts m order form text read change (accepted texts m order form text read change reads allowed makes)
+ordered_by texts m (Amend demand wanted) read change reads allowed makes = subst IsOrdered (sym makes.2) tt
 
 agrees_by : (texts : Texts) (m : Content) (sound : IsSound texts m) (stock : IsStock m) (command : Command) (read : Reading) → Reads texts m command read → refusal_of m command read ≢ Some StoreFault
 agrees_by texts m sound stock (AddMaterial material kind kerf min_long min_short) read reads = material_agrees (material_at m material) kind _
@@ -183,6 +192,7 @@ agrees_by texts m sound stock (Release number) read reads = end_agrees m stock s
 agrees_by texts m sound stock (Scrap part) read reads = scrap_agrees (part_at m part) (totals_for m (part_at m part)) (held_for m stock part)
 agrees_by texts m sound stock (GiveBack part) read reads = return_agrees (part_at m part) (totals_for m (part_at m part)) (held_for m stock part)
 agrees_by texts m sound stock (Import order form text) read reads = import_agrees texts m order stock (λ row is. let i = sound.imports order row is in (i.answer, i.tells)) form text read reads
+agrees_by texts m sound stock (Amend demand wanted) read reads = amend_agrees (demand_at m demand) wanted
 
 -- ---- what is kept
 
@@ -201,13 +211,6 @@ kept_after texts m message change is_message told old pair row is =
           }
       | inr q ↦ old pair row q.1
     ]
-
-order_kept : (m : Content) (change : Option (List ℕ)) (code : List ℕ) → has_order m code ≡ true → set.contains (with_order change m.orders) code ≡ true
-order_kept m None code is = is
-order_kept m (Some new) code is = set.contains-insert codes_total m.orders new code ∙ ap (λ b. eq_by_cmp code_cmp code new || b) is ∙ or-true (eq_by_cmp code_cmp code new)
-
-order_there : (m : Content) (code : List ℕ) → set.contains (set.insert m.orders code) code ≡ true
-order_there m code = set.contains-insert codes_total m.orders code code ∙ ap (λ b. b || set.contains m.orders code) (tied codes_total codes_same code code refl)
 
 pub imports_after : (texts : Texts) (m : Content) (message : Message) (change : Change) → IsMade change.reply → IsOrdered change
     → ((code : List ℕ) (row : ImportRow) → import_at m code ≡ Some row → IsImport texts m code row)
@@ -253,6 +256,20 @@ pub told_accepted : (texts : Texts) (m : Content) (message : Message) (read : Re
 told_accepted texts m message read change sound reads allowed makes is =
     told_by texts m (stock_of texts m sound) message.command read change reads allowed makes is.command
 
+-- what was kept of an import stays
+pub import_kept : (m : Content) (change : Change) → Fits m change → (code : List ℕ) (row : ImportRow) → import_at m code ≡ Some row → import_at (changed m change) code ≡ Some row
+import_kept m change fits code row is = by change.import fits.import
+  where
+    by : (o : Option ImportRow) → IfSome o (λ new. (import_at m new.order ≡ None) × (change.order ≡ Some new.order)) → get (with_import o m.imports) code ≡ Some row
+    by None none = is
+    by (Some new) none = still_there codes_total codes_same m.imports new.order new code row none.0 is
+
+pub imports_kept : (texts : Texts) (m : Content) (message : Message) (read : Reading) (change : Change) → IsSound texts m → Reads texts m message.command read
+    → refusal_of m message.command read ≡ None → Makes m message.command read change → kept_at m (pair_of message) ≡ None → (code : List ℕ) (row : ImportRow) → import_at m code ≡ Some row
+    → import_at (changed m (keeping texts message change)) code ≡ Some row
+imports_kept texts m message read change sound reads allowed makes new =
+    import_kept m (keeping texts message change) (fits_accepted texts m message read change sound reads allowed makes new)
+
 -- it leaves a sound content
 pub sound_after : (texts : Texts) (m : Content) (message : Message) (read : Reading) (change : Change) → IsSound texts m → Reads texts m message.command read
     → refusal_of m message.command read ≡ None → Makes m message.command read change → IsMessage message → IsSound texts (changed m (keeping texts message change))
@@ -265,6 +282,7 @@ sound_after texts m message read change sound reads allowed makes is =
       parts = stock.parts;
       jobs = stock.jobs;
       demands = stock.demands;
+      lines = stock.lines;
       kept = kept_after texts m message change is told sound.kept;
       imports = imports_after texts m message change told (ordered_by texts m message.command read change reads allowed makes) sound.imports;
     }
@@ -299,6 +317,7 @@ fresh_sound texts = record {
   parts = λ name part is. absurd (not_both _ part (get-empty name_cmp name) is);
   jobs = λ number job is. absurd (not_both _ job (get-empty nat_cmp number) is);
   demands = λ number demand is. absurd (not_both _ demand (get-empty nat_cmp number) is);
+  lines = λ a b one other is is_too orders lines. absurd (not_both _ one (get-empty nat_cmp a) is);
   kept = λ pair row is. absurd (not_both _ row (get-empty pair_cmp pair) is);
   imports = λ code row is. absurd (not_both _ row (get-empty code_cmp code) is);
 }

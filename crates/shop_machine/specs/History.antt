@@ -18,7 +18,7 @@ use Rattle.shop_records.specs.declared.records.State.{State}
 use Rattle.shop_records.specs.declared.records.State.TheVariants as state
 use Rattle.shop_records.specs.declared.texts.Pair.{Pair}
 use Rattle.shop_records.specs.declared.messages.Command.{Command}
-use Rattle.shop_records.specs.declared.messages.Command.TheVariants.{AddMaterial, Receive, AddOrder, Reserve, Done, Break, Release, Scrap as ScrapPart, GiveBack, Import}
+use Rattle.shop_records.specs.declared.messages.Command.TheVariants.{AddMaterial, Receive, AddOrder, Reserve, Done, Break, Release, Scrap as ScrapPart, GiveBack, Import, Amend}
 use Rattle.shop_records.specs.declared.imports.Form.{Form}
 use Rattle.shop_records.specs.declared.imports.Form.TheVariants.{Cgcut}
 use Rattle.shop_records.specs.declared.messages.Message.{Message}
@@ -87,6 +87,8 @@ pub data Deed : Type 0 where
   Ends : (job : ℕ) (outcome : ℕ → Outcome) → Deed
   -- a standing part as a whole is in this state from now on
   Turns : (part : Name) (into : State) → Deed
+  -- so many pieces of a demand are wanted from now on
+  Amends : (demand wanted : ℕ) → Deed
 
 -- what an import does, the newest first: the lines of an order file are asked for; a unit of a problem's rectangle is
 -- received, and then its lines are asked for; and the same again does nothing
@@ -109,6 +111,7 @@ deeds (Release job) read = nothing ∷ []
 deeds (ScrapPart part) read = Turns part state.Scrap ∷ []
 deeds (GiveBack part) read = Turns part state.Returned ∷ []
 deeds (Import order form text) read = import_deeds order form read
+deeds (Amend demand wanted) read = Amends demand wanted ∷ []
 
 -- what was done, the newest first
 abbrev pub deeds_of : List Entry → List Deed
@@ -143,11 +146,27 @@ pub record OrderedLine : Type 0 where
   pub order : List ℕ
   pub line : OrderLine
 
+-- the line, of which so many pieces are wanted
+abbrev pub with_count : ℕ → OrderedLine → OrderedLine
+with_count count ordered = record { order = ordered.order; line = record ordered.line { count = count } }
+
+-- the lines, where so many pieces are wanted of the one behind n others
+abbrev pub amended_behind : (n count : ℕ) → List OrderedLine → List OrderedLine
+amended_behind n count [] = []
+amended_behind zero count (ordered ∷ lines) = with_count count ordered ∷ lines
+amended_behind (suc n) count (ordered ∷ lines) = ordered ∷ amended_behind n count lines
+
+-- the lines, where so many pieces are wanted of the n-th one, the first one being that of 1
+abbrev pub amended_lines : (n count : ℕ) → List OrderedLine → List OrderedLine
+amended_lines zero count lines = lines
+amended_lines (suc n) count lines = amended_behind n count lines
+
 abbrev pub lines_by : Deed → List OrderedLine → List OrderedLine
 lines_by (Orders order lines) before = before ++ map (λ line. record { order = order; line = line }) lines
+lines_by (Amends demand wanted) before = amended_lines demand wanted before
 lines_by _ before = before
 
--- the lines that were ordered, the oldest first
+-- the lines that were ordered, the oldest first, each with the number of pieces that was said last
 abbrev pub ordered_lines : List Deed → List OrderedLine
 ordered_lines [] = []
 ordered_lines (done ∷ earlier) = lines_by done (ordered_lines earlier)

@@ -8,6 +8,7 @@ pub mod Reserving
 pub mod Moving
 pub mod Ending
 pub mod Retiring
+pub mod Amending
 pub mod Machine
 pub mod History
 pub mod Sharing

@@ -7,10 +7,11 @@ use Rattle.shop_records.specs.declared.records.Material.{Material}
 use Rattle.shop_records.specs.declared.records.Part.{Part}
 use Rattle.shop_records.specs.declared.records.State.TheVariants as state
 use Rattle.shop_records.specs.declared.records.Job.{Job}
+use Rattle.shop_records.specs.declared.records.Demand.{Demand}
 use Rattle.shop_records.specs.declared.texts.Kept.{Kept}
 use Rattle.shop_records.specs.declared.changes.Change.{Change}
 use Rattle.shop_records.specs.declared.messages.Command.{Command}
-use Rattle.shop_records.specs.declared.messages.Command.TheVariants.{AddMaterial, Receive, AddOrder, Reserve, Done, Break, Release, Scrap, GiveBack, Import}
+use Rattle.shop_records.specs.declared.messages.Command.TheVariants.{AddMaterial, Receive, AddOrder, Reserve, Done, Break, Release, Scrap, GiveBack, Import, Amend}
 use Rattle.shop_records.specs.declared.imports.ImportRow.{ImportRow}
 use Rattle.shop_records.specs.declared.messages.Message.{Message}
 use Rattle.shop_records.specs.declared.refusals.Refusal.{Refusal}
@@ -28,6 +29,7 @@ use Rattle.shop_machine.specs.Importing.{IsImportReading, import_refusal, Import
 use Rattle.shop_machine.specs.Reserving.{IsReading, reserve_refusal, IsReservation}
 use Rattle.shop_machine.specs.Ending.{end_refusal, IsWork, IsDone, IsBroken, IsRelease}
 use Rattle.shop_machine.specs.Retiring.{scrap_refusal, return_refusal, turn_change}
+use Rattle.shop_machine.specs.Amending.{amend_refusal, amend_change}
 
 -- ---- commands
 
@@ -46,6 +48,7 @@ Reads texts old (Break number halt) read = read ≡ unread
 Reads texts old (Release number) read = read ≡ unread
 Reads texts old (Scrap part) read = read ≡ unread
 Reads texts old (GiveBack part) read = read ≡ unread
+Reads texts old (Amend demand wanted) read = read ≡ unread
 
 -- why a command is refused, if it is, what its text stands for being read
 abbrev pub refusal_of : Content → Command → Reading → Option Refusal
@@ -64,6 +67,7 @@ refusal_of old (Scrap part) read = scrap_refusal (part_at old part) (totals_for 
 refusal_of old (GiveBack part) read = return_refusal (part_at old part) (totals_for old (part_at old part))
 refusal_of old (Import order form text) read =
     import_refusal (has_order old order) (material_at old) (totals_of old) (old.last_act + 1) (old.last_demand + 1) form read
+refusal_of old (Amend demand wanted) read = amend_refusal (demand_at old demand) wanted
 
 -- what a command changes where it is accepted, what its text stands for being read
 abbrev pub Makes : Content → Command → Reading → Change → Type 0
@@ -90,6 +94,7 @@ Makes old (GiveBack part) read change =
     (row : Part) × (part_at old part ≡ Some row) × (change ≡ turn_change state.Returned row (totals_of old row.material) (reply.GiveBack row.name))
 Makes old (Import order form text) read change =
     ImportMakes order form text (totals_of old) (old.last_act + 1) (old.last_demand + 1) read change
+Makes old (Amend demand wanted) read change = (row : Demand) × (demand_at old demand ≡ Some row) × (change ≡ amend_change row wanted)
 
 -- ---- steps and runs
 

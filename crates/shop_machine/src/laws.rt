@@ -10,7 +10,8 @@ ghost use Rattle.shop_records.specs.declared.messages.Message.{Message};
 ghost use Rattle.shop_records.specs.declared.refusals.Refusal.TheVariants.{StoreFault};
 ghost use Rattle.shop_records.specs.Messages.{Texts, IsMessage, IsMade, pair_of};
 ghost use Rattle.shop_records.specs.Readings.{Reading};
-ghost use Rattle.shop_records.specs.Content.{Content, kept_at, changed};
+ghost use Rattle.shop_records.specs.declared.imports.ImportRow.{ImportRow};
+ghost use Rattle.shop_records.specs.Content.{Content, kept_at, import_at, changed};
 ghost use Rattle.shop_machine.specs.Machine.{Reads, refusal_of, Makes, keeping};
 ghost use Rattle.shop_machine.specs.History.{Entry, Gives, IsAccountOf};
 ghost use Rattle.shop_records.specs.Soundness.{IsSound, Fits};
@@ -49,6 +50,18 @@ pub fn accepted_changes_fit()
     ensures agrees { (texts : Texts) (m : Content) (message : Message) (read : Reading)
         → IsSound texts m → Reads texts m message.command read
         → refusal_of m message.command read ≢ Some StoreFault }
+{}
+
+/// What is kept of an import stays, whatever is accepted after it: so the same import again keeps its reply, also after
+/// demands of its order were amended.
+pub fn imports_stay()
+    ensures { (texts : Texts) (m : Content) (message : Message) (read : Reading)
+        (change : Change)
+        → IsSound texts m → Reads texts m message.command read
+        → refusal_of m message.command read ≡ None → Makes m message.command read change
+        → kept_at m (pair_of message) ≡ None → (code : List ℕ) (row : ImportRow)
+        → import_at m code ≡ Some row
+        → import_at (changed m (keeping texts message change)) code ≡ Some row }
 {}
 
 /// Rows are laid for a shaped tree exactly where they share the unit's cells out among its nodes: each row with its node's

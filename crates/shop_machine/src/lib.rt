@@ -3,6 +3,7 @@
 #![tactic(auto)]
 
 mod adding;
+mod amending;
 mod decisions;
 mod ending;
 mod importing;
@@ -15,12 +16,15 @@ mod reserving;
 mod retiring;
 
 pub use adding::decide_material;
+pub use amending::decide_amend;
 pub use decisions::no_change;
 pub use ending::{decide_break, decide_done, decide_release};
 pub use importing::{
     decide_again, decide_lines, decide_problem, problem_lines, repeats, unread_refusal,
 };
-pub use laws::{accepted_changes_fit, histories_have_accounts, shared_cells_are_laid};
+pub use laws::{
+    accepted_changes_fit, histories_have_accounts, imports_stay, shared_cells_are_laid,
+};
 pub use ordering::{FoundLine, decide_order};
 pub use receiving::decide_receive;
 pub use recounts::FoundLeaf;
@@ -28,8 +32,8 @@ pub use reserving::decide_reserve;
 pub use retiring::{decide_give_back, decide_scrap};
 pub use shop_files::MOST_LINES;
 pub use shop_records::{
-    Change, Column, Command, Demand, DemandList, Form, ImportRow, Job, JobList, JobRow, JobState,
-    Kept, KeptMessage, LineList, Material, MaterialList, MaterialTotals, Message, NumberList,
-    OrderLine, Pair, Part, PartList, PartVisitor, Query, RackList, RackRow, Refusal, Reply,
-    RowList, State, StateWord, Text, Totals, no_totals,
+    Change, CodeList, Column, Command, Demand, DemandList, Form, ImportRow, Job, JobList, JobRow,
+    JobState, Kept, KeptMessage, LineList, Material, MaterialList, MaterialTotals, Message,
+    NumberList, OrderLine, OrderList, OrderRow, Pair, Part, PartList, PartVisitor, Query, RackList,
+    RackRow, Refusal, Reply, RowList, State, StateWord, Text, Totals, no_totals,
 };

@@ -5,7 +5,9 @@ ghost use Rattle.serde_json.specs.View.{view};
 ghost use Rattle.shop_forms.specs.Fields.{row};
 ghost use Rattle.shop_forms.specs.Forms as form;
 
-use crate::listing::{job_query, jobs_query, list_query, terminal_query};
+use crate::listing::{
+    job_query, jobs_query, lines_query, list_query, orders_query, terminal_query,
+};
 use serde_json::Value;
 use shop_forms::{code_at, has_keys, name_at, number_at, rows_at, word_at};
 use shop_records::Query;
@@ -112,6 +114,10 @@ fn short_query(value: &Value, word: &str) -> Option<Query>
         job_query(value)
     } else if word == "terminal" {
         terminal_query(value)
+    } else if word == "orders" {
+        orders_query(value)
+    } else if word == "lines" {
+        lines_query(value)
     } else {
         None
     }

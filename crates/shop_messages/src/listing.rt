@@ -1,11 +1,11 @@
-//! JSON of the queries for lists, for a job and for a terminal.
+//! JSON of the queries for lists, for a job, for a terminal and for an order's lines.
 
 ghost use Rattle.std.specs.Prelude.{◌≡◌, codes};
 ghost use Rattle.serde_json.specs.View.{view};
-ghost use Rattle.shop_forms.specs.Fields.{behind_at};
+ghost use Rattle.shop_forms.specs.Fields.{behind_at, code_behind_at};
 ghost use Rattle.shop_forms.specs.Forms as form;
 
-use cut_measure::PartName;
+use cut_measure::{Code, PartName};
 use serde_json::Value;
 use shop_forms::{code_at, has_keys, number_at, text_at};
 use shop_records::Query;
@@ -89,6 +89,34 @@ pub(crate) fn terminal_query(value: &Value) -> Option<Query>
 {
     let terminal = number_at(value, "terminal")?;
     Some(Query::Terminal { terminal })
+}
+
+// The code behind which orders are asked for: none in an empty text.
+fn code_behind(value: &Value) -> Option<Option<Code>>
+    ensures { result ≡ code_behind_at (codes "after") (view value.now) }
+{
+    let text = text_at(value, "after")?;
+    if text == "" {
+        return Some(None);
+    }
+    let code = Code::read(text)?;
+    Some(Some(code))
+}
+
+// The query for orders behind a code.
+pub(crate) fn orders_query(value: &Value) -> Option<Query>
+    ensures { result ≡ form.orders_query (view value.now) }
+{
+    let after = code_behind(value)?;
+    Some(Query::Orders { after })
+}
+
+// The query for an order's lines.
+pub(crate) fn lines_query(value: &Value) -> Option<Query>
+    ensures { result ≡ form.lines_query (view value.now) }
+{
+    let order = code_at(value, "order")?;
+    Some(Query::Lines { order })
 }
 
 // The query for a list of what is there, open or listed behind a name.

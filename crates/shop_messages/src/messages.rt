@@ -9,6 +9,7 @@ ghost use Rattle.shop_forms.specs.Forms.{message_data, json_texts};
 ghost use Rattle.shop_forms.specs.Tokens.{AddsValue};
 
 use crate::adding::{material_command, write_material};
+use crate::amending::{amend_command, write_amend};
 use crate::asking::asked;
 use crate::ending::{done_command, release_command, write_end};
 use crate::halting::{break_command, has_few_cuts, write_break};
@@ -43,6 +44,7 @@ fn command(alloc: Global, value: &Value, word: &str) -> Result<Option<Command>, 
         CommandWord::Scrap => Ok(scrap_command(value)),
         CommandWord::GiveBack => Ok(return_command(value)),
         CommandWord::Import => import_command(alloc, value),
+        CommandWord::Amend => Ok(amend_command(value)),
     }
 }
 
@@ -126,6 +128,7 @@ fn write_message(alloc: Global, writer: &mut Writer, message: &Message) -> Resul
         Command::Scrap { part } => write_turned(alloc, writer, pair, "scrap", part),
         Command::GiveBack { part } => write_turned(alloc, writer, pair, "return", part),
         Command::Import { order, form, text } => write_import(writer, pair, order, form, text),
+        Command::Amend { demand, wanted } => write_amend(writer, pair, *demand, *wanted),
     }
 }
 

@@ -7,7 +7,7 @@ use Rattle.shop_records.specs.declared.texts.Pair.{Pair}
 use Rattle.cut_tree.specs.declared.halts.Halt.{Halt}
 use Rattle.cut_tree.specs.declared.halts.Halt.TheVariants.{First, Listed}
 use Rattle.shop_records.specs.declared.messages.Command.{Command}
-use Rattle.shop_records.specs.declared.messages.Command.TheVariants.{AddMaterial, Receive, AddOrder, Reserve, Done, Break, Release, Scrap, GiveBack, Import}
+use Rattle.shop_records.specs.declared.messages.Command.TheVariants.{AddMaterial, Receive, AddOrder, Reserve, Done, Break, Release, Scrap, GiveBack, Import, Amend}
 use Rattle.shop_records.specs.declared.imports.Form.{Form}
 use Rattle.shop_records.specs.declared.imports.Form.TheVariants.{Csv, Cgcut}
 use Rattle.shop_files.specs.declared.orders.OrderLine.{OrderLine}
@@ -57,6 +57,7 @@ IsCommand (Release job) = IsNumber job
 IsCommand (Scrap part) = IsName part
 IsCommand (GiveBack part) = IsName part
 IsCommand (Import order form text) = IsTrue (is_code order) × IsForm form × IsTrue (is_utf8 text)
+IsCommand (Amend demand wanted) = IsNumber demand × IsNumber wanted
 
 -- what holds of every message
 pub record IsMessage (message : Message) : Type 0 where
@@ -76,6 +77,7 @@ IsMade (reply.Release job) = IsNumber job
 IsMade (reply.Scrap part) = IsName part
 IsMade (reply.GiveBack part) = IsName part
 IsMade (reply.Import act count first order) = IsNumber act × IsNumber count × IsNumber first × IsTrue (is_code order)
+IsMade (reply.Amend demand wanted) = IsNumber demand × IsNumber wanted
 IsMade (reply.Totals material received stock rack pieces kerf scrap returned) = ⊥
 IsMade (reply.Rack material parts) = ⊥
 IsMade (reply.Trace batch h of part root state w x y) = ⊥
@@ -88,6 +90,8 @@ IsMade (reply.Demands demands more) = ⊥
 IsMade (reply.Jobs jobs more) = ⊥
 IsMade (reply.Job cuts h job kerf material part state tree w) = ⊥
 IsMade (reply.Terminal last terminal) = ⊥
+IsMade (reply.Orders more orders) = ⊥
+IsMade (reply.Lines lines order) = ⊥
 IsMade (reply.Refused refusal) = ⊥
 
 -- the refusal that a reply tells of

@@ -1,7 +1,7 @@
 -- Numbers and names of refusals.
 use Rattle.std.specs.Prelude.{ℕ, List, codes}
 use Rattle.shop_records.specs.declared.refusals.Refusal.{Refusal}
-use Rattle.shop_records.specs.declared.refusals.Refusal.TheVariants.{BadMessage, NumberReused, NoMaterial, MaterialExists, BadMaterial, BadSize, BadCount, TooMuch, NumbersSpent, OrderExists, BadLine, NoDemand, NoPart, NotStanding, NotWhole, BadTree, WrongMaterial, WrongSize, TooMany, NoJob, JobOver, BadCut, BadText, NothingFits, TableTooLarge, BadStep, BadWant, NoMemory, StoreFault}
+use Rattle.shop_records.specs.declared.refusals.Refusal.TheVariants.{BadMessage, NumberReused, NoMaterial, MaterialExists, BadMaterial, BadSize, BadCount, TooMuch, NumbersSpent, OrderExists, BadLine, NoDemand, NoOrder, NoPart, NotStanding, NotWhole, BadTree, WrongMaterial, WrongSize, TooMany, NoJob, JobOver, BadCut, BadText, NothingFits, TableTooLarge, BadStep, BadWant, NoMemory, StoreFault}
 
 abbrev pub refusal_number : Refusal → ℕ
 refusal_number BadMessage = 10
@@ -16,6 +16,7 @@ refusal_number NumbersSpent = 33
 refusal_number OrderExists = 40
 refusal_number BadLine = 41
 refusal_number NoDemand = 42
+refusal_number NoOrder = 43
 refusal_number NoPart = 50
 refusal_number NotStanding = 51
 refusal_number NotWhole = 52
@@ -47,6 +48,7 @@ refusal_name NumbersSpent = codes "NumbersSpent"
 refusal_name OrderExists = codes "OrderExists"
 refusal_name BadLine = codes "BadLine"
 refusal_name NoDemand = codes "NoDemand"
+refusal_name NoOrder = codes "NoOrder"
 refusal_name NoPart = codes "NoPart"
 refusal_name NotStanding = codes "NotStanding"
 refusal_name NotWhole = codes "NotWhole"

@@ -113,13 +113,26 @@ pub record IsCounted (content : Content) (number : ℕ) (demand : Demand) : Type
   pub reserved : demand.reserved ≡ reserved_in number content
   pub made : demand.made ≡ made_in number content
 
--- a demand stands under its own number, one that was given from 1 on, and is of a known material
+-- a demand stands under its own number, one that was given from 1 on, and is of an order that is there and of a known
+-- material
 pub record IsDemand (content : Content) (number : ℕ) (demand : Demand) : Type 0 where
   pub numbered : demand.number ≡ number
   pub least : 1 ≤ number
   pub so_far : number ≤ content.last_demand
+  pub ordered : has_order content demand.order ≡ true
   pub known : IsSome (material_at content demand.material)
   pub counted : IsCounted content number demand
+
+-- of an order no two demands have the same line
+abbrev pub AreDifferent : Content → Type 0
+AreDifferent content =
+    (a b : ℕ) (one other : Demand) → demand_at content a ≡ Some one → demand_at content b ≡ Some other → one.order ≡ other.order
+    → one.line ≡ other.line → a ≡ b
+
+-- each demand's order is there, and of an order no two demands have the same line
+pub record HasLines (content : Content) : Type 0 where
+  pub ordered : (number : ℕ) (demand : Demand) → demand_at content number ≡ Some demand → has_order content demand.order ≡ true
+  pub different : AreDifferent content
 
 -- a content as histories give it
 pub record IsSound (texts : Texts) (content : Content) : Type 0 where
@@ -128,6 +141,7 @@ pub record IsSound (texts : Texts) (content : Content) : Type 0 where
   pub parts : (name : Name) (part : Part) → part_at content name ≡ Some part → IsPlaced content name part
   pub jobs : (number : ℕ) (job : Job) → job_at content number ≡ Some job → IsJob content number job
   pub demands : (number : ℕ) (demand : Demand) → demand_at content number ≡ Some demand → IsDemand content number demand
+  pub lines : AreDifferent content
   pub kept : (pair : Pair) (row : Kept) → kept_at content pair ≡ Some row → IsKept texts pair row
   pub imports : (code : List ℕ) (row : ImportRow) → import_at content code ≡ Some row → IsImport texts content code row
 
@@ -163,11 +177,11 @@ pub record IsNewDemand (content : Content) (order : List ℕ) (demand : Demand) 
   pub later : content.last_demand < demand.number
   pub of : demand.order ≡ order
 
--- a demand that moves is there, with other counts
+-- a demand that moves is there, with other counts or another number wanted
 pub record IsMovedDemand (content : Content) (demand : Demand) : Type 0 where
   pub before : Demand
   pub found : demand_at content demand.number ≡ Some before
-  pub is : demand ≡ record before { reserved = demand.reserved; made = demand.made }
+  pub is : demand ≡ record before { wanted = demand.wanted; reserved = demand.reserved; made = demand.made }
 
 -- a new material comes with its totals, and other totals are of a material that is there
 abbrev pub TotalsFit : Content → Option Material → Option MaterialTotals → Type 0

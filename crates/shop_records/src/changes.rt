@@ -36,7 +36,7 @@ pub struct Change {
     pub job: Option<Job>,
     /// An order's code that is used from now on.
     pub order: Option<Code>,
-    /// Demands: the new ones of the order, or, without an order, ones that are there, with other counts.
+    /// Demands: the new ones of the order, or, without an order, ones that are there, with other counts or another number wanted.
     pub demands: DemandList,
     /// The totals of the material whose totals change: a new row where the material is new, else one that is there.
     pub totals: Option<MaterialTotals>,

@@ -12,9 +12,11 @@ mod visits;
 pub use changes::{Change, DemandList, MaterialList, MaterialTotals, PartList};
 pub use cut_measure::RowList;
 pub use imports::{Form, ImportRow};
-pub use messages::{Command, JobList, LineList, Message, NumberList, Query, RackList, Reply};
+pub use messages::{
+    CodeList, Command, JobList, LineList, Message, NumberList, OrderList, Query, RackList, Reply,
+};
 pub use records::{
-    Column, Demand, Job, JobRow, JobState, MOST_RECEIVED, Material, Part, RackRow, State,
+    Column, Demand, Job, JobRow, JobState, MOST_RECEIVED, Material, OrderRow, Part, RackRow, State,
     StateWord, Totals, no_totals,
 };
 pub use refusals::Refusal;

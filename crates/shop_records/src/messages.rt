@@ -2,7 +2,7 @@
 
 use crate::changes::{DemandList, MaterialList, PartList};
 use crate::imports::Form;
-use crate::records::{JobRow, JobState, RackRow, StateWord};
+use crate::records::{JobRow, JobState, OrderRow, RackRow, StateWord};
 use crate::refusals::Refusal;
 use crate::texts::Text;
 use cut_measure::{Code, Kind, PartName, RowList};
@@ -17,6 +17,12 @@ pub type RackList = RowList<RackRow>;
 
 /// Waiting jobs as they are told, in order.
 pub type JobList = RowList<JobRow>;
+
+/// Orders as they are told, in order.
+pub type OrderList = RowList<OrderRow>;
+
+/// Codes of orders, in order.
+pub type CodeList = RowList<Code>;
 
 /// Numbers of demands or of jobs, in order.
 pub type NumberList = RowList<u32>;
@@ -71,6 +77,11 @@ pub enum Command {
         order: Code,
         form: Form,
         text: Text,
+    },
+    /// Says how many pieces of a demand are wanted from now on.
+    Amend {
+        demand: u32,
+        wanted: u32,
     },
 }
 
@@ -135,6 +146,14 @@ pub enum Query {
     Terminal {
         terminal: u32,
     },
+    /// The first orders behind a code, or from the first on.
+    Orders {
+        after: Option<Code>,
+    },
+    /// All lines of an order.
+    Lines {
+        order: Code,
+    },
 }
 
 /// What a message or a query is answered.
@@ -189,6 +208,11 @@ pub enum Reply {
         count: u32,
         first: u32,
         order: Code,
+    },
+    /// How many pieces of the demand are wanted from now on.
+    Amend {
+        demand: u32,
+        wanted: u32,
     },
     /// Cells of a material.
     Totals {
@@ -277,6 +301,16 @@ pub enum Reply {
     Terminal {
         last: u32,
         terminal: u32,
+    },
+    /// Orders by rising code, and whether others follow the last one.
+    Orders {
+        more: bool,
+        orders: OrderList,
+    },
+    /// All lines of an order, by rising line.
+    Lines {
+        lines: DemandList,
+        order: Code,
     },
     Refused(Refusal),
 }

@@ -207,6 +207,16 @@ pub struct JobRow {
     pub w: u32,
 }
 
+/// An order as it is told: how many lines it has, and how many pieces of all of them are made, reserved and wanted.
+#[derive(Clone, Copy, Debug, PartialEq)]
+pub struct OrderRow {
+    pub lines: u64,
+    pub made: u64,
+    pub order: Code,
+    pub reserved: u64,
+    pub wanted: u64,
+}
+
 /// What is told of a material, in cells.
 #[derive(Clone, Copy, Debug, PartialEq, Eq)]
 pub struct Totals {

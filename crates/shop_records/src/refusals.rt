@@ -32,6 +32,8 @@ pub enum Refusal {
     BadLine,
     /// 42: unknown demand.
     NoDemand,
+    /// 43: unknown order.
+    NoOrder,
     /// 50: unknown part.
     NoPart,
     /// 51: the part isn't standing.
@@ -97,6 +99,7 @@ impl Refusal {
             Refusal::OrderExists => 40,
             Refusal::BadLine => 41,
             Refusal::NoDemand => 42,
+            Refusal::NoOrder => 43,
             Refusal::NoPart => 50,
             Refusal::NotStanding => 51,
             Refusal::NotWhole => 52,
@@ -134,6 +137,7 @@ impl Refusal {
             Refusal::OrderExists => "OrderExists",
             Refusal::BadLine => "BadLine",
             Refusal::NoDemand => "NoDemand",
+            Refusal::NoOrder => "NoOrder",
             Refusal::NoPart => "NoPart",
             Refusal::NotStanding => "NotStanding",
             Refusal::NotWhole => "NotWhole",

@@ -2,6 +2,7 @@
 #![tactic(auto)]
 
 mod adding;
+mod amending;
 mod asking;
 mod ending;
 mod halting;

@@ -1,4 +1,4 @@
-//! JSON of the replies about lists, a job and a terminal.
+//! JSON of the replies about lists, a job, a terminal and an order's lines.
 
 ghost use Rattle.std.specs.Prelude.{OnOk, All};
 ghost use Rattle.shop_records.specs.declared.messages.Reply.TheVariants as answer;
@@ -8,11 +8,12 @@ ghost use Rattle.shop_forms.specs.Told.{HasWideNumbers};
 ghost use Rattle.shop_forms.specs.Tokens.{AddsValue};
 ghost use Rattle.shop_replies.specs.Variants.{TellsParts, TellsJob};
 
+use cut_measure::Code;
 use json::Writer;
 use shop_forms::{
     Listed, Member, job_state_word, wide, write_flag, write_object, write_rows, write_text,
 };
-use shop_records::{Material, Reply};
+use shop_records::{Demand, Material, OrderRow, Reply};
 use std::alloc::{AllocError, Global};
 
 // Writes the reply about all materials.
@@ -133,4 +134,44 @@ pub(crate) fn tell_terminal(writer: &mut Writer, last: u32, terminal: u32) -> Re
             Member::Number("terminal", wide(terminal)),
         ],
     )
+}
+
+// Writes the reply about orders behind a code.
+pub(crate) fn tell_orders(
+    alloc: Global,
+    writer: &mut Writer,
+    more: bool,
+    orders: &[OrderRow],
+) -> Result<(), AllocError>
+    ensures value { OnOk result
+        (AddsValue writer.old writer.new (reply_data (answer.Orders more orders.now))) }
+    ensures wide { OnOk result (HasWideNumbers (answer.Orders more orders.now)) }
+{
+    writer.begin_object()?;
+    write_flag(writer, "more", more)?;
+    write_text(writer, "ok", "orders")?;
+    writer.key("orders")?;
+    write_rows(alloc, writer, orders)?;
+    writer.end_object()?;
+    Ok(())
+}
+
+// Writes the reply about an order's lines.
+pub(crate) fn tell_lines(
+    alloc: Global,
+    writer: &mut Writer,
+    lines: &[Demand],
+    order: &Code,
+) -> Result<(), AllocError>
+    ensures value { OnOk result
+        (AddsValue writer.old writer.new (reply_data (answer.Lines lines.now order.now))) }
+    ensures wide { OnOk result (HasWideNumbers (answer.Lines lines.now order.now)) }
+{
+    writer.begin_object()?;
+    writer.key("lines")?;
+    write_rows(alloc, writer, lines)?;
+    write_text(writer, "ok", "lines")?;
+    write_text(writer, "order", order.as_str())?;
+    writer.end_object()?;
+    Ok(())
 }

@@ -13,11 +13,14 @@ ghost use Rattle.shop_forms.specs.Told.{HasWideNumbers};
 ghost use Rattle.shop_forms.specs.Tokens.{AddsValue};
 
 use crate::adding::{material_made, tell_material};
+use crate::amending::{amend_made, tell_amend};
 use crate::asking::{tell_bound, tell_demand, tell_plan, tell_rack, tell_totals, tell_trace};
 use crate::ending::{done_made, release_made, tell_ended, tell_release};
 use crate::halting::break_made;
 use crate::importing::{import_made, tell_import};
-use crate::listing::{tell_behind, tell_job, tell_materials, tell_parts, tell_terminal};
+use crate::listing::{
+    tell_behind, tell_job, tell_lines, tell_materials, tell_orders, tell_parts, tell_terminal,
+};
 use crate::ordering::{order_made, tell_order};
 use crate::receiving::{receive_made, tell_receive};
 use crate::reserving::{reserve_made, tell_reserve};
@@ -46,6 +49,7 @@ fn made(value: &Value) -> Option<Reply>
         CommandWord::Scrap => scrap_made(value),
         CommandWord::GiveBack => return_made(value),
         CommandWord::Import => import_made(value),
+        CommandWord::Amend => amend_made(value),
     }
 }
 
@@ -116,6 +120,7 @@ fn write_reply(alloc: Global, writer: &mut Writer, reply: &Reply) -> Result<(), 
         Reply::Scrap { part } => tell_turned(alloc, writer, "scrap", part),
         Reply::GiveBack { part } => tell_turned(alloc, writer, "return", part),
         Reply::Import { .. } => tell_import(writer, reply),
+        Reply::Amend { demand, wanted } => tell_amend(writer, *demand, *wanted),
         Reply::Totals { .. } => tell_totals(writer, reply),
         Reply::Rack { material, parts } => tell_rack(alloc, writer, material, parts.as_slice()),
         Reply::Trace { .. } => tell_trace(alloc, writer, reply),
@@ -130,6 +135,8 @@ fn write_reply(alloc: Global, writer: &mut Writer, reply: &Reply) -> Result<(), 
         Reply::Jobs { jobs, more } => tell_behind(alloc, writer, "jobs", jobs.as_slice(), *more),
         Reply::Job { .. } => tell_job(alloc, writer, reply),
         Reply::Terminal { last, terminal } => tell_terminal(writer, *last, *terminal),
+        Reply::Orders { more, orders } => tell_orders(alloc, writer, *more, orders.as_slice()),
+        Reply::Lines { lines, order } => tell_lines(alloc, writer, lines.as_slice(), order),
         Reply::Refused(refusal) => tell_refusal(writer, *refusal),
     }
 }

@@ -39,6 +39,12 @@ pub enum Route {
     Demands,
     /// GET `/demands/{after}/{material}`.
     DemandsOf,
+    /// GET `/orders`.
+    Orders,
+    /// GET `/orders/{order}`: behind that code.
+    OrdersBehind,
+    /// GET `/order/{order}`: its lines.
+    OrderLines,
     /// GET `/jobs/{after}`.
     Jobs,
     /// GET `/job/{job}`.
@@ -68,6 +74,9 @@ impl Route {
             Route::PartsBehind => "/parts/{material}/{act}/{node}",
             Route::Demands => "/demands/{after}",
             Route::DemandsOf => "/demands/{after}/{material}",
+            Route::Orders => "/orders",
+            Route::OrdersBehind => "/orders/{order}",
+            Route::OrderLines => "/order/{order}",
             Route::Jobs => "/jobs/{after}",
             Route::Job => "/job/{job}",
             Route::Terminal => "/terminal/{terminal}",
@@ -94,6 +103,9 @@ impl Route {
             Route::PartsBehind => 7,
             Route::Demands => 9,
             Route::DemandsOf => 9,
+            Route::Orders => 7,
+            Route::OrdersBehind => 8,
+            Route::OrderLines => 7,
             Route::Jobs => 6,
             Route::Job => 5,
             Route::Terminal => 10,
@@ -136,7 +148,7 @@ fn add_all(router: &mut Router<Route>, routes: &[Route]) -> Result<(), InsertErr
     add_all(router, more)
 }
 
-const ROUTES: [Route; 18] = [
+const ROUTES: [Route; 21] = [
     Route::Message,
     Route::Plan,
     Route::Plans,
@@ -152,6 +164,9 @@ const ROUTES: [Route; 18] = [
     Route::PartsBehind,
     Route::Demands,
     Route::DemandsOf,
+    Route::Orders,
+    Route::OrdersBehind,
+    Route::OrderLines,
     Route::Jobs,
     Route::Job,
     Route::Terminal,

@@ -10,3 +10,5 @@ pub mod Counting
 -- rows made of others
 pub mod Mapped
 pub mod Packed
+-- lines of an order
+pub mod ByLine

@@ -1,6 +1,6 @@
 -- Lists of keys: which they have, their runs, and the rows that they name.
 use Rattle.std.proofs.Common.{◌≡◌, inl, inr, ℕ, zero, suc, ◌<◌, ◌≤◌, Bool, true, false, List, [], ◌∷◌, length, take, drop, get_or, refl, sym, ap, subst, ◌∙◌, arith, true≢false}
-use Rattle.std.proofs.lemmas.Bool.{le-leb, leb-true, leb-false, ltb-true, ltb-false}
+use Rattle.std.proofs.lemmas.Bool.{le-leb, lt-ltb, leb-true, leb-false, ltb-true, ltb-false}
 use Rattle.std.proofs.Common.{leb, ltb}
 use Rattle.std.specs.Prelude.{nat_lt, All, IfSome, Option, Some, None, cond, not, filter, ◌&&◌}
 use Rattle.std.specs.declared.cmp.Ordering.{Ordering}
@@ -203,24 +203,24 @@ module _ {X : Type 0} (p : X → Bool) where
         | false ↦ filter_filter q xs
       ]
 
-module _ {K : Type 0} (cmp : K → K → Ordering) where
-  pub entries_filter : (p : K → Bool) (keys : List K) → entries_of own_key cmp (filter p keys) ≡ where_key cmp p (entries_of own_key cmp keys)
+module _ {X K : Type 0} (key_of : X → K) (cmp : K → K → Ordering) where
+  pub entries_filter : (p : K → Bool) (rows : List X) → entries_of key_of cmp (filter (λ row. p (key_of row)) rows) ≡ where_key cmp p (entries_of key_of cmp rows)
   entries_filter p [] = refl
-  entries_filter p (k ∷ keys) =
-      elim (p k) as (λ b. entries_of own_key cmp (cond b (k ∷ filter p keys) (filter p keys)) ≡ cond b ((k, k) ∷ where_key cmp p (entries_of own_key cmp keys)) (where_key cmp p (entries_of own_key cmp keys))) [
-        | true ↦ ap (λ es. (k, k) ∷ es) (entries_filter p keys)
-        | false ↦ entries_filter p keys
+  entries_filter p (r ∷ rows) =
+      elim (p (key_of r)) as (λ b. entries_of key_of cmp (cond b (r ∷ filter (λ row. p (key_of row)) rows) (filter (λ row. p (key_of row)) rows)) ≡ cond b ((key_of r, r) ∷ where_key cmp p (entries_of key_of cmp rows)) (where_key cmp p (entries_of key_of cmp rows))) [
+        | true ↦ ap (λ es. (key_of r, r) ∷ es) (entries_filter p rows)
+        | false ↦ entries_filter p rows
       ]
 
-  pub rise-filter : (p : K → Bool) (keys : List K) → rise own_key cmp keys ≡ true → rise own_key cmp (filter p keys) ≡ true
-  rise-filter p keys up = ap (is_sorted cmp) (entries_filter p keys) ∙ met _ (is_sorted-where_key cmp p (entries_of own_key cmp keys) (tested _ up))
+  pub rise-filter : (p : K → Bool) (rows : List X) → rise key_of cmp rows ≡ true → rise key_of cmp (filter (λ row. p (key_of row)) rows) ≡ true
+  rise-filter p rows up = ap (is_sorted cmp) (entries_filter p rows) ∙ met _ (is_sorted-where_key cmp p (entries_of key_of cmp rows) (tested _ up))
 
   -- a test that no key passes behind one that fails
-  pub parted : IsTotalOrder cmp → IsAntisymmetric cmp → (p : K → Bool) → ((a b : K) → cmp a b ≡ Less → p b ≡ true → p a ≡ true) → (keys : List K) → rise own_key cmp keys ≡ true → IsPartitionedBy p keys
-  parted o exact p falls keys up i j d le within passes =
+  pub parted : IsTotalOrder cmp → IsAntisymmetric cmp → (p : K → Bool) → ((a b : K) → cmp a b ≡ Less → p b ≡ true → p a ≡ true) → (rows : List X) → rise key_of cmp rows ≡ true → IsPartitionedBy (λ row. p (key_of row)) rows
+  parted o exact p falls rows up i j d le within passes =
       elim (cases_lt i j) [
-        | inl lt ↦ falls (get_or keys i d) (get_or keys j d) (rising_at own_key cmp o exact keys (tested _ up) i j d lt within) passes
-        | inr ge ↦ let same : i ≡ j = omega arith in subst (λ n. p (get_or keys n d) ≡ true) (sym same) passes
+        | inl lt ↦ falls (key_of (get_or rows i d)) (key_of (get_or rows j d)) (rising_at key_of cmp o exact rows (tested _ up) i j d lt within) passes
+        | inr ge ↦ let same : i ≡ j = omega arith in subst (λ n. p (key_of (get_or rows n d)) ≡ true) (sym same) passes
       ]
 
 -- what comes before a name that is not behind another isn't behind it either
@@ -245,6 +245,19 @@ behind_names after (n ∷ names) = λ i. cond (twice (is_lt (name_cmp after n)) 
     twice false = refl
 
 -- ---- runs of numbers
+
+pub below_number : (from a b : ℕ) → nat_cmp a b ≡ Less → ltb b from ≡ true → ltb a from ≡ true
+below_number from a b lt passes = let less : a < b = ranked a b Less (sym lt) in let most = ltb-true b from passes in lt-ltb a from (omega arith)
+
+-- what isn't below a number is that number or a greater one
+pub not_below : (from n : ℕ) → not (ltb n from) ≡ leb from n
+not_below from n = by_tests (ltb n from) (leb from n) refl refl
+  where
+    by_tests : (a b : Bool) → ltb n from ≡ a → leb from n ≡ b → not a ≡ b
+    by_tests true true e f = absurd (let less = ltb-true n from e in let most = leb-true from n f in omega arith)
+    by_tests true false e f = refl
+    by_tests false true e f = refl
+    by_tests false false e f = absurd (let more = ltb-false n from e in let less = leb-false from n f in omega arith)
 
 pub upto_number : (after a b : ℕ) → nat_cmp a b ≡ Less → leb b after ≡ true → leb a after ≡ true
 upto_number after a b lt passes = let less : a < b = ranked a b Less (sym lt) in let most = leb-true b after passes in le-leb a after (omega arith)

@@ -98,6 +98,16 @@ module _ {X : Type 0} (p : X → Bool) where
     all-put row old new own all is_put =
         ap (list_all p) (sym (seconds key cmp new) ∙ ap rows_in is_put) ∙ entries-pass (key row) row (entries_of key cmp old) own (ap (list_all p) (seconds key cmp old) ∙ all)
 
+    each-pass : (rows : List X) (es : List (K × X)) → list_all p rows ≡ true → list_all p (rows_in es) ≡ true → list_all p (rows_in (put_each key cmp rows es)) ≡ true
+    each-pass [] es own old = old
+    each-pass (row ∷ rows) es own old =
+        let t = both (p row) (list_all p rows) own in each-pass rows (put cmp (key row) row es) t.1 (entries-pass (key row) row es t.0 old)
+
+    -- so do they where rows that pass are put one after another
+    pub all-put-each : (rows old new : List X) → list_all p rows ≡ true → list_all p old ≡ true → ArePut key cmp rows old new → list_all p new ≡ true
+    all-put-each rows old new own all are_put =
+        ap (list_all p) (sym (seconds key cmp new) ∙ ap rows_in are_put) ∙ each-pass rows (entries_of key cmp old) own (ap (list_all p) (seconds key cmp old) ∙ all)
+
     -- and a row that is found passes
     pub found-passes : (q : K) (row : X) (rows : List X) → list_all p rows ≡ true → row_at key cmp q rows ≡ Some row → p row ≡ true
     found-passes q row [] all e = cc

@@ -151,13 +151,13 @@ module _ {X : Type 0} (key_of : X → ℕ) (test : X → Bool) (after : ℕ) (ke
 
   has_number : (number : ℕ) → has nat_cmp number (filter (nat_lt after) keys) ≡ (nat_lt after number && has nat_cmp number keys)
   has_number number =
-      ap is_some (ap (find nat_cmp number) (entries_filter nat_cmp (nat_lt after) keys)
+      ap is_some (ap (find nat_cmp number) (entries_filter own_key nat_cmp (nat_lt after) keys)
       ∙ find-where_key nat_cmp (nat_lt after) number (λ x t. ap (nat_lt after) (sym (nat_cmp-IsAntisymmetric number x t))) (entries_of own_key nat_cmp keys))
       ∙ elim (nat_lt after number) as (λ b. is_some (cond b (row_at own_key nat_cmp number keys) None) ≡ (b && has nat_cmp number keys)) [ true ↦ refl | false ↦ refl ]
 
   pub numbers_are : filter (nat_lt after) keys ≡ map key_of (filter passes rows)
   numbers_are =
-      same_keys key_of nat_cmp nat_cmp_total nat_cmp-IsAntisymmetric passes (filter (nat_lt after) keys) rows (tested _ (rise-filter nat_cmp (nat_lt after) keys up)) (tested _ rises)
+      same_keys key_of nat_cmp nat_cmp_total nat_cmp-IsAntisymmetric passes (filter (nat_lt after) keys) rows (tested _ (rise-filter own_key nat_cmp (nat_lt after) keys up)) (tested _ rises)
       (λ number. has_number number ∙ ap (λ b. nat_lt after number && b) (lists number) ∙ by_found number (row_at key_of nat_cmp number rows) refl)
     where
       by_found : (number : ℕ) (found : Option X) → row_at key_of nat_cmp number rows ≡ found → (nat_lt after number && is_found test found) ≡ is_found passes found

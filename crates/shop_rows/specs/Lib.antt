@@ -5,3 +5,4 @@ pub mod Adding
 pub mod Open
 pub mod PartRows
 pub mod SameParts
+pub mod Lines

@@ -2,12 +2,14 @@
 #![tactic(auto)]
 
 mod keys;
+mod lines;
 mod names;
 mod open;
 mod part_rows;
 mod rows;
 mod sums;
 
+pub use lines::{Span, between, by_line};
 pub use names::{
     NameList, OpenPart, list_all, list_in_place, list_part, make_room, names_behind, reserve_names,
 };

@@ -22,6 +22,7 @@ pub use Rattle.shop_machine.specs.Ordering
 pub use Rattle.shop_machine.specs.Importing
 pub use Rattle.shop_machine.specs.Reserving
 pub use Rattle.shop_machine.specs.Ending
+pub use Rattle.shop_machine.specs.Amending
 pub use Rattle.shop_machine.specs.Machine
 pub use Rattle.shop_answers.specs.Queries
 pub use Rattle.shop_records.specs.Soundness

@@ -76,16 +76,16 @@ module _ (old new : State) (count : ℕ) (b : Books) (has : Shows old b) where
       shown_again : (r : Row) → r ≡ job_row (k, d) → again old new has.schema set_job_text (Int (pos k) ∷ Int (pos (job_state_number s)) ∷ []) 3 (loosened has.schema.jobs jobs_table) refl by_number set_job_terms (set_job_is old.now.schema has.schema) refl r ≡ rowid r ∷ rowid r ∷ (Null ∷ job_columns (record d { state = s }))
       shown_again r is = rw is refl
 
-  pub sets_demand : (k : ℕ) (d : Demand) (reserved made : ℕ) → get b.content.demands k ≡ Some d → d.number ≡ k → Executes set_demand_text (Int (pos k) ∷ Int (pos reserved) ∷ Int (pos made) ∷ []) old new (Ok count) → Shows new (record b { content = record b.content { demands = insert b.content.demands k (record d { reserved = reserved; made = made }) } })
-  sets_demand k d reserved made there own ran =
+  pub sets_demand : (k : ℕ) (d : Demand) (wanted reserved made : ℕ) → get b.content.demands k ≡ Some d → d.number ≡ k → Executes set_demand_text (Int (pos k) ∷ Int (pos wanted) ∷ Int (pos reserved) ∷ Int (pos made) ∷ []) old new (Ok count) → Shows new (record b { content = record b.content { demands = insert b.content.demands k (record d { wanted = wanted; reserved = reserved; made = made }) } })
+  sets_demand k d wanted reserved made there own ran =
       let one : filter (λ e. eq_by_cmp nat_cmp e.0 k) (entries b.content.demands) ≡ (k, d) ∷ [] = entry_at_is Demand nat_cmp_total nat_cmp-IsAntisymmetric b.content.demands k ∙ ap (listed Demand nat_cmp_total nat_cmp-IsAntisymmetric k) there in
-      let it = located 0 demand_row (λ e. eq_by_cmp nat_cmp e.0 k) (chosen old new has.schema set_demand_text (Int (pos k) ∷ Int (pos reserved) ∷ Int (pos made) ∷ []) 5 (loosened has.schema.demands demands_table) refl by_number set_demand_terms (set_demand_is old.now.schema has.schema) refl) (is_number k) (λ r. refl) (λ e. number_tests e.0 k (Null ∷ demand_columns e.1)) (entries b.content.demands) (old.now.trees 9) (k, d) has.stands.demands one in
-      let put = sets old new has.schema set_demand_text (Int (pos k) ∷ Int (pos reserved) ∷ Int (pos made) ∷ []) 5 (loosened has.schema.demands demands_table) refl by_number set_demand_terms (set_demand_is old.now.schema has.schema) refl it.row it.id (Null ∷ demand_columns (record d { reserved = reserved; made = made })) count it.found (shown_again it.row it.is ∙ ap (λ v. v ∷ v ∷ (Null ∷ demand_columns (record d { reserved = reserved; made = made }))) it.key)
-      (λ left. news_again (loosened has.schema.demands demands_table) (Null ∷ demand_columns (record d { reserved = reserved; made = made })) left (Int it.id) it.id (λ i. cast-Null i ∷ Text (record d { reserved = reserved; made = made }).order ∷ cast-Int (pos (record d { reserved = reserved; made = made }).line) i ∷ Text (record d { reserved = reserved; made = made }).material ∷ cast-Int (pos (record d { reserved = reserved; made = made }).size.w) i ∷ cast-Int (pos (record d { reserved = reserved; made = made }).size.h) i ∷ cast-Int (pos (turn_number (record d { reserved = reserved; made = made }).may_turn)) i ∷ cast-Int (pos (record d { reserved = reserved; made = made }).worth) i ∷ cast-Int (pos (record d { reserved = reserved; made = made }).wanted) i ∷ cast-Int (pos (record d { reserved = reserved; made = made }).reserved) i ∷ cast-Int (pos (record d { reserved = reserved; made = made }).made) i ∷ []) refl) ran in
-      let rows = rows_over nat_cmp_total nat_cmp-IsAntisymmetric 0 demand_row old new 9 _ (Null ∷ demand_columns (record d { reserved = reserved; made = made })) b.content.demands k (record d { reserved = reserved; made = made }) d there it (ap (λ v. v ∷ (Null ∷ demand_columns (record d { reserved = reserved; made = made }))) (sym it.key ∙ ap rowid it.is)) put in
-      demands_shown old new b has _ _ (insert b.content.demands k (record d { reserved = reserved; made = made })) put rows (subst (λ q. IsKeyed (record b.content { demands = insert b.content.demands q (record d { reserved = reserved; made = made }) })) own (with_demand_keyed b.content has.keyed (record d { reserved = reserved; made = made })))
+      let it = located 0 demand_row (λ e. eq_by_cmp nat_cmp e.0 k) (chosen old new has.schema set_demand_text (Int (pos k) ∷ Int (pos wanted) ∷ Int (pos reserved) ∷ Int (pos made) ∷ []) 5 (loosened has.schema.demands demands_table) refl by_number set_demand_terms (set_demand_is old.now.schema has.schema) refl) (is_number k) (λ r. refl) (λ e. number_tests e.0 k (Null ∷ demand_columns e.1)) (entries b.content.demands) (old.now.trees 9) (k, d) has.stands.demands one in
+      let put = sets old new has.schema set_demand_text (Int (pos k) ∷ Int (pos wanted) ∷ Int (pos reserved) ∷ Int (pos made) ∷ []) 5 (loosened has.schema.demands demands_table) refl by_number set_demand_terms (set_demand_is old.now.schema has.schema) refl it.row it.id (Null ∷ demand_columns (record d { wanted = wanted; reserved = reserved; made = made })) count it.found (shown_again it.row it.is ∙ ap (λ v. v ∷ v ∷ (Null ∷ demand_columns (record d { wanted = wanted; reserved = reserved; made = made }))) it.key)
+      (λ left. news_again (loosened has.schema.demands demands_table) (Null ∷ demand_columns (record d { wanted = wanted; reserved = reserved; made = made })) left (Int it.id) it.id (λ i. cast-Null i ∷ Text (record d { wanted = wanted; reserved = reserved; made = made }).order ∷ cast-Int (pos (record d { wanted = wanted; reserved = reserved; made = made }).line) i ∷ Text (record d { wanted = wanted; reserved = reserved; made = made }).material ∷ cast-Int (pos (record d { wanted = wanted; reserved = reserved; made = made }).size.w) i ∷ cast-Int (pos (record d { wanted = wanted; reserved = reserved; made = made }).size.h) i ∷ cast-Int (pos (turn_number (record d { wanted = wanted; reserved = reserved; made = made }).may_turn)) i ∷ cast-Int (pos (record d { wanted = wanted; reserved = reserved; made = made }).worth) i ∷ cast-Int (pos (record d { wanted = wanted; reserved = reserved; made = made }).wanted) i ∷ cast-Int (pos (record d { wanted = wanted; reserved = reserved; made = made }).reserved) i ∷ cast-Int (pos (record d { wanted = wanted; reserved = reserved; made = made }).made) i ∷ []) refl) ran in
+      let rows = rows_over nat_cmp_total nat_cmp-IsAntisymmetric 0 demand_row old new 9 _ (Null ∷ demand_columns (record d { wanted = wanted; reserved = reserved; made = made })) b.content.demands k (record d { wanted = wanted; reserved = reserved; made = made }) d there it (ap (λ v. v ∷ (Null ∷ demand_columns (record d { wanted = wanted; reserved = reserved; made = made }))) (sym it.key ∙ ap rowid it.is)) put in
+      demands_shown old new b has _ _ (insert b.content.demands k (record d { wanted = wanted; reserved = reserved; made = made })) put rows (subst (λ q. IsKeyed (record b.content { demands = insert b.content.demands q (record d { wanted = wanted; reserved = reserved; made = made }) })) own (with_demand_keyed b.content has.keyed (record d { wanted = wanted; reserved = reserved; made = made })))
     where
-      shown_again : (r : Row) → r ≡ demand_row (k, d) → again old new has.schema set_demand_text (Int (pos k) ∷ Int (pos reserved) ∷ Int (pos made) ∷ []) 5 (loosened has.schema.demands demands_table) refl by_number set_demand_terms (set_demand_is old.now.schema has.schema) refl r ≡ rowid r ∷ rowid r ∷ (Null ∷ demand_columns (record d { reserved = reserved; made = made }))
+      shown_again : (r : Row) → r ≡ demand_row (k, d) → again old new has.schema set_demand_text (Int (pos k) ∷ Int (pos wanted) ∷ Int (pos reserved) ∷ Int (pos made) ∷ []) 5 (loosened has.schema.demands demands_table) refl by_number set_demand_terms (set_demand_is old.now.schema has.schema) refl r ≡ rowid r ∷ rowid r ∷ (Null ∷ demand_columns (record d { wanted = wanted; reserved = reserved; made = made }))
       shown_again r is = rw is refl
 
   pub sets_last_act : (n : ℕ) → Executes set_meta_text (Text (codes "act") ∷ Int (pos n) ∷ []) old new (Ok count) → Shows new (with_last_act n b)

@@ -157,10 +157,10 @@ abbrev pub set_job_terms : List Term
 set_job_terms = col 1 0 ∷ col 1 0 ∷ lit Null ∷ col 1 2 ∷ col 1 3 ∷ col 1 4 ∷ col 0 1 ∷ []
 
 abbrev pub set_demand_text : List ℕ
-set_demand_text = codes "UPDATE demands SET reserved = ?2, made = ?3 WHERE number = ?1"
+set_demand_text = codes "UPDATE demands SET wanted = ?2, reserved = ?3, made = ?4 WHERE number = ?1"
 
 abbrev pub set_demand_terms : List Term
-set_demand_terms = col 1 0 ∷ col 1 0 ∷ lit Null ∷ col 1 2 ∷ col 1 3 ∷ col 1 4 ∷ col 1 5 ∷ col 1 6 ∷ col 1 7 ∷ col 1 8 ∷ col 1 9 ∷ col 0 1 ∷ col 0 2 ∷ []
+set_demand_terms = col 1 0 ∷ col 1 0 ∷ lit Null ∷ col 1 2 ∷ col 1 3 ∷ col 1 4 ∷ col 1 5 ∷ col 1 6 ∷ col 1 7 ∷ col 1 8 ∷ col 0 1 ∷ col 0 2 ∷ col 0 3 ∷ []
 
 abbrev pub set_totals_text : List ℕ
 set_totals_text = codes "UPDATE totals2 SET received = ?2, stock = ?3, rack = ?4, pieces = ?5, kerf = ?6, scrap = ?7, returned = ?8 WHERE material = ?1"

@@ -112,7 +112,7 @@ pub fn put_demand<S: Alter>(tx: &mut Transaction<'_, S>, demand: &Demand) -> Res
     )
 }
 
-/// Gives a demand that is there the counts of this one, which is the same but for them.
+/// Gives a demand that is there the number wanted and the counts of this one, which is the same but for them.
 pub fn count_demand<S: Alter>(
     tx: &mut Transaction<'_, S>,
     demand: &Demand,
@@ -122,14 +122,14 @@ pub fn count_demand<S: Alter>(
         (Ran (state S.Store tx.old.conn.now) (state S.Store tx.new.conn.now)) }
     ensures put { (b : Books) → (was : DemandRecord)
         → demand_at b.content demand.now.number ≡ Some was
-        → demand.now ≡ record was { reserved = demand.now.reserved; made = demand.now.made }
+        → demand.now ≡ record was { wanted = demand.now.wanted; reserved = demand.now.reserved; made = demand.now.made }
         → OnOk result (Makes (state S.Store tx.old.conn.now) (state S.Store tx.new.conn.now) b
         (with_demand demand.now b)) }
     ensures within { Within (state S.Store tx.old.conn.now) (state S.Store tx.new.conn.now) }
 {
     run(
         tx,
-        "UPDATE demands SET reserved = ?2, made = ?3 WHERE number = ?1",
-        params![demand.number, demand.reserved, demand.made],
+        "UPDATE demands SET wanted = ?2, reserved = ?3, made = ?4 WHERE number = ?1",
+        params![demand.number, demand.wanted, demand.reserved, demand.made],
     )
 }

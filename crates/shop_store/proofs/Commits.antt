@@ -22,7 +22,7 @@ use Rattle.shop_store.specs.Crashes.{IsFoundAfter}
 settled_stands : (s : State) (m : Content) → IsSettledAt s m → (db : Trees) → db ≡ s.committed.trees → StandsFor db m
 settled_stands s m was db is =
     let now : StandsIn s.committed.trees (books m was.totals) = subst (λ (d : Database). StandsIn d.trees (books m was.totals)) was.settled.committed (stands_in s (books m was.totals) was.settled.shows) in
-    record { totals = was.totals; sums = was.sums; stands = subst (λ t. StandsIn t (books m was.totals)) (sym is) now }
+    record { lines = was.lines; totals = was.totals; sums = was.sums; stands = subst (λ t. StandsIn t (books m was.totals)) (sym is) now }
 
 -- while a connection is open a crash leaves its last commit
 pub settled_leaves : {D : Type 0} {g : DiskGhosts D} (at : Held (FileStore D g)) (m : Content) → SeenMayStay g → IsTrue (file_state at).is_open → IsSettledAt (file_state at) m → LeavesOnly (file_state at) m

@@ -9,10 +9,10 @@ use Rattle.shop_tables.proofs.EarlierRows.{stays_earlier}
 use Rattle.shop_store.specs.EarlierBooks.{HoldsEarlierContent, IsSettledEarlierAt}
 
 pub stays_earlier_content : (old new : State) (m : Content) → Leaves old new → HoldsEarlierContent old m → HoldsEarlierContent new m
-stays_earlier_content old new m leaves was = record { totals = was.totals; sums = was.sums; holds = stays_earlier old new (books m was.totals) leaves was.holds }
+stays_earlier_content old new m leaves was = record { lines = was.lines; totals = was.totals; sums = was.sums; holds = stays_earlier old new (books m was.totals) leaves was.holds }
 
 pub settled_earlier : (old new : State) (m : Content) → Leaves old new → IsSettledEarlierAt old m → HoldsEarlierContent new m
-settled_earlier old new m leaves was = record { totals = was.totals; sums = was.sums; holds = stays_earlier old new (books m was.totals) leaves (λ _ _. was.settled) }
+settled_earlier old new m leaves was = record { lines = was.lines; totals = was.totals; sums = was.sums; holds = stays_earlier old new (books m was.totals) leaves (λ _ _. was.settled) }
 
 -- after a reading and a renewal
 module _ (old mid new : State) (leaves : Leaves old mid) (m : Content) (was : HoldsEarlierContent old m) where
@@ -22,7 +22,7 @@ module _ (old mid new : State) (leaves : Leaves old mid) (m : Content) (was : Ho
   pub renewed_survives : ((b : Books) → HoldsEarlier mid b → Survives mid new (λ db. StandsIn db b)) → Survives old new (λ db. StandsFor db m)
   renewed_survives h =
       survives_then old mid new (λ _. ⊥) (λ db. StandsIn db (books m was.totals)) (λ db. StandsFor db m) (λ _ db none. absurd none)
-      (λ _ db stands. record { totals = was.totals; sums = was.sums; stands = stands }) leaves.survives (h (books m was.totals) now)
+      (λ _ db stands. record { lines = was.lines; totals = was.totals; sums = was.sums; stands = stands }) leaves.survives (h (books m was.totals) now)
 
 -- a reading leaves what a crash may leave
 pub leaves_survives : (old new : State) (m : Content) → Leaves old new → Survives old new (λ db. StandsFor db m)

@@ -30,6 +30,6 @@ left_renewal_is_found {D} {g} old after m up was clean survives it less numbered
     let r : IsSettledEitherAt (file_state new) m = elim (survives.crash clean x.0 (less x.0 x.1)) [
       | inl before ↦
           let kept : (file_state new).committed.trees ≡ (file_state old).committed.trees = trees ∙ settled_at old.store stays x.0 up before in
-          inr (record { totals = was.totals; sums = was.sums; settled = left_settled_earlier new (books m was.totals) opened (subst (λ db. StandsInEarlier db (books m was.totals)) (sym kept) (committed_earlier (file_state old) (books m was.totals) was.settled)) })
-      | inr stands ↦ inl (record { totals = stands.totals; sums = stands.sums; settled = left_settled new (books m stands.totals) opened (subst (λ db. StandsIn db (books m stands.totals)) (sym trees) stands.stands) })
+          inr (record { lines = was.lines; totals = was.totals; sums = was.sums; settled = left_settled_earlier new (books m was.totals) opened (subst (λ db. StandsInEarlier db (books m was.totals)) (sym kept) (committed_earlier (file_state old) (books m was.totals) was.settled)) })
+      | inr stands ↦ inl (record { lines = stands.lines; totals = stands.totals; sums = stands.sums; settled = left_settled new (books m stands.totals) opened (subst (λ db. StandsIn db (books m stands.totals)) (sym trees) stands.stands) })
     ] in r)

@@ -51,7 +51,7 @@ module _ {S : Type 0} (g : Ghosts S) where
       record {
         honest = λ clean. let s = l.survives.clean in omega (arith, s, clean);
         stays = λ clean m was. (
-          record { totals = was.0.totals; sums = was.0.sums; holds = l.stays (books m was.0.totals) was.0.holds },
+          record { lines = was.0.lines; totals = was.0.totals; sums = was.0.sums; holds = l.stays (books m was.0.totals) was.0.holds },
           λ again. lists (subst (λ h. HasCleanDisk (state g h)) same clean) m was.0 (was.1 (let s = l.survives.clean in omega (arith, s, clean))),
         );
         crash = λ clean m was left may. elim (l.survives.crash clean left may) [ inl before ↦ before | inr none ↦ absurd none ];

@@ -25,13 +25,13 @@ use crate::open_work::{commit_open, first_open, first_waiting};
 use cut_measure::{Code, PartName};
 use shop_book::{Book, BookFault};
 use shop_records::{
-    Change, Demand, DemandList, ImportRow, Job, Kept, Material, MaterialList, NumberList, Pair,
-    Part, PartList, PartVisitor, Totals, no_totals,
+    Change, CodeList, Demand, DemandList, ImportRow, Job, Kept, Material, MaterialList, NumberList,
+    Pair, Part, PartList, PartVisitor, Totals, no_totals,
 };
 use shop_tables::{
     AdoptFault, Adopted, TableFault, adopt_tables, find_demand, find_import, find_job, find_kept,
     find_last_act, find_last_demand, find_last_number, find_material, find_order, find_part,
-    find_totals, list_materials, renew_shop,
+    find_totals, list_lines, list_materials, list_orders, renew_shop,
 };
 use sqlite::{Alter, Connection, MemStore};
 use std::alloc::Global;
@@ -490,6 +490,21 @@ impl<S: Alter> Book for SqlBook<S> {
         most: usize,
     ) -> Result<DemandList, BookFault> {
         let answer = first_open(alloc, &mut self.conn, &mut self.work, after, material, most);
+        self.count_fault(answer)
+    }
+
+    fn lines_of(&mut self, alloc: Global, order: Code) -> Result<DemandList, BookFault> {
+        let answer = list_lines(alloc, &mut self.conn, order);
+        self.count_fault(answer)
+    }
+
+    fn first_orders(
+        &mut self,
+        alloc: Global,
+        after: Option<Code>,
+        most: usize,
+    ) -> Result<CodeList, BookFault> {
+        let answer = list_orders(alloc, &mut self.conn, after, most);
         self.count_fault(answer)
     }
 

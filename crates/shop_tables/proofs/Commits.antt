@@ -18,6 +18,7 @@ use Rattle.shop_statements.specs.Rows.{Stands}
 use Rattle.shop_statements.specs.Shown.{Books, Shows, Holds, Ran, Makes, Within, StandsIn}
 use Rattle.shop_tables.specs.Changing.{HasSums, with_change}
 use Rattle.shop_tables.specs.Held.{books, HoldsContent, StandsFor}
+use Rattle.shop_records.proofs.LinesKept.{lines_kept}
 use Rattle.shop_tables.proofs.Fitting.{sums_kept}
 
 pub stands_in : (s : State) (b : Books) → Shows s b → StandsIn s.now.trees b
@@ -63,7 +64,7 @@ module _ {S : Type 0} (g : Ghosts S) (h : Held S) where
         record { shows = shows_along old last b (start.committed ∙ went.seen) start.shows; committed = went.committed }
 
     pub undone : (m : Content) → HoldsContent old m → Within begun done → (HasCleanDisk last → IsRolledBack done last) → HoldsContent last m
-    undone m was within back = record { totals = was.totals; sums = was.sums; holds = undoes (books m was.totals) was.holds within back }
+    undone m was within back = record { lines = was.lines; totals = was.totals; sums = was.sums; holds = undoes (books m was.totals) was.holds within back }
 
     module _ (ran : Ran begun done) where
       -- a commit that fails has undone it
@@ -89,10 +90,11 @@ module _ {S : Type 0} (g : Ghosts S) (h : Held S) where
             made clean refl (record { schema = start.schema; sound = start.sound; stands = start.stands; keyed = start.keyed })
 
         pub stands_end : HasCleanDisk done → StandsFor done.now.trees (changed m change)
-        stands_end clean = record { totals = after.totals; sums = sums; stands = stands_in done after (shows_end clean) }
+        stands_end clean = record { lines = lines_kept m change fits was.lines; totals = after.totals; sums = sums; stands = stands_in done after (shows_end clean) }
 
         pub committed : (HasCleanDisk last → sql.Shows done last done.now done.now false) → HoldsContent last (changed m change)
         committed end = record {
+          lines = lines_kept m change fits was.lines;
           totals = after.totals;
           sums = sums;
           holds = λ clean up. let e = end clean in record { shows = shows_along done last after (sym e.now_is) (shows_end (late clean)); committed = e.now_is ∙ sym e.committed_is };

@@ -76,7 +76,7 @@ less-Int : (m n : ℕ) → less (Int (pos m)) (Int (pos n)) ≡ nat_lt m n
 unfolding binary
 less-Int m n = told _ ∙ ap is_lt (ranked m n) ∙ is_less m n
 
-by_number : (a b : ℕ) → ordering_then (value_cmp (Int (pos a)) (Int (pos b))) Equal ≡ nat_cmp a b
+pub by_number : (a b : ℕ) → ordering_then (value_cmp (Int (pos a)) (Int (pos b))) Equal ≡ nat_cmp a b
 by_number a b = then-Equal (value_cmp (Int (pos a)) (Int (pos b))) ∙ ranked a b
 
 pub and_and : (a b c : Bool) → (a && (b && c)) ≡ ((a && b) && c)

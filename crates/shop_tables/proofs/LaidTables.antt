@@ -1,5 +1,5 @@
 -- The transaction that makes the tables, or brings them to version 2.
-use Rattle.std.proofs.Common.{◌≡◌, inl, inr, true, false, true≢false, IsTrue, sym, ap, subst, ◌∙◌}
+use Rattle.std.proofs.Common.{◌≡◌, inl, inr, false, true≢false, IsTrue, sym, ap, subst, ◌∙◌}
 use Rattle.sqlite_trees.specs.declared.store.Store.{Ghosts}
 use Rattle.sqlite.specs.Effect.{Database}
 use Rattle.sqlite.specs.State.{State, HasCleanDisk, IsRolledBack, Survives}

@@ -1,5 +1,5 @@
 -- The tables of an empty database, which one batch makes.
-use Rattle.std.proofs.Common.{◌≡◌, ℕ, ◌-◌, pos, true, List, [], ◌∷◌, length, drop, map, codes, slice_get, is_some, Some, Ok, Err, Result, OnOk, IsTrue, refl, sym, ap, subst, ◌∙◌}
+use Rattle.std.proofs.Common.{◌≡◌, ℕ, pos, true, List, [], ◌∷◌, length, drop, map, codes, slice_get, is_some, Some, Ok, Result, OnOk, IsTrue, refl, sym, ap, subst, ◌∙◌}
 use Rattle.std.proofs.lemmas.List.Sorted.{IsPermutation-refl}
 use Rattle.std.specs.FinMap.{entries, empty, get, get-empty, len-entries, len-empty}
 use Rattle.std.specs.FinSet as set
@@ -14,7 +14,6 @@ use Rattle.sqlite.specs.Schema.{Schema}
 use Rattle.sqlite.specs.Term.{Term, lit}
 use Rattle.sqlite.specs.Command.TheVariants.{Insert, CreateTable}
 use Rattle.sqlite.specs.Source.TheVariants.{Values}
-use Rattle.sqlite.specs.Change.{created}
 use Rattle.sqlite.specs.Listing.{understood}
 use Rattle.sqlite.specs.Rowids.TheVariants.{Chosen}
 use Rattle.sqlite_rules.specs.Edit.{numbered, put_all}

@@ -25,4 +25,6 @@ pub mod FirstRows
 pub mod LastNumbers
 pub mod FirstParts
 pub mod RowsAsShown
+pub mod LinesInOrder
+pub mod OrderRows
 pub mod HandedOut

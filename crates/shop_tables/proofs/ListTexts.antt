@@ -92,6 +92,24 @@ parts_behind_tests =
     same (col 1 3) (col 0 0) ∷ op2 Or (same (col 1 11) (lit (Int (pos 0)))) (same (col 1 11) (lit (Int (pos 1)))) ∷ op2 (Compare Ge Binary) (col 1 1) (col 0 1)
     ∷ op2 Or (above (col 1 1) (col 0 1)) (above (col 1 2) (col 0 2)) ∷ []
 
+abbrev pub lines_text : List ℕ
+lines_text = codes "SELECT ord, line, material, w, h, turn, worth, wanted, reserved, made, number FROM demands WHERE ord = ?1 ORDER BY line"
+
+abbrev pub lines_tests : List Term
+lines_tests = same (col 1 2) (col 0 0) ∷ []
+
+abbrev pub by_line : List (Term × Key)
+by_line = (col 1 3, ascending Binary) ∷ []
+
+abbrev pub first_orders_text : List ℕ
+first_orders_text = codes "SELECT ord FROM orders ORDER BY ord LIMIT ?1"
+
+abbrev pub orders_behind_text : List ℕ
+orders_behind_text = codes "SELECT ord FROM orders WHERE ord > ?1 ORDER BY ord LIMIT ?2"
+
+abbrev pub orders_behind_tests : List Term
+orders_behind_tests = above (col 1 1) (col 0 0) ∷ []
+
 abbrev pub waiting_jobs_text : List ℕ
 waiting_jobs_text = codes "SELECT job FROM jobs WHERE job > ?1 AND state = 0 ORDER BY job LIMIT ?2"
 
@@ -151,6 +169,18 @@ module _ (schema : Schema) (h : IsShop schema) where
   unfolding understood everything
   parts_behind_is = record { command = refl; listing = refl; plain = (refl, refl) }
 
+  pub lines_is : Reads (shop schema h) lines_text (from_table 9 lines_tests open_demands_terms by_line) (codes "ord" ∷ codes "line" ∷ codes "material" ∷ codes "w" ∷ codes "h" ∷ codes "turn" ∷ codes "worth" ∷ codes "wanted" ∷ codes "reserved" ∷ codes "made" ∷ codes "number" ∷ [])
+  unfolding understood everything
+  lines_is = record { command = refl; listing = refl; plain = (refl, refl) }
+
+  pub first_orders_is : Reads (shop schema h) first_orders_text (first_of (col 0 0) (from_table 7 [] all_codes_terms by_code)) (codes "ord" ∷ [])
+  unfolding understood everything
+  first_orders_is = record { command = refl; listing = refl; plain = (refl, refl) }
+
+  pub orders_behind_is : Reads (shop schema h) orders_behind_text (first_of (col 0 1) (from_table 7 orders_behind_tests all_codes_terms by_code)) (codes "ord" ∷ [])
+  unfolding understood everything
+  orders_behind_is = record { command = refl; listing = refl; plain = (refl, refl) }
+
   pub waiting_jobs_is : Reads (shop schema h) waiting_jobs_text (first_of (col 0 1) (from_table 6 waiting_jobs_tests waiting_jobs_terms by_rowid)) (codes "job" ∷ [])
   unfolding understood everything
   waiting_jobs_is = record { command = refl; listing = refl; plain = (refl, refl) }
@@ -194,6 +224,18 @@ first_parts_selects = refl
 pub parts_behind_selects : is_select parts_behind_text ≡ true
 unfolding everything
 parts_behind_selects = refl
+
+pub lines_selects : is_select lines_text ≡ true
+unfolding everything
+lines_selects = refl
+
+pub first_orders_selects : is_select first_orders_text ≡ true
+unfolding everything
+first_orders_selects = refl
+
+pub orders_behind_selects : is_select orders_behind_text ≡ true
+unfolding everything
+orders_behind_selects = refl
 
 pub waiting_jobs_selects : is_select waiting_jobs_text ≡ true
 unfolding everything

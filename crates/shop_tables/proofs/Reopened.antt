@@ -82,5 +82,5 @@ left_is_found {D} {g} it numbered sound left may files seen new opened found = �
     let r : (db : Trees) × recovers it db × ((m : Content) → StandsFor db m → IsSettledAt (file_state new) m) = (
       x.0,
       x.1,
-      λ m stands. record { totals = stands.totals; sums = stands.sums; settled = left_settled new (books m stands.totals) opened (subst (λ db. StandsIn db (books m stands.totals)) (sym trees) stands.stands) },
+      λ m stands. record { lines = stands.lines; totals = stands.totals; sums = stands.sums; settled = left_settled new (books m stands.totals) opened (subst (λ db. StandsIn db (books m stands.totals)) (sym trees) stands.stands) },
     ) in r)

@@ -39,14 +39,14 @@ use Rattle.shop_statements.proofs.Selects.{selects}
 use Rattle.shop_statements.proofs.Terms.{from_table}
 use Rattle.shop_statements.proofs.Texts.{shop, shop_is}
 use Rattle.shop_tables.specs.ListedRows.{listed_demand, listed_material}
-use Rattle.shop_tables.specs.RowsShown.{AreDemandRows, AreJobRows, AreMaterialRows, ArePartRows, AreShown, GivesRows, by_columns, is_above, is_at_least, is_below}
+use Rattle.shop_tables.specs.RowsShown.{AreDemandRows, AreJobRows, AreLineRows, AreMaterialRows, AreOrderRows, ArePartRows, AreShown, GivesRows, by_columns, is_above, is_at_least, is_below}
 use Rattle.shop_tables.proofs.Firsts.{first_answer}
 use Rattle.shop_tables.proofs.FirstRows.{and_and, held_given}
-use Rattle.shop_tables.proofs.ListTexts.{all_materials_is, all_materials_terms, all_materials_text, by_code, by_rowid, first_of, first_parts_is, first_parts_text, open_demands_is, open_demands_of_is, open_demands_of_tests, open_demands_of_text, open_demands_terms, open_demands_tests, open_demands_text, parts_behind_is, parts_behind_tests, parts_behind_text, parts_of_order, parts_of_terms, parts_of_tests, waiting_jobs_is, waiting_jobs_terms, waiting_jobs_tests, waiting_jobs_text}
+use Rattle.shop_tables.proofs.ListTexts.{all_codes_terms, all_materials_is, all_materials_terms, all_materials_text, by_code, by_line, by_rowid, first_of, first_orders_is, first_orders_text, first_parts_is, first_parts_text, lines_is, lines_tests, lines_text, open_demands_is, open_demands_of_is, open_demands_of_tests, open_demands_of_text, open_demands_terms, open_demands_tests, open_demands_text, orders_behind_is, orders_behind_tests, orders_behind_text, parts_behind_is, parts_behind_tests, parts_behind_text, parts_of_order, parts_of_terms, parts_of_tests, waiting_jobs_is, waiting_jobs_terms, waiting_jobs_tests, waiting_jobs_text}
 
 -- ---- a query on one table
 
-sorted_from : {A B : Type 0} (cmp : B → B → Ordering) (f : A → B) (xs : List A) → IsSorted cmp (map f xs) → IsSorted (λ a b. cmp (f a) (f b)) xs
+pub sorted_from : {A B : Type 0} (cmp : B → B → Ordering) (f : A → B) (xs : List A) → IsSorted cmp (map f xs) → IsSorted (λ a b. cmp (f a) (f b)) xs
 sorted_from cmp f xs up k d low inside = rw (get_or-map f xs (k + 1) d (f d) inside, get_or-map f xs k d (f d) (omega arith)) at (up k (f d) low (rw length-map inside))
 
 module _ (tree : ℕ) (tests terms : List Term) (order : List (Term × Key)) (db : Trees) (params : Row) (low : overlay db [] tree ≡ db tree) where
@@ -144,6 +144,24 @@ module _ (old new : State) (h : IsShop old.now.schema) where
       let params = Int (pos after) ∷ Int (pos most) ∷ Text code ∷ [] in
       shown_first 9 open_demands_of_tests open_demands_terms by_rowid old.now.trees params refl _ (0 ∷ []) _ (λ r i. is_above (column r 0) (Int (pos after)) && (are_equal (column r 4) (Text code) && and_true (is_below (column r 11) (column r 9)) i)) (λ a b. refl) (λ r. refl) (col 0 1) most refl rows
       (reads_as open_demands_of_text params old new over (shop_is old.now.schema h) _ is.command is.plain is.listing rows shown).answer
+
+  pub lines_shown : (order : List ℕ) (rows : List Row) → Shown lines_text (Text order ∷ []) old new rows → AreLineRows order (old.now.trees 9) rows
+  lines_shown order rows shown =
+      let is = lines_is old.now.schema h in
+      shown_whole 9 lines_tests open_demands_terms by_line old.now.trees (Text order ∷ []) refl _ (3 ∷ []) _ (λ r. and_true (are_equal (column r 2) (Text order))) (λ a b. refl) (λ r. refl) rows
+      (reads_as lines_text (Text order ∷ []) old new over (shop_is old.now.schema h) _ is.command is.plain is.listing rows shown).answer
+
+  pub first_orders_shown : (most : ℕ) (rows : List Row) → Shown first_orders_text (Int (pos most) ∷ []) old new rows → AreOrderRows None most (old.now.trees 7) rows
+  first_orders_shown most rows shown =
+      let is = first_orders_is old.now.schema h in
+      shown_first 7 [] all_codes_terms by_code old.now.trees (Int (pos most) ∷ []) refl _ (1 ∷ []) _ (λ r. refl) (λ a b. refl) (λ r. refl) (col 0 0) most refl rows
+      (reads_as first_orders_text (Int (pos most) ∷ []) old new over (shop_is old.now.schema h) _ is.command is.plain is.listing rows shown).answer
+
+  pub orders_behind_shown : (code : List ℕ) (most : ℕ) (rows : List Row) → Shown orders_behind_text (Text code ∷ Int (pos most) ∷ []) old new rows → AreOrderRows (Some code) most (old.now.trees 7) rows
+  orders_behind_shown code most rows shown =
+      let is = orders_behind_is old.now.schema h in
+      shown_first 7 orders_behind_tests all_codes_terms by_code old.now.trees (Text code ∷ Int (pos most) ∷ []) refl _ (1 ∷ []) _ (λ r. and_true (is_above (column r 1) (Text code))) (λ a b. refl) (λ r. refl) (col 0 1) most refl rows
+      (reads_as orders_behind_text (Text code ∷ Int (pos most) ∷ []) old new over (shop_is old.now.schema h) _ is.command is.plain is.listing rows shown).answer
 
   pub waiting_jobs_shown : (after most : ℕ) (rows : List Row) → Shown waiting_jobs_text (Int (pos after) ∷ Int (pos most) ∷ []) old new rows → AreJobRows after most (old.now.trees 6) rows
   waiting_jobs_shown after most rows shown =

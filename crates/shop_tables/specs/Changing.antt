@@ -66,11 +66,11 @@ pub record IsOver {K X : Type 0} {R : K → K → Ordering} (rows : FinMap R X) 
   pub found : get rows key ≡ Some before
   pub is : row ≡ made before
 
--- with the counts of the first
+-- with the number wanted and the counts of the first
 abbrev pub recounted : Demand → Demand → Demand
-recounted counted demand = record demand { reserved = counted.reserved; made = counted.made }
+recounted counted demand = record demand { wanted = counted.wanted; reserved = counted.reserved; made = counted.made }
 
--- an order's demands are new, and others are there, the same but for their counts
+-- an order's demands are new, and others are there, the same but for the number wanted and their counts
 abbrev pub AreDemandsFit : Option (List ℕ) → List Demand → Books → Type 0
 AreDemandsFit None demands b = AreInTurn (λ demand n. IsOver n.content.demands demand.number (recounted demand) demand) with_demand demands b
 AreDemandsFit (Some order) demands b = AreInTurn (λ demand n. demand_at n.content demand.number ≡ None) with_demand demands b

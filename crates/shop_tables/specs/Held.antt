@@ -4,6 +4,7 @@ use Rattle.sqlite_trees.specs.Tree.{Trees}
 use Rattle.sqlite.specs.State.{State, HasCleanDisk}
 use Rattle.cut_measure.specs.Codes.{code_cmp}
 use Rattle.shop_records.specs.Content.{Content}
+use Rattle.shop_records.specs.Soundness.{HasLines}
 use Rattle.shop_records.specs.declared.records.Totals.{Totals}
 use Rattle.shop_statements.specs.Shown.{Books, IsSettled, Holds, StandsIn}
 use Rattle.shop_tables.specs.Changing.{HasSums}
@@ -12,20 +13,24 @@ use Rattle.shop_tables.specs.Changing.{HasSums}
 abbrev pub books : Content → FinMap code_cmp Totals → Books
 books m totals = record { content = m; totals = totals }
 
--- The connection holds the content, and as totals the sums of its parts.
+-- The connection holds the content, whose orders have their lines, and as totals the sums of its parts.
 pub record HoldsContent (s : State) (m : Content) : Type 0 where
+  pub lines : HasLines m
   pub totals : FinMap code_cmp Totals
   pub sums : HasSums (books m totals)
   pub holds : Holds s (books m totals)
 
--- The connection sees the content, with the sums of its parts as totals, and the last commit is what it sees.
+-- The connection sees the content, whose orders have their lines, with the sums of its parts as totals, and the last commit is
+-- what it sees.
 pub record IsSettledAt (s : State) (m : Content) : Type 0 where
+  pub lines : HasLines m
   pub totals : FinMap code_cmp Totals
   pub sums : HasSums (books m totals)
   pub settled : IsSettled s (books m totals)
 
--- The trees stand for the content, and for the sums of its parts as totals.
+-- The trees stand for the content, whose orders have their lines, and for the sums of its parts as totals.
 pub record StandsFor (db : Trees) (m : Content) : Type 0 where
+  pub lines : HasLines m
   pub totals : FinMap code_cmp Totals
   pub sums : HasSums (books m totals)
   pub stands : StandsIn db (books m totals)

@@ -84,6 +84,20 @@ AreDemandRows after material most =
     AreShown (λ row. columns_of 10 2 row ++ columns_of 1 0 row) (0 ∷ []) (Some most)
     (λ row. is_above (column row 0) (Int (pos after)) && (is_for material row && is_below (column row 11) (column row 9)))
 
+-- ---- demands of an order, by their lines
+
+abbrev pub AreLineRows : List ℕ → List Row → List Row → Type 0
+AreLineRows order = AreShown (λ row. columns_of 10 2 row ++ columns_of 1 0 row) (3 ∷ []) None (λ row. are_equal (column row 2) (Text order))
+
+-- ---- orders behind a code if one is given, by their codes
+
+abbrev pub is_code_past : Option (List ℕ) → Row → Bool
+is_code_past None row = true
+is_code_past (Some code) row = is_above (column row 1) (Text code)
+
+abbrev pub AreOrderRows : Option (List ℕ) → ℕ → List Row → List Row → Type 0
+AreOrderRows after most = AreShown (columns_of 1 1) (1 ∷ []) (Some most) (is_code_past after)
+
 -- ---- jobs with greater numbers whose state is that of a waiting one, by their numbers
 
 abbrev pub AreJobRows : ℕ → ℕ → List Row → List Row → Type 0

@@ -12,6 +12,8 @@ mod listed_rows;
 mod listing;
 mod material_lists;
 mod open_demands;
+mod order_lines;
+mod order_lists;
 mod renewing;
 mod reopening;
 mod strange;
@@ -26,6 +28,8 @@ pub use lending::{Lent, lend_all_parts, lend_parts};
 pub use listing::list_totals;
 pub use material_lists::list_materials;
 pub use open_demands::list_open_demands;
+pub use order_lines::list_lines;
+pub use order_lists::list_orders;
 pub use renewing::{list_earlier_totals, renew_shop};
 pub use reopening::left_contents_are_found;
 pub use shop_statements::{

@@ -5,6 +5,7 @@ ghost use Rattle.sqlite_value.specs.Order.{Row as Values};
 ghost use Rattle.shop_statements.specs.Found.{columns_of};
 
 use crate::lending::read_whole;
+use cut_measure::Code;
 use shop_records::{Demand, Material, Part, RowList};
 use shop_statements::{TableFault, code_in, number_in, read_demand, read_material};
 use sqlite::Row;
@@ -62,6 +63,18 @@ impl Listed for Demand {
     fn read(row: &Row) -> Result<Demand, TableFault> {
         let number = number_in(row, 10)?;
         read_demand(number, row)
+    }
+}
+
+impl Listed for Code {
+    ghost use Rattle.shop_tables.specs.Listing.{code_row};
+
+    ghost row_of = { code_row };
+
+    ghost width = { 1 };
+
+    fn read(row: &Row) -> Result<Code, TableFault> {
+        code_in(row, 0)
     }
 }
 

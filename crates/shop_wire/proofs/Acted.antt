@@ -27,7 +27,7 @@ use Rattle.shop_text.specs.Tickets.{ticket_of}
 use Rattle.shop_text.specs.Yields.{yield_of}
 use Rattle.shop_text.proofs.ToldTickets.{ticket_told, report_told}
 use Rattle.shop_request.specs.declared.routes.Route.{Route}
-use Rattle.shop_request.specs.declared.routes.Route.TheVariants.{Message, Plan, Plans, Bound, Totals, Rack, Trace, Demand, Ticket, Yield, Materials, Parts, PartsBehind, Demands, DemandsOf, Jobs, Job, Terminal}
+use Rattle.shop_request.specs.declared.routes.Route.TheVariants.{Message, Plan, Plans, Bound, Totals, Rack, Trace, Demand, Ticket, Yield, Materials, Parts, PartsBehind, Demands, DemandsOf, Orders, OrdersBehind, OrderLines, Jobs, Job, Terminal}
 use Rattle.shop_request.specs.Requests.{asking}
 use Rattle.shop_wire.specs.AnswerBytes.{Telling, replied, printed}
 use Rattle.shop_wire.specs.Replays.{IsNoMessage, PlansStep, line_message, with_reply}
@@ -179,6 +179,9 @@ module _ {B : Type 0} (book : Ghosts B) (before after : B) (m : Content) where
     asked_served PartsBehind text reply a b c d step blame = record { next = m; step = step; held = held; sound = sound; blame = λ e. blame (told_reply reply (Refused StoreFault) e); account = account_same json_texts m m refl }
     asked_served Demands text reply a b c d step blame = record { next = m; step = step; held = held; sound = sound; blame = λ e. blame (told_reply reply (Refused StoreFault) e); account = account_same json_texts m m refl }
     asked_served DemandsOf text reply a b c d step blame = record { next = m; step = step; held = held; sound = sound; blame = λ e. blame (told_reply reply (Refused StoreFault) e); account = account_same json_texts m m refl }
+    asked_served Orders text reply a b c d step blame = record { next = m; step = step; held = held; sound = sound; blame = λ e. blame (told_reply reply (Refused StoreFault) e); account = account_same json_texts m m refl }
+    asked_served OrdersBehind text reply a b c d step blame = record { next = m; step = step; held = held; sound = sound; blame = λ e. blame (told_reply reply (Refused StoreFault) e); account = account_same json_texts m m refl }
+    asked_served OrderLines text reply a b c d step blame = record { next = m; step = step; held = held; sound = sound; blame = λ e. blame (told_reply reply (Refused StoreFault) e); account = account_same json_texts m m refl }
     asked_served Jobs text reply a b c d step blame = record { next = m; step = step; held = held; sound = sound; blame = λ e. blame (told_reply reply (Refused StoreFault) e); account = account_same json_texts m m refl }
     asked_served Job text reply a b c d step blame = record { next = m; step = step; held = held; sound = sound; blame = λ e. blame (told_reply reply (Refused StoreFault) e); account = account_same json_texts m m refl }
     asked_served Terminal text reply a b c d step blame = record { next = m; step = step; held = held; sound = sound; blame = λ e. blame (told_reply reply (Refused StoreFault) e); account = account_same json_texts m m refl }

@@ -2,7 +2,7 @@
 use Rattle.std.specs.Prelude.{ℕ, Bool, true, false, List, [], ◌∷◌, ◌++◌, ◌==◌, length, Option, Some, None, codes, decimal, if◌then◌else◌}
 use Rattle.http.specs.StatusCode.{code_digits}
 use Rattle.shop_records.specs.declared.refusals.Refusal.{Refusal}
-use Rattle.shop_records.specs.declared.refusals.Refusal.TheVariants.{BadMessage, NoMaterial, NoDemand, NoPart, NoJob, NoMemory, StoreFault}
+use Rattle.shop_records.specs.declared.refusals.Refusal.TheVariants.{BadMessage, NoMaterial, NoDemand, NoOrder, NoPart, NoJob, NoMemory, StoreFault}
 use Rattle.shop_records.specs.declared.messages.Reply.{Reply}
 use Rattle.shop_records.specs.Messages.{refusal_in}
 use Rattle.shop_request.specs.declared.faults.Fault.{Fault}
@@ -75,6 +75,7 @@ abbrev pub refusal_status : Bool → Refusal → ℕ
 refusal_status posted BadMessage = 400
 refusal_status posted NoMaterial = unfound posted
 refusal_status posted NoDemand = unfound posted
+refusal_status posted NoOrder = unfound posted
 refusal_status posted NoPart = unfound posted
 refusal_status posted NoJob = unfound posted
 refusal_status posted NoMemory = 503

@@ -31,7 +31,7 @@ use Rattle.shop_desk.specs.Handled.{HasAccount}
 use Rattle.shop_text.specs.Tickets.{ticket_of}
 use Rattle.shop_text.specs.Yields.{yield_of}
 use Rattle.shop_request.specs.declared.routes.Route.{Route}
-use Rattle.shop_request.specs.declared.routes.Route.TheVariants.{Message, Plan, Plans, Bound, Totals, Rack, Trace, Demand, Ticket, Yield, Materials, Parts, PartsBehind, Demands, DemandsOf, Jobs, Job, Terminal}
+use Rattle.shop_request.specs.declared.routes.Route.TheVariants.{Message, Plan, Plans, Bound, Totals, Rack, Trace, Demand, Ticket, Yield, Materials, Parts, PartsBehind, Demands, DemandsOf, Orders, OrdersBehind, OrderLines, Jobs, Job, Terminal}
 use Rattle.shop_request.specs.Routes.{takes_body}
 use Rattle.shop_request.specs.Requests.{Sense, silent, faulty, asking, HasSense}
 use Rattle.shop_wire.specs.Replays.{data_of, line_message, IsNoMessage, IsReplied, PlansStep, with_reply}
@@ -114,6 +114,9 @@ path_query Parts part = option_map (λ code. query.Parts code None) (code_at par
 path_query PartsBehind part = if is_utf8 part then parts_asked part else None
 path_query Demands part = option_map (λ after. query.Demands after None) (number_before part)
 path_query DemandsOf part = if is_utf8 part then demands_asked part else None
+path_query Orders part = Some (query.Orders None)
+path_query OrdersBehind part = option_map (λ code. query.Orders (Some code)) (code_at part)
+path_query OrderLines part = option_map (λ code. query.Lines code) (code_at part)
 path_query Jobs part = option_map (λ after. query.Jobs after) (number_before part)
 path_query Job part = option_map (λ number. query.Job number) (numbered part)
 path_query Terminal part = option_map (λ terminal. query.Terminal terminal) (terminal_of part)
@@ -162,6 +165,9 @@ RequestStep old Parts text telling new = IsReplied telling (λ reply. AskStep ol
 RequestStep old PartsBehind text telling new = IsReplied telling (λ reply. AskStep old (asked_at PartsBehind text) reply new)
 RequestStep old Demands text telling new = IsReplied telling (λ reply. AskStep old (asked_at Demands text) reply new)
 RequestStep old DemandsOf text telling new = IsReplied telling (λ reply. AskStep old (asked_at DemandsOf text) reply new)
+RequestStep old Orders text telling new = IsReplied telling (λ reply. AskStep old (asked_at Orders text) reply new)
+RequestStep old OrdersBehind text telling new = IsReplied telling (λ reply. AskStep old (asked_at OrdersBehind text) reply new)
+RequestStep old OrderLines text telling new = IsReplied telling (λ reply. AskStep old (asked_at OrderLines text) reply new)
 RequestStep old Jobs text telling new = IsReplied telling (λ reply. AskStep old (asked_at Jobs text) reply new)
 RequestStep old Job text telling new = IsReplied telling (λ reply. AskStep old (asked_at Job text) reply new)
 RequestStep old Terminal text telling new = IsReplied telling (λ reply. AskStep old (asked_at Terminal text) reply new)

@@ -115,9 +115,11 @@ fn refusal_status(posted: bool, refusal: Refusal) -> u16
 {
     match refusal {
         Refusal::BadMessage => 400,
-        Refusal::NoMaterial | Refusal::NoDemand | Refusal::NoPart | Refusal::NoJob => {
-            unfound(posted)
-        }
+        Refusal::NoMaterial
+        | Refusal::NoDemand
+        | Refusal::NoOrder
+        | Refusal::NoPart
+        | Refusal::NoJob => unfound(posted),
         Refusal::NoMemory | Refusal::StoreFault => 503,
         _ => 409,
     }

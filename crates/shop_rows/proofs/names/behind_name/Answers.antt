@@ -6,6 +6,7 @@ use Rattle.std.proofs.lemmas.List.Sorted.{IsPartitionPoint-from_clause}
 use Rattle.cut_measure.specs.Names.{Name, name_cmp}
 use Rattle.shop_records.specs.Lists.{is_behind}
 use Rattle.shop_rows.specs.Keys.{names_total, names_exact}
+use Rattle.shop_rows.specs.Open.{own_key}
 use Rattle.shop_rows.proofs.Listed.{parted, point_back, all_behind, behind_names, upto_name}
 use Rattle.shop_rows.proofs.names.behind_name.Goals as goal
 
@@ -17,7 +18,7 @@ returns c =
     let test : Name → Bool = λ name. not (is_lt (name_cmp after name)) in
     let point =
     IsPartitionPoint-from_clause test _ _ c.partition_point-from.ensures.partitioned
-    (parted name_cmp names_total names_exact test (upto_name after) names c.requires) (λ a r q k. search rules) in
+    (parted own_key name_cmp names_total names_exact test (upto_name after) names c.requires) (λ a r q k. search rules) in
     let len : length (drop i names) ≡ length names - i = length-drop i names in
     take_all (length names - i) (drop i names) (omega (arith, len)) ∙ sym (point_back test names i c.partition_point-from.ensures.bound point)
     ∙ behind_names after names ∙ ap (λ a. filter (is_behind a) names) (sym c.in-Some.is)

@@ -13,5 +13,5 @@ pub returns-clause-put : goal.returns-clause-put
 returns-clause-put g c b was there same =
     let old = state g.S.Store c.args.tx.now.conn.now in
     let new = state g.S.Store c.run.new.tx.conn.now in
-    makes set_demand_text (Int (pos c.args.demand.now.number) ∷ Int (pos c.args.demand.now.reserved) ∷ Int (pos c.args.demand.now.made) ∷ []) old new b (with_demand c.args.demand.now b) c.run.result (rw (c.params-to_sql.ensures, c.params-to_sql-2.ensures, c.params-to_sql-3.ensures) at c.run.ensures.has_run)
-    (λ count has ran. subst (λ p. Shows new (record b { content = record b.content { demands = insert b.content.demands c.args.demand.now.number p } })) (sym same) (sets_demand old new count b has c.args.demand.now.number was c.args.demand.now.reserved c.args.demand.now.made there (has.keyed.demands c.args.demand.now.number was there) ran))
+    makes set_demand_text (Int (pos c.args.demand.now.number) ∷ Int (pos c.args.demand.now.wanted) ∷ Int (pos c.args.demand.now.reserved) ∷ Int (pos c.args.demand.now.made) ∷ []) old new b (with_demand c.args.demand.now b) c.run.result (rw (c.params-to_sql.ensures, c.params-to_sql-2.ensures, c.params-to_sql-3.ensures, c.params-to_sql-4.ensures) at c.run.ensures.has_run)
+    (λ count has ran. subst (λ p. Shows new (record b { content = record b.content { demands = insert b.content.demands c.args.demand.now.number p } })) (sym same) (sets_demand old new count b has c.args.demand.now.number was c.args.demand.now.wanted c.args.demand.now.reserved c.args.demand.now.made there (has.keyed.demands c.args.demand.now.number was there) ran))

@@ -20,7 +20,7 @@ returns-in-Err-clause-as_before g c m was = stays_earlier_content (state g.S.Sto
 pub returns-in-Ok-clause-renewed : goal.returns-in-Ok-clause-renewed
 returns-in-Ok-clause-renewed g c m was =
     let w = stays_earlier_content (state g.S.Store c.args.conn.now) (state g.S.Store c.have_earlier_sums.new.conn) m c.have_earlier_sums.ensures.leaves was in
-    record { totals = w.totals; sums = w.sums; holds = c.in-Ok.ensures.renewed (books m w.totals) w.holds }
+    record { lines = w.lines; totals = w.totals; sums = w.sums; holds = c.in-Ok.ensures.renewed (books m w.totals) w.holds }
 
 pub returns-in-Ok-clause-crash : goal.returns-in-Ok-clause-crash
 returns-in-Ok-clause-crash g c m was = renewed_survives (state g.S.Store c.args.conn.now) (state g.S.Store c.have_earlier_sums.new.conn) (state g.S.Store c.renew_shop.new.conn) c.have_earlier_sums.ensures.leaves m was c.in-Ok.ensures.crash
@@ -28,7 +28,7 @@ returns-in-Ok-clause-crash g c m was = renewed_survives (state g.S.Store c.args.
 pub returns-in-Ok-clause-after : goal.returns-in-Ok-clause-after
 returns-in-Ok-clause-after g c m was =
     let w = stays_earlier_content (state g.S.Store c.args.conn.now) (state g.S.Store c.have_earlier_sums.new.conn) m c.have_earlier_sums.ensures.leaves was in
-    λ clean db left. record { totals = w.totals; sums = w.sums; stands = c.in-Ok.ensures.after (books m w.totals) w.holds clean db left }
+    λ clean db left. record { lines = w.lines; totals = w.totals; sums = w.sums; stands = c.in-Ok.ensures.after (books m w.totals) w.holds clean db left }
 
 pub returns-in-Ok-clause-schema : goal.returns-in-Ok-clause-schema
 returns-in-Ok-clause-schema g c m was =
@@ -38,7 +38,7 @@ returns-in-Ok-clause-schema g c m was =
 pub returns-in-Err-renew_shop-clause-as_before : goal.returns-in-Err-renew_shop-clause-as_before
 returns-in-Err-renew_shop-clause-as_before g c m was =
     let w = stays_earlier_content (state g.S.Store c.args.conn.now) (state g.S.Store c.have_earlier_sums.new.conn) m c.have_earlier_sums.ensures.leaves was in
-    record { totals = w.totals; sums = w.sums; holds = c.in-Err-renew_shop.ensures.as_before (books m w.totals) w.holds }
+    record { lines = w.lines; totals = w.totals; sums = w.sums; holds = c.in-Err-renew_shop.ensures.as_before (books m w.totals) w.holds }
 
 pub returns-in-Err-renew_shop-clause-crash : goal.returns-in-Err-renew_shop-clause-crash
 returns-in-Err-renew_shop-clause-crash g c m was =

@@ -1,4 +1,4 @@
-use Rattle.std.proofs.Common.{◌≡◌, ◌∙◌, true, arith, sym, subst, ap}
+use Rattle.std.proofs.Common.{◌≡◌, ◌∙◌, arith, sym, subst, ap}
 use Rattle.sqlite.specs.Effect.{Database}
 use Rattle.sqlite.specs.Held.{state}
 use Rattle.sqlite.specs.State.{State, HasCleanDisk}

@@ -1,5 +1,5 @@
 use Rattle.std.proofs.Common.{refl}
-use Rattle.shop_tables.specs.Changing.{with_messages, with_jobs, with_stock}
+use Rattle.shop_tables.specs.Changing.{with_messages}
 use Rattle.shop_statements.proofs.Steps.{went_then, ran_then, on_ok_then}
 use Rattle.shop_tables.proofs.Fitting.{job_fits}
 use Rattle.shop_tables.proofs.InTurn.{ran_writes, writes_so, writes_then}

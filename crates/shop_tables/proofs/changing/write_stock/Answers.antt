@@ -2,7 +2,7 @@ use Rattle.std.proofs.Common.{◌≡◌, None, sym, subst, refl}
 use Rattle.std.specs.Prelude.{IfSome, is_some, not}
 use Rattle.std.specs.FinMap.{get}
 use Rattle.shop_records.specs.Content as content
-use Rattle.shop_tables.specs.Changing.{with_materials, with_moved, with_parts, with_sums}
+use Rattle.shop_tables.specs.Changing.{with_materials, with_moved, with_parts}
 use Rattle.shop_tables.proofs.Fitting.{moved_fits, parts_new, totals_fit}
 use Rattle.shop_tables.proofs.InTurn.{of_all, of_some, writes_so, writes_then}
 use Rattle.shop_tables.proofs.changing.write_stock.Goals as goal

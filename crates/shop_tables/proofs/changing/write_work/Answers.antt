@@ -2,7 +2,7 @@ use Rattle.std.proofs.Common.{◌≡◌, None, false, sym, subst, refl}
 use Rattle.std.specs.Prelude.{IfSome}
 use Rattle.std.specs.FinMap.{get}
 use Rattle.std.specs.FinSet as set
-use Rattle.shop_tables.specs.Changing.{with_orders, with_imports, with_demands}
+use Rattle.shop_tables.specs.Changing.{with_orders, with_imports}
 use Rattle.shop_tables.proofs.Fitting.{demands_fit, import_new}
 use Rattle.shop_tables.proofs.InTurn.{of_some, writes_so, writes_then}
 use Rattle.shop_tables.proofs.changing.write_work.Goals as goal

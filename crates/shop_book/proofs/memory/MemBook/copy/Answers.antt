@@ -11,7 +11,10 @@ use Rattle.shop_rows.specs.declared.sums.Sums.{Sums}
 use Rattle.shop_rows.specs.Rows.{rise, row_at}
 use Rattle.std.specs.Prelude.{IsTrue}
 use Rattle.cut_measure.specs.Codes.{code_cmp}
+use Rattle.std.specs.List.{list_all}
 use Rattle.shop_book.specs.Memory.{order_key}
+use Rattle.shop_book.specs.Orders.{codes_in, is_placed}
+use Rattle.shop_book.specs.declared.order_codes.KnownOrder.{KnownOrder}
 use Rattle.shop_book.specs.Memory.{content_of_rows}
 use Rattle.shop_book.specs.Tallies.{Tallies}
 use Rattle.shop_book.proofs.Tallied.{tally_same}
@@ -33,8 +36,11 @@ invariant_of-result c =
           (subst (λ (rows : List Part). Tallies rows c.in_ok-totals.totals.items book.lists.parts.items) (sym parts)
           (subst (λ (totals : List Sums). Tallies (parts_in book.parts) totals book.lists.parts.items) (sym totals) c.self.invariant.tally));
       jobs = subst (λ (js : List Job). IsTrue (rise job_key nat_cmp js)) (sym jobs) c.self.invariant.jobs;
-      orders = subst (λ (codes : List (List ℕ)). IsTrue (rise order_key code_cmp codes)) (sym c.in_ok-orders.ensures) c.self.invariant.orders;
+      orders = subst (λ (orders : List KnownOrder). IsTrue (rise order_key code_cmp (codes_in orders))) (sym c.in_ok-orders.ensures) c.self.invariant.orders;
       demands = search rules;
+      placed = λ none.
+          subst (λ (ds : List Demand). IsTrue (list_all (is_placed c.in_ok-orders.orders.keys) ds)) (sym demands)
+          (subst (λ (orders : List KnownOrder). IsTrue (list_all (is_placed orders) book.demands.items)) (sym c.in_ok-orders.ensures) (c.self.invariant.placed none));
       kept = search rules;
       imports = search rules;
       job_keys = search rules;
@@ -59,6 +65,6 @@ returns c =
     let imports : c.in_ok-imports.imports.items ≡ book.imports.items = c.in_ok-imports.ensures in
     (λ i.
     record {
-      content = content_of_rows (materials i) (parts i) (jobs i) (orders i) (demands i) (kept i) (imports i) book.last_act book.last_demand;
+      content = content_of_rows (materials i) (parts i) (jobs i) (codes_in (orders i)) (demands i) (kept i) (imports i) book.last_act book.last_demand;
       failures = book.failures;
     }) ∙ c.self.view_is

@@ -1,4 +1,5 @@
-use Rattle.std.proofs.Common.{◌≡◌, List, ap, ◌∙◌}
+use Rattle.std.proofs.Common.{◌≡◌, List, true, ap, subst, sym, ◌∙◌}
+use Rattle.std.specs.List.{list_all}
 use Rattle.std.specs.Ordering.{nat_cmp}
 use Rattle.std.specs.Option.{option_to_list}
 use Rattle.std.specs.Cmp.{nat_cmp_total}
@@ -12,9 +13,10 @@ use Rattle.shop_records.specs.Content.{pair_cmp, with_material, with_parts, with
 use Rattle.shop_rows.specs.PartRows.{parts_in}
 use Rattle.shop_rows.specs.Rows.{entries_of, put_each, map_of}
 use Rattle.shop_book.specs.Memory.{orders_in}
+use Rattle.shop_book.specs.Orders.{codes_in, is_placed}
 use Rattle.shop_rows.specs.Keys.{material_key, part_key, job_key, demand_key, import_key}
 use Rattle.shop_book.proofs.Held.{map_after, material_after, job_after, demands_after, kept_after, kept_sorted, import_after, number_after}
-use Rattle.shop_book.proofs.Orders.{order_after, orders_rise}
+use Rattle.shop_book.proofs.Orders.{all_placed, order_after, orders_rise, still_placed}
 use Rattle.shop_book.proofs.memory.MemBookBook.commit.Goals as goal
 
 pub invariant_of-self-2 : goal.invariant_of-self-2
@@ -24,8 +26,17 @@ invariant_of-self-2 c =
       known = c.put_stock.ensures.known;
       tally = c.put_stock.ensures.tally;
       jobs = c.put_job.ensures.rising;
-      orders = orders_rise c.args.change.order c.self.inside.orders.keys c.put_and_keep.new.orders.keys c.in_ok-put_and_keep.ensures.orders c.self.invariant.orders;
+      orders = orders_rise c.args.change.order (codes_in c.self.inside.orders.keys) (codes_in c.put_and_keep.new.orders.keys) c.in_ok-put_and_keep.ensures.orders c.self.invariant.orders;
       demands = c.put_demands.ensures.rising;
+      placed = λ none.
+          let old = c.self.inside in
+          let orders = c.put_and_keep.new.orders.keys in
+          let roomy = c.reserve_both-3.new.rows.items in
+          let still : list_all (is_placed orders) roomy ≡ true =
+          subst (λ (rows : List Demand). list_all (is_placed orders) rows ≡ true) (sym c.reserve_both-3.ensures.rows)
+          (still_placed old.orders.keys orders c.in_ok-put_and_keep.ensures.stay old.demands.items (c.self.invariant.placed (c.have_strays-self-inside.ensures.before none))) in
+          let each = c.have_strays-self-inside.ensures.placed none (subst (λ (rows : List Demand). list_all (is_placed orders) rows ≡ true) (sym c.deref.ensures.value) still) in
+          all_placed orders c.as_slice-wanted.result.now roomy c.put_demands.new.demands.items each still c.put_demands.ensures.put;
       kept = kept_sorted c.args.change.kept c.self.inside.kept.entries c.put_and_keep.new.kept.entries c.self.invariant.kept c.in_ok-put_and_keep.ensures.kept;
       imports = c.put_some-2.ensures.rising;
       job_keys = c.put_job.ensures.keys;
@@ -54,8 +65,8 @@ returns-clause-ok c =
     map_after job_key nat_cmp nat_cmp_total (option_to_list change.job) old.jobs.items c.reserve_both-2.new.rows.items c.put_job.new.jobs.items
     c.self.invariant.jobs c.reserve_both-2.ensures.rows c.put_job.ensures.put
     ∙ job_after change.job (map_of job_key nat_cmp old.jobs.items) in
-    let orders : orders_in c.put_and_keep.new.orders.keys ≡ with_order change.order (orders_in old.orders.keys) =
-    order_after change.order old.orders.keys c.put_and_keep.new.orders.keys c.in_ok-put_and_keep.ensures.orders in
+    let orders : orders_in (codes_in c.put_and_keep.new.orders.keys) ≡ with_order change.order (orders_in (codes_in old.orders.keys)) =
+    order_after change.order (codes_in old.orders.keys) (codes_in c.put_and_keep.new.orders.keys) c.in_ok-put_and_keep.ensures.orders in
     let demands : map_of demand_key nat_cmp c.put_demands.new.demands.items ≡ with_demands change.demands (map_of demand_key nat_cmp old.demands.items) =
     map_after demand_key nat_cmp nat_cmp_total change.demands old.demands.items c.reserve_both-3.new.rows.items c.put_demands.new.demands.items c.self.invariant.demands c.reserve_both-3.ensures.rows
     (c.put_demands.ensures.put ∙ ap (λ (rows : List Demand). put_each demand_key nat_cmp rows (entries_of demand_key nat_cmp c.reserve_both-3.new.rows.items)) c.as_slice-wanted.ensures)

@@ -1,0 +1,5 @@
+use Rattle.shop_machine.proofs.Sound.{imports_kept}
+use Rattle.shop_machine.proofs.laws.imports_stay.Goals as goal
+
+pub returns : goal.returns
+returns c = imports_kept

@@ -1,0 +1,18 @@
+use Rattle.std.proofs.Common.{refl, ap, sym, map, subst, ◌∙◌}
+use Rattle.std.proofs.lemmas.Result.{IfOk-weaker}
+use Rattle.shop_statements.specs.Found.{columns_of}
+use Rattle.shop_records.specs.Lists.{AreLines}
+use Rattle.shop_tables.proofs.order_lines.list_lines.Goals as goal
+use Rattle.shop_tables.proofs.RowsAsShown.{always, shown_read}
+
+pub returns-clause-rows : goal.returns-clause-rows
+returns-clause-rows g c clean b was lines =
+    IfOk-weaker c.read_rows.result _ _ (λ list is. let given = c.in_ok-rows.ensures.gives.rows clean b was lines in subst (AreLines b.content c.args.order) (sym is) given.2)
+    (let given = c.in_ok-rows.ensures.gives.rows clean b was lines in c.read_rows.ensures.values given.0 (c.deref.ensures.value ∙ given.1))
+
+pub returns-clause-stands : goal.returns-clause-stands
+returns-clause-stands g c clean h =
+    IfOk-weaker c.read_rows.result _ _ (λ list read. shown_read _ _ (λ r. refl) _ _ _ _ c.in_ok-rows.rows.items _ (c.in_ok-rows.ensures.gives.stands clean h) (ap (map (columns_of 11 0)) (sym c.deref.ensures.value) ∙ read)) c.read_rows.ensures.exact
+
+pub returns-clause-was_open : goal.returns-clause-was_open
+returns-clause-was_open g c clean = always c.read_rows.result (c.in_ok-rows.ensures.gives.was_open clean)
