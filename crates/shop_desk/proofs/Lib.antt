@@ -7,3 +7,4 @@ pub mod TakenParts
 pub mod TakenJobs
 pub mod TakenOrders
 pub mod Refusals
+pub mod Handling

@@ -17,7 +17,7 @@ use Rattle.shop_records.specs.declared.messages.Reply.TheVariants.{AddMaterial, 
 use Rattle.shop_records.specs.Messages.{Texts, IsMessage, IsMade, refusal_in, is_accepted, pair_of}
 use Rattle.shop_records.specs.Readings.{Reading}
 use Rattle.shop_records.specs.Content.{Content, kept_at, changed}
-use Rattle.shop_machine.specs.Machine.{Accepts, Reads, Makes, Refuses, StepNew, StepAgain, Step, Run, refusal_of, keeping}
+use Rattle.shop_machine.specs.Machine.{Accepts, Reads, Makes, Refuses, StepNew, StepAgain, Step, refusal_of, keeping}
 use Rattle.shop_records.specs.Keeping.{KeepsReply}
 use Rattle.shop_records.specs.Soundness.{IsSound, Fits}
 use Rattle.shop_machine.proofs.Sound.{told_accepted, sound_after, fits_accepted, agrees}
@@ -303,8 +303,14 @@ module _ (texts : Texts) where
     leads_more before mid after old at new (m ∷ ms) (r ∷ rs) message answer leads step crash =
         (leads.0, leads.1, leads_more (LeftBy texts stands before old m r leads.0) mid after leads.0 at new ms rs message answer leads.2 step crash)
 
-    pub leads_runs : (before after : Left → Type 0) (old new : Content) (messages : List Message) (answers : List Reply) → Leads texts stands before old messages answers new after → Run texts old messages answers new
-    leads_runs before after old new [] [] leads = leads.0
-    leads_runs before after old new [] (r ∷ rs) leads = absurd leads
-    leads_runs before after old new (m ∷ ms) [] leads = absurd leads
-    leads_runs before after old new (m ∷ ms) (r ∷ rs) leads = (leads.0, leads.1, leads_runs (LeftBy texts stands before old m r leads.0) after leads.0 new ms rs leads.2)
+    -- what may be left in the end grows with what could be left before
+    pub leads_grow : (before mid after : Left → Type 0) → ((left : Left) → mid left → before left)
+        → (old new : Content) (messages : List Message) (answers : List Reply) → Leads texts stands mid old messages answers new after → Leads texts stands before old messages answers new after
+    leads_grow before mid after grows old new [] [] leads = (leads.0, λ left it. grows left (leads.1 left it))
+    leads_grow before mid after grows old new [] (r ∷ rs) leads = absurd leads
+    leads_grow before mid after grows old new (m ∷ ms) [] leads = absurd leads
+    leads_grow before mid after grows old new (m ∷ ms) (r ∷ rs) leads = (
+      leads.0,
+      leads.1,
+      leads_grow (LeftBy texts stands before old m r leads.0) (LeftBy texts stands mid old m r leads.0) after (left_more before mid grows old m r leads.0) leads.0 new ms rs leads.2,
+    )

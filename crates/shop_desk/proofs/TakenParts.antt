@@ -1,11 +1,9 @@
 -- Parts that are taken in turn.
-use Rattle.std.proofs.Common.{◌≡◌, List, [], ◌∷◌, ◌++◌, map, not, Bool, true, false, Ok, refl, sym, ap, subst, ◌∙◌, append-nil}
-use Rattle.std.specs.Prelude.{filter}
+use Rattle.std.proofs.Common.{◌≡◌, List, [], ◌∷◌, ◌++◌, Bool, true, false, Ok, refl, sym, ap, subst, ◌∙◌, append-nil}
 use Rattle.std.proofs.lemmas.List.{append_assoc}
 use Rattle.shop_records.specs.declared.records.Part.{Part}
-use Rattle.shop_records.specs.declared.records.RackRow.{RackRow}
 use Rattle.shop_records.specs.Content.{rack_rows}
-use Rattle.shop_records.specs.Columns.{is_whole, rack_row}
+use Rattle.shop_records.specs.Columns.{is_whole}
 use Rattle.shop_records.specs.Visits.{GoesOn, HasSeen, IsVisit}
 use Rattle.shop_book.specs.declared.books.BookFault.{BookFault}
 use Rattle.shop_desk.specs.declared.racks.RackTaker.{RackTaker}

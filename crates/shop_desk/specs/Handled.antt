@@ -4,14 +4,14 @@ use Rattle.shop_records.specs.declared.messages.Message.{Message}
 use Rattle.shop_records.specs.declared.messages.Reply.{Reply}
 use Rattle.shop_records.specs.declared.messages.Reply.TheVariants.{Refused}
 use Rattle.shop_records.specs.declared.refusals.Refusal.TheVariants.{StoreFault}
-use Rattle.shop_records.specs.Messages.{Texts, refusal_in, pair_of}
+use Rattle.shop_records.specs.Messages.{Texts, IsMessage, refusal_in, pair_of}
 use Rattle.shop_records.specs.Content.{Content, kept_at}
 use Rattle.shop_machine.specs.Machine.{StepNew, Step, Run}
 use Rattle.shop_machine.specs.History.{Entry, messages_of, Gives, IsAccountOf, history_after}
 use Rattle.shop_records.specs.Soundness.{IsSound}
 use Rattle.shop_book.specs.declared.books.Book.{Ghosts}
 use Rattle.shop_book.specs.Kept.{OnContent}
-use Rattle.shop_desk.specs.Faults.{StoreFailed, TellOfFailures}
+use Rattle.shop_desk.specs.Faults.{StoreFailed, TellOfFailures, CountsOrContradicts}
 
 module _ (texts : Texts) {Left : Type 0} (stands : Left → Content → Type 0) where
   -- What may be left after a message that wasn't kept: once it is accepted what stands for the next content, and once it
@@ -58,11 +58,22 @@ BlamesStore texts book before after answer =
 abbrev pub RefusalKeeps : {B : Type 0} → Ghosts B → B → B → Reply → Type 0
 RefusalKeeps book before after answer = OnContent book before after (λ m. IfSome (refusal_in answer) (λ refusal. book.holds after m))
 
--- replies in turn led from one book to the next, and so it is after each of them
-abbrev pub RefusalsKeep : {B : Type 0} → Ghosts B → B → List Reply → B → Type 0
-RefusalsKeep book before [] after = after ≡ before
-RefusalsKeep {B} book before (answer ∷ answers) after =
-    (mid : B) × (book.is_honest after → book.is_honest mid) × RefusalKeeps book before mid answer × RefusalsKeep book mid answers after
+-- all that is said of the handling of one message, from the book before it to the book after it
+pub record HandlesMessage {B : Type 0} (texts : Texts) (book : Ghosts B) (before after : B) (message : Message) (answer : Reply) : Type 0 where
+  pub step : Handles texts book before after message answer
+  pub refused : RefusalKeeps book before after answer
+  pub is_message : IsMessage message
+  pub honest : book.is_honest after → book.is_honest before
+  pub failures : CountsOrContradicts answer (book.failed before) (book.failed after)
+  pub store_fault : BlamesStore texts book before after answer
+
+-- messages and their replies in turn lead from one book to the next, and each step is the handling of its message
+abbrev pub AreHandled : {B : Type 0} → Texts → Ghosts B → B → List Message → List Reply → B → Type 0
+AreHandled texts book before [] [] after = after ≡ before
+AreHandled {B} texts book before (message ∷ messages) (answer ∷ answers) after =
+    (mid : B) × HandlesMessage texts book before mid message answer × AreHandled texts book mid messages answers after
+AreHandled texts book before [] (answer ∷ answers) after = ⊥
+AreHandled texts book before (message ∷ messages) [] after = ⊥
 
 -- Where a history gives old, one whose messages are those of that history with each new message once gives next, and this is
 -- its account.

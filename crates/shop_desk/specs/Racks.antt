@@ -1,5 +1,5 @@
 -- What is taken of the parts that are handed out for the rack.
-use Rattle.std.specs.Prelude.{◌≡◌, List, [], ◌∷◌, ◌++◌, Bool, true, false}
+use Rattle.std.specs.Prelude.{◌≡◌, [], ◌∷◌, ◌++◌, Bool, true, false}
 use Rattle.shop_records.specs.declared.records.Part.{Part}
 use Rattle.shop_records.specs.Content.{rack_rows}
 use Rattle.shop_desk.specs.declared.racks.RackTaker.{RackTaker}

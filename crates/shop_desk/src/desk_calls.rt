@@ -16,7 +16,7 @@ ghost use Rattle.shop_forms.specs.Forms.{json_texts};
 ghost use Rattle.shop_book.specs.Failures.{CountsFailure};
 ghost use Rattle.shop_book.specs.Kept.{Unchanged, OnContent};
 ghost use Rattle.shop_desk.specs.Faults.{CountsReply, CountsOrContradicts, CountsUp, StoreFailed};
-ghost use Rattle.shop_desk.specs.Handled.{BlamesStore, Handles, HasRun, IsHandled, RefusalKeeps, RefusalsKeep};
+ghost use Rattle.shop_desk.specs.Handled.{AreHandled, BlamesStore, Handles, HasRun, IsHandled, RefusalKeeps};
 
 use crate::decided::{decide, keeping_message};
 use crate::found::{demands_for, material_for};
@@ -377,7 +377,8 @@ pub fn run<B: Book>(
         (λ m. IsSound json_texts m
         → IfOk result (λ replies.
         HasRun json_texts B.Book book.old book.new m messages.now replies.items)) }
-    ensures refused { IfOk result (λ replies. RefusalsKeep B.Book book.old replies.items book.new) }
+    ensures handled { IfOk result
+        (λ replies. AreHandled json_texts B.Book book.old messages.now replies.items book.new) }
     ensures err { OnErr result (book.new ≡ book.old) }
     ensures honest { B.is_honest book.new → B.is_honest book.old }
     ensures failures { CountsUp (B.failed book.old) (B.failed book.new) }

@@ -1,6 +1,6 @@
-use Rattle.std.specs.Prelude.{Some, IfSome}
+use Rattle.std.specs.Prelude.{IfSome}
 use Rattle.std.proofs.Common.{◌≡◌, refl, sym, ap, subst, inl, ◌∙◌}
-use Rattle.shop_records.specs.Messages.{pair_of, refusal_in}
+use Rattle.shop_records.specs.Messages.{refusal_in}
 use Rattle.shop_records.specs.Content.{changed}
 use Rattle.shop_machine.specs.Machine.{keeping}
 use Rattle.shop_records.specs.Soundness.{Fits}

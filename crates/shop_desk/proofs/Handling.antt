@@ -1,0 +1,87 @@
+-- What follows of messages that were handled in turn.
+use Rattle.std.proofs.Common.{List, [], ◌∷◌, ◌++◌, refl, sym, ap, subst}
+use Rattle.shop_records.specs.declared.messages.Message.{Message}
+use Rattle.shop_records.specs.declared.messages.Reply.{Reply}
+use Rattle.shop_records.specs.Messages.{Texts}
+use Rattle.shop_records.specs.Content.{Content}
+use Rattle.shop_records.specs.Soundness.{IsSound}
+use Rattle.shop_machine.specs.Machine.{Run}
+use Rattle.shop_machine.proofs.Runs.{AreMessages, gives_after}
+use Rattle.shop_machine.proofs.Owners.{account_of}
+use Rattle.shop_book.specs.declared.books.Book.{Ghosts}
+use Rattle.shop_desk.specs.Faults.{CountsUp}
+use Rattle.shop_desk.specs.Handled.{LeftBy, HandlesMessage, AreHandled, HasAccount, HasRun}
+use Rattle.shop_desk.proofs.Blame.{up_same, up_answer, up_more, tell_more, tell_one}
+use Rattle.shop_desk.proofs.Steps.{leads_grow}
+
+account_after : (texts : Texts) (old new : Content) (messages : List Message) (answers : List Reply) → AreMessages messages → Run texts old messages answers new → HasAccount texts old messages answers new
+account_after texts old new messages answers are run history given =
+    let after = gives_after texts history old new messages answers are given run in
+    (after.history, after.same, account_of texts after.history new after.given)
+
+module _ {B : Type 0} (texts : Texts) (book : Ghosts B) where
+  -- one message more
+  pub handled_more : (before mid after : B) (messages : List Message) (answers : List Reply) (message : Message) (answer : Reply)
+      → AreHandled texts book before messages answers mid → HandlesMessage texts book mid after message answer
+      → AreHandled texts book before (messages ++ message ∷ []) (answers ++ answer ∷ []) after
+  handled_more before mid after [] [] message answer same handled = (after, subst (λ b. HandlesMessage texts book b after message answer) same handled, refl)
+  handled_more before mid after [] (r ∷ rs) message answer so_far handled = absurd so_far
+  handled_more before mid after (m ∷ ms) [] message answer so_far handled = absurd so_far
+  handled_more before mid after (m ∷ ms) (r ∷ rs) message answer so_far handled =
+      (so_far.0, so_far.1, handled_more so_far.0 mid after ms rs message answer so_far.2 handled)
+
+  -- a book that is honest in the end was so all along
+  pub handled_honest : (before after : B) (messages : List Message) (answers : List Reply) → AreHandled texts book before messages answers after → book.is_honest after → book.is_honest before
+  handled_honest before after [] [] same honest = subst book.is_honest same honest
+  handled_honest before after [] (r ∷ rs) handled honest = absurd handled
+  handled_honest before after (m ∷ ms) [] handled honest = absurd handled
+  handled_honest before after (m ∷ ms) (r ∷ rs) handled honest = handled.1.honest (handled_honest handled.0 after ms rs handled.2 honest)
+
+  pub handled_up : (before after : B) (messages : List Message) (answers : List Reply) → AreHandled texts book before messages answers after → CountsUp (book.failed before) (book.failed after)
+  handled_up before after [] [] same = up_same (book.failed before) (book.failed after) (ap book.failed same)
+  handled_up before after [] (r ∷ rs) handled = absurd handled
+  handled_up before after (m ∷ ms) [] handled = absurd handled
+  handled_up before after (m ∷ ms) (r ∷ rs) handled =
+      up_more (book.failed before) (book.failed handled.0) (book.failed after) (up_answer (book.failed before) (book.failed handled.0) r handled.1.failures) (handled_up handled.0 after ms rs handled.2)
+
+  are_messages : (before after : B) (messages : List Message) (answers : List Reply) → AreHandled texts book before messages answers after → AreMessages messages
+  are_messages before after [] [] same = tt
+  are_messages before after [] (r ∷ rs) handled = absurd handled
+  are_messages before after (m ∷ ms) [] handled = absurd handled
+  are_messages before after (m ∷ ms) (r ∷ rs) handled = (handled.1.is_message, are_messages handled.0 after ms rs handled.2)
+
+  -- a content that the first book held was run through the machine
+  pub handled_run : (before after : B) (messages : List Message) (answers : List Reply) → AreHandled texts book before messages answers after → book.is_honest after
+      → (m : Content) → book.holds before m → IsSound texts m → HasRun texts book before after m messages answers
+  handled_run before after [] [] same honest m held sound =
+      record {
+        next = m;
+        run = refl;
+        held = subst (λ b. book.holds b m) (sym same) held;
+        sound = sound;
+        crash = (refl, λ left it. subst (λ b. book.may_leave b left) same it);
+        blame = λ none. absurd none;
+        account = account_after texts m m [] [] tt refl;
+      }
+  handled_run before after [] (r ∷ rs) handled honest m held sound = absurd handled
+  handled_run before after (message ∷ ms) [] handled honest m held sound = absurd handled
+  handled_run before after (message ∷ ms) (answer ∷ rs) handled honest m held sound =
+      let mid = handled.0 in
+      let at_mid = handled_honest mid after ms rs handled.2 honest in
+      let one = handled.1.step at_mid m held sound in
+      let more = handled_run mid after ms rs handled.2 honest one.next one.held one.sound in
+      let run : Run texts m (message ∷ ms) (answer ∷ rs) more.next = (one.next, one.step, more.run) in
+      record {
+        next = more.next;
+        run = run;
+        held = more.held;
+        sound = more.sound;
+        crash = (
+          one.next,
+          one.step,
+          leads_grow texts book.stands (LeftBy texts book.stands (book.may_leave before) m message answer one.next) (book.may_leave mid) (book.may_leave after) one.crash one.next more.next ms rs more.crash,
+        );
+        blame = tell_more (book.failed before) (book.failed mid) (book.failed after) (answer ∷ []) rs (up_answer (book.failed before) (book.failed mid) answer handled.1.failures) (handled_up mid after ms rs handled.2)
+            (tell_one (book.failed before) (book.failed mid) answer (handled.1.store_fault at_mid m held sound)) more.blame;
+        account = account_after texts m more.next (message ∷ ms) (answer ∷ rs) (are_messages before after (message ∷ ms) (answer ∷ rs) handled) run;
+      }
