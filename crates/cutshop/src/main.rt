@@ -4,8 +4,15 @@
 #![tactic(auto)]
 
 use shop_commands::run;
+use shop_opening::Opener;
+use sqlite::{Start, Unknown};
 use std::process::ExitCode;
 
+// Does what the words ask for, whatever the files of the store hold: `start` stands for that.
+fn run_over<S: Start>(rt: &HostRuntime, start: S) -> u8 {
+    run(rt, Opener::new(rt, start))
+}
+
 fn main(rt: HostRuntime) -> ExitCode {
-    ExitCode::from(run(&rt, &rt))
+    ExitCode::from(run_over(&rt, Unknown))
 }

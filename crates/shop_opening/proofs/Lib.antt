@@ -1,0 +1,10 @@
+-- files that held no database
+pub mod Nothing
+-- what an opening finds, and what it gives
+pub mod Found
+-- which fault each refusal is
+pub mod Faults
+-- what may be left behind messages that were answered
+pub mod Behind
+-- an image that a stop left
+pub mod Left

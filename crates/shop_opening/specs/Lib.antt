@@ -1,1 +1,3 @@
 pub mod Shops
+pub mod Openings
+pub mod Stops

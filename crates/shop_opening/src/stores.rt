@@ -1,17 +1,20 @@
 //! The books of store files: what opens and closes one.
 
-ghost use Rattle.std.specs.Prelude.{◌≡◌, IfErr};
+ghost use Rattle.std.specs.Prelude.{◌≡◌, ◌⊎◌, IfOk, IfErr, IfSome};
+ghost use Rattle.sqlite_wal.specs.Files.{image_at};
+ghost use Rattle.shop_advice.specs.declared.causes.StoreCause.TheVariants as cause;
+ghost use Rattle.shop_opening.specs.Openings.{AreTablesLeft, IsAdoptFault, IsCodeFault, IsOpenFault, IsOpenedOn, IsOpening, IsPortLeft};
 
 use shop_advice::{StoreCause, VersionCause, kind_cause, look_at_store};
 use shop_store::{BookFault, SqlBook};
-use sqlite::{Connection, Error, ErrorCode, File, FileStore};
+use sqlite::{Connection, Error, ErrorCode, FileFrom, FileStore, Leftover, Start};
 use std::alloc::Global;
 use std::fs::OpenOptions;
 use std::io::ErrorKind;
 use std::os::unix::fs::OpenOptionsExt;
 
-/// A book in the SQL tables of a file.
-pub type StoreBook = SqlBook<FileStore<File>>;
+/// A book in the SQL tables of files that held what `S` says.
+pub type StoreBook<S> = SqlBook<FileStore<FileFrom<S>>>;
 
 /// Why a store can't be opened.
 #[derive(Clone, Copy, Debug, PartialEq, Eq)]
@@ -24,54 +27,81 @@ pub enum OpenFault {
     Version(VersionCause),
 }
 
-/// What opens the books of stores, each known by a path.
-pub trait Opens<B> {
-    ghost use Rattle.std.specs.Prelude.{◌≡◌, IfOk, List, ℕ};
+/// What opens the book of a store, which is known by a path, once.
+pub trait Opens<B>: Drop {
+    ghost use Rattle.std.specs.Prelude.{◌≡◌, List, Result, ℕ};
+    ghost use Rattle.shop_opening.specs.declared.stores.OpenFault.{OpenFault as OpenFaultOf};
 
-    /// An open of this path may give this book.
-    ghost gives: { Self → List ℕ → B → Type 0 };
+    /// An open of this path may give this: a book, or the fault for which there is none.
+    ghost gives: { Self → List ℕ → Result B OpenFaultOf → Type 0 };
 
     /// Opens a store's book, and makes the store where it isn't there.
     ///
     /// `NoMemory` for want of memory; `Store` where the store can't be read and written, is in use, or is no database;
     /// `Version` where it has other tables under a book's names, or those of another version. Such a store is left as it
     /// was.
-    fn open(&self, alloc: Global, path: &str) -> Result<B, OpenFault>
-        ensures { IfOk result (λ book. gives self.now path.now book) };
+    fn open(self, alloc: Global, path: &str) -> Result<B, OpenFault>
+        ensures { gives self path.now result };
 
     /// Closes a store. What was accepted is in it before.
-    fn close(&self, book: B);
+    fn close(book: B);
 }
 
 // Why a store is no database, where its bytes or its rows are none.
-fn damage(rt: &HostRuntime, alloc: Global, path: &str) -> StoreCause {
+fn damage(rt: &HostRuntime, alloc: Global, path: &str) -> StoreCause
+    ensures { (result ≡ cause.NoDatabase) ⊎ (result ≡ cause.Damaged) }
+{
     match look_at_store(rt, alloc, path) {
         StoreCause::NoDatabase => StoreCause::NoDatabase,
         _ => StoreCause::Damaged,
     }
 }
 
-// What the failure of an open is. It was tried before to make the file, and this came of it.
+// Why a store can't be opened, where the port doesn't tell. It was tried before to make the file, and this came of it.
+fn other_cause(rt: &HostRuntime, alloc: Global, path: &str, made: Option<ErrorKind>) -> StoreCause {
+    if is_special(path) {
+        return StoreCause::NotPlain;
+    }
+    match made {
+        Some(kind) => kind_cause(kind),
+        None => look_at_store(rt, alloc, path),
+    }
+}
+
+// What a refusal of the port with this code is.
+fn code_fault(
+    rt: &HostRuntime,
+    alloc: Global,
+    path: &str,
+    code: ErrorCode,
+    made: Option<ErrorKind>,
+) -> OpenFault
+    ensures { IsCodeFault code result }
+{
+    match code {
+        ErrorCode::OutOfMemory => OpenFault::NoMemory,
+        ErrorCode::DatabaseBusy => OpenFault::Store(StoreCause::InUse),
+        ErrorCode::DiskFull => OpenFault::Store(StoreCause::Full),
+        ErrorCode::NotADatabase => OpenFault::Store(damage(rt, alloc, path)),
+        ErrorCode::DatabaseCorrupt => OpenFault::Store(damage(rt, alloc, path)),
+        _ => OpenFault::Store(other_cause(rt, alloc, path, made)),
+    }
+}
+
+// What a refusal of the port is.
 fn open_fault(
     rt: &HostRuntime,
     alloc: Global,
     path: &str,
-    error: &Error,
+    error: Error,
     made: Option<ErrorKind>,
-) -> OpenFault {
-    OpenFault::Store(match error {
-        Error::SqliteFailure(ErrorCode::OutOfMemory) => return OpenFault::NoMemory,
-        Error::SqliteFailure(ErrorCode::DatabaseBusy) => StoreCause::InUse,
-        Error::SqliteFailure(ErrorCode::DiskFull) => StoreCause::Full,
-        Error::SqliteFailure(ErrorCode::NotADatabase | ErrorCode::DatabaseCorrupt) => {
-            damage(rt, alloc, path)
-        }
-        _ if is_special(path) => StoreCause::NotPlain,
-        _ => match made {
-            Some(kind) => kind_cause(kind),
-            None => look_at_store(rt, alloc, path),
-        },
-    })
+) -> OpenFault
+    ensures { IsOpenFault error result }
+{
+    match error {
+        Error::SqliteFailure(code) => code_fault(rt, alloc, path, code, made),
+        _ => OpenFault::Store(other_cause(rt, alloc, path, made)),
+    }
 }
 
 // Whether a name is one that no file of a store has.
@@ -97,7 +127,7 @@ fn make_private(rt: &HostRuntime, path: &str) -> Option<ErrorKind> {
 }
 
 // The version that the tables of a database say, where they say one.
-fn version_of(conn: &mut Connection<FileStore<File>>) -> Option<i64> {
+fn version_of<S: Start>(conn: &mut Connection<FileStore<FileFrom<S>>>) -> Option<i64> {
     match conn.query_row("SELECT value FROM meta WHERE name = 'version'", &[]) {
         Ok(row) => row.get(0).ok(),
         Err(_) => None,
@@ -105,7 +135,7 @@ fn version_of(conn: &mut Connection<FileStore<File>>) -> Option<i64> {
 }
 
 // Why a database isn't taken over.
-fn strange_cause(conn: &mut Connection<FileStore<File>>) -> VersionCause {
+fn strange_cause<S: Start>(conn: &mut Connection<FileStore<FileFrom<S>>>) -> VersionCause {
     match version_of(conn) {
         Some(version) if version > 2 => VersionCause::Newer,
         Some(1 | 2) => VersionCause::Contradicting,
@@ -114,7 +144,9 @@ fn strange_cause(conn: &mut Connection<FileStore<File>>) -> VersionCause {
 }
 
 // Why a database that was opened can't be read and written.
-fn failure_of(conn: Connection<FileStore<File>>) -> StoreCause {
+fn failure_of<S: Start>(conn: Connection<FileStore<FileFrom<S>>>) -> StoreCause
+    ensures { (result ≡ cause.Full) ⊎ (result ≡ cause.Damaged) }
+{
     if conn.into_store().tally().refused > 0 {
         StoreCause::Full
     } else {
@@ -123,7 +155,12 @@ fn failure_of(conn: Connection<FileStore<File>>) -> StoreCause {
 }
 
 // What the failure to take a database over is.
-fn adopt_fault(fault: BookFault, mut conn: Connection<FileStore<File>>) -> OpenFault {
+fn adopt_fault<S: Start>(
+    fault: BookFault,
+    mut conn: Connection<FileStore<FileFrom<S>>>,
+) -> OpenFault
+    ensures { IsAdoptFault fault result }
+{
     match fault {
         BookFault::NoMemory => OpenFault::NoMemory,
         BookFault::Store => OpenFault::Store(failure_of(conn)),
@@ -131,29 +168,81 @@ fn adopt_fault(fault: BookFault, mut conn: Connection<FileStore<File>>) -> OpenF
     }
 }
 
-// Opens the book of a store file.
-fn open_file(rt: &HostRuntime, alloc: Global, path: &str) -> Result<StoreBook, OpenFault> {
-    let made = make_private(rt, path);
-    let conn = match Connection::open(rt, path) {
+// Why there is no book: the tables weren't taken over, with the connection that is left; or the port refused the files, with
+// what is left of them, where they were opened.
+type Unopened<S> = Result<
+    (BookFault, Connection<FileStore<FileFrom<S>>>),
+    (Error, Option<Leftover<FileFrom<S>>>),
+>;
+
+// Opens the files of a store, and takes their tables over. `start` stands for what the files held.
+fn open_book<S: Start>(
+    rt: &HostRuntime,
+    alloc: Global,
+    path: &str,
+    start: S,
+) -> Result<StoreBook<S>, Unopened<S>>
+    ensures opened { IfOk result
+        (λ book. IsOpenedOn (image_at S.Start) book.conn book.work book.failures) }
+    ensures tables { IfErr result (λ why. IfOk why
+        (λ back. AreTablesLeft (image_at S.Start) back.0 back.1)) }
+    ensures port { IfErr result (λ why. IfErr why
+        (λ back. IfSome back.1 (IsPortLeft (image_at S.Start) back.0))) }
+{
+    let conn = match Connection::open_from(rt, path, false, start) {
         Ok(conn) => conn,
-        Err(error) => return Err(open_fault(rt, alloc, path, &error, made)),
+        Err((error, left)) => return Err(Err((error, left))),
     };
     match SqlBook::adopt(alloc, conn) {
         Ok(book) => Ok(book),
-        Err((fault, conn)) => Err(adopt_fault(fault, conn)),
+        Err((fault, last)) => Err(Ok((fault, last))),
     }
 }
 
-impl Opens<StoreBook> for HostRuntime {
-    ghost use Rattle.std.specs.Prelude.{⊤};
+/// Opens the book of a store file, and makes the file where it isn't there. `start` stands for what the files held.
+pub fn open_file<S: Start>(
+    rt: &HostRuntime,
+    alloc: Global,
+    path: &str,
+    start: S,
+) -> Result<StoreBook<S>, OpenFault>
+    ensures { IsOpening (image_at S.Start) result }
+{
+    let made = make_private(rt, path);
+    match open_book(rt, alloc, path, start) {
+        Ok(book) => Ok(book),
+        Err(Ok((fault, conn))) => Err(adopt_fault(fault, conn)),
+        Err(Err((error, _))) => Err(open_fault(rt, alloc, path, error, made)),
+    }
+}
 
-    ghost gives = { λ _ _ _. ⊤ };
+/// What opens the book of one store file. `S` stands for what the files hold before, and `start` is used up by the open, so
+/// that no second store is opened under the same `S`.
+#[derive(Drop)]
+pub struct Opener<'a, S: Start> {
+    rt: &'a HostRuntime,
+    start: S,
+}
 
-    fn open(&self, alloc: Global, path: &str) -> Result<StoreBook, OpenFault> {
-        open_file(self, alloc, path)
+impl<'a, S: Start> Opener<'a, S> {
+    /// It opens at the path that it is given then.
+    pub fn new(rt: &'a HostRuntime, start: S) -> Opener<'a, S> {
+        Opener { rt, start }
+    }
+}
+
+impl<'a, S: Start> Opens<StoreBook<S>> for Opener<'a, S> {
+    ghost use Rattle.sqlite_wal.specs.Files.{image_at};
+    ghost use Rattle.shop_opening.specs.Openings.{IsOpening};
+
+    ghost gives = { λ _ _ result. IsOpening (image_at S.Start) result };
+
+    fn open(self, alloc: Global, path: &str) -> Result<StoreBook<S>, OpenFault> {
+        let Opener { rt, start } = self;
+        open_file(rt, alloc, path, start)
     }
 
-    fn close(&self, book: StoreBook) {
+    fn close(book: StoreBook<S>) {
         let _ = book.into_connection().close();
     }
 }

@@ -1,0 +1,110 @@
+-- What the files of a store show, what an opening of them gives, and why there is none.
+use Rattle.std.specs.Prelude.{◌≡◌, ◌≢◌, ◌⊎◌, ℕ, Option, IfSome, Result, Ok, Err}
+use Rattle.std.specs.FinMap.{FinMap}
+use Rattle.sqlite_disk.specs.declared.Disk.{Ghosts as DiskGhosts}
+use Rattle.sqlite_disk.specs.declared.Files.{Files}
+use Rattle.sqlite_store.specs.declared.store.FileStore.{FileStore}
+use Rattle.sqlite_trees.specs.Tree.{Trees}
+use Rattle.sqlite_trees.specs.declared.store.Store.{Ghosts as StoreGhosts}
+use Rattle.sqlite_wal.specs.Recovery.{Image}
+use Rattle.sqlite.specs.declared.error.Error.{Error}
+use Rattle.sqlite.specs.declared.error.Error.TheVariants.{SqliteFailure}
+use Rattle.sqlite.specs.declared.error.ErrorCode.{ErrorCode}
+use Rattle.sqlite.specs.declared.error.ErrorCode.TheVariants.{OutOfMemory, DatabaseBusy, DiskFull, NotADatabase, DatabaseCorrupt}
+use Rattle.sqlite.specs.declared.file.Leftover.{Leftover}
+use Rattle.sqlite.specs.Files.{file_state, image_of, FailsToOpenFiles, HoldsDatabase, IsCleanLeft, IsEmpty, IsNothing, LeavesFiles}
+use Rattle.sqlite.specs.Held.{Held}
+use Rattle.sqlite.specs.State.{State, HasCleanDisk}
+use Rattle.cut_measure.specs.Codes.{code_cmp}
+use Rattle.shop_records.specs.Content.{Content, fresh}
+use Rattle.shop_records.specs.Soundness.{HasLines}
+use Rattle.shop_records.specs.declared.records.Totals.{Totals}
+use Rattle.shop_statements.specs.Earlier.{StandsInEarlier}
+use Rattle.shop_tables.specs.Changing.{HasSums}
+use Rattle.shop_tables.specs.Held.{books, LeavesOnly, StandsFor}
+use Rattle.shop_store.specs.OpenWork.{HoldsListed}
+use Rattle.shop_store.specs.declared.listed_work.OpenWork.{OpenWork}
+use Rattle.shop_store.specs.declared.sql.SqlBook.{SqlBook}
+use Rattle.shop_book.specs.declared.books.BookFault.{BookFault}
+use Rattle.shop_book.specs.declared.books.BookFault.TheVariants as book
+use Rattle.shop_advice.specs.declared.causes.StoreCause.{StoreCause}
+use Rattle.shop_advice.specs.declared.causes.StoreCause.TheVariants.{InUse, Full, NoDatabase, Damaged}
+use Rattle.shop_advice.specs.declared.causes.VersionCause.{VersionCause}
+use Rattle.shop_opening.specs.declared.stores.OpenFault.{OpenFault}
+use Rattle.shop_opening.specs.declared.stores.OpenFault.TheVariants.{NoMemory, Store, Version}
+
+-- ---- what files show
+
+-- The trees stand in version 1 for the content, whose orders have their lines, and for the sums of its parts as totals.
+pub record StandsForEarlier (db : Trees) (m : Content) : Type 0 where
+  pub lines : HasLines m
+  pub totals : FinMap code_cmp Totals
+  pub sums : HasSums (books m totals)
+  pub stands : StandsInEarlier db (books m totals)
+
+-- The trees stand for the content, in version 2 or in version 1; or there are no tables, and nothing was done yet.
+abbrev pub ShowsIn : Trees → Content → Type 0
+ShowsIn db m = StandsFor db m ⊎ (StandsForEarlier db m ⊎ (IsEmpty db × (m ≡ fresh)))
+
+-- The files hold a database that shows the content; or they hold none yet, and nothing was done yet.
+abbrev pub ShowsContent : Image → Content → Type 0
+ShowsContent image m = ((db : Trees) × HoldsDatabase image db × ShowsIn db m) ⊎ (IsNothing image × (m ≡ fresh))
+
+-- ---- what an opening gives
+
+-- Files with this image were opened as a book over this connection, with this beside it. It holds each content that they showed,
+-- what a crash leaves of it stands for that alone, and no failure is counted yet.
+pub record IsOpenedOn {D : Type 0} {g : DiskGhosts D} (image : Image) (conn : Held (FileStore D g)) (work : OpenWork) (failures : ℕ) : Type 0 where
+  pub holds : (m : Content) → ShowsContent image m → HoldsListed (file_state conn) work m
+  pub leaves : (m : Content) → ShowsContent image m → LeavesOnly (file_state conn) m
+  pub uncounted : failures ≡ 0
+
+-- ---- why there is none
+
+-- what a refusal of the port with this code is: want of memory is told as that, and every other refusal as the store's, by its
+-- cause as far as the code tells it
+pub record IsCodeFault (code : ErrorCode) (fault : OpenFault) : Type 0 where
+  pub memory : code ≡ OutOfMemory → fault ≡ NoMemory
+  pub used : code ≡ DatabaseBusy → fault ≡ Store InUse
+  pub full : code ≡ DiskFull → fault ≡ Store Full
+  pub damaged : (code ≡ NotADatabase) ⊎ (code ≡ DatabaseCorrupt) → (fault ≡ Store NoDatabase) ⊎ (fault ≡ Store Damaged)
+  pub other : code ≢ OutOfMemory → (cause : StoreCause) × (fault ≡ Store cause)
+
+-- what a refusal of the port is: one by a code is what that is, and any other the store's
+pub record IsOpenFault (error : Error) (fault : OpenFault) : Type 0 where
+  pub coded : (code : ErrorCode) → error ≡ SqliteFailure code → IsCodeFault code fault
+  pub other : ((code : ErrorCode) → error ≢ SqliteFailure code) → (cause : StoreCause) × (fault ≡ Store cause)
+
+-- what it is that the tables weren't taken over
+abbrev pub IsAdoptFault : BookFault → OpenFault → Type 0
+IsAdoptFault book.NoMemory fault = fault ≡ NoMemory
+IsAdoptFault book.Store fault = (fault ≡ Store Full) ⊎ (fault ≡ Store Damaged)
+IsAdoptFault book.WrongVersion fault = (cause : VersionCause) × (fault ≡ Version cause)
+
+-- what a crash leaves shows the content
+abbrev pub LeavesShown : State → Content → Type 0
+LeavesShown s m = HasCleanDisk s → (db : Trees) → s.may_leave db → ShowsIn db m
+
+module _ {D : Type 0} {g : DiskGhosts D} (image : Image) where
+  -- The port refused files with this image by this error, and this is left of them: they can be opened as before, as the port has
+  -- it (`LeavesFiles`), and it had this cause.
+  abbrev pub IsPortLeft : Error → Leftover D g → Type 0
+  IsPortLeft error left =
+      (files : Files D) × (image_of g files ≡ image) × (IsCleanLeft left → FailsToOpenFiles files left error × LeavesFiles files left)
+
+  -- The tables of files with this image weren't taken over. A crash leaves what shows each content that they showed; and none that
+  -- show one are refused for their version.
+  pub record AreTablesLeft (why : BookFault) (last : Held (FileStore D g)) : Type 0 where
+    pub leaves : (m : Content) → ShowsContent image m → LeavesShown (file_state last) m
+    pub version : why ≡ book.WrongVersion → HasCleanDisk (file_state last) → (m : Content) → ShowsContent image m → ⊥
+
+-- Files with this image weren't opened as a book, and this is the fault: the port refused them, or their tables weren't taken over.
+abbrev pub AreRefused : {D : Type 0} → DiskGhosts D → Image → OpenFault → Type 0
+AreRefused {D = D} g image fault =
+    ((error : Error) × (left : Option (Leftover D g)) × IfSome left (IsPortLeft image error) × IsOpenFault error fault)
+    ⊎ ((why : BookFault) × (last : Held (FileStore D g)) × AreTablesLeft image why last × IsAdoptFault why fault)
+
+-- What an opening of files with this image comes to: a book that is open on them, or the fault for which there is none.
+abbrev pub IsOpening : {D : Type 0} {g : DiskGhosts D} {s : StoreGhosts (FileStore D g)} → Image → Result (SqlBook (FileStore D g) s) OpenFault → Type 0
+IsOpening image (Ok book) = IsOpenedOn image book.conn book.work book.failures
+IsOpening {g = g} image (Err fault) = AreRefused g image fault
