@@ -4,6 +4,8 @@ use Rattle.shop_advice.specs.declared.causes.FileCause.{FileCause}
 use Rattle.shop_advice.specs.declared.causes.FileCause.TheVariants as file
 use Rattle.shop_advice.specs.declared.causes.StoreCause.{StoreCause}
 use Rattle.shop_advice.specs.declared.causes.StoreCause.TheVariants as store
+use Rattle.shop_advice.specs.declared.causes.BackupCause.{BackupCause}
+use Rattle.shop_advice.specs.declared.causes.BackupCause.TheVariants as backup
 use Rattle.shop_advice.specs.declared.causes.VersionCause.{VersionCause}
 use Rattle.shop_advice.specs.declared.causes.VersionCause.TheVariants as version
 use Rattle.shop_advice.specs.declared.causes.ShopCause.{ShopCause}
@@ -31,6 +33,18 @@ store_text store.NoDatabase = codes "it is no SQLite database; name another file
 store_text store.Damaged = codes "it or its disk is damaged; put a copy of it and its log in its place"
 store_text store.Full = codes "the disk is full; make room"
 store_text store.Failed = codes "it or its log can't be read and written; look at the permissions of both and of their folder"
+
+-- of a folder in which no backup can be made
+abbrev pub backup_text : BackupCause → List ℕ
+backup_text backup.NoFolder = codes "it isn't there; make it first"
+backup_text backup.Other = codes "it is no folder; name one"
+backup_text backup.NotAllowed = codes "this account may not read it and make files in it"
+backup_text backup.ReadOnly = codes "its disk is read-only"
+backup_text backup.Full = codes "its disk is full; make room"
+backup_text backup.NoNumber = codes "each number up to 1000000 is taken; name another folder"
+backup_text backup.Moved = codes "the store's names lead to other files than those that are open; start this program anew"
+backup_text backup.Unread = codes "the store and its log can't be read"
+backup_text backup.Failed = codes "files can't be made in it"
 
 -- of a database that has other tables
 abbrev pub version_text : VersionCause → List ℕ

@@ -47,6 +47,29 @@ pub enum StoreCause {
     Failed,
 }
 
+/// Why no backup can be made.
+#[derive(Clone, Copy, Debug, PartialEq, Eq)]
+pub enum BackupCause {
+    /// There is no folder of this name.
+    NoFolder,
+    /// The name is that of something else.
+    Other,
+    /// This account may not make files in it, or not read it.
+    NotAllowed,
+    /// Its disk takes no writes.
+    ReadOnly,
+    /// Its disk has no room.
+    Full,
+    /// Each number is taken.
+    NoNumber,
+    /// Under the store's names lie other files than those that are open.
+    Moved,
+    /// The store or its log can't be read.
+    Unread,
+    /// Files can't be made in it, and nothing tells why.
+    Failed,
+}
+
 /// Why the tables of a database are no shop's of this program.
 #[derive(Clone, Copy, Debug, PartialEq, Eq)]
 pub enum VersionCause {
@@ -129,6 +152,27 @@ impl StoreCause {
             StoreCause::Failed => {
                 "it or its log can't be read and written; look at the permissions of both and of their folder"
             }
+        }
+    }
+}
+
+impl BackupCause {
+    /// What is told of it.
+    pub fn text(self) -> &'static str
+        ensures { result.now ≡ spec.backup_text self }
+    {
+        match self {
+            BackupCause::NoFolder => "it isn't there; make it first",
+            BackupCause::Other => "it is no folder; name one",
+            BackupCause::NotAllowed => "this account may not read it and make files in it",
+            BackupCause::ReadOnly => "its disk is read-only",
+            BackupCause::Full => "its disk is full; make room",
+            BackupCause::NoNumber => "each number up to 1000000 is taken; name another folder",
+            BackupCause::Moved => {
+                "the store's names lead to other files than those that are open; start this program anew"
+            }
+            BackupCause::Unread => "the store and its log can't be read",
+            BackupCause::Failed => "files can't be made in it",
         }
     }
 }

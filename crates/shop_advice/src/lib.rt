@@ -6,7 +6,7 @@ mod looks;
 mod notes;
 mod shop_lines;
 
-pub use causes::{FileCause, ShopCause, StoreCause, VersionCause};
-pub use looks::{is_there, kind_cause, look_at_file, look_at_store};
-pub use notes::answer_note;
+pub use causes::{BackupCause, FileCause, ShopCause, StoreCause, VersionCause};
+pub use looks::{backup_cause, is_there, kind_cause, look_at_file, look_at_store};
+pub use notes::{answer_note, backup_note, no_backup_note};
 pub use shop_lines::{ShopPlace, look_at_shop};

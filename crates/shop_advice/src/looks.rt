@@ -1,6 +1,6 @@
 //! Looks at files, once they couldn't be used.
 
-use crate::causes::{FileCause, StoreCause};
+use crate::causes::{BackupCause, FileCause, StoreCause};
 use std::alloc::Global;
 use std::fs::{self, File, Files, OpenOptions};
 use std::io::{ErrorKind, Read};
@@ -27,6 +27,18 @@ pub fn kind_cause(kind: ErrorKind) -> StoreCause {
         ErrorKind::ReadOnlyFilesystem => StoreCause::ReadOnly,
         ErrorKind::StorageFull | ErrorKind::QuotaExceeded => StoreCause::Full,
         _ => StoreCause::Failed,
+    }
+}
+
+/// Why no file could be made in a folder of backups, by the system's error.
+pub fn backup_cause(kind: ErrorKind) -> BackupCause {
+    match kind {
+        ErrorKind::NotFound => BackupCause::NoFolder,
+        ErrorKind::NotADirectory => BackupCause::Other,
+        ErrorKind::PermissionDenied => BackupCause::NotAllowed,
+        ErrorKind::ReadOnlyFilesystem => BackupCause::ReadOnly,
+        ErrorKind::StorageFull | ErrorKind::QuotaExceeded => BackupCause::Full,
+        _ => BackupCause::Failed,
     }
 }
 

@@ -14,12 +14,11 @@ use Rattle.shop_serve.specs.declared.faults.ServeFault.{ServeFault}
 use Rattle.shop_serve.specs.declared.faults.ServeFault.TheVariants as serve
 use Rattle.shop_book.specs.declared.books.Book.{Ghosts}
 use Rattle.shop_opening.specs.declared.stores.OpenFault.{OpenFault}
-use Rattle.shop_opening.specs.declared.stores.OpenFault.TheVariants as store
 use Rattle.shop_text.specs.declared.printing.PrintFault.{PrintFault}
 use Rattle.shop_text.specs.declared.printing.PrintFault.TheVariants as print
 use Rattle.shop_commands.specs.declared.faults.Fault.{Fault}
-use Rattle.shop_commands.specs.Faults.{store_fault, add_fault, print_fault, serve_fault}
-use Rattle.shop_commands.specs.Stored.{IsUnopened, AddFailed, IsUnaccepted, IsTextDone, IsTextStopped, Prints}
+use Rattle.shop_commands.specs.Faults.{add_fault, print_fault, serve_fault}
+use Rattle.shop_commands.specs.Stored.{AddFailed, IsUnaccepted, IsTextDone, IsTextStopped, Prints}
 use Rattle.shop_commands.specs.Sinks.{SinkChange}
 
 -- what is said of a result that is known
@@ -36,11 +35,6 @@ entries_short [] (e ∷ es) are = absurd are
 entries_short (v ∷ vs) [] are = absurd are
 entries_short (v ∷ vs) (e ∷ es) are = ap suc (entries_short vs es are.1)
 
-pub unopened : (fault : OpenFault) (f : Fault) → f ≡ store_fault fault → IsUnopened f
-unopened store.NoMemory f is = inl is
-unopened (store.Store cause) f is = inr (inl (cause, is))
-unopened (store.Version cause) f is = inr (inr (cause, is))
-
 module _ {B : Type 0} (book : Ghosts B) where
   pub unadded : (before after : B) (entries : List MaterialEntry) (fault : AddFault) (f : Fault) → f ≡ add_fault fault → ShopFailed book before after entries fault → AddFailed book before after entries f
   unadded before after entries add.NoMemory f is unshopped = inl (is, unshopped)
@@ -50,7 +44,7 @@ module _ {B : Type 0} (book : Ghosts B) where
   unaccepted site before after limit serve.NoMemory f is unserved = inl (is, unserved)
   unaccepted site before after limit serve.Port f is unserved = inr (is, unserved)
 
-  module _ (gives : B → Type 0) (said : Content → Result (List ℕ) Refusal) (before after : B) (out : SinkChange) (given : gives before) where
+  module _ (gives : Result B OpenFault → Type 0) (said : Content → Result (List ℕ) Refusal) (before after : B) (out : SinkChange) (given : gives (Ok before)) where
     pub text_done : (result : Result (Unit {0}) PrintFault) → Prints book before after said out result → result ≡ Ok tt → IsTextDone book gives said out
     text_done result prints is =
         let done = subst (Prints book before after said out) is prints in

@@ -6,13 +6,15 @@ use Rattle.shop_files.specs.declared.problems.TextCause.{TextCause}
 use Rattle.shop_files.specs.declared.problems.TextCause.TheVariants as text
 use Rattle.shop_records.specs.declared.refusals.Refusal.{Refusal}
 use Rattle.shop_records.specs.declared.refusals.Refusal.TheVariants as refusal
-use Rattle.shop_advice.specs.Causes.{file_text, store_text, version_text, shop_text}
+use Rattle.shop_advice.specs.Causes.{backup_text, file_text, store_text, version_text, shop_text}
 use Rattle.shop_advice.specs.declared.causes.FileCause.{FileCause}
 use Rattle.shop_advice.specs.declared.causes.FileCause.TheVariants as file
 use Rattle.shop_advice.specs.declared.causes.StoreCause.{StoreCause}
 use Rattle.shop_advice.specs.declared.causes.StoreCause.TheVariants as store
 use Rattle.shop_advice.specs.declared.causes.VersionCause.{VersionCause}
 use Rattle.shop_advice.specs.declared.causes.VersionCause.TheVariants as version
+use Rattle.shop_advice.specs.declared.causes.BackupCause.{BackupCause}
+use Rattle.shop_advice.specs.declared.causes.BackupCause.TheVariants as backup
 use Rattle.shop_advice.specs.declared.causes.ShopCause.{ShopCause}
 use Rattle.shop_advice.specs.declared.causes.ShopCause.TheVariants as shop
 use Rattle.shop_serve.specs.declared.ports.PortCause.{PortCause}
@@ -50,6 +52,17 @@ of_version : (c : VersionCause) → IsPlain (version_text c)
 of_version version.Newer = refl
 of_version version.Strange = refl
 of_version version.Contradicting = refl
+
+of_backup : (c : BackupCause) → IsPlain (backup_text c)
+of_backup backup.NoFolder = refl
+of_backup backup.Other = refl
+of_backup backup.NotAllowed = refl
+of_backup backup.ReadOnly = refl
+of_backup backup.Full = refl
+of_backup backup.NoNumber = refl
+of_backup backup.Moved = refl
+of_backup backup.Unread = refl
+of_backup backup.Failed = refl
 
 of_shop : (c : ShopCause) → IsPlain (shop_text c)
 of_shop shop.Long = refl
@@ -119,6 +132,7 @@ of_cause cause.Made = refl
 of_cause (cause.Store c) = of_store c
 of_cause (cause.Version c) = of_version c
 of_cause (cause.Port c) = of_port c
+of_cause (cause.Backup c) = of_backup c
 of_cause cause.Input = refl
 of_cause cause.Output = refl
 

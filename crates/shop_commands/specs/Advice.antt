@@ -5,14 +5,14 @@ use Rattle.shop_files.specs.declared.problems.TextCause.{TextCause}
 use Rattle.shop_files.specs.declared.problems.TextCause.TheVariants as text
 use Rattle.shop_records.specs.declared.refusals.Refusal.{Refusal}
 use Rattle.shop_records.specs.declared.refusals.Refusal.TheVariants as refusal
-use Rattle.shop_advice.specs.Causes.{file_text, store_text, version_text, shop_text}
+use Rattle.shop_advice.specs.Causes.{backup_text, file_text, store_text, version_text, shop_text}
 use Rattle.shop_serve.specs.declared.ports.PortCause.{PortCause}
 use Rattle.shop_serve.specs.declared.ports.PortCause.TheVariants as port
 use Rattle.shop_commands.specs.declared.advice.Advice.{Advice}
 use Rattle.shop_commands.specs.declared.advice.Cause.{Cause}
 use Rattle.shop_commands.specs.declared.advice.Cause.TheVariants as cause
 use Rattle.shop_commands.specs.declared.faults.Fault.{Fault}
-use Rattle.shop_commands.specs.declared.faults.Fault.TheVariants.{File, Text, Order, ShopText, ShopEntry, Entry, Refused, Read, Write, NoMemory, Store, Version, Port}
+use Rattle.shop_commands.specs.declared.faults.Fault.TheVariants.{File, Text, Order, ShopText, ShopEntry, Entry, Refused, Read, Write, NoMemory, Store, Version, Port, Backup}
 use Rattle.shop_commands.specs.Faults.{fault_text}
 
 -- ---- what is told of each cause
@@ -54,6 +54,7 @@ cause_text cause.Made = codes "there was no store, and an empty one was made"
 cause_text (cause.Store c) = store_text c
 cause_text (cause.Version c) = version_text c
 cause_text (cause.Port c) = port_text c
+cause_text (cause.Backup c) = backup_text c
 cause_text cause.Input = codes "it can't be read to its end"
 cause_text cause.Output = codes "it can't be written; is its disk full, or its reader gone?"
 
@@ -73,6 +74,7 @@ Fits Write cause.Output = ⊤
 Fits (Store c) (cause.Store d) = d ≡ c
 Fits (Version c) (cause.Version d) = d ≡ c
 Fits (Port c) (cause.Port d) = d ≡ c
+Fits (Backup c) (cause.Backup d) = d ≡ c
 Fits fault c = ⊥
 
 abbrev pub has_line_feed : List ℕ → Bool

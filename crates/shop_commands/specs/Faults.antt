@@ -10,6 +10,8 @@ use Rattle.shop_files.specs.declared.shops.ShopFault.{ShopFault}
 use Rattle.shop_files.specs.declared.shops.ShopFault.TheVariants as shop
 use Rattle.shop_records.specs.declared.refusals.Refusal.TheVariants as refusal
 use Rattle.shop_records.specs.Refusals.{refusal_number, refusal_name}
+use Rattle.shop_backup.specs.declared.faults.BackupFault.{BackupFault}
+use Rattle.shop_backup.specs.declared.faults.BackupFault.TheVariants as backup
 use Rattle.shop_opening.specs.declared.shops.AddFault.{AddFault}
 use Rattle.shop_opening.specs.declared.shops.AddFault.TheVariants as add
 use Rattle.shop_serve.specs.declared.faults.ServeFault.{ServeFault}
@@ -24,7 +26,7 @@ use Rattle.shop_wire.specs.declared.faults.ReplayFault.TheVariants as replay
 use Rattle.shop_commands.specs.declared.faults.OrderCause.{OrderCause}
 use Rattle.shop_commands.specs.declared.faults.OrderCause.TheVariants as cause
 use Rattle.shop_commands.specs.declared.faults.Fault.{Fault}
-use Rattle.shop_commands.specs.declared.faults.Fault.TheVariants.{File, Text, Order, ShopText, ShopEntry, Entry, Refused, Read, Write, NoMemory, Store, Version, Port}
+use Rattle.shop_commands.specs.declared.faults.Fault.TheVariants.{File, Text, Order, ShopText, ShopEntry, Entry, Refused, Read, Write, NoMemory, Store, Version, Port, Backup}
 
 abbrev pub cause_word : TextCause → List ℕ
 cause_word text.Long = codes "Long"
@@ -64,6 +66,7 @@ fault_text NoMemory = codes "fault memory"
 fault_text (Store cause) = codes "fault store"
 fault_text (Version cause) = codes "fault version"
 fault_text (Port cause) = codes "fault port"
+fault_text (Backup cause) = codes "fault backup"
 
 -- the planner's fault is the refusal of this name
 abbrev pub planner_fault : PlanFault → Fault
@@ -94,6 +97,10 @@ abbrev pub store_fault : OpenFault → Fault
 store_fault store.NoMemory = NoMemory
 store_fault (store.Store cause) = Store cause
 store_fault (store.Version cause) = Version cause
+
+abbrev pub backup_fault : BackupFault → Fault
+backup_fault backup.NoMemory = NoMemory
+backup_fault (backup.Failed cause) = Backup cause
 
 abbrev pub add_fault : AddFault → Fault
 add_fault add.NoMemory = NoMemory

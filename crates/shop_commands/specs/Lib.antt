@@ -2,6 +2,7 @@ pub mod Faults
 pub mod Advice
 pub mod Log
 pub mod Sinks
+pub mod Sources
 pub mod Orders
 pub mod Plans
 pub mod Stored

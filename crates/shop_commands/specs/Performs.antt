@@ -6,6 +6,7 @@ use Rattle.clap.specs.Words.{Text, subcommand_of}
 use Rattle.clap.specs.declared.error.kind.ErrorKind.{ErrorKind}
 use Rattle.clap.specs.declared.error.kind.ErrorKind.TheVariants.{DisplayHelp, DisplayVersion, OutOfMemory}
 use Rattle.shop_book.specs.declared.books.Book.{Ghosts}
+use Rattle.shop_opening.specs.declared.stores.OpenFault.{OpenFault}
 use Rattle.shop_text.specs.Tickets.{ticket_of}
 use Rattle.shop_text.specs.Yields.{yield_of}
 use Rattle.shop_wire.specs.Lines.{AreLines}
@@ -21,21 +22,23 @@ use Rattle.shop_commands.specs.Orders.{IsOrdersDone, IsOrdersStopped}
 use Rattle.shop_commands.specs.Plans.{IsFilePlan, IsFileFault, IsFileWhole, IsFileWholeFault}
 use Rattle.shop_commands.specs.Stored.{IsTextDone, IsTextStopped, IsServeDone, IsServeStopped}
 use Rattle.shop_commands.specs.Sinks.{SinkChange, Adds, AddsFront, AddsNone, AddsSome, IsWritten, SinkFailed}
+use Rattle.shop_commands.specs.Sources.{SourceChange, SourceFailed}
 
 -- each line of the input has its reply
-abbrev pub IsReplayDone : (left : Option (List ℕ)) → (out : SinkChange) → Type 0
-IsReplayDone left out = (lines : List (List ℕ)) × AreLines left lines × IsReplayedFresh out.old out.new lines []
+abbrev pub IsReplayDone : (input : SourceChange) → (out : SinkChange) → Type 0
+IsReplayDone input out = (lines : List (List ℕ)) × AreLines input.left lines × IsReplayedFresh out.old out.new lines []
 
 -- what is made of a file's bytes was written
 abbrev pub IsPlanDone : (List ℕ → List ℕ → Type 0) → (out : SinkChange) → Type 0
 IsPlanDone made out = (bytes plan : List ℕ) × made bytes plan × Adds out plan
 
 -- a fault stopped it: some first lines have their replies, which were written but for some last bytes, after `Read` all of them;
--- and after `Write` a write had failed
-abbrev pub IsReplayStopped : Fault → (left : Option (List ℕ)) → (out : SinkChange) → Type 0
-IsReplayStopped fault left out =
-    (lines more : List (List ℕ)) × AreLines left (lines ++ more) × (unwritten : List ℕ) × (fault ≡ Read → unwritten ≡ [])
-    × IsReplayedFresh out.old out.new lines unwritten × (fault ≡ Write → SinkFailed out)
+-- after `Read` the input had failed, and after `Write` a write had
+abbrev pub IsReplayStopped : Fault → (input : SourceChange) → (out : SinkChange) → Type 0
+IsReplayStopped fault input out =
+    (lines more : List (List ℕ)) × AreLines input.left (lines ++ more) × (unwritten : List ℕ) × (fault ≡ Read → unwritten ≡ [])
+    × IsReplayedFresh out.old out.new lines unwritten × (fault ≡ Read → SourceFailed input)
+    × (fault ≡ Write → SinkFailed out)
 
 -- a fault stopped it: the file can't be read, or nothing can be made of its bytes, or a write failed and some first bytes of what was made
 -- were written
@@ -59,33 +62,35 @@ abbrev pub Concludes : Result (Unit {0}) Fault → (err : SinkChange) → ℕ �
 Concludes (Ok _) err status = (status ≡ 0) × AddsNone err
 Concludes (Err fault) err status = (status ≡ 1) × TellsFault fault err
 
--- ---- over the books that the opener of stores gives for a path
+-- ---- over what the opener of stores gives for a path
 
-module _ {B : Type 0} (book : Ghosts B) (gives : List ℕ → B → Type 0) where
-  abbrev pub IsDone : Request → (left : Option (List ℕ)) → (out : SinkChange) → Type 0
-  IsDone Replay left out = IsReplayDone left out
-  IsDone (Plan file kerf step) left out = IsPlanDone (λ bytes. IsFilePlan bytes kerf step) out
-  IsDone (PlanOrder file kerf step calls) left out = IsPlanDone (λ bytes. IsFileWhole bytes kerf step) out
-  IsDone (Serve port store shop limit page) left out = IsServeDone book (gives store.now) port limit (option_map (λ p. p.now) page) out
-  IsDone (Orders file told) left out = IsOrdersDone told out
-  IsDone (Ticket store job) left out = IsTextDone book (gives store.now) (λ m. ticket_of m job) out
-  IsDone (Yield store material) left out = IsTextDone book (gives store.now) (λ m. yield_of m material) out
+module _ {B : Type 0} (book : Ghosts B) (gives : List ℕ → Result B OpenFault → Type 0) where
+  abbrev pub IsDone : Request → (input : SourceChange) → (out : SinkChange) → Type 0
+  IsDone Replay input out = IsReplayDone input out
+  IsDone (Plan file kerf step) input out = IsPlanDone (λ bytes. IsFilePlan bytes kerf step) out
+  IsDone (PlanOrder file kerf step calls) input out = IsPlanDone (λ bytes. IsFileWhole bytes kerf step) out
+  IsDone (Serve port store shop limit page backup) input out =
+      IsServeDone book (gives store.now) port limit (option_map (λ p. p.now) page) (option_map (λ p. p.now) backup) out
+  IsDone (Orders file told) input out = IsOrdersDone told out
+  IsDone (Ticket store job) input out = IsTextDone book (gives store.now) (λ m. ticket_of m job) out
+  IsDone (Yield store material) input out = IsTextDone book (gives store.now) (λ m. yield_of m material) out
 
-  abbrev pub IsStopped : Request → Fault → (left : Option (List ℕ)) → (out : SinkChange) → Type 0
-  IsStopped Replay fault left out = IsReplayStopped fault left out
-  IsStopped (Plan file kerf step) fault left out = IsPlanStopped (λ bytes. IsFilePlan bytes kerf step) (λ bytes. IsFileFault bytes kerf step) fault out
-  IsStopped (PlanOrder file kerf step calls) fault left out =
+  abbrev pub IsStopped : Request → Fault → (input : SourceChange) → (out : SinkChange) → Type 0
+  IsStopped Replay fault input out = IsReplayStopped fault input out
+  IsStopped (Plan file kerf step) fault input out = IsPlanStopped (λ bytes. IsFilePlan bytes kerf step) (λ bytes. IsFileFault bytes kerf step) fault out
+  IsStopped (PlanOrder file kerf step calls) fault input out =
       IsPlanStopped (λ bytes. IsFileWhole bytes kerf step) (λ bytes. IsFileWholeFault bytes kerf step) fault out
-  IsStopped (Serve port store shop limit page) fault left out = IsServeStopped book (gives store.now) port limit (option_map (λ p. p.now) page) fault out
-  IsStopped (Orders file told) fault left out = IsOrdersStopped told fault out
-  IsStopped (Ticket store job) fault left out = IsTextStopped book (gives store.now) (λ m. ticket_of m job) fault out
-  IsStopped (Yield store material) fault left out = IsTextStopped book (gives store.now) (λ m. yield_of m material) fault out
+  IsStopped (Serve port store shop limit page backup) fault input out =
+      IsServeStopped book (gives store.now) port limit (option_map (λ p. p.now) page) (option_map (λ p. p.now) backup) fault out
+  IsStopped (Orders file told) fault input out = IsOrdersStopped told fault out
+  IsStopped (Ticket store job) fault input out = IsTextStopped book (gives store.now) (λ m. ticket_of m job) fault out
+  IsStopped (Yield store material) fault input out = IsTextStopped book (gives store.now) (λ m. yield_of m material) fault out
 
   -- what was asked was done and nothing was told, with status 0; or a fault was told, with status 1
-  abbrev pub IsAnswered : (left : Option (List ℕ)) → (out err : SinkChange) → Request → ℕ → Type 0
-  IsAnswered left out err request status =
-      ((status ≡ 0) × IsDone request left out × AddsNone err)
-      ⊎ ((status ≡ 1) × ((fault : Fault) × IsStopped request fault left out × TellsFault fault err))
+  abbrev pub IsAnswered : (input : SourceChange) → (out err : SinkChange) → Request → ℕ → Type 0
+  IsAnswered input out err request status =
+      ((status ≡ 0) × IsDone request input out × AddsNone err)
+      ⊎ ((status ≡ 1) × ((fault : Fault) × IsStopped request fault input out × TellsFault fault err))
 
 module _ (out err : SinkChange) where
   -- help was written and nothing was told, with status 0; or the output failed, and that was told, with status 1
@@ -114,8 +119,8 @@ faults_of words = clap.fault_of shop_app words
 
 -- The words ask for something, which was done or stopped by a fault; or `clap` said something to them; or it took them, and they
 -- ask for nothing.
-abbrev pub IsPerformed : {B : Type 0} → Ghosts B → (List ℕ → B → Type 0) → List Text → (left : Option (List ℕ)) → (out err : SinkChange) → ℕ → Type 0
-IsPerformed book gives words left out err status =
-    ((request : Request) × (faults_of words ≡ []) × Asks (subcommand_of shop_app words) request × IsAnswered book gives left out err request status)
+abbrev pub IsPerformed : {B : Type 0} → Ghosts B → (List ℕ → Result B OpenFault → Type 0) → List Text → (input : SourceChange) → (out err : SinkChange) → ℕ → Type 0
+IsPerformed book gives words input out err status =
+    ((request : Request) × (faults_of words ≡ []) × Asks (subcommand_of shop_app words) request × IsAnswered book gives input out err request status)
     ⊎ ((kind : ErrorKind) × ((kind ≡ OutOfMemory) ⊎ IsAmong kind (faults_of words)) × IsTold out err kind status)
     ⊎ ((faults_of words ≡ []) × AsksNothing (subcommand_of shop_app words) × (status ≡ 2) × AddsNone out × AddsSome err)

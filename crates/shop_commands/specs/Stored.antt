@@ -1,6 +1,6 @@
 -- What the commands on a store do: tickets, yield reports, and serving. A real file tells no bytes, so that a file was read or
--- a store was opened is said of some bytes and of some book that the store's opener may give.
-use Rattle.std.specs.Prelude.{◌≡◌, ◌<◌, ◌≤◌, ◌⊎◌, ⊤, None, Some, length, ℕ, List, ◌++◌, codes, Option, Result, Ok, Err, All}
+-- a store was opened is said of some bytes and of what the store's opener may give: some book, or some fault.
+use Rattle.std.specs.Prelude.{◌≡◌, ◌<◌, ◌≤◌, ◌⊎◌, ⊤, None, Some, length, ℕ, List, ◌++◌, codes, is_some, Option, Result, Ok, Err, All}
 use Rattle.std.specs.Fmt.{decimal}
 use Rattle.shop_files.specs.Shops.{IsShop, IsShopFault}
 use Rattle.shop_files.specs.declared.shops.MaterialEntry.{MaterialEntry}
@@ -12,10 +12,10 @@ use Rattle.shop_serve.specs.Sites.{HasPage}
 use Rattle.shop_serve.specs.declared.ports.PortCause.{PortCause}
 use Rattle.shop_serve.specs.declared.ports.PortCause.TheVariants as port_cause
 use Rattle.shop_serve.specs.declared.sites.Site.{Site}
-use Rattle.shop_advice.specs.declared.causes.StoreCause.{StoreCause}
-use Rattle.shop_advice.specs.declared.causes.VersionCause.{VersionCause}
+use Rattle.shop_advice.specs.declared.causes.BackupCause.{BackupCause}
 use Rattle.shop_commands.specs.declared.files.TheConstants.{LONGEST_PAGE}
 use Rattle.shop_opening.specs.declared.shops.EntryRefused.{EntryRefused}
+use Rattle.shop_opening.specs.declared.stores.OpenFault.{OpenFault}
 use Rattle.shop_opening.specs.Shops.{HasShop, IsAccepted, IsFirstRefused}
 use Rattle.shop_book.specs.declared.books.Book.{Ghosts}
 use Rattle.shop_book.specs.Kept.{Unchanged, OnContent}
@@ -25,10 +25,10 @@ use Rattle.shop_text.specs.Yields.{yield_of}
 use Rattle.shop_text.specs.declared.printing.PrintFault.{PrintFault}
 use Rattle.shop_text.specs.declared.printing.PrintFault.TheVariants as print
 use Rattle.shop_commands.specs.declared.faults.Fault.{Fault}
-use Rattle.shop_commands.specs.declared.faults.Fault.TheVariants.{File, Entry, Refused, Write, NoMemory, Store, Version, Port}
+use Rattle.shop_commands.specs.declared.faults.Fault.TheVariants.{File, Entry, Refused, Write, NoMemory, Port, Backup}
 use Rattle.shop_commands.specs.declared.stored.StoreText.{StoreText}
 use Rattle.shop_commands.specs.declared.stored.StoreText.TheVariants.{Ticket, Yield}
-use Rattle.shop_commands.specs.Faults.{shop_fault}
+use Rattle.shop_commands.specs.Faults.{shop_fault, store_fault}
 use Rattle.shop_commands.specs.Sinks.{SinkChange, Adds, AddsFront, AddsNone, SinkFailed}
 
 -- a shop file's bytes spell these entries
@@ -48,13 +48,18 @@ IsPageRead (Some path) page = (bytes : List ℕ) × (page ≡ Some bytes) × (le
 abbrev pub IsPageUnread : Fault → Type 0
 IsPageUnread fault = (fault ≡ NoMemory) ⊎ (fault ≡ File)
 
--- what is served on a port, with the page of a path
-abbrev pub IsSite : (port : ℕ) (path : Option (List ℕ)) → Site → Type 0
-IsSite port path site = (site.guard.port ≡ port) × ((page : Option (List ℕ)) × IsPageRead path page × HasPage site page)
+-- no backup can be made in the folder, or memory ran out
+abbrev pub IsUnbacked : Fault → Type 0
+IsUnbacked fault = (fault ≡ NoMemory) ⊎ ((cause : BackupCause) × (fault ≡ Backup cause))
 
--- a store can't be opened
-abbrev pub IsUnopened : Fault → Type 0
-IsUnopened fault = (fault ≡ NoMemory) ⊎ (((cause : StoreCause) × (fault ≡ Store cause)) ⊎ ((cause : VersionCause) × (fault ≡ Version cause)))
+-- what is served on a port, with the page of a path, and with backups where there is a folder for them
+abbrev pub IsSite : (port : ℕ) (path folder : Option (List ℕ)) → Site → Type 0
+IsSite port path folder site =
+    (site.guard.port ≡ port) × (site.guard.has_backups ≡ is_some folder) × ((page : Option (List ℕ)) × IsPageRead path page × HasPage site page)
+
+-- the opener gave no book, and this tells why
+abbrev pub IsUnopened : {B : Type 0} → (Result B OpenFault → Type 0) → Fault → Type 0
+IsUnopened gives fault = (why : OpenFault) × gives (Err why) × (fault ≡ store_fault why)
 
 abbrev pub listening_line : ℕ → List ℕ
 listening_line port = codes "listening on 127.0.0.1:" ++ decimal port ++ codes "\n"
@@ -80,20 +85,20 @@ module _ {B : Type 0} (book : Ghosts B) where
 
   -- A book that the opener gave was printed from: on each content that it held, an honest one, this came of what there is to
   -- say. It holds what it held, a crash leaves nothing that it couldn't before, and a failure is counted only with 99.
-  pub record IsPrintedFrom (gives : B → Type 0) (said : Content → Result (List ℕ) Refusal) (out : SinkChange) (result : Result (Unit {0}) PrintFault) : Type 0 where
+  pub record IsPrintedFrom (gives : Result B OpenFault → Type 0) (said : Content → Result (List ℕ) Refusal) (out : SinkChange) (result : Result (Unit {0}) PrintFault) : Type 0 where
     pub before : B
     pub after : B
-    pub given : gives before
+    pub given : gives (Ok before)
     pub printed : OnContent book before after (λ m. IsPrinted (book.failed before) (book.failed after) out.old out.new result (said m))
     pub keeps : Unchanged book (CountsPrint result) before after
 
-  abbrev pub IsTextDone : (B → Type 0) → (Content → Result (List ℕ) Refusal) → (out : SinkChange) → Type 0
+  abbrev pub IsTextDone : (Result B OpenFault → Type 0) → (Content → Result (List ℕ) Refusal) → (out : SinkChange) → Type 0
   IsTextDone gives said out = IsPrintedFrom gives said out (Ok tt)
 
   -- a store that isn't opened and a refusal write nothing, and a failed write leaves a first part
-  abbrev pub IsTextStopped : (B → Type 0) → (Content → Result (List ℕ) Refusal) → Fault → (out : SinkChange) → Type 0
+  abbrev pub IsTextStopped : (Result B OpenFault → Type 0) → (Content → Result (List ℕ) Refusal) → Fault → (out : SinkChange) → Type 0
   IsTextStopped gives said fault out =
-      (IsUnopened fault × AddsNone out)
+      (IsUnopened gives fault × AddsNone out)
       ⊎ (((r : Refusal) × (fault ≡ Refused r) × IsPrintedFrom gives said out (Err (print.Refused r)) × AddsNone out)
       ⊎ ((fault ≡ Write) × IsPrintedFrom gives said out (Err print.Write) × SinkFailed out))
 
@@ -124,25 +129,27 @@ module _ {B : Type 0} (book : Ghosts B) where
     pub told : Adds out (listening_line port)
     pub left : IsUnaccepted site mid after limit fault
 
-  -- the entries aren't all there; or they are, and the port isn't told; or it is, and serving stopped
+  -- no backup can be made of the store, and nothing was done; or the entries aren't all there; or they are, and the port isn't told; or
+  -- it is, and serving stopped
   abbrev pub IsBookUnserved : Site → (before after : B) → List MaterialEntry → (port : ℕ) → Option ℕ → Fault → (out : SinkChange) → Type 0
   IsBookUnserved site before after entries port limit fault out =
-      (AddFailed before after entries fault × AddsNone out)
+      (IsUnbacked fault × (after ≡ before) × AddsNone out)
+      ⊎ (AddFailed before after entries fault × AddsNone out)
       ⊎ ((IsShopped before after entries × IsUnannounced port fault out) ⊎ IsBookLeft site before after entries port limit fault out)
 
   -- a shop file's entries were added to the book of a store, which was served
-  abbrev pub IsServeDone : (B → Type 0) → (port : ℕ) → (limit : Option ℕ) → (page : Option (List ℕ)) → (out : SinkChange) → Type 0
-  IsServeDone gives port limit page out =
-      (entries : List MaterialEntry) × IsShopRead entries × (site : Site) × IsSite port page site
-      × (before after : B) × gives before × IsBookServed site before after entries port limit out
+  abbrev pub IsServeDone : (Result B OpenFault → Type 0) → (port : ℕ) → (limit : Option ℕ) → (page folder : Option (List ℕ)) → (out : SinkChange) → Type 0
+  IsServeDone gives port limit page folder out =
+      (entries : List MaterialEntry) × IsShopRead entries × (site : Site) × IsSite port page folder site
+      × (before after : B) × gives (Ok before) × IsBookServed site before after entries port limit out
 
-  -- the shop file's fault; or its entries were read, and then the page's fault came, or the store's, or what stopped the serving
-  -- of its book
-  abbrev pub IsServeStopped : (B → Type 0) → (port : ℕ) → (limit : Option ℕ) → (page : Option (List ℕ)) → Fault → (out : SinkChange) → Type 0
-  IsServeStopped gives port limit page fault out =
+  -- the shop file's fault; or its entries were read, and then the page's fault came, or that of the folder of backups, or the
+  -- store's, or what stopped the serving of its book
+  abbrev pub IsServeStopped : (Result B OpenFault → Type 0) → (port : ℕ) → (limit : Option ℕ) → (page folder : Option (List ℕ)) → Fault → (out : SinkChange) → Type 0
+  IsServeStopped gives port limit page folder fault out =
       (IsUnread fault × AddsNone out)
       ⊎ ((entries : List MaterialEntry) × IsShopRead entries
-      × ((IsPageUnread fault × AddsNone out)
-      ⊎ ((site : Site) × IsSite port page site
-      × ((IsUnopened fault × AddsNone out)
-      ⊎ ((before after : B) × gives before × IsBookUnserved site before after entries port limit fault out)))))
+      × (((IsPageUnread fault ⊎ IsUnbacked fault) × AddsNone out)
+      ⊎ ((site : Site) × IsSite port page folder site
+      × ((IsUnopened gives fault × AddsNone out)
+      ⊎ ((before after : B) × gives (Ok before) × IsBookUnserved site before after entries port limit fault out)))))

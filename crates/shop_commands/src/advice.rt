@@ -11,7 +11,8 @@ ghost use Rattle.shop_commands.specs.declared.faults.Fault.TheVariants as fault;
 use crate::faults::Fault;
 use crate::files::read_file;
 use shop_advice::{
-    FileCause, ShopCause, StoreCause, VersionCause, is_there, look_at_file, look_at_shop,
+    BackupCause, FileCause, ShopCause, StoreCause, VersionCause, is_there, look_at_file,
+    look_at_shop,
 };
 use shop_files::TextCause;
 use shop_records::Refusal;
@@ -46,6 +47,8 @@ pub enum Cause {
     Version(VersionCause),
     /// A port can't be listened to.
     Port(PortCause),
+    /// No backup can be made in a folder.
+    Backup(BackupCause),
     /// Standard input can't be read.
     Input,
     /// Standard output can't be written.
@@ -127,6 +130,7 @@ fn cause_text(cause: Cause) -> &'static str
         Cause::Store(cause) => cause.text(),
         Cause::Version(cause) => cause.text(),
         Cause::Port(cause) => port_text(cause),
+        Cause::Backup(cause) => cause.text(),
         Cause::Input => "it can't be read to its end",
         Cause::Output => "it can't be written; is its disk full, or its reader gone?",
     }
@@ -191,6 +195,17 @@ fn first_name<'a>(request: &Request<'a>) -> &'a str {
 fn store_name<'a>(request: &Request<'a>) -> &'a str {
     match request {
         Request::Serve { store, .. } => store,
+        _ => first_name(request),
+    }
+}
+
+// The folder of a request's backups.
+fn backup_name<'a>(request: &Request<'a>) -> &'a str {
+    match request {
+        Request::Serve {
+            backup: Some(backup),
+            ..
+        } => backup,
         _ => first_name(request),
     }
 }
@@ -313,7 +328,7 @@ pub(crate) fn stream_advice(alloc: Global, fault: Fault) -> Option<Advice>
     }
 }
 
-// Why a store or a port of a request couldn't be used. None of another fault, and for want of memory.
+// Why a store, a port or a folder of backups of a request couldn't be used. None of another fault, and for want of memory.
 fn system_advice(alloc: Global, request: &Request<'_>, fault: Fault) -> Option<Advice>
     ensures { IfSome result (IsAdviceOf fault) }
 {
@@ -321,6 +336,7 @@ fn system_advice(alloc: Global, request: &Request<'_>, fault: Fault) -> Option<A
         Fault::Store(cause) => advice_of(alloc, store_name(request), Cause::Store(cause), ""),
         Fault::Version(cause) => advice_of(alloc, store_name(request), Cause::Version(cause), ""),
         Fault::Port(cause) => port_advice(alloc, request, cause),
+        Fault::Backup(cause) => advice_of(alloc, backup_name(request), Cause::Backup(cause), ""),
         _ => stream_advice(alloc, fault),
     }
 }

@@ -4,7 +4,8 @@ ghost use Rattle.std.specs.Prelude.{◌≡◌};
 ghost use Rattle.shop_commands.specs.Faults as spec;
 
 use cut_plan::PlanFault;
-use shop_advice::{StoreCause, VersionCause};
+use shop_advice::{BackupCause, StoreCause, VersionCause};
+use shop_backup::BackupFault;
 use shop_files::{ShopFault, TextCause, TextFault};
 use shop_opening::{AddFault, EntryRefused, OpenFault};
 use shop_records::Refusal;
@@ -76,6 +77,8 @@ pub enum Fault {
     Version(VersionCause),
     /// The port can't be listened to, or no connection can be accepted.
     Port(PortCause),
+    /// No backup can be made in the folder.
+    Backup(BackupCause),
 }
 
 impl From<AllocError> for Fault {
@@ -146,6 +149,20 @@ impl From<OpenFault> for Fault {
             OpenFault::NoMemory => Fault::NoMemory,
             OpenFault::Store(cause) => Fault::Store(cause),
             OpenFault::Version(cause) => Fault::Version(cause),
+        }
+    }
+}
+
+impl From<BackupFault> for Fault {
+    ghost use Rattle.std.specs.Prelude.{◌≡◌};
+    ghost use Rattle.shop_commands.specs.Faults.{backup_fault};
+
+    ghost from_gives = { λ fault result. result ≡ backup_fault fault };
+
+    fn from(fault: BackupFault) -> Fault {
+        match fault {
+            BackupFault::NoMemory => Fault::NoMemory,
+            BackupFault::Failed(cause) => Fault::Backup(cause),
         }
     }
 }
@@ -296,6 +313,7 @@ impl fmt::Display for Fault {
             Fault::Store(_) => f.write_str("fault store"),
             Fault::Version(_) => f.write_str("fault version"),
             Fault::Port(_) => f.write_str("fault port"),
+            Fault::Backup(_) => f.write_str("fault backup"),
         }
     }
 }

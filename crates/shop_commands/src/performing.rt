@@ -11,6 +11,7 @@ ghost use Rattle.shop_commands.specs.Performs as spec;
 ghost use Rattle.shop_commands.specs.Performs.{Concludes, IsDone, IsHelped, IsPerformed, IsPlanDone, IsPlanStopped, IsStopped, IsTold, TellsFault};
 ghost use Rattle.shop_commands.specs.Plans.{IsFileFault, IsFilePlan, IsFileWhole, IsFileWholeFault};
 ghost use Rattle.shop_commands.specs.Sinks.{change_of};
+ghost use Rattle.shop_commands.specs.Sources.{source_change};
 
 use crate::advice::{Advice, NO_MEMORY_TOLD, advise, fault_lines, makes_store, stream_advice};
 use crate::faults::Fault;
@@ -103,7 +104,7 @@ fn plan_order<R: Files, W: Sink>(
 // Does what is asked, or stops.
 fn do_request<R: Files + Net + Clock + Eprint, B: Book + Drop, O: Opens<B>, S: Source, W: Sink>(
     rt: &R,
-    stores: &O,
+    stores: O,
     alloc: Global,
     request: &Request<'_>,
     source: &mut S,
@@ -111,10 +112,10 @@ fn do_request<R: Files + Net + Clock + Eprint, B: Book + Drop, O: Opens<B>, S: S
 ) -> Result<(), Fault>
     requires { HasKerf request.now }
     ensures ok { OnOk result
-        (IsDone B.Book (O.gives stores.now) request.now (S.left source.old)
+        (IsDone B.Book (O.gives stores) request.now (source_change S.Source source.old source.new)
         (change_of W.Sink sink.old sink.new)) }
     ensures err { IfErr result (λ f.
-        IsStopped B.Book (O.gives stores.now) request.now f (S.left source.old)
+        IsStopped B.Book (O.gives stores) request.now f (source_change S.Source source.old source.new)
         (change_of W.Sink sink.old sink.new)) }
     ensures reads { S.reads source.new ≤ S.reads source.old + most_reads }
 {
@@ -134,7 +135,10 @@ fn do_request<R: Files + Net + Clock + Eprint, B: Book + Drop, O: Opens<B>, S: S
             shop,
             limit,
             page,
-        } => serve(rt, stores, alloc, *port, store, shop, *limit, *page, sink),
+            backup,
+        } => serve(
+            rt, stores, alloc, *port, store, shop, *limit, *page, *backup, sink,
+        ),
         Request::Ticket { store, job } => {
             print_stored(stores, alloc, store, StoreText::Ticket(*job), sink)
         }
@@ -234,15 +238,15 @@ pub fn perform<
     E: Sink,
 >(
     rt: &R,
-    stores: &O,
+    stores: O,
     alloc: Global,
     words: &[String],
     source: &mut S,
     sink: &mut W,
     errors: &mut E,
 ) -> u8
-    ensures done { IsPerformed B.Book (O.gives stores.now) (map string_bytes words.now)
-        (S.left source.old) (change_of W.Sink sink.old sink.new)
+    ensures done { IsPerformed B.Book (O.gives stores) (map string_bytes words.now)
+        (source_change S.Source source.old source.new) (change_of W.Sink sink.old sink.new)
         (change_of E.Sink errors.old errors.new) result }
     ensures reads { S.reads source.new ≤ S.reads source.old + most_reads }
 {

@@ -4,6 +4,7 @@ ghost use Rattle.std.specs.Prelude.{◌+◌, ◌≤◌, IfErr, OnOk};
 ghost use Rattle.shop_wire.specs.Streams.{most_reads};
 ghost use Rattle.shop_commands.specs.Performs.{IsReplayDone, IsReplayStopped};
 ghost use Rattle.shop_commands.specs.Sinks.{change_of};
+ghost use Rattle.shop_commands.specs.Sources.{source_change};
 
 use crate::faults::Fault;
 use crate::storeless::StorelessBook;
@@ -17,10 +18,10 @@ pub fn replay_fresh<S: Source, W: Sink>(
     source: &mut S,
     sink: &mut W,
 ) -> Result<(), Fault>
-    ensures ok { OnOk result (IsReplayDone (S.left source.old)
+    ensures ok { OnOk result (IsReplayDone (source_change S.Source source.old source.new)
         (change_of W.Sink sink.old sink.new)) }
     ensures err { IfErr result
-        (λ f. IsReplayStopped f (S.left source.old) (change_of W.Sink sink.old sink.new)) }
+        (λ f. IsReplayStopped f (source_change S.Source source.old source.new) (change_of W.Sink sink.old sink.new)) }
     ensures reads { S.reads source.new ≤ S.reads source.old + most_reads }
 {
     let mut book = StorelessBook::new(alloc);

@@ -23,9 +23,9 @@ fn refuse_words<E: Sink>(rt: &HostRuntime, error: &io::Error, errors: &mut E) ->
     2
 }
 
-/// Does what the words of the command line ask for, over standard input, standard output and standard error and the books
-/// of these stores, and gives the status.
-pub fn run<D: Alter + Drop, O: Opens<SqlBook<D>>>(rt: &HostRuntime, stores: &O) -> u8 {
+/// Does what the words of the command line ask for, over standard input, standard output and standard error and the book
+/// of the store that is opened, and gives the status.
+pub fn run<D: Alter + Drop, O: Opens<SqlBook<D>>>(rt: &HostRuntime, stores: O) -> u8 {
     let mut source = Counted::new(rt.stdin());
     let mut sink = Counted::new(rt.stdout());
     let mut errors = Counted::new(rt.stderr());

@@ -1,11 +1,11 @@
 //! `cutshop serve`, `cutshop ticket` and `cutshop yield`: what is done over the book of a store file.
 
-ghost use Rattle.std.specs.Prelude.{◌≡◌, ◌≤◌, IfOk, IfErr, OnOk, length, option_map, string_bytes};
+ghost use Rattle.std.specs.Prelude.{◌≡◌, ◌≤◌, ◌⊎◌, IfOk, IfErr, OnOk, length, option_map, string_bytes};
 ghost use Rattle.shop_files.specs.declared.limits.TheConstants.{MOST_ENTRIES};
 ghost use Rattle.shop_commands.specs.declared.faults.Fault.TheVariants as fault;
 ghost use Rattle.shop_commands.specs.Faults.{shop_fault};
 ghost use Rattle.shop_commands.specs.Stored as spec;
-ghost use Rattle.shop_commands.specs.Stored.{Prints, text_of, IsTextDone, IsTextStopped, IsShopRead, IsUnread, IsUnopened, IsShopped, AddFailed, IsUnannounced, IsUnaccepted, IsBookServed, IsBookUnserved, IsPageRead, IsPageUnread, IsServeDone, IsServeStopped, IsSite};
+ghost use Rattle.shop_commands.specs.Stored.{Prints, text_of, IsTextDone, IsTextStopped, IsShopRead, IsUnread, IsUnopened, IsShopped, AddFailed, IsUnannounced, IsUnaccepted, IsBookServed, IsBookUnserved, IsPageRead, IsPageUnread, IsServeDone, IsServeStopped, IsSite, IsUnbacked};
 ghost use Rattle.shop_files.specs.Shops.{IsShop, IsShopFault};
 ghost use Rattle.shop_files.specs.declared.shops.ShopFault.{ShopFault as ShopFaultOf};
 ghost use Rattle.shop_serve.specs.Serving.{HasServed, most_served};
@@ -17,6 +17,7 @@ use crate::files::{read_file, read_page, write_text};
 use crate::log::{note_begin, note_end};
 use cut_measure::Code;
 use shop_advice::is_there;
+use shop_backup::{Backups, test_folder};
 use shop_files::{MaterialEntry, RowList, read_shop};
 use shop_opening::{Opens, add_shop};
 use shop_serve::{Listener, Site, listen, serve_on};
@@ -30,12 +31,12 @@ use std::time::Clock;
 
 // Opens the book of a store.
 fn open_store<B: Book + Drop, O: Opens<B>>(
-    stores: &O,
+    stores: O,
     alloc: Global,
     store: &str,
 ) -> Result<B, Fault>
-    ensures ok { IfOk result (O.gives stores.now store.now) }
-    ensures err { IfErr result IsUnopened }
+    ensures ok { IfOk result (λ book. O.gives stores store.now (Ok book)) }
+    ensures err { IfErr result (IsUnopened (O.gives stores store.now)) }
 {
     match stores.open(alloc, store) {
         Ok(book) => Ok(book),
@@ -68,22 +69,22 @@ fn print_text<B: Book, W: Sink>(
 
 /// Prints a text of a store.
 pub fn print_stored<B: Book + Drop, O: Opens<B>, W: Sink>(
-    stores: &O,
+    stores: O,
     alloc: Global,
     store: &str,
     text: StoreText,
     sink: &mut W,
 ) -> Result<(), Fault>
     ensures ok { OnOk result
-        (IsTextDone B.Book (O.gives stores.now store.now) (text_of text)
+        (IsTextDone B.Book (O.gives stores store.now) (text_of text)
         (change_of W.Sink sink.old sink.new)) }
     ensures err { IfErr result (λ f.
-        IsTextStopped B.Book (O.gives stores.now store.now) (text_of text) f
+        IsTextStopped B.Book (O.gives stores store.now) (text_of text) f
         (change_of W.Sink sink.old sink.new)) }
 {
     let mut book = open_store(stores, alloc, store)?;
     let printed = print_text(alloc, &mut book, text, sink);
-    stores.close(book);
+    O::close(book);
     match printed {
         Ok(()) => Ok(()),
         Err(fault) => Err(Fault::from(fault)),
@@ -132,13 +133,52 @@ fn page_in<R: Files>(rt: &R, alloc: Global, path: Option<&str>) -> Result<Option
     }
 }
 
-// The site of a port, with the page of a file or without one.
-fn site_of<R: Files>(rt: &R, alloc: Global, port: u32, page: Option<&str>) -> Result<Site, Fault>
-    ensures ok { IfOk result (λ site. IsSite port (option_map (λ p. p.now) page.entry) site) }
-    ensures err { IfErr result IsPageUnread }
+// Tests the folder of backups, where there is one.
+fn test_backup<R: Files>(rt: &R, alloc: Global, backup: Option<&str>) -> Result<(), Fault>
+    ensures { IfErr result IsUnbacked }
+{
+    let Some(folder) = backup else {
+        return Ok(());
+    };
+    match test_folder(rt, alloc, folder) {
+        Ok(()) => Ok(()),
+        Err(fault) => Err(Fault::from(fault)),
+    }
+}
+
+// The backups of a store that is open, where there is a folder for them.
+fn backups_of<R: Files>(
+    rt: &R,
+    alloc: Global,
+    store: &str,
+    backup: Option<&str>,
+) -> Result<Option<Backups>, Fault>
+    ensures { IfErr result IsUnbacked }
+{
+    let Some(folder) = backup else {
+        return Ok(None);
+    };
+    match Backups::new(rt, alloc, store, folder) {
+        Ok(backups) => Ok(Some(backups)),
+        Err(fault) => Err(Fault::from(fault)),
+    }
+}
+
+// The site of a port, with the page of a file or without one, and with backups in a folder or without any.
+fn site_of<R: Files>(
+    rt: &R,
+    alloc: Global,
+    port: u32,
+    page: Option<&str>,
+    backup: Option<&str>,
+) -> Result<Site, Fault>
+    ensures ok { IfOk result (λ site. IsSite port (option_map (λ p. p.now) page.entry)
+        (option_map (λ p. p.now) backup.entry) site) }
+    ensures err { IfErr result (λ f. IsPageUnread f ⊎ IsUnbacked f) }
 {
     let page = page_in(rt, alloc, page)?;
-    let site = Site::new(alloc, port, page)?;
+    test_backup(rt, alloc, backup)?;
+    let site = Site::new(alloc, port, page, backup.is_some())?;
     Ok(site)
 }
 
@@ -189,25 +229,26 @@ fn bind_and_announce<R: Net, W: Sink>(
 }
 
 // Serves connections.
-fn serve_connections<R: Net + Clock + Eprint, B: Book>(
+fn serve_connections<R: Net + Clock + Eprint + Files, B: Book>(
     rt: &R,
     alloc: Global,
     listener: &Listener,
     limit: Option<u32>,
     site: &Site,
+    backups: Option<&Backups>,
     book: &mut B,
 ) -> Result<(), Fault>
     ensures ok { OnOk result (HasServed site.now B.Book book.old book.new (most_served limit)) }
     ensures err { IfErr result (IsUnaccepted B.Book site.now book.old book.new limit) }
 {
-    match serve_on(rt, alloc, listener, limit, site, book) {
+    match serve_on(rt, alloc, listener, limit, site, backups, book) {
         Ok(()) => Ok(()),
         Err(fault) => Err(Fault::from(fault)),
     }
 }
 
 // Adds the shop's entries to a book and serves it on a port.
-fn serve_book<R: Net + Clock + Eprint, B: Book, W: Sink>(
+fn serve_book<R: Net + Clock + Eprint + Files, B: Book, W: Sink>(
     rt: &R,
     alloc: Global,
     port: u32,
@@ -215,6 +256,7 @@ fn serve_book<R: Net + Clock + Eprint, B: Book, W: Sink>(
     is_new: bool,
     limit: Option<u32>,
     site: &Site,
+    backup: Option<&str>,
     entries: &[MaterialEntry],
     sink: &mut W,
     book: &mut B,
@@ -227,10 +269,11 @@ fn serve_book<R: Net + Clock + Eprint, B: Book, W: Sink>(
         IsBookUnserved B.Book site.now book.old book.new entries.now port limit f
         (change_of W.Sink sink.old sink.new)) }
 {
+    let backups = backups_of(rt, alloc, store, backup)?;
     add_entries(alloc, book, entries)?;
     let listener = bind_and_announce(rt, alloc, port, sink)?;
     note_begin(rt, alloc, store, is_new);
-    match serve_connections(rt, alloc, &listener, limit, site, book) {
+    match serve_connections(rt, alloc, &listener, limit, site, backups.as_ref(), book) {
         Ok(()) => Ok(()),
         Err(fault) => Err(fault),
     }
@@ -239,22 +282,25 @@ fn serve_book<R: Net + Clock + Eprint, B: Book, W: Sink>(
 /// Adds the materials of a shop file to the book of a store, tells the port, and serves connections on it.
 pub fn serve<R: Files + Net + Clock + Eprint, B: Book + Drop, O: Opens<B>, W: Sink>(
     rt: &R,
-    stores: &O,
+    stores: O,
     alloc: Global,
     port: u32,
     store: &str,
     shop: &str,
     limit: Option<u32>,
     page: Option<&str>,
+    backup: Option<&str>,
     sink: &mut W,
 ) -> Result<(), Fault>
-    ensures ok { OnOk result (IsServeDone B.Book (O.gives stores.now store.now) port limit
-        (option_map (λ p. p.now) page.entry) (change_of W.Sink sink.old sink.new)) }
-    ensures err { IfErr result (λ f. IsServeStopped B.Book (O.gives stores.now store.now) port limit
-        (option_map (λ p. p.now) page.entry) f (change_of W.Sink sink.old sink.new)) }
+    ensures ok { OnOk result (IsServeDone B.Book (O.gives stores store.now) port limit
+        (option_map (λ p. p.now) page.entry) (option_map (λ p. p.now) backup.entry)
+        (change_of W.Sink sink.old sink.new)) }
+    ensures err { IfErr result (λ f. IsServeStopped B.Book (O.gives stores store.now) port limit
+        (option_map (λ p. p.now) page.entry) (option_map (λ p. p.now) backup.entry) f
+        (change_of W.Sink sink.old sink.new)) }
 {
     let entries = shop_entries(rt, alloc, shop)?;
-    let site = site_of(rt, alloc, port, page)?;
+    let site = site_of(rt, alloc, port, page, backup)?;
     let is_new = !is_there(rt, store);
     let mut book = open_store(stores, alloc, store)?;
     let served = serve_book(
@@ -265,11 +311,12 @@ pub fn serve<R: Files + Net + Clock + Eprint, B: Book + Drop, O: Opens<B>, W: Si
         is_new,
         limit,
         &site,
+        backup,
         entries.as_slice(),
         sink,
         &mut book,
     );
-    stores.close(book);
+    O::close(book);
     match served {
         Ok(()) => {
             note_end(rt, alloc, store);

@@ -21,21 +21,21 @@ use Rattle.httparse.proofs.GrammarLemmas.{request_unique}
 pub any_first : (test : List ℕ → Bool) (v : List ℕ) (vs all : List (List ℕ)) (b others : Bool) → all ≡ v ∷ vs → b ≡ test v → others ≡ list_any test vs → (b || others) ≡ list_any test all
 any_first test v vs all b others is e o = ap₂ (λ x y. x || y) e o ∙ sym (ap (list_any test) is)
 
-module _ (port : ℕ) (has_page : Bool) (came : List ℕ) where
+module _ (port : ℕ) (has_page has_backups : Bool) (came : List ℕ) where
   refused_head : (fault : Fault) → IsRefused (front came) fault → HasHead came (Err fault)
   refused_head fault (inl large) = subst (λ f. HasHead came (Err f)) (sym large.0) (inl (large.1, large.2))
   refused_head fault (inr bad) = subst (λ f. HasHead came (Err f)) (sym bad.0) (inl bad.1)
 
-  pub refused_ruling : (fault : Fault) → IsRefused (front came) fault → HasRuling port has_page came Routed
+  pub refused_ruling : (fault : Fault) → IsRefused (front came) fault → HasRuling port has_page has_backups came Routed
   refused_ruling fault is = (Err fault, refused_head fault is, refl)
 
-  unfinished : (b : Bool) → nat_le 8192 (length came) ≡ b → HasNoRequest (front came) → MayBecomeRequest (front came) → HasRuling port has_page came Routed
+  unfinished : (b : Bool) → nat_le 8192 (length came) ≡ b → HasNoRequest (front came) → MayBecomeRequest (front came) → HasRuling port has_page has_backups came Routed
   unfinished true long none may = (Err LargeHead, inr (leb-true 8192 (length came) long, none, may), refl)
   unfinished false short none may =
       let few : length came < 8192 = leb-false 8192 (length came) short in
       (Err BadRequest, inr (few, subst HasNoRequest (take_all 8192 came (omega (arith, few))) none), refl)
 
-  pub unfinished_ruling : HasNoRequest (front came) → MayBecomeRequest (front came) → HasRuling port has_page came Routed
+  pub unfinished_ruling : HasNoRequest (front came) → MayBecomeRequest (front came) → HasRuling port has_page has_backups came Routed
   unfinished_ruling = unfinished (nat_le 8192 (length came)) refl
 
   module _ (headers : List HeaderSpan) (spans : RequestSpans) (h : RequestHead) (room : length headers ≡ 64) (at : IsRequestAt (front came) headers spans h) where
@@ -54,16 +54,16 @@ module _ (port : ℕ) (has_page : Bool) (came : List ℕ) where
     begins = record { rest = _; reads = at.reads; few = few }
 
     by_parts : (method target : List ℕ) → method ≡ span_bytes (front came) spans.method → target ≡ span_bytes (front came) spans.path
-        → ruled_parts port has_page method target spans.version (map (header_bytes (front came)) (take spans.headers headers)) ≡ ruled_head port has_page h
+        → ruled_parts port has_page has_backups method target spans.version (map (header_bytes (front came)) (take spans.headers headers)) ≡ ruled_head port has_page has_backups h
     unfolding ruled_head
     by_parts method target m t =
-        ap (λ x. ruled_parts port has_page x target spans.version (map (header_bytes (front came)) (take spans.headers headers))) (m ∙ at.method)
-        ∙ ap (λ x. ruled_parts port has_page h.method x spans.version (map (header_bytes (front came)) (take spans.headers headers))) (t ∙ at.path)
-        ∙ ap (λ x. ruled_parts port has_page h.method h.target x (map (header_bytes (front came)) (take spans.headers headers))) at.version
-        ∙ ap (λ x. ruled_parts port has_page h.method h.target h.minor x) at.fields
+        ap (λ x. ruled_parts port has_page has_backups x target spans.version (map (header_bytes (front came)) (take spans.headers headers))) (m ∙ at.method)
+        ∙ ap (λ x. ruled_parts port has_page has_backups h.method x spans.version (map (header_bytes (front came)) (take spans.headers headers))) (t ∙ at.path)
+        ∙ ap (λ x. ruled_parts port has_page has_backups h.method h.target x (map (header_bytes (front came)) (take spans.headers headers))) at.version
+        ∙ ap (λ x. ruled_parts port has_page has_backups h.method h.target h.minor x) at.fields
 
     pub whole_ruling : (method target : List ℕ) → method ≡ span_bytes (front came) spans.method → target ≡ span_bytes (front came) spans.path
-        → HasRuling port has_page came (ruled_parts port has_page method target spans.version (map (header_bytes (front came)) (take spans.headers headers)))
+        → HasRuling port has_page has_backups came (ruled_parts port has_page has_backups method target spans.version (map (header_bytes (front came)) (take spans.headers headers)))
     whole_ruling method target m t = (Ok h, begins, by_parts method target m t)
 
 -- ---- an input has one ruling
@@ -78,11 +78,11 @@ no_fault input h OnlyPost begins is = is
 no_fault input h NoLength begins is = is
 no_fault input h LargeBody begins is = is
 
-ruled_as : (port : ℕ) (has_page : Bool) (input : List ℕ) (a b : Result RequestHead Fault) → HasHead input a → HasHead input b → ruled port has_page a ≡ ruled port has_page b
-ruled_as port has_page input (Ok h) (Ok k) x y = ap (ruled_head port has_page) (request_unique (front input) h k x.rest y.rest x.reads y.reads).0
-ruled_as port has_page input (Ok h) (Err f) x y = absurd (no_fault input h f x y)
-ruled_as port has_page input (Err f) (Ok k) x y = absurd (no_fault input k f y x)
-ruled_as port has_page input (Err f) (Err g) x y = refl
+ruled_as : (port : ℕ) (has_page has_backups : Bool) (input : List ℕ) (a b : Result RequestHead Fault) → HasHead input a → HasHead input b → ruled port has_page has_backups a ≡ ruled port has_page has_backups b
+ruled_as port has_page has_backups input (Ok h) (Ok k) x y = ap (ruled_head port has_page has_backups) (request_unique (front input) h k x.rest y.rest x.reads y.reads).0
+ruled_as port has_page has_backups input (Ok h) (Err f) x y = absurd (no_fault input h f x y)
+ruled_as port has_page has_backups input (Err f) (Ok k) x y = absurd (no_fault input k f y x)
+ruled_as port has_page has_backups input (Err f) (Err g) x y = refl
 
-pub one_ruling : (port : ℕ) (has_page : Bool) (input : List ℕ) (r s : Ruling) → HasRuling port has_page input r → HasRuling port has_page input s → r ≡ s
-one_ruling port has_page input r s x y = x.2 ∙ ruled_as port has_page input x.0 y.0 x.1 y.1 ∙ sym y.2
+pub one_ruling : (port : ℕ) (has_page has_backups : Bool) (input : List ℕ) (r s : Ruling) → HasRuling port has_page has_backups input r → HasRuling port has_page has_backups input s → r ≡ s
+one_ruling port has_page has_backups input r s x y = x.2 ∙ ruled_as port has_page has_backups input x.0 y.0 x.1 y.1 ∙ sym y.2

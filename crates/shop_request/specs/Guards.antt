@@ -1,5 +1,5 @@
 -- What a server does with a request by its head alone: which ones a browser sent for a page of another site, and which are for
--- the page.
+-- the page, or for a backup where none are made.
 use Rattle.std.specs.Prelude.{◌≡◌, ℕ, ◌&&◌, ◌||◌, not, Bool, true, false, List, ◌++◌, map, Result, Ok, Err, bytes_eq, codes, decimal, if◌then◌else◌}
 use Rattle.std.specs.List.{list_any}
 use Rattle.httparse.specs.Grammar.{RequestHead}
@@ -8,7 +8,7 @@ use Rattle.shop_request.specs.declared.faults.Fault.{Fault}
 use Rattle.shop_request.specs.declared.guards.Mark.{Mark}
 use Rattle.shop_request.specs.declared.guards.Mark.TheVariants.{Site, Origin, Host}
 use Rattle.shop_request.specs.declared.guards.Ruling.{Ruling}
-use Rattle.shop_request.specs.declared.guards.Ruling.TheVariants.{Routed, Forbidden, Page, OnlyGet}
+use Rattle.shop_request.specs.declared.guards.Ruling.TheVariants.{Routed, Forbidden, Page, OnlyGet, NoBackups}
 use Rattle.shop_request.specs.Heads.{Pair, HasHead, values_of, has_hosts, is_some_list, said_length}
 use Rattle.shop_request.specs.Routes.{path_of}
 
@@ -58,25 +58,27 @@ abbrev pub of_page : List ℕ → Ruling
 of_page method = if bytes_eq method (codes "GET") then Page else OnlyGet
 
 -- what is done with a request, by the parts of its head
-abbrev pub ruled_parts : (port : ℕ) (has_page : Bool) (method target : List ℕ) (minor : ℕ) → List Pair → Ruling
-ruled_parts port has_page method target minor fields =
+abbrev pub ruled_parts : (port : ℕ) (has_page has_backups : Bool) (method target : List ℕ) (minor : ℕ) → List Pair → Ruling
+ruled_parts port has_page has_backups method target minor fields =
     if not (has_good_fields minor fields) then Routed
     else if is_strange port has_page fields then Forbidden
     else if has_page && bytes_eq (path_of target) (codes "/") then of_page method
+    else if not has_backups && bytes_eq (path_of target) (codes "/backup") then NoBackups
     else Routed
 
-unfoldable pub ruled_head : (port : ℕ) (has_page : Bool) → RequestHead → Ruling
-ruled_head port has_page h = ruled_parts port has_page h.method h.target h.minor (map name_and_value h.fields)
+unfoldable pub ruled_head : (port : ℕ) (has_page has_backups : Bool) → RequestHead → Ruling
+ruled_head port has_page has_backups h = ruled_parts port has_page has_backups h.method h.target h.minor (map name_and_value h.fields)
 
 -- a bad head goes where its fault is told
-abbrev pub ruled : (port : ℕ) (has_page : Bool) → Result RequestHead Fault → Ruling
-ruled port has_page (Ok h) = ruled_head port has_page h
-ruled port has_page (Err f) = Routed
+abbrev pub ruled : (port : ℕ) (has_page has_backups : Bool) → Result RequestHead Fault → Ruling
+ruled port has_page has_backups (Ok h) = ruled_head port has_page has_backups h
+ruled port has_page has_backups (Err f) = Routed
 
 -- what is done with an input
-abbrev pub HasRuling : (port : ℕ) (has_page : Bool) → List ℕ → Ruling → Type 0
-HasRuling port has_page input r = (head : Result RequestHead Fault) × HasHead input head × (r ≡ ruled port has_page head)
+abbrev pub HasRuling : (port : ℕ) (has_page has_backups : Bool) → List ℕ → Ruling → Type 0
+HasRuling port has_page has_backups input r = (head : Result RequestHead Fault) × HasHead input head × (r ≡ ruled port has_page has_backups head)
 
 -- two rulings of an input are one
 abbrev pub OneRuling : Type 0
-OneRuling = (port : ℕ) (has_page : Bool) (input : List ℕ) (r s : Ruling) → HasRuling port has_page input r → HasRuling port has_page input s → r ≡ s
+OneRuling =
+    (port : ℕ) (has_page has_backups : Bool) (input : List ℕ) (r s : Ruling) → HasRuling port has_page has_backups input r → HasRuling port has_page has_backups input s → r ≡ s

@@ -8,7 +8,7 @@ use Rattle.matchit.specs.Router.{RouteOf, route_from}
 use Rattle.matchit.specs.Seek.{first}
 use Rattle.matchit.specs.declared.error.InsertError.{InsertError}
 use Rattle.shop_request.specs.declared.routes.Route.{Route}
-use Rattle.shop_request.specs.declared.routes.Route.TheVariants.{Message, Plan, Plans, Bound, Totals, Rack, Trace, Demand, Ticket, Yield, Materials, Parts, PartsBehind, Demands, DemandsOf, Orders, OrdersBehind, OrderLines, Jobs, Job, Terminal}
+use Rattle.shop_request.specs.declared.routes.Route.TheVariants.{Message, Plan, Plans, Bound, Backup, Totals, Rack, Trace, Demand, Ticket, Yield, Materials, Parts, PartsBehind, Demands, DemandsOf, Orders, OrdersBehind, OrderLines, Jobs, Job, Terminal}
 
 -- the text of each route
 abbrev pub route_text : Route → List ℕ
@@ -16,6 +16,7 @@ route_text Message = codes "/message"
 route_text Plan = codes "/plan"
 route_text Plans = codes "/plans"
 route_text Bound = codes "/bound"
+route_text Backup = codes "/backup"
 route_text Totals = codes "/totals/{material}"
 route_text Rack = codes "/rack/{material}"
 route_text Trace = codes "/trace/{act}/{node}"
@@ -40,6 +41,7 @@ route_start Message = codes "/message"
 route_start Plan = codes "/plan"
 route_start Plans = codes "/plans"
 route_start Bound = codes "/bound"
+route_start Backup = codes "/backup"
 route_start Totals = codes "/totals/"
 route_start Rack = codes "/rack/"
 route_start Trace = codes "/trace/"
@@ -64,6 +66,7 @@ takes_body Message = true
 takes_body Plan = true
 takes_body Plans = true
 takes_body Bound = true
+takes_body Backup = true
 takes_body Totals = false
 takes_body Rack = false
 takes_body Trace = false
@@ -101,7 +104,7 @@ with_routes (route ∷ more) rows = with_routes more (with_route route rows)
 -- all routes, as `matchit` keeps them
 unfoldable pub all_routes : RouteRows
 all_routes =
-    with_routes (Message ∷ Plan ∷ Plans ∷ Bound ∷ Totals ∷ Rack ∷ Trace ∷ Demand ∷ Ticket ∷ Yield ∷ Materials ∷ Parts ∷ PartsBehind ∷ Demands
+    with_routes (Message ∷ Plan ∷ Plans ∷ Bound ∷ Backup ∷ Totals ∷ Rack ∷ Trace ∷ Demand ∷ Ticket ∷ Yield ∷ Materials ∷ Parts ∷ PartsBehind ∷ Demands
     ∷ DemandsOf ∷ Orders ∷ OrdersBehind ∷ OrderLines ∷ Jobs ∷ Job ∷ Terminal ∷ []) []
 
 -- the target up to its first `?`

@@ -1,4 +1,4 @@
-//! The guard before the routes: by its head alone a request is let through, refused, or gets the page.
+//! The guard before the routes: by its head alone a request is let through, refused, gets the page, or has no route.
 
 ghost use Rattle.std.specs.Prelude.{◌≡◌, length, map, All, IfOk, string_bytes};
 ghost use Rattle.std.specs.List.{list_any};
@@ -23,6 +23,8 @@ pub enum Ruling {
     Page,
     /// It is for the page, which is only read.
     OnlyGet,
+    /// It is for a backup, and none are made.
+    NoBackups,
 }
 
 // The fields that tell a strange request.
@@ -33,11 +35,12 @@ pub(crate) enum Mark {
     Host,
 }
 
-/// What tells a strange request: the port that is served, and whether a page is.
+/// What tells a strange request: the port that is served, and whether a page is; and whether backups are made.
 #[derive(Drop)]
 pub struct Guard {
     port: u32,
     has_page: bool,
+    has_backups: bool,
     number: String,
     name: String,
     number_origin: String,
@@ -59,9 +62,15 @@ fn mark_name(mark: Mark) -> &'static [u8]
 }
 
 impl Guard {
-    /// A guard of a port, with a page or without one. The only error is want of memory.
-    pub fn new(alloc: Global, port: u32, has_page: bool) -> Result<Guard, AllocError>
-        ensures { IfOk result (λ guard. (guard.port ≡ port) × (guard.has_page ≡ has_page)) }
+    /// A guard of a port, with a page or without one, with backups or without any. The only error is want of memory.
+    pub fn new(
+        alloc: Global,
+        port: u32,
+        has_page: bool,
+        has_backups: bool,
+    ) -> Result<Guard, AllocError>
+        ensures { IfOk result (λ guard. (guard.port ≡ port) × (guard.has_page ≡ has_page)
+            × (guard.has_backups ≡ has_backups)) }
     {
         let number = format!(in alloc; "127.0.0.1:{port}")?;
         let name = format!(in alloc; "localhost:{port}")?;
@@ -70,6 +79,7 @@ impl Guard {
         Ok(Guard {
             port,
             has_page,
+            has_backups,
             number,
             name,
             number_origin,
@@ -132,8 +142,8 @@ impl Guard {
         minor: u8,
     ) -> Ruling
         requires { All (IsHeaderWithin (length buf.now)) headers.now }
-        ensures { result ≡ ruled_parts self.now.port self.now.has_page method.now target.now minor
-            (map (header_bytes buf.now) headers.now) }
+        ensures { result ≡ ruled_parts self.now.port self.now.has_page self.now.has_backups
+            method.now target.now minor (map (header_bytes buf.now) headers.now) }
     {
         if !has_good_fields(minor, buf, headers) {
             return Ruling::Routed;
@@ -144,12 +154,15 @@ impl Guard {
         if self.has_page && path_in(target) == "/" {
             return of_page(method);
         }
+        if !self.has_backups && path_in(target) == "/backup" {
+            return Ruling::NoBackups;
+        }
         Ruling::Routed
     }
 
     /// What is done with the request that these bytes begin with, by its head alone.
     pub fn rule(&self, came: &[u8]) -> Ruling
-        ensures { HasRuling self.now.port self.now.has_page came.now result }
+        ensures { HasRuling self.now.port self.now.has_page self.now.has_backups came.now result }
     {
         let mut headers = [EMPTY_HEADER_SPAN; MOST_FIELDS];
         let head = front_of(came);

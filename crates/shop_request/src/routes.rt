@@ -17,6 +17,8 @@ pub enum Route {
     Plans,
     /// POST `/bound`: the query for a bound.
     Bound,
+    /// POST `/backup`: a backup; its body says nothing.
+    Backup,
     /// GET `/totals/{material}`.
     Totals,
     /// GET `/rack/{material}`.
@@ -63,6 +65,7 @@ impl Route {
             Route::Plan => "/plan",
             Route::Plans => "/plans",
             Route::Bound => "/bound",
+            Route::Backup => "/backup",
             Route::Totals => "/totals/{material}",
             Route::Rack => "/rack/{material}",
             Route::Trace => "/trace/{act}/{node}",
@@ -92,6 +95,7 @@ impl Route {
             Route::Plan => 5,
             Route::Plans => 6,
             Route::Bound => 6,
+            Route::Backup => 7,
             Route::Totals => 8,
             Route::Rack => 6,
             Route::Trace => 7,
@@ -118,7 +122,7 @@ impl Route {
     {
         matches!(
             self,
-            Route::Message | Route::Plan | Route::Plans | Route::Bound
+            Route::Message | Route::Plan | Route::Plans | Route::Bound | Route::Backup
         )
     }
 }
@@ -148,11 +152,12 @@ fn add_all(router: &mut Router<Route>, routes: &[Route]) -> Result<(), InsertErr
     add_all(router, more)
 }
 
-const ROUTES: [Route; 21] = [
+const ROUTES: [Route; 22] = [
     Route::Message,
     Route::Plan,
     Route::Plans,
     Route::Bound,
+    Route::Backup,
     Route::Totals,
     Route::Rack,
     Route::Trace,

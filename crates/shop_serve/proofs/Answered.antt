@@ -1,8 +1,9 @@
 -- A connection that tells all, and brings a whole request, is answered.
-use Rattle.std.proofs.Common.{◌≡◌, ◌≢◌, ◌∙◌, ℕ, ◌<◌, List, [], ◌++◌, length, take, inl, inr, refl, sym, ap, subst, arith}
+use Rattle.std.proofs.Common.{◌≡◌, ◌≢◌, ◌∙◌, ℕ, ◌<◌, ◌≤◌, List, [], ◌++◌, length, take, inl, inr, refl, sym, ap, subst, arith}
 use Rattle.std.proofs.lemmas.List.{append-nil, length-append}
 use Rattle.std.specs.Io.KnownBytes.{Appends, IsAtEnd}
-use Rattle.std.specs.Prelude.{◌⊎◌, Option, Some, None, IfSome, IsSome, IsSomeAnd}
+use Rattle.std.specs.declared.alloc.Global.{Global}
+use Rattle.std.specs.Prelude.{Vec, ◌⊎◌, Option, Some, None, IfSome, IsSome, IsSomeAnd}
 use Rattle.slab.specs.Slab.{Slab, get}
 use Rattle.std.specs.declared.time.Instant.{Instant}
 use Rattle.shop_book.specs.declared.books.Book.{Ghosts}
@@ -15,8 +16,9 @@ use Rattle.shop_serve.specs.declared.lines.Line.{Line}
 use Rattle.shop_serve.specs.declared.sites.Site.{Site}
 use Rattle.shop_serve.specs.Known.{TellsAll, BringsRequest, HasOwnAnswer, HasOwnQuestion}
 use Rattle.shop_serve.specs.Times.{Times}
-use Rattle.shop_serve.specs.Lines.{AwaitsMore, IsAnsweredWhole, IsAttended, IsAttendedAt, IsBegunWhole, IsClosedBy, IsFresh, IsHeard, IsMute, IsSpoiled}
+use Rattle.shop_serve.specs.Lines.{AwaitsMore, IsAnsweredWhole, IsAttended, IsAttendedAt, IsBegunWhole, IsClosedBy, IsFresh, IsHeard, IsMute, IsSpent, IsSpoiled}
 use Rattle.shop_planning.specs.Thoughts.{posed_in}
+use Rattle.shop_serve.proofs.Turns.{answered-then}
 
 module _ {C : Type 0} (connection : ConnectionGhosts C) (site : Site) {B : Type 0} (book : Ghosts B)
     (now : Instant) (stream : C) (input : List ℕ) (line : Line C) (before after : B) (seen seeing : Times)
@@ -62,16 +64,32 @@ module _ {C : Type 0} (connection : ConnectionGhosts C) (site : Site) {B : Type 
   took None bytes is = absurd is
   took (Some ys) bytes is = ap Some is
 
-  abbrev HasOwn : Type 0
-  HasOwn = HasOwnAnswer connection site book input before after ⊎ HasOwnQuestion connection site book input before after
+  abbrev HasOwn : Option (Line C) → Type 0
+  HasOwn place = HasOwnAnswer connection site book input place before after ⊎ HasOwnQuestion connection site book input before after
 
-  answered : (left : Line C) → IsAttended connection site book line left before after seen seeing → HasOwn
-  answered left attended = by_answer left.answer refl
+  -- where it is now, or how much it took
+  abbrev IsAt : Option (Line C) → Line C → Type 0
+  IsAt None left = IsSpent left
+  IsAt (Some line) left = line ≡ left
+
+  is_there : (place : Option (Line C)) (left : Line C) (a : Vec ℕ Global) → left.answer ≡ Some a → IsAt place left
+      → IfSome place (λ line. (line.stream ≡ left.stream) × (line.sent ≡ left.sent) × IsSomeAnd line.answer (λ x. x.items ≡ a.items))
+  is_there None left a e at = tt
+  is_there (Some line) left a e at =
+      subst (λ (l : Line C). (l.stream ≡ left.stream) × (l.sent ≡ left.sent) × IsSomeAnd l.answer (λ x. x.items ≡ a.items)) (sym at)
+      (refl, refl, subst (λ o. IsSomeAnd o (λ (x : Vec ℕ Global). x.items ≡ a.items)) (sym e) refl)
+
+  is_gone : (place : Option (Line C)) (left : Line C) (a : Vec ℕ Global) → left.answer ≡ Some a → IsAt place left → place ≡ None → length a.items ≤ left.sent
+  is_gone None left a e at none = subst (λ o. IsSomeAnd o (λ (x : Vec ℕ Global). length x.items ≤ left.sent)) e at
+  is_gone (Some line) left a e at none = absurd (cc none)
+
+  answered : (place : Option (Line C)) (left : Line C) → IsAt place left → IsAttended connection site book line left before after seen seeing → HasOwn place
+  answered place left at attended = by_answer left.answer refl
     where
       heard : IsHeard connection site book line left before after seen seeing
       heard = attended.2 fresh.waits fresh.asks
 
-      by_thought : left.answer ≡ None → (t : Option _) → left.thought ≡ t → HasOwn
+      by_thought : left.answer ≡ None → (t : Option _) → left.thought ≡ t → HasOwn place
       by_thought none None e =
           let w = heard.waits none e in
           absurd (not_waiting left.came.items left.needed left.stream w.read w.drained (w.awaits awaits))
@@ -87,7 +105,7 @@ module _ {C : Type 0} (connection : ConnectionGhosts C) (site : Site) {B : Type 
             asked = whole.asked;
           })
 
-      by_answer : (o : Option _) → left.answer ≡ o → HasOwn
+      by_answer : (o : Option _) → left.answer ≡ o → HasOwn place
       by_answer None e = by_thought e left.thought refl
       by_answer (Some a) e =
           let whole = subst (λ o. IfSome o (λ answer. IsAnsweredWhole connection site book line left heard.rest before after seen seeing answer.items)) e heard.answered in
@@ -101,19 +119,24 @@ module _ {C : Type 0} (connection : ConnectionGhosts C) (site : Site) {B : Type 
             sent = left.sent;
             split = part.2;
             whole = elim whole.whole [ inl settled ↦ inl settled | inr end ↦ inr (subst IsAtEnd part.1 end) ];
-            answered = whole.answered;
+            answered = answered-then site book before after seen seeing left.since left.came.items a.items whole.answered;
             takes = took (connection.contents left.stream) (take left.sent a.items) (whole.takes (Some []) (subst (λ held. Appends (Some []) held []) (sym first) refl));
+            stops = whole.stops;
+            stays = is_there place left a e at;
+            goes = is_gone place left a e at;
           })
 
   pub whole_is_answered : (fate : Fate) (key : ℕ) (old new : Slab (Line C)) → get old key ≡ Some line → fate ≢ NoMemory
-      → IsAttendedAt connection site book fate key old new before after seen seeing → HasOwn
-  whole_is_answered fate key old new is known attended = by_slot (get new key) refl
+      → IsAttendedAt connection site book fate key old new before after seen seeing → HasOwn (get new key)
+  whole_is_answered fate key old new is known attended = by_place (get new key) refl
     where
-      by_reason : IsClosedBy connection site book fate line before after seen seeing → HasOwn
+      by_reason : IsClosedBy connection site book fate line before after seen seeing → HasOwn None
       by_reason (inl wanting) = absurd (known wanting)
-      by_reason (inr (left, inl spent)) = answered left spent.0
+      by_reason (inr (left, inl spent)) = answered None left spent.1 spent.0
       by_reason (inr (left, inr spoiled)) = absurd (not_spoiled left spoiled)
 
-      by_slot : (slot : Option (Line C)) → get new key ≡ slot → HasOwn
-      by_slot None e = by_reason (attended.closed line is e)
-      by_slot (Some left) e = answered left (subst (λ slot. IfSome slot (λ left. IsAttended connection site book line left before after seen seeing)) e (attended.there line is))
+      by_place : (place : Option (Line C)) → get new key ≡ place → HasOwn (get new key)
+      by_place None e = subst HasOwn (sym e) (by_reason (attended.closed line is e))
+      by_place (Some left) e =
+          subst HasOwn (sym e)
+          (answered (Some left) left refl (subst (λ slot. IfSome slot (λ left. IsAttended connection site book line left before after seen seeing)) e (attended.there line is)))

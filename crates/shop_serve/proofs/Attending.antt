@@ -18,9 +18,9 @@ use Rattle.shop_serve.specs.declared.transfers.Given.TheVariants as given
 use Rattle.shop_planning.specs.Thoughts.{posed_in}
 use Rattle.shop_serve.specs.declared.answers.Made.{Made}
 use Rattle.shop_serve.specs.declared.answers.Made.TheVariants.{Answer, Thought}
-use Rattle.shop_serve.specs.Making.{IsAsked, IsMade, put_made}
-use Rattle.shop_serve.specs.Lines.{is_unanswered, unanswered, TakesAnswer, IsHandedOn, IsAnsweredWhole, IsBegunWhole, IsHeard, IsAttended, IsAttendedAt, IsClosedBy, IsSpent, IsSpoiled}
-use Rattle.shop_serve.specs.Serving.{Advances, HasServed, IsAnswered}
+use Rattle.shop_serve.specs.Making.{IsAsked, IsMadeMeanwhile, put_made}
+use Rattle.shop_serve.specs.Lines.{is_unanswered, unanswered, StopsAt, TakesAnswer, IsHandedOn, IsAnsweredWhole, IsBegunWhole, IsHeard, IsAttended, IsAttendedAt, IsClosedBy, IsSpent, IsSpoiled}
+use Rattle.shop_serve.specs.Serving.{Advances, HasServed, IsAnsweredThen}
 use Rattle.shop_serve.specs.Times.{Times, Tells}
 use Rattle.shop_serve.proofs.Slots.{answered-of, has-answer, has-neither, has-question, one_of, unanswered-of, unanswered-updates}
 use Rattle.shop_serve.proofs.Turns.{stays, one_advances}
@@ -36,12 +36,17 @@ module _ {C : Type 0} (connection : ConnectionGhosts C) (site : Site) {B : Type 
       subst (λ held. Appends before held (take more answer)) (sym contents)
       (subst (λ n. Appends before (connection.contents mid) (take n answer)) (sym same) (takes before first))
 
-  -- the connection was ended, and what still came was dropped
+  stops-ended : (answer : List ℕ) (mid new : C) (there more : ℕ) → more ≡ there → there ≡ length answer → (connection.has_ended mid → connection.has_ended new)
+      → StopsAt connection answer mid there → StopsAt connection answer new more
+  stops-ended answer mid new there more same whole keeps (inl ended) = inl (same ∙ whole, keeps ended.1)
+  stops-ended answer mid new there more same whole keeps (inr waits) = absurd (omega (arith, whole, waits.0))
+
+  -- it took its whole answer and was told the end of it, and what still came was dropped
   pub attended-ended : (old mid new : Line C) (before after : B) (seen seeing : Times)
       → (new.came ≡ mid.came) × (new.answer ≡ mid.answer) × (new.sent ≡ mid.sent) → new.since ≡ mid.since → new.thought ≡ mid.thought
-      → connection.contents new.stream ≡ connection.contents mid.stream → IsSomeAnd mid.answer (λ answer. mid.sent ≡ length answer.items)
+      → connection.contents new.stream ≡ connection.contents mid.stream → (connection.has_ended mid.stream → connection.has_ended new.stream) → IsSomeAnd mid.answer (λ answer. mid.sent ≡ length answer.items)
       → IsAttended connection site book old mid before after seen seeing → IsAttended connection site book old new before after seen seeing
-  attended-ended old mid new before after seen seeing kept since asks contents whole attended = (
+  attended-ended old mid new before after seen seeing kept since asks contents keeps whole attended = (
     if_some_at old.answer _ _ (λ answer is handed. record {
       same = handed.same;
       unread = handed.unread;
@@ -50,7 +55,7 @@ module _ {C : Type 0} (connection : ConnectionGhosts C) (site : Site) {B : Type 
       asks = asks ∙ handed.asks;
       kept = kept.1 ∙ handed.kept;
       takes = takes-ended answer.items old.stream mid.stream new.stream old.sent mid.sent new.sent kept.2 contents handed.takes;
-      stops = inl (kept.2 ∙ subst (λ o. IsSomeAnd o (λ a. mid.sent ≡ length a.items)) (handed.kept ∙ is) whole);
+      stops = stops-ended answer.items mid.stream new.stream mid.sent new.sent kept.2 (subst (λ o. IsSomeAnd o (λ a. mid.sent ≡ length a.items)) (handed.kept ∙ is) whole) keeps handed.stops;
     }) attended.0,
     λ none thinks. absurd (some_answer (ap (λ (l : Line C). l.answer) (attended.1 none thinks).kept ∙ none)),
     λ none rests. let heard = attended.2 none rests in record {
@@ -60,11 +65,11 @@ module _ {C : Type 0} (connection : ConnectionGhosts C) (site : Site) {B : Type 
       begun = subst (λ o. IfSome o (IsBegunWhole connection site book old new heard.rest before after seen seeing)) (sym asks)
           (if_some_at mid.thought _ _ (λ thinking is b. absurd (some_answer b.none)) heard.begun);
       answered = if_some_at new.answer _ _ (λ answer is whole_answer. record {
-        since = subst (Tells seen seeing) (sym since) whole_answer.since;
         whole = subst (λ came. IsSettled came.items ⊎ IsAtEnd heard.rest) (sym kept.0) whole_answer.whole;
-        answered = subst (λ came. IsAnswered site book before after came.items answer.items) (sym kept.0) whole_answer.answered;
+        answered = subst (λ at. IsAnsweredThen site book before after seen seeing at new.came.items answer.items) (sym since)
+            (subst (λ came. IsAnsweredThen site book before after seen seeing mid.since came.items answer.items) (sym kept.0) whole_answer.answered);
         takes = takes-ended answer.items old.stream mid.stream new.stream 0 mid.sent new.sent kept.2 contents whole_answer.takes;
-        stops = inl (kept.2 ∙ subst (λ o. IsSomeAnd o (λ a. mid.sent ≡ length a.items)) (sym kept.1 ∙ is) whole);
+        stops = stops-ended answer.items mid.stream new.stream mid.sent new.sent kept.2 (subst (λ o. IsSomeAnd o (λ a. mid.sent ≡ length a.items)) (sym kept.1 ∙ is) whole) keeps whole_answer.stops;
       }) (subst (λ o. IfSome o (λ answer. IsAnsweredWhole connection site book old mid heard.rest before after seen seeing answer.items)) (sym kept.1) heard.answered);
     },
   )
@@ -78,26 +83,18 @@ module _ {C : Type 0} (connection : ConnectionGhosts C) (site : Site) {B : Type 
       → connection.contents mid.stream ≡ connection.contents old.stream
       → ((IsSome mid.answer × (mid.thought ≡ None)) ⊎ (IsSome mid.thought × (mid.answer ≡ None))) × (mid.sent ≡ 0)
       → IsSettled mid.came.items ⊎ IsAtEnd (connection.remaining mid.stream)
-      → IfSome mid.answer (λ answer. IsAnswered site book before after mid.came.items answer.items)
+      → IfSome mid.answer (λ answer. IsAnsweredThen site book before after seen seeing mid.since mid.came.items answer.items)
       → IfSome mid.thought (λ t. (t.last ≡ None) × IsAsked site book before after mid.came.items (posed_in t.thought))
-      → Tells seen seeing mid.since → (new.came ≡ mid.came) × (new.answer ≡ mid.answer) → new.since ≡ mid.since → new.thought ≡ mid.thought
-      → (mid.answer ≡ None → (new ≡ mid) × (r ≡ given.Waits)) → r ≢ given.Lost → r ≢ given.NoMemory
+      → (IsSome mid.thought → Tells seen seeing mid.since) → (new.came ≡ mid.came) × (new.answer ≡ mid.answer) → new.since ≡ mid.since → new.thought ≡ mid.thought
+      → (mid.answer ≡ None → (new ≡ mid) × (r ≡ given.Waits)) → r ≢ given.Lost
       → (r ≢ given.Lost → IfSome mid.answer (λ answer. TakesAnswer connection answer.items mid.stream mid.sent new.stream new.sent))
-      → (r ≡ given.Whole → IsSomeAnd new.answer (λ answer. new.sent ≡ length answer.items))
-      → (r ≡ given.Waits → IsSome mid.answer → connection.is_full new.stream) → IsAttended connection site book old new before after seen seeing
-  attended-first old mid new before after seen seeing r none rests read contents begins whole own asked timed kept since asks idle stays known takes ends full = (
+      → (r ≢ given.Lost → IfSome mid.answer (λ answer. StopsAt connection answer.items new.stream new.sent)) → IsAttended connection site book old new before after seen seeing
+  attended-first old mid new before after seen seeing r none rests read contents begins whole own asked timed kept since asks idle stays takes stops = (
     subst (λ o. IfSome o (λ answer. IsHandedOn connection site book old new before after seen seeing answer.items)) (sym none) tt,
     λ none thinks. absurd (cc (subst IsSome rests thinks)),
     λ none rests. heard mid.answer refl,
   )
     where
-      stop : (r : Given) → r ≢ given.Lost → r ≢ given.NoMemory → (length_of : ℕ) → (r ≡ given.Whole → new.sent ≡ length_of) → (r ≡ given.Waits → connection.is_full new.stream)
-          → (new.sent ≡ length_of) ⊎ connection.is_full new.stream
-      stop given.Whole stays known n ends full = inl (ends refl)
-      stop given.Waits stays known n ends full = inr (full refl)
-      stop given.Lost stays known n ends full = absurd (stays refl)
-      stop given.NoMemory stays known n ends full = absurd (known refl)
-
       asks_nothing : (answer : _) → mid.answer ≡ Some answer → mid.thought ≡ None
       asks_nothing answer e = elim begins.0 [ inl answered ↦ answered.1 | inr thinks ↦ absurd (cc (thinks.1, e)) ]
 
@@ -112,7 +109,7 @@ module _ {C : Type 0} (connection : ConnectionGhosts C) (site : Site) {B : Type 
             read = read;
             waits = λ waits idle. absurd (cc (subst IsSome idle (thinks_then e)));
             begun = if_some_at mid.thought _ _ (λ thinking is so. record {
-              since = timed;
+              since = timed (thinks_then e);
               whole = whole;
               asked = so.1;
               waits = so.0;
@@ -130,27 +127,32 @@ module _ {C : Type 0} (connection : ConnectionGhosts C) (site : Site) {B : Type 
             waits = λ waits idle. absurd (cc (waits, there));
             begun = subst (λ o. IfSome o (IsBegunWhole connection site book old new (connection.remaining mid.stream) before after seen seeing)) (sym (asks ∙ asks_nothing a e)) tt;
             answered = subst (λ o. IfSome o (λ answer. IsAnsweredWhole connection site book old new (connection.remaining mid.stream) before after seen seeing answer.items)) (sym there) (record {
-              since = subst (Tells seen seeing) (sym since) timed;
               whole = subst (λ came. IsSettled came.items ⊎ IsAtEnd (connection.remaining mid.stream)) (sym kept.0) whole;
-              answered = subst (λ came. IsAnswered site book before after came.items a.items) (sym kept.0)
-                  (subst (λ o. IfSome o (λ answer. IsAnswered site book before after mid.came.items answer.items)) e own);
+              answered = subst (λ at. IsAnsweredThen site book before after seen seeing at new.came.items a.items) (sym since)
+                  (subst (λ came. IsAnsweredThen site book before after seen seeing mid.since came.items a.items) (sym kept.0)
+                  (subst (λ o. IfSome o (λ answer. IsAnsweredThen site book before after seen seeing mid.since mid.came.items answer.items)) e own));
               takes = λ held first. taken held (subst (λ n. Appends held (connection.contents mid.stream) (take n a.items)) (sym begins.1)
                   (subst (λ known. Appends held known (take 0 a.items)) (sym contents) first));
-              stops = stop r stays known (length a.items) (λ e. subst (λ o. IsSomeAnd o (λ answer. new.sent ≡ length answer.items)) there (ends e))
-                  (λ waits. full waits (subst IsSome (sym e) refl));
+              stops = subst (λ o. IfSome o (λ answer. StopsAt connection answer.items new.stream new.sent)) e (stops stays);
             });
           }
 
   -- what was made was put into its connection
-  pub made-own : (before after : B) (line : Line C) (made : Made) (now : Instant) → IsMade site book before after line.came.items made
-      → IfSome (put_made line made now).answer (λ answer. IsAnswered site book before after (put_made line made now).came.items answer.items)
-  made-own before after line (Answer answer) now is = is
-  made-own before after line (Thought thought) now is = tt
+  module _ (before after : B) (seen between seeing : Times) (line : Line C) where
+    pub made-own : (made : Made) (now : Instant) → IsMadeMeanwhile site book before after seen between line.came.items made → Tells between seeing now
+        → IfSome (put_made line made now).answer (λ answer. IsAnsweredThen site book before after seen seeing (put_made line made now).since (put_made line made now).came.items answer.items)
+    made-own (Answer answer) now is tells = (between, is, tells)
+    made-own (Thought thought) now is tells = tt
 
-  pub made-asked : (before after : B) (line : Line C) (made : Made) (now : Instant) → IsMade site book before after line.came.items made
-      → IfSome (put_made line made now).thought (λ t. (t.last ≡ None) × IsAsked site book before after (put_made line made now).came.items (posed_in t.thought))
-  made-asked before after line (Answer answer) now is = tt
-  made-asked before after line (Thought thought) now is = (refl, is)
+    pub made-asked : (made : Made) (now : Instant) → IsMadeMeanwhile site book before after seen between line.came.items made
+        → IfSome (put_made line made now).thought (λ t. (t.last ≡ None) × IsAsked site book before after (put_made line made now).came.items (posed_in t.thought))
+    made-asked (Answer answer) now is = tt
+    made-asked (Thought thought) now is = (refl, is.0)
+
+    pub made-timed : (made : Made) (now : Instant) → IsMadeMeanwhile site book before after seen between line.came.items made → Tells between seeing now
+        → IsSome (put_made line made now).thought → Tells seen seeing (put_made line made now).since
+    made-timed (Answer answer) now is tells some = absurd (cc some)
+    made-timed (Thought thought) now is tells some = subst (λ t. Tells t seeing now) is.1 tells
 
   pub made-whole : (line : Line C) (made : Made) (now : Instant) → IsSettled line.came.items ⊎ IsAtEnd (connection.remaining line.stream)
       → IsSettled (put_made line made now).came.items ⊎ IsAtEnd (connection.remaining (put_made line made now).stream)

@@ -5,6 +5,7 @@ use Rattle.std.specs.declared.time.Instant.{Instant}
 use Rattle.slab.specs.Slab.{Slab, get, slab_len}
 use Rattle.shop_book.specs.declared.books.Book.{Ghosts}
 use Rattle.shop_serve.specs.declared.connections.Connection.{Ghosts as ConnectionGhosts}
+use Rattle.shop_serve.specs.declared.ports.Port.{Ghosts as PortGhosts}
 use Rattle.shop_serve.specs.declared.lines.Fate.{Fate}
 use Rattle.shop_serve.specs.declared.lines.Line.{Line}
 use Rattle.shop_serve.specs.declared.lines.TheConstants.{MOST_LINES}
@@ -30,14 +31,14 @@ module _ {C : Type 0} where
   room-made old room few (inr (full, key, oldest, gone)) =
       omega (arith, few, count-but is_some refl key old.slots room.slots gone.others, ap counted gone.changed, ap counted oldest.there)
 
-  opened-few : (now : Instant) (stream : C) (key : ℕ) (old new : Slab (Line C)) → slab_len old ≤ MOST_LINES → IsOpened now stream key old new → slab_len new ≤ MOST_LINES
-  opened-few now stream key old new few o =
+  opened-few : {P : Type 0} (port : PortGhosts P C) (now : Instant) (stream : C) (key : ℕ) (old new : Slab (Line C)) → slab_len old ≤ MOST_LINES → IsOpened port now stream key old new → slab_len new ≤ MOST_LINES
+  opened-few port now stream key old new few o =
       omega (arith, room-made old o.room few o.made, count-but is_some refl key o.room.slots new.slots o.there.others, ap counted o.there.changed, ap counted o.free)
 
-  turned-few : (deaf : Type 0) (old new : Slab (Line C)) → slab_len old ≤ MOST_LINES → IsTurnedAway deaf old new → slab_len new ≤ MOST_LINES
-  turned-few deaf old new few t = omega (arith, room-made old t.room few t.made, ap (count_by is_some) t.same)
+  turned-few : {P : Type 0} (port : PortGhosts P C) (old new : Slab (Line C)) → slab_len old ≤ MOST_LINES → IsTurnedAway port old new → slab_len new ≤ MOST_LINES
+  turned-few port old new few t = omega (arith, room-made old t.room few t.made, ap (count_by is_some) t.same)
 
-module _ {C : Type 0} (connection : ConnectionGhosts C) (site : Site) {B : Type 0} (book : Ghosts B) (deaf : Type 0) where
+module _ {C : Type 0} (connection : ConnectionGhosts C) (site : Site) {B : Type 0} (book : Ghosts B) {P : Type 0} (port : PortGhosts P C) where
   attended-fewer : (fate : Fate) (key : ℕ) (old new : Slab (Line C)) (before after : B) (seen seeing : Times)
       → IsAttendedAt connection site book fate key old new before after seen seeing → slab_len new ≤ slab_len old
   attended-fewer fate key old new before after seen seeing attended = by_slot (get old key) refl
@@ -53,13 +54,13 @@ module _ {C : Type 0} (connection : ConnectionGhosts C) (site : Site) {B : Type 
       omega (arith, attended-fewer run.0 key old run.1 before run.2 seen run.3 run.4, each-fewer keys run.1 new run.2 after run.3 seeing run.5)
 
   received-few : (stream : C) (old new : Slab (Line C)) (before after : B) (seen seeing : Times) → slab_len old ≤ MOST_LINES
-      → IsReceived connection site book deaf stream old new before after seen seeing → slab_len new ≤ MOST_LINES
-  received-few stream old new before after seen seeing few (now, between, told, inl away) = turned-few deaf old new few away.0
+      → IsReceived connection site book port stream old new before after seen seeing → slab_len new ≤ MOST_LINES
+  received-few stream old new before after seen seeing few (now, between, told, inl away) = turned-few port old new few away.0
   received-few stream old new before after seen seeing few (now, between, told, inr here) =
-      omega (arith, opened-few now stream here.key old here.lines few here.opened, attended-fewer here.fate here.key here.lines new before after between seeing here.attended)
+      omega (arith, opened-few port now stream here.key old here.lines few here.opened, attended-fewer here.fate here.key here.lines new before after between seeing here.attended)
 
   came-few : (came : List C) (old new : Slab (Line C)) (before after : B) (seen seeing : Times) → slab_len old ≤ MOST_LINES
-      → AreReceived connection site book deaf came old new before after seen seeing → slab_len new ≤ MOST_LINES
+      → AreReceived connection site book port came old new before after seen seeing → slab_len new ≤ MOST_LINES
   came-few [] old new before after seen seeing few run = omega (arith, few, ap (λ (s : Slab (Line C)). slab_len s) run.0)
   came-few (stream ∷ came) old new before after seen seeing few run =
       came-few came run.0 new run.1 after run.2 seeing (received-few stream old run.0 before run.1 seen run.2 few run.3) run.4
@@ -88,16 +89,16 @@ module _ {C : Type 0} (connection : ConnectionGhosts C) (site : Site) {B : Type 
           omega (arith, once, attended-fewer handed.0 t.key t.lines new before after t.between seeing handed.1)
 
   round-few : (round : Round C) (old new : Slab (Line C)) (before after : B) (seen seeing : Times) → slab_len old ≤ MOST_LINES
-      → IsRound connection site book deaf round old new before after seen seeing → slab_len new ≤ MOST_LINES
+      → IsRound connection site book port round old new before after seen seeing → slab_len new ≤ MOST_LINES
   round-few round old new before after seen seeing few r =
       came-few round.came r.thought new r.later after r.third seeing
       (omega (arith, few, thinks-fewer round.now r.kept r.thought r.mid r.later r.second r.third r.thinks, each-fewer round.keys old r.attended before r.mid seen r.first r.each, late-fewer is_some refl round.now r.attended r.kept r.late)) r.received
 
   rounds-few : (rounds : List (Round C)) (old new : Slab (Line C)) (before after : B) (seen seeing : Times) → slab_len old ≤ MOST_LINES
-      → AreRounds connection site book deaf rounds old new before after seen seeing → slab_len new ≤ MOST_LINES
+      → AreRounds connection site book port rounds old new before after seen seeing → slab_len new ≤ MOST_LINES
   rounds-few [] old new before after seen seeing few run = omega (arith, few, ap (λ (s : Slab (Line C)). slab_len s) run.0)
   rounds-few (round ∷ rounds) old new before after seen seeing few run =
       rounds-few rounds run.0 new run.1 after run.2 seeing (round-few round old run.0 before run.1 seen run.2 few run.3) run.4
 
-  pub few_are_open : FewAreOpen connection site book deaf
+  pub few_are_open : FewAreOpen connection site book port
   few_are_open rounds first last before after seen seeing run none = rounds-few rounds first last before after seen seeing (none-few first none) run

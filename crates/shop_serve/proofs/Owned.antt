@@ -1,27 +1,25 @@
 -- Each connection has its own question and its own answer, turn after turn.
-use Rattle.std.proofs.Common.{◌≡◌, ◌≢◌, ◌∙◌, ℕ, ◌+◌, Bool, true, false, List, [], ◌∷◌, inl, inr, refl, sym, ap, subst, arith}
+use Rattle.std.proofs.Common.{◌≡◌, ◌≢◌, ◌∙◌, ℕ, ◌+◌, Bool, true, false, List, [], ◌∷◌, inl, inr, refl, sym, ap, subst}
 use Rattle.std.proofs.lemmas.Bool.{eqb-true, eqb-false}
-use Rattle.std.specs.Prelude.{◌⊎◌, Option, Some, None, IfSome, IsSome, nat_eq, if◌then◌else◌}
+use Rattle.std.specs.Prelude.{Option, Some, None, IfSome, IsSome, nat_eq, if◌then◌else◌}
 use Rattle.std.specs.declared.time.Instant.{Instant}
 use Rattle.slab.specs.Slab.{Slab, get}
 use Rattle.shop_book.specs.declared.books.Book.{Ghosts}
 use Rattle.shop_planning.specs.Thoughts.{posed_in}
-use Rattle.shop_planning.specs.declared.posed.Posed.{Posed}
 use Rattle.shop_serve.specs.declared.connections.Connection.{Ghosts as ConnectionGhosts}
+use Rattle.shop_serve.specs.declared.ports.Port.{Ghosts as PortGhosts}
 use Rattle.shop_serve.specs.declared.lines.Fate.{Fate}
 use Rattle.shop_serve.specs.declared.lines.Line.{Line}
 use Rattle.shop_serve.specs.declared.sites.Site.{Site}
 use Rattle.shop_serve.specs.declared.thinking.Thinking.{Thinking as ThinkingOf}
 use Rattle.shop_serve.specs.declared.thinking.Progress.{Progress}
 use Rattle.shop_serve.specs.declared.thinking.Progress.TheVariants.{GoesOn, Answered, NoMemory}
-use Rattle.shop_serve.specs.Lines.{AreAttended, ClosesLate, IsAnsweredWhole, IsAttended, IsAttendedAt, IsBegunWhole, IsHandedOn, IsOpened, IsTurnedAway, MakesRoom, in_time, is_late}
-use Rattle.shop_serve.specs.Making.{IsAsked, IsPlansAnswer}
+use Rattle.shop_serve.specs.Lines.{AreAttended, IsAttended, IsAttendedAt, IsHandedOn, IsOpened, IsTurnedAway, MakesRoom, in_time, is_late}
 use Rattle.shop_serve.specs.Own.{Leads, WasDone, WasAsked, WasAnswered, HasItsOwn, EachHasItsOwn}
 use Rattle.shop_serve.specs.Rounds.{AreReceived, AreRounds, IsReceived, IsRound, Round}
-use Rattle.shop_serve.specs.Serving.{HasServed, IsAnswered}
-use Rattle.shop_serve.specs.Thinking.{IsThoughtAt, IsThoughtOn, Thinks}
+use Rattle.shop_serve.specs.Thinking.{IsThoughtAt, Thinks}
 use Rattle.shop_serve.specs.Times.{Times}
-use Rattle.shop_serve.proofs.Turns.{none_served, more_served}
+use Rattle.shop_serve.proofs.Turns.{answered-then, none_served, more_served}
 
 if_some : {A : Type 0} (o : Option A) (P Q : A → Type 0) → ((a : A) → P a → Q a) → IfSome o P → IfSome o Q
 if_some None P Q f p = p
@@ -93,7 +91,7 @@ module _ (site : Site) {B : Type 0} (book : Ghosts B) where
         by_test true e = absurd (cc (updates.changed, subst (λ k. get room k ≡ Some line) (eqb-true key gone e) is))
         by_test false e = sym (updates.others key (eqb-false key gone e)) ∙ is
 
-module _ {C : Type 0} (connection : ConnectionGhosts C) (site : Site) {B : Type 0} (book : Ghosts B) (deaf : Type 0) where
+module _ {C : Type 0} (connection : ConnectionGhosts C) (site : Site) {B : Type 0} (book : Ghosts B) {P : Type 0} (port : PortGhosts P C) where
   abbrev Open : B → B → Slab (Line C) → Type 0
   Open a b lines = Leads site book a b × Own site book a b lines
 
@@ -112,7 +110,7 @@ module _ {C : Type 0} (connection : ConnectionGhosts C) (site : Site) {B : Type 
       by_thought none None e =
           let heard = attended.2 none e in (
             if_some new.thought _ _ (λ t begun. record { old = b; new = c; earlier = so_far; step = begun.asked; honest = honest; later = stays site book c }) heard.begun,
-            if_some new.answer _ _ (λ answer whole. inl (record { old = b; new = c; earlier = so_far; step = whole.answered; honest = honest; later = stays site book c })) heard.answered,
+            if_some new.answer _ _ (λ answer whole. inl (record { old = b; new = c; earlier = so_far; step = answered-then site book b c seen seeing new.since new.came.items answer.items whole.answered; honest = honest; later = stays site book c })) heard.answered,
           )
 
       by_answer : (o : Option _) → old.answer ≡ o → HasItsOwn site book a c new
@@ -183,7 +181,7 @@ module _ {C : Type 0} (connection : ConnectionGhosts C) (site : Site) {B : Type 
           let handed = t.answered e in attended-own handed.0 t.key t.lines new a b c t.between seeing handed.1 (so_far, once)
 
   -- a connection came
-  opened-own : (now : Instant) (stream : C) (key : ℕ) (old new : Slab (Line C)) (a b : B) → IsOpened now stream key old new → Own site book a b old → Own site book a b new
+  opened-own : (now : Instant) (stream : C) (key : ℕ) (old new : Slab (Line C)) (a b : B) → IsOpened port now stream key old new → Own site book a b old → Own site book a b new
   opened-own now stream key old new a b o own =
       at-key site book a b b o.room new key (stays site book b) o.there.others
       (λ line is. let same : o.line ≡ line = cc (o.there.changed, is) in subst (HasItsOwn site book a b) same (nothing o.line o.fresh.asks o.fresh.waits))
@@ -195,34 +193,34 @@ module _ {C : Type 0} (connection : ConnectionGhosts C) (site : Site) {B : Type 
         subst (λ o. IfSome o (λ x. WasAnswered site book a b line.came.items x.items)) (sym waits) tt,
       )
 
-  turned-own : (old new : Slab (Line C)) (a b : B) → IsTurnedAway deaf old new → Own site book a b old → Own site book a b new
+  turned-own : (old new : Slab (Line C)) (a b : B) → IsTurnedAway port old new → Own site book a b old → Own site book a b new
   turned-own old new a b t own =
       fewer-own site book a b b old new (stays site book b)
       (λ key line is. room-own site book old t.room t.made key line (ap (λ slots. get (record t.room { slots = slots }) key) (sym t.same) ∙ is)) own
 
-  received-own : (stream : C) (old new : Slab (Line C)) (a b c : B) (seen seeing : Times) → IsReceived connection site book deaf stream old new b c seen seeing → Open a b old → Open a c new
+  received-own : (stream : C) (old new : Slab (Line C)) (a b c : B) (seen seeing : Times) → IsReceived connection site book port stream old new b c seen seeing → Open a b old → Open a c new
   received-own stream old new a b c seen seeing (now, between, told, inl away) (so_far, own) =
       subst (λ (d : B). Open a d new) (sym away.1) (so_far, turned-own old new a b away.0 own)
   received-own stream old new a b c seen seeing (now, between, told, inr here) (so_far, own) =
       attended-own here.fate here.key here.lines new a b c between seeing here.attended (so_far, opened-own now stream here.key old here.lines a b here.opened own)
 
-  came-own : (came : List C) (old new : Slab (Line C)) (a b c : B) (seen seeing : Times) → AreReceived connection site book deaf came old new b c seen seeing → Open a b old → Open a c new
+  came-own : (came : List C) (old new : Slab (Line C)) (a b c : B) (seen seeing : Times) → AreReceived connection site book port came old new b c seen seeing → Open a b old → Open a c new
   came-own [] old new a b c seen seeing run here = subst (λ (n : Slab (Line C)). Open a c n) (sym run.0) (subst (λ (d : B). Open a d old) (sym run.1) here)
   came-own (stream ∷ came) old new a b c seen seeing run here =
       came-own came run.0 new a run.1 c run.2 seeing run.4 (received-own stream old run.0 a b run.1 seen run.2 run.3 here)
 
-  round-own : (round : Round C) (old new : Slab (Line C)) (a b c : B) (seen seeing : Times) → IsRound connection site book deaf round old new b c seen seeing → Open a b old → Open a c new
+  round-own : (round : Round C) (old new : Slab (Line C)) (a b c : B) (seen seeing : Times) → IsRound connection site book port round old new b c seen seeing → Open a b old → Open a c new
   round-own round old new a b c seen seeing r here =
       let first = each-own round.keys old r.attended a b r.mid seen r.first r.each here in
       let kept = fewer-own site book a r.mid r.mid r.attended r.kept (stays site book r.mid) (λ key line is. late-own site book round.now (get r.attended key) line (sym (r.late key) ∙ is)) first.1 in
       came-own round.came r.thought new a r.later c r.third seeing r.received
       (thinks-own round.now r.kept r.thought a r.mid r.later r.second r.third r.thinks (first.0, kept))
 
-  rounds-own : (rounds : List (Round C)) (old new : Slab (Line C)) (a b c : B) (seen seeing : Times) → AreRounds connection site book deaf rounds old new b c seen seeing → Open a b old → Open a c new
+  rounds-own : (rounds : List (Round C)) (old new : Slab (Line C)) (a b c : B) (seen seeing : Times) → AreRounds connection site book port rounds old new b c seen seeing → Open a b old → Open a c new
   rounds-own [] old new a b c seen seeing run here = subst (λ (n : Slab (Line C)). Open a c n) (sym run.0) (subst (λ (d : B). Open a d old) (sym run.1) here)
   rounds-own (round ∷ rounds) old new a b c seen seeing run here =
       rounds-own rounds run.0 new a run.1 c run.2 seeing run.4 (round-own round old run.0 a b run.1 seen run.2 run.3 here)
 
-  pub each_has_its_own : EachHasItsOwn connection site book deaf
+  pub each_has_its_own : EachHasItsOwn connection site book port
   each_has_its_own rounds first last before after seen seeing run none =
       (rounds-own rounds first last before before after seen seeing run (stays site book before, λ key line is. absurd (cc (none key, is)))).1

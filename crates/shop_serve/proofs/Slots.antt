@@ -7,9 +7,19 @@ use Rattle.std.specs.Prelude.{Vec, Option, Some, None, Result, Ok, Err, IfOk, If
 use Rattle.std.specs.Result.{result_ok}
 use Rattle.slab.specs.Slab.{Slab, get, Updates, HasRoomFor, CalledAt, RetainsFrom}
 use Rattle.shop_serve.specs.declared.lines.Line.{Line}
+use Rattle.shop_serve.specs.declared.ports.Port.{Ghosts as PortGhosts}
 use Rattle.std.specs.declared.time.Instant.{Instant}
 use Rattle.shop_serve.proofs.Counts.{count-but, count-fewer, one, one-most, one-none}
 use Rattle.shop_serve.specs.Lines.{ClosesLate, IsFresh, IsOpened, IsTurnedAway, MakesRoom, in_time, is_late, is_unanswered, unanswered}
+
+-- it is watched under the key that it was put under
+pub watched-at : {E : Type 0} (r : Result ℕ E) (told free : ℕ) (Watched : ℕ → Type 0) → told ≡ free → Watched told → IfOk r (λ k. k ≡ free) → IfOk r Watched
+watched-at (Ok k) told free Watched e watched is = subst Watched (e ∙ sym is) watched
+watched-at (Err f) told free Watched e watched is = tt
+
+pub watched-some : {E : Type 0} (r : Result ℕ E) (key : Option ℕ) (Watched : ℕ → Type 0) → key ≡ result_ok r → IfOk r Watched → IfSome key Watched
+watched-some (Ok k) key Watched e watched = subst (λ key. IfSome key Watched) (sym e) watched
+watched-some (Err f) key Watched e watched = subst (λ key. IfSome key Watched) (sym e) tt
 
 module _ {C : Type 0} where
   -- one for a connection without an answer
@@ -55,19 +65,20 @@ module _ {C : Type 0} where
   pub unanswered-empty : (lines : Slab (Line C)) → lines.slots ≡ [] → unanswered lines ≡ 0
   unanswered-empty lines e = rw e refl
 
-  module _ {E : Type 0} (now : Instant) (stream : C) (old room new : Slab (Line C)) (line : Line C) where
-    -- it was put under a free key
-    pub opened-so : (r : Result ℕ E) (key : Option ℕ) → key ≡ result_ok r → IfOk r (λ k. get room k ≡ None) → IfOk r (λ k. Updates room new k (Some line))
-        → MakesRoom old room → IsFresh now stream line → IfSome key (λ k. IsOpened now stream k old new)
-    opened-so (Ok k) key e free there made fresh =
-        subst (λ key. IfSome key (λ k. IsOpened now stream k old new)) (sym e) (record { room = room; made = made; line = line; fresh = fresh; free = free; there = there })
-    opened-so (Err f) key e free there made fresh = subst (λ key. IfSome key (λ k. IsOpened now stream k old new)) (sym e) tt
+  module _ {E P : Type 0} (port : PortGhosts P C) (now : Instant) (stream : C) (old room new : Slab (Line C)) (line : Line C) where
+    -- it was put under a free key, under which it is watched
+    pub opened-so : (r : Result ℕ E) (key : Option ℕ) → key ≡ result_ok r → IfOk r (λ k. (p : P) × port.is_watched p stream k) → IfOk r (λ k. get room k ≡ None) → IfOk r (λ k. Updates room new k (Some line))
+        → MakesRoom old room → IsFresh now stream line → IfSome key (λ k. IsOpened port now stream k old new)
+    opened-so (Ok k) key e watched free there made fresh =
+        subst (λ key. IfSome key (λ k. IsOpened port now stream k old new)) (sym e)
+        (record { room = room; made = made; line = line; fresh = fresh; free = free; there = there; watched = watched })
+    opened-so (Err f) key e watched free there made fresh = subst (λ key. IfSome key (λ k. IsOpened port now stream k old new)) (sym e) tt
 
     -- or there was no memory for it
-    pub closed-so : (deaf : Type 0) (r : Result ℕ E) (key : Option ℕ) → key ≡ result_ok r → OnErr r (new ≡ record room { capacity = new.capacity })
-        → (HasRoomFor room 1 → IsOk r) → MakesRoom old room → key ≡ None → IsTurnedAway deaf old new
-    closed-so deaf (Ok k) key e err fits made none = absurd (cc (e, none))
-    closed-so deaf (Err f) key e err fits made none = record { room = room; made = made; same = ap (λ s. s.slots) err; why = inr (λ free. absurd (cc (fits free))) }
+    pub closed-so : (r : Result ℕ E) (key : Option ℕ) → key ≡ result_ok r → OnErr r (new ≡ record room { capacity = new.capacity })
+        → (HasRoomFor room 1 → IsOk r) → MakesRoom old room → key ≡ None → IsTurnedAway port old new
+    closed-so (Ok k) key e err fits made none = absurd (cc (e, none))
+    closed-so (Err f) key e err fits made none = record { room = room; made = made; same = ap (λ s. s.slots) err; why = inr (λ free. absurd (cc (fits free))) }
 
   -- one more is opened, or there was no memory for it
   pub unanswered-inserted : {E : Type 0} (old new : Slab (Line C)) (line : Line C) (key : Result ℕ E) → IfOk key (λ k. Updates old new k (Some line))

@@ -1,11 +1,10 @@
 -- Which question is thought on, and what that leaves.
-use Rattle.std.proofs.Common.{◌≡◌, ◌≢◌, ◌∙◌, ℕ, ◌+◌, ◌<◌, ◌≤◌, Bool, true, false, is_some, List, [], ◌∷◌, length, Contains, inl, inr, refl, sym, ap, subst, arith}
+use Rattle.std.proofs.Common.{◌≡◌, ◌∙◌, ℕ, ◌≤◌, Bool, true, false, is_some, List, [], ◌∷◌, length, Contains, inl, inr, refl, sym, ap, subst, arith}
 use Rattle.std.specs.Prelude.{◌⊎◌, Option, Some, None, IfSome, IsSome}
 use Rattle.std.specs.declared.time.Instant.{Instant}
 use Rattle.slab.specs.Slab.{Slab, get, entries, Updates, with_value}
 use Rattle.slab.proofs.SlabLemmas.{Contains-cons, Contains-cons_cases, Contains-entries, Updates-with_value}
 use Rattle.shop_serve.specs.declared.lines.Line.{Line}
-use Rattle.shop_serve.specs.declared.thinking.Progress.{Progress}
 use Rattle.shop_serve.specs.declared.thinking.Progress.TheVariants.{GoesOn, Answered, NoMemory}
 use Rattle.shop_serve.specs.Lines.{AsksAt, NoneAsks, unanswered}
 use Rattle.shop_serve.specs.Thinking.{IsThoughtAt, IsThoughtOnce, IsThoughtOut}

@@ -2,7 +2,13 @@
 use Rattle.std.proofs.Common.{◌≡◌, ◌≢◌, ◌∙◌, ℕ, suc, ◌+◌, ◌<◌, ◌≤◌, List, [], ◌∷◌, ◌++◌, true, false, inl, inr, length, map, refl, sym, ap, subst, arith}
 use Rattle.std.proofs.lemmas.List.{append-nil, length-append}
 use Rattle.std.proofs.lemmas.List.Concat.{flat_map-append}
-use Rattle.std.specs.Prelude.{◌⊎◌, Option, Some}
+use Rattle.std.specs.Prelude.{◌⊎◌, Option, Some, Result}
+use Rattle.std.specs.declared.time.Instant.{Instant}
+use Rattle.shop_records.specs.declared.refusals.Refusal.{Refusal}
+use Rattle.shop_request.specs.Requests.{Sense, silent, faulty, asking, HasSense}
+use Rattle.shop_request.specs.declared.routes.Route.{Route}
+use Rattle.shop_request.specs.declared.routes.Route.TheVariants.{Message, Plan, Plans, Bound, Backup, Totals, Rack, Trace, Demand, Ticket, Yield, Materials, Parts, PartsBehind, Demands, DemandsOf, Orders, OrdersBehind, OrderLines, Jobs, Job, Terminal}
+use Rattle.shop_serve.specs.Times.{Times}
 use Rattle.shop_desk.specs.Handled.{HasAccount}
 use Rattle.shop_desk.specs.Faults.{CountsUp}
 use Rattle.shop_desk.proofs.Accounts.{account_same, account_more}
@@ -10,14 +16,19 @@ use Rattle.shop_desk.proofs.Blame.{up_more, failed_first, failed_last}
 use Rattle.shop_records.specs.Content.{Content}
 use Rattle.shop_request.specs.Guards.{HasRuling}
 use Rattle.shop_request.specs.declared.guards.Ruling.{Ruling}
-use Rattle.shop_request.specs.declared.guards.Ruling.TheVariants.{Routed, Forbidden, Page, OnlyGet}
+use Rattle.shop_request.specs.declared.guards.Ruling.TheVariants.{Routed, Forbidden, Page, OnlyGet, NoBackups}
 use Rattle.shop_forms.specs.Forms.{json_texts}
 use Rattle.shop_book.specs.declared.books.Book.{Ghosts}
 use Rattle.shop_planning.specs.declared.posed.Posed.{Posed}
+use Rattle.shop_wire.specs.Replays.{ExchangesLead}
 use Rattle.shop_wire.specs.Serves.{exchanged, IsBegun, IsServed}
+use Rattle.shop_wire.proofs.Crashes.{leads_join}
+use Rattle.shop_serve.specs.declared.answers.Made.{Made}
+use Rattle.shop_serve.specs.declared.answers.Made.TheVariants.{Answer, Thought}
+use Rattle.shop_serve.specs.Making.{IsMade, IsMadeMeanwhile}
 use Rattle.shop_serve.specs.declared.sites.Site.{Site}
 use Rattle.shop_serve.specs.Sites.{is_routed, own_bytes}
-use Rattle.shop_serve.specs.Serving.{Turn, routed, ruled, begun, InTurn, exchange_of, exchanges, TellsFailure, TellOfFailures, HasServed, Advances}
+use Rattle.shop_serve.specs.Serving.{Turn, routed, ruled, begun, copied, InTurn, asks_backup, is_backup, IsAnswered, IsAnsweredThen, IsBackupAnswer, exchange_of, exchanges, TellsFailure, TellOfFailures, HasServed, Advances}
 
 -- what goes to its route, and what doesn't
 pub is_route : (r : Ruling) → is_routed r ≡ true → r ≡ Routed
@@ -25,9 +36,40 @@ is_route Routed e = refl
 is_route Forbidden e = absurd (cc e)
 is_route Page e = absurd (cc e)
 is_route OnlyGet e = absurd (cc e)
+is_route NoBackups e = absurd (cc e)
 
 pub no_route : (r : Ruling) → is_routed r ≡ false → r ≢ Routed
 no_route r e is = absurd (cc (sym (ap is_routed is) ∙ e))
+
+-- a backup is asked for by some body
+is_for_backup : (route : Route) → is_backup route ≡ true → route ≡ Backup
+is_for_backup Backup e = refl
+is_for_backup Message e = absurd (cc e)
+is_for_backup Plan e = absurd (cc e)
+is_for_backup Plans e = absurd (cc e)
+is_for_backup Bound e = absurd (cc e)
+is_for_backup Totals e = absurd (cc e)
+is_for_backup Rack e = absurd (cc e)
+is_for_backup Trace e = absurd (cc e)
+is_for_backup Demand e = absurd (cc e)
+is_for_backup Ticket e = absurd (cc e)
+is_for_backup Yield e = absurd (cc e)
+is_for_backup Materials e = absurd (cc e)
+is_for_backup Parts e = absurd (cc e)
+is_for_backup PartsBehind e = absurd (cc e)
+is_for_backup Demands e = absurd (cc e)
+is_for_backup DemandsOf e = absurd (cc e)
+is_for_backup Orders e = absurd (cc e)
+is_for_backup OrdersBehind e = absurd (cc e)
+is_for_backup OrderLines e = absurd (cc e)
+is_for_backup Jobs e = absurd (cc e)
+is_for_backup Job e = absurd (cc e)
+is_for_backup Terminal e = absurd (cc e)
+
+pub backup_asked : (came : List ℕ) (sense : Sense) → asks_backup sense ≡ true → HasSense came sense → (body : List ℕ) × HasSense came (asking Backup body)
+backup_asked came silent e has = absurd (cc e)
+backup_asked came (faulty f) e has = absurd (cc e)
+backup_asked came (asking route text) e has = (text, subst (λ r. HasSense came (asking r text)) (is_for_backup route e) has)
 
 turns-append : (site : Site) (old mid new : Content) (ss ts : List Turn) → InTurn site old ss mid → InTurn site mid ts new → InTurn site old (ss ++ ts) new
 turns-append site old mid new [] ts run more = subst (λ (c : Content). InTurn site c ts new) run more
@@ -43,7 +85,7 @@ module _ (site : Site) {B : Type 0} (book : Ghosts B) where
   -- none
   pub none_served : (here : B) (count : ℕ) → HasServed site book here here count
   none_served here count honest m held sound =
-      record { served = []; few = omega arith; next = m; run = refl; held = held; sound = sound; failures = inl refl; blame = λ t i. absurd i; account = account_same json_texts m m refl }
+      record { served = []; few = omega arith; next = m; run = refl; held = held; sound = sound; crash = (refl, λ left it. it); failures = inl refl; blame = λ t i. absurd i; account = account_same json_texts m m refl }
 
   -- nothing was done
   pub none_done : (before after : B) (count : ℕ) → after ≡ before → HasServed site book before after count
@@ -51,7 +93,7 @@ module _ (site : Site) {B : Type 0} (book : Ghosts B) where
 
   -- by its head an input goes to its route
   abbrev GoesToRoute : List ℕ → Type 0
-  GoesToRoute input = HasRuling site.guard.port site.guard.has_page input Routed
+  GoesToRoute input = HasRuling site.guard.port site.guard.has_page site.guard.has_backups input Routed
 
   -- one was served
   served_once : (before after : B) (input : List ℕ) (old new : Option (List ℕ)) (unwritten : List ℕ) → 0 < length input → GoesToRoute input
@@ -67,6 +109,7 @@ module _ (site : Site) {B : Type 0} (book : Ghosts B) where
         run = (done.next, (some, (goes, s.1, (unwritten, s.2.told))), done.step, refl);
         held = done.held;
         sound = done.sound;
+        crash = subst (λ es. ExchangesLead book before after m es done.next) (sym (append-nil (exchanged s.0 telling))) done.crash;
         failures = up;
         blame = λ t i e. elim i [ inl is ↦ done.blame (subst (λ (t : Turn). TellsFailure t.handling) is e) | inr none ↦ absurd none ];
         account = subst (λ es. HasAccount json_texts m (map (λ e. e.0) es) (map (λ e. e.1) es) done.next) (sym (append-nil (exchanged s.0 telling))) done.account;
@@ -96,6 +139,7 @@ module _ (site : Site) {B : Type 0} (book : Ghosts B) where
         run = (m, (some, (goes, b.sense, b.asks, refl)), (refl, done.1), refl);
         held = done.0;
         sound = sound;
+        crash = (refl, b.keeps.crash honest m held);
         failures = up;
         blame = λ t i e. elim i [ inl is ↦ absurd (subst (λ (t : Turn). TellsFailure t.handling) is e) | inr none ↦ absurd none ];
         account = account_same json_texts m m refl;
@@ -105,8 +149,40 @@ module _ (site : Site) {B : Type 0} (book : Ghosts B) where
       → CountsUp (book.failed before) (book.failed after) → IsBegun book before after left posed → HasServed site book before after 1
   one_begun before after input left posed is some goes up b = begun_once before after input posed some goes up (subst (λ l. IsBegun book before after l posed) is b)
 
+  -- a backup was made or not, and this came of it
+  pub one_copied : (here : B) (input answer : List ℕ) (outcome : Result ℕ Refusal) → 0 < length input → IsBackupAnswer site input answer outcome → HasServed site book here here 1
+  one_copied here input answer outcome some is honest m held sound =
+      let turn : Turn = record { input = input; handling = copied is.0.1.0 outcome; answer = answer } in
+      record {
+        served = turn ∷ [];
+        few = omega arith;
+        next = m;
+        run = (m, (some, (is.0.0, is.0.1.1, is.1)), refl, refl);
+        held = held;
+        sound = sound;
+        crash = (refl, λ left it. it);
+        failures = inl refl;
+        blame = λ t i e. elim i [ inl is ↦ absurd (subst (λ (t : Turn). TellsFailure t.handling) is e) | inr none ↦ absurd none ];
+        account = account_same json_texts m m refl;
+      }
+
+  pub copied_once : (before after : B) (input answer : List ℕ) (outcome : Result ℕ Refusal) → after ≡ before → 0 < length input → IsBackupAnswer site input answer outcome
+      → HasServed site book before after 1
+  copied_once before after input answer outcome same some is = subst (λ b. HasServed site book before b 1) (sym same) (one_copied before input answer outcome some is)
+
+  -- what was made without a backup
+  pub made-alone : (before after : B) (seen : Times) (came : List ℕ) (made : Made) → IsMade site book before after came made → IsMadeMeanwhile site book before after seen seen came made
+  made-alone before after seen came (Answer answer) is = inl (is, refl)
+  made-alone before after seen came (Thought thought) is = (is, refl)
+
+  -- what was answered meanwhile was answered
+  pub answered-then : (before after : B) (seen seeing : Times) (now : Instant) (came answer : List ℕ) → IsAnsweredThen site book before after seen seeing now came answer
+      → IsAnswered site book before after came answer
+  answered-then before after seen seeing now came answer (between, inl alone, tells) = inl alone.0
+  answered-then before after seen seeing now came answer (between, inr (outcome, is, same, copies), tells) = inr (outcome, is, same)
+
   -- the site answered one by itself
-  pub one_ruled : (here : B) (input : List ℕ) (r : Ruling) → 0 < length input → HasRuling site.guard.port site.guard.has_page input r → r ≢ Routed → HasServed site book here here 1
+  pub one_ruled : (here : B) (input : List ℕ) (r : Ruling) → 0 < length input → HasRuling site.guard.port site.guard.has_page site.guard.has_backups input r → r ≢ Routed → HasServed site book here here 1
   one_ruled here input r some rules other honest m held sound =
       let turn : Turn = record { input = input; handling = ruled r; answer = own_bytes site r } in
       record {
@@ -116,6 +192,7 @@ module _ (site : Site) {B : Type 0} (book : Ghosts B) where
         run = (m, (some, (rules, other, refl)), refl, refl);
         held = held;
         sound = sound;
+        crash = (refl, λ left it. it);
         failures = inl refl;
         blame = λ t i e. elim i [ inl is ↦ absurd (subst (λ (t : Turn). TellsFailure t.handling) is e) | inr none ↦ absurd none ];
         account = account_same json_texts m m refl;
@@ -133,6 +210,8 @@ module _ (site : Site) {B : Type 0} (book : Ghosts B) where
         run = turns-append site m first.next second.next first.served second.served first.run second.run;
         held = second.held;
         sound = second.sound;
+        crash = subst (λ es. ExchangesLead book before after m es second.next) (sym (flat_map-append (λ (t : Turn). exchange_of t.handling) first.served second.served))
+            (leads_join json_texts book.stands (book.may_leave before) (book.may_leave mid) (book.may_leave after) m first.next second.next (exchanges first.served) (exchanges second.served) first.crash second.crash);
         failures = up_more (book.failed before) (book.failed mid) (book.failed after) first.failures second.failures;
         blame = blame-append (book.failed before) (book.failed mid) (book.failed after) first.served second.served first.failures second.failures first.blame second.blame;
         account = subst (λ es. HasAccount json_texts m (map (λ e. e.0) es) (map (λ e. e.1) es) second.next) (sym (flat_map-append (λ (t : Turn). exchange_of t.handling) first.served second.served))
@@ -150,6 +229,7 @@ module _ (site : Site) {B : Type 0} (book : Ghosts B) where
         run = done.run;
         held = done.held;
         sound = done.sound;
+        crash = done.crash;
         failures = done.failures;
         blame = done.blame;
         account = done.account;

@@ -1,6 +1,6 @@
 -- What is done with a connection that tells all: its one request is answered, and it takes its own answer; or it is a question, and
 -- that is its own.
-use Rattle.std.specs.Prelude.{◌≡◌, ◌≢◌, ◌⊎◌, ◌<◌, ℕ, List, [], ◌++◌, length, take, Some}
+use Rattle.std.specs.Prelude.{◌≡◌, ◌≢◌, ◌⊎◌, ◌<◌, ◌≤◌, ℕ, List, [], ◌++◌, length, take, Option, Some, None, IfSome, IsSomeAnd}
 use Rattle.slab.specs.Slab.{Slab, get}
 use Rattle.std.specs.declared.time.Instant.{Instant}
 use Rattle.shop_book.specs.declared.books.Book.{Ghosts}
@@ -11,7 +11,7 @@ use Rattle.shop_serve.specs.declared.lines.Fate.{Fate}
 use Rattle.shop_serve.specs.declared.lines.Fate.TheVariants.{NoMemory}
 use Rattle.shop_serve.specs.declared.lines.Line.{Line}
 use Rattle.shop_serve.specs.declared.sites.Site.{Site}
-use Rattle.shop_serve.specs.Lines.{IsAttendedAt, IsFresh}
+use Rattle.shop_serve.specs.Lines.{IsAttendedAt, IsFresh, StopsAt}
 use Rattle.shop_planning.specs.declared.posed.Posed.{Posed}
 use Rattle.shop_serve.specs.Making.{IsAsked}
 use Rattle.shop_serve.specs.Serving.{IsAnswered}
@@ -31,8 +31,10 @@ module _ {C : Type 0} (connection : ConnectionGhosts C) where
     pub few : length input < most_request_reads
 
   module _ (site : Site) {B : Type 0} (book : Ghosts B) where
-    -- the first of its bytes whose sense is settled, or all of them, were answered, and it took first bytes of this answer
-    pub record HasOwnAnswer (input : List ℕ) (before after : B) : Type 0 where
+    -- The first of its bytes whose sense is settled, or all of them, were answered. It took the whole answer, and was told its
+    -- end; or first bytes of it, until it took no more. It is what is open in its place now, with this answer; or nothing is,
+    -- and it took the whole one.
+    pub record HasOwnAnswer (input : List ℕ) (place : Option (Line C)) (before after : B) : Type 0 where
       pub came : List ℕ
       pub rest : List ℕ
       pub answer : List ℕ
@@ -42,6 +44,9 @@ module _ {C : Type 0} (connection : ConnectionGhosts C) where
       pub whole : IsSettled came ⊎ (rest ≡ [])
       pub answered : IsAnswered site book before after came answer
       pub takes : connection.contents left ≡ Some (take sent answer)
+      pub stops : StopsAt connection answer left sent
+      pub stays : IfSome place (λ line. (line.stream ≡ left) × (line.sent ≡ sent) × IsSomeAnd line.answer (λ a. a.items ≡ answer))
+      pub goes : place ≡ None → length answer ≤ sent
 
     -- the first of its bytes whose sense is settled, or all of them, are a question, and this is what it asks of the content
     pub record HasOwnQuestion (input : List ℕ) (before after : B) : Type 0 where
@@ -57,4 +62,4 @@ module _ {C : Type 0} (connection : ConnectionGhosts C) where
     WholeIsAnswered =
         (now : Instant) (stream : C) (input : List ℕ) (line : Line C) (fate : Fate) (key : ℕ) (old new : Slab (Line C)) (before after : B) (seen seeing : Times)
         → TellsAll → BringsRequest stream input → IsFresh now stream line → get old key ≡ Some line → fate ≢ NoMemory
-        → IsAttendedAt connection site book fate key old new before after seen seeing → HasOwnAnswer input before after ⊎ HasOwnQuestion input before after
+        → IsAttendedAt connection site book fate key old new before after seen seeing → HasOwnAnswer input (get new key) before after ⊎ HasOwnQuestion input before after

@@ -2,6 +2,7 @@ pub mod Sites
 pub mod Serving
 pub mod Making
 pub mod Times
+pub mod Ports
 pub mod Lines
 pub mod Thinking
 pub mod Rounds

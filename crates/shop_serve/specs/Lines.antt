@@ -9,6 +9,7 @@ use Rattle.shop_request.specs.Reading.{IsReadOn}
 use Rattle.shop_request.specs.Requests.{most_request_reads}
 use Rattle.shop_request.specs.Senses.{IsSettled, IsUnfinished}
 use Rattle.shop_serve.specs.declared.connections.Connection.{Ghosts as ConnectionGhosts}
+use Rattle.shop_serve.specs.declared.ports.Port.{Ghosts as PortGhosts}
 use Rattle.shop_serve.specs.declared.lines.Fate.{Fate}
 use Rattle.shop_serve.specs.declared.lines.Fate.TheVariants.{NoMemory}
 use Rattle.shop_serve.specs.declared.lines.Line.{Line}
@@ -17,7 +18,7 @@ use Rattle.shop_serve.specs.declared.thinking.Thinking.{Thinking}
 use Rattle.shop_planning.specs.Thoughts.{posed_in}
 use Rattle.shop_serve.specs.Making.{IsAsked}
 use Rattle.shop_serve.specs.declared.sites.Site.{Site}
-use Rattle.shop_serve.specs.Serving.{HasServed, IsAnswered}
+use Rattle.shop_serve.specs.Serving.{HasServed, IsAnsweredThen}
 use Rattle.shop_serve.specs.Times.{Times, Tells, TellsNone, ToldLast}
 
 -- what came is an unfinished request, and so is all that goes on from it with fewer bytes than are needed
@@ -93,11 +94,11 @@ module _ {C : Type 0} where
       ((slab_len old < MOST_LINES) × (new.slots ≡ old.slots)) ⊎ ((MOST_LINES ≤ slab_len old) × (key : ℕ) × IsOldest old key × Updates old new key None)
 
   -- It isn't opened, though room was made: it can't be watched, or memory for one more is wanting.
-  pub record IsTurnedAway (deaf : Type 0) (old new : Slab (Line C)) : Type 0 where
+  pub record IsTurnedAway {P : Type 0} (port : PortGhosts P C) (old new : Slab (Line C)) : Type 0 where
     pub room : Slab (Line C)
     pub made : MakesRoom old room
     pub same : new.slots ≡ room.slots
-    pub why : deaf ⊎ (HasRoomFor room 1 → ⊥)
+    pub why : ((p : P) × port.is_deaf p) ⊎ (HasRoomFor room 1 → ⊥)
 
   -- it was accepted now: nothing came of it, and it has no question and no answer
   pub record IsFresh (now : Instant) (stream : C) (line : Line C) : Type 0 where
@@ -108,19 +109,25 @@ module _ {C : Type 0} where
     pub asks : line.thought ≡ None
     pub waits : line.answer ≡ None
 
-  -- it is open under a key that was free, once room was made for it
-  pub record IsOpened (now : Instant) (stream : C) (key : ℕ) (old new : Slab (Line C)) : Type 0 where
+  -- it is open under a key that was free, once room was made for it, and is watched under this key
+  pub record IsOpened {P : Type 0} (port : PortGhosts P C) (now : Instant) (stream : C) (key : ℕ) (old new : Slab (Line C)) : Type 0 where
     pub room : Slab (Line C)
     pub made : MakesRoom old room
     pub line : Line C
     pub fresh : IsFresh now stream line
     pub free : get room key ≡ None
     pub there : Updates room new key (Some line)
+    pub watched : (p : P) × port.is_watched p stream key
 
 -- a connection took the bytes of its answer from one place to another, and no others
 abbrev pub TakesAnswer : {C : Type 0} → ConnectionGhosts C → List ℕ → C → ℕ → C → ℕ → Type 0
 TakesAnswer connection answer old sent new more =
     (before : Option (List ℕ)) → Appends before (connection.contents old) (take sent answer) → Appends before (connection.contents new) (take more answer)
+
+-- where a connection stops that takes its answer: behind the last byte, and it was told that this is the end; or before, as it
+-- takes no more
+abbrev pub StopsAt : {C : Type 0} → ConnectionGhosts C → List ℕ → C → ℕ → Type 0
+StopsAt connection answer new sent = ((sent ≡ length answer) × connection.has_ended new) ⊎ ((sent < length answer) × connection.is_full new)
 
 -- Why no request can come of a connection: it is lost; or it ended before a byte came; or more came than of any request.
 abbrev pub IsMute : {C : Type 0} → ConnectionGhosts C → C → List ℕ → C → List ℕ → Type 0
@@ -138,8 +145,8 @@ IsForsaken connection seen read stream =
     × ((now : Instant) × ToldLast seen now × (GRACE * 1000000 < instant_nanos now - instant_nanos read)))
 
 module _ {C : Type 0} (connection : ConnectionGhosts C) (site : Site) {B : Type 0} (book : Ghosts B) where
-  -- A connection with an answer: it keeps it, takes more of it, to its end or until it takes no more, and nothing else is done.
-  -- Its seconds go on.
+  -- A connection with an answer: it keeps it, takes more of it, to its end, which it is told, or until it takes no more, and
+  -- nothing else is done. Its seconds go on.
   pub record IsHandedOn (old new : Line C) (before after : B) (seen seeing : Times) (answer : List ℕ) : Type 0 where
     pub same : after ≡ before
     pub unread : TellsNone seen seeing
@@ -148,16 +155,15 @@ module _ {C : Type 0} (connection : ConnectionGhosts C) (site : Site) {B : Type 
     pub asks : new.thought ≡ old.thought
     pub kept : new.answer ≡ old.answer
     pub takes : TakesAnswer connection answer old.stream old.sent new.stream new.sent
-    pub stops : (new.sent ≡ length answer) ⊎ connection.is_full new.stream
+    pub stops : StopsAt connection answer new.stream new.sent
 
-  -- The answer to all that came of a connection, once that was whole or at its end. It took all of it, or its first bytes, until
-  -- it took no more. Its seconds begin anew, at the time that is read then.
+  -- The answer to all that came of a connection, once that was whole or at its end. It took all of it, and was told its end; or its
+  -- first bytes, until it took no more. Its seconds begin anew, at the time that is read then.
   pub record IsAnsweredWhole (old new : Line C) (rest : Option (List ℕ)) (before after : B) (seen seeing : Times) (answer : List ℕ) : Type 0 where
-    pub since : Tells seen seeing new.since
     pub whole : IsSettled new.came.items ⊎ IsAtEnd rest
-    pub answered : IsAnswered site book before after new.came.items answer
+    pub answered : IsAnsweredThen site book before after seen seeing new.since new.came.items answer
     pub takes : TakesAnswer connection answer old.stream 0 new.stream new.sent
-    pub stops : (new.sent ≡ length answer) ⊎ connection.is_full new.stream
+    pub stops : StopsAt connection answer new.stream new.sent
 
   -- The question that is all that came of a connection, once that was whole or at its end: this is what it asks of the content.
   -- It waits to be thought on, since the time that is read then. Nothing is done, and the connection took nothing.

@@ -1,5 +1,5 @@
 -- What is made of a request: its answer, or what it asks; and what an answer to a question says.
-use Rattle.std.specs.Prelude.{◌≡◌, ◌⊎◌, ℕ, List, Option, Some, None, Vec}
+use Rattle.std.specs.Prelude.{◌≡◌, ◌⊎◌, ℕ, List, Some, None, Vec}
 use Rattle.std.specs.declared.alloc.Global.{Global}
 use Rattle.std.specs.declared.time.Instant.{Instant}
 use Rattle.shop_book.specs.declared.books.Book.{Ghosts}
@@ -14,21 +14,34 @@ use Rattle.shop_request.specs.declared.guards.Ruling.TheVariants.{Routed}
 use Rattle.shop_request.specs.declared.routes.Route.TheVariants.{Plans}
 use Rattle.shop_serve.specs.declared.answers.Made.{Made}
 use Rattle.shop_serve.specs.declared.answers.Made.TheVariants.{Answer, Thought}
+use Rattle.shop_serve.specs.declared.answers.Next.{Next}
+use Rattle.shop_serve.specs.declared.answers.Next.TheVariants as next
 use Rattle.shop_serve.specs.declared.lines.Line.{Line}
 use Rattle.shop_serve.specs.declared.sites.Site.{Site}
-use Rattle.shop_serve.specs.Serving.{IsAnswered}
+use Rattle.shop_serve.specs.Serving.{AsksBackup, IsAnsweredAlone, IsAnsweredMeanwhile}
+use Rattle.shop_serve.specs.Times.{Times, TellsNone}
 use Rattle.shop_wire.specs.AnswerBytes.{answer_bytes, printed, replied, telling_answer}
 use Rattle.shop_wire.specs.Serves.{IsBegun}
 
 -- By their head some bytes went to their route, and are a question; this is what it asks of the content. Nothing is done.
 abbrev pub IsAsked : Site → {B : Type 0} → Ghosts B → B → B → (came : List ℕ) → Posed → Type 0
 IsAsked site book before after came posed =
-    HasRuling site.guard.port site.guard.has_page came Routed × IsBegun book before after (Some came) posed
+    HasRuling site.guard.port site.guard.has_page site.guard.has_backups came Routed × IsBegun book before after (Some came) posed
 
 -- what was made of some bytes
 abbrev pub IsMade : Site → {B : Type 0} → Ghosts B → B → B → (came : List ℕ) → Made → Type 0
-IsMade site book before after came (Answer answer) = IsAnswered site book before after came answer.items
+IsMade site book before after came (Answer answer) = IsAnsweredAlone site book before after came answer.items
 IsMade site book before after came (Thought thought) = IsAsked site book before after came (posed_in thought)
+
+-- what is next: what was made of them is there, or the backup that they ask for is to be made, and nothing is done
+abbrev pub IsNext : Site → {B : Type 0} → Ghosts B → B → B → (came : List ℕ) → Next → Type 0
+IsNext site book before after came (next.Made made) = IsMade site book before after came made
+IsNext site book before after came next.Backup = AsksBackup site came × (after ≡ before)
+
+-- what was made of some bytes, be it by a backup meanwhile
+abbrev pub IsMadeMeanwhile : Site → {B : Type 0} → Ghosts B → B → B → (seen between : Times) → (came : List ℕ) → Made → Type 0
+IsMadeMeanwhile site book before after seen between came (Answer answer) = IsAnsweredMeanwhile site book before after seen between came answer.items
+IsMadeMeanwhile site book before after seen between came (Thought thought) = IsAsked site book before after came (posed_in thought) × TellsNone seen between
 
 -- the answer that memory was wanting for a question
 abbrev pub plans_refused : List ℕ

@@ -5,6 +5,7 @@ use Rattle.shop_book.specs.declared.books.Book.{Ghosts}
 use Rattle.shop_planning.specs.Thoughts.{posed_in}
 use Rattle.shop_planning.specs.declared.posed.Posed.{Posed}
 use Rattle.shop_serve.specs.declared.connections.Connection.{Ghosts as ConnectionGhosts}
+use Rattle.shop_serve.specs.declared.ports.Port.{Ghosts as PortGhosts}
 use Rattle.shop_serve.specs.declared.lines.Line.{Line}
 use Rattle.shop_serve.specs.declared.sites.Site.{Site}
 use Rattle.shop_serve.specs.Making.{IsAsked, IsPlansAnswer}
@@ -45,7 +46,7 @@ module _ (site : Site) {B : Type 0} (book : Ghosts B) where
       × IfSome line.answer (λ answer. WasAnswered before after line.came.items answer.items)
 
 -- where none is open at first, each that is open behind the turns has its own
-abbrev pub EachHasItsOwn : {C : Type 0} → ConnectionGhosts C → Site → {B : Type 0} → Ghosts B → Type 0 → Type 0
-EachHasItsOwn {C} connection site {B} book deaf =
-    (rounds : List (Round C)) (first last : Slab (Line C)) (before after : B) (seen seeing : Times) → AreRounds connection site book deaf rounds first last before after seen seeing
+abbrev pub EachHasItsOwn : {C : Type 0} → ConnectionGhosts C → Site → {B : Type 0} → Ghosts B → {P : Type 0} → PortGhosts P C → Type 0
+EachHasItsOwn {C} connection site {B} book port =
+    (rounds : List (Round C)) (first last : Slab (Line C)) (before after : B) (seen seeing : Times) → AreRounds connection site book port rounds first last before after seen seeing
     → ((key : ℕ) → get first key ≡ None) → (key : ℕ) (line : Line C) → get last key ≡ Some line → HasItsOwn site book before after line

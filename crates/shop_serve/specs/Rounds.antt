@@ -1,12 +1,11 @@
 -- The turns of a server: which connections a port reports and gives, and what is done with them.
-use Rattle.std.specs.Prelude.{◌≡◌, ◌≤◌, ◌⊎◌, ℕ, List, [], ◌∷◌, length, Option, Some, None, Result, Ok}
+use Rattle.std.specs.Prelude.{◌≡◌, ◌≤◌, ◌⊎◌, ℕ, List, [], ◌∷◌, length, Option, None}
 use Rattle.std.specs.List.{flat_map}
-use Rattle.mio.specs.Event.{event_token}
-use Rattle.mio.specs.declared.event.event.Event.{Event}
 use Rattle.slab.specs.Slab.{Slab, get, slab_len}
 use Rattle.std.specs.declared.time.Instant.{Instant}
 use Rattle.shop_book.specs.declared.books.Book.{Ghosts}
 use Rattle.shop_serve.specs.declared.connections.Connection.{Ghosts as ConnectionGhosts}
+use Rattle.shop_serve.specs.declared.ports.Port.{Ghosts as PortGhosts}
 use Rattle.shop_serve.specs.declared.lines.Fate.{Fate}
 use Rattle.shop_serve.specs.declared.lines.Line.{Line}
 use Rattle.shop_serve.specs.declared.lines.TheConstants.{MOST_LINES}
@@ -14,15 +13,6 @@ use Rattle.shop_serve.specs.declared.sites.Site.{Site}
 use Rattle.shop_serve.specs.Times.{Adds, Times, Tells, TellsNone}
 use Rattle.shop_serve.specs.Lines.{AreAttended, ClosesLate, IsAttendedAt, IsOpened, IsTurnedAway}
 use Rattle.shop_serve.specs.Thinking.{Thinks}
-
--- the key of the connection that an event is about
-abbrev pub key_of : Event → ℕ
-key_of event = (event_token event).0
-
--- what a call gave, if anything
-abbrev pub given_by : {X E : Type 0} → Result (Option X) E → List X
-given_by (Ok (Some x)) = x ∷ []
-given_by _ = []
 
 -- a turn of a server: the keys that were reported, when those that had their time were closed, and the connections that came
 pub record Round (C : Type 0) : Type 0 where
@@ -36,21 +26,20 @@ all_keys = flat_map (λ r. r.keys)
 abbrev pub all_came : {C : Type 0} → List (Round C) → List C
 all_came = flat_map (λ r. r.came)
 
--- deaf says that the port can't watch one more
-module _ {C : Type 0} (connection : ConnectionGhosts C) (site : Site) {B : Type 0} (book : Ghosts B) (deaf : Type 0) where
+module _ {C : Type 0} (connection : ConnectionGhosts C) (site : Site) {B : Type 0} (book : Ghosts B) {P : Type 0} (port : PortGhosts P C) where
   -- it is opened, and attended to at once
   pub record IsOpenedAttended (now : Instant) (stream : C) (old new : Slab (Line C)) (before after : B) (seen seeing : Times) : Type 0 where
     pub key : ℕ
     pub fate : Fate
     pub lines : Slab (Line C)
-    pub opened : IsOpened now stream key old lines
+    pub opened : IsOpened port now stream key old lines
     pub attended : IsAttendedAt connection site book fate key lines new before after seen seeing
 
   -- A connection that came is opened and attended to, or it is turned away, and nothing is done. The time is read at once.
   abbrev pub IsReceived : C → Slab (Line C) → Slab (Line C) → B → B → (seen seeing : Times) → Type 0
   IsReceived stream old new before after seen seeing =
       (now : Instant) × (between : Times) × Tells seen between now
-      × ((IsTurnedAway deaf old new × (after ≡ before) × TellsNone between seeing) ⊎ IsOpenedAttended now stream old new before after between seeing)
+      × ((IsTurnedAway port old new × (after ≡ before) × TellsNone between seeing) ⊎ IsOpenedAttended now stream old new before after between seeing)
 
   -- these came, one after another
   abbrev pub AreReceived : List C → Slab (Line C) → Slab (Line C) → B → B → (seen seeing : Times) → Type 0

@@ -1,5 +1,5 @@
 -- Connections that were served, one request after another.
-use Rattle.std.specs.Prelude.{◌≡◌, ◌≢◌, ◌⊎◌, ◌<◌, ◌≤◌, ◌+◌, ℕ, List, [], ◌∷◌, ◌++◌, length, map, Option, Some, None}
+use Rattle.std.specs.Prelude.{◌≡◌, ◌≢◌, ◌⊎◌, ◌<◌, ◌≤◌, ◌+◌, ℕ, List, [], ◌∷◌, ◌++◌, length, map, Bool, true, false, Option, Some, None, Result}
 use Rattle.std.specs.List.{flat_map}
 use Rattle.shop_desk.specs.Faults.{CountsUp, StoreFailed}
 use Rattle.shop_desk.specs.Handled.{HasAccount}
@@ -9,12 +9,14 @@ use Rattle.shop_records.specs.Soundness.{IsSound}
 use Rattle.shop_records.specs.declared.messages.Message.{Message}
 use Rattle.shop_records.specs.declared.messages.Reply.{Reply}
 use Rattle.shop_records.specs.declared.messages.Reply.TheVariants.{Refused}
+use Rattle.shop_records.specs.declared.refusals.Refusal.{Refusal}
 use Rattle.shop_records.specs.declared.refusals.Refusal.TheVariants.{StoreFault}
 use Rattle.shop_request.specs.Guards.{HasRuling}
 use Rattle.shop_request.specs.declared.guards.Ruling.{Ruling}
 use Rattle.shop_request.specs.declared.guards.Ruling.TheVariants.{Routed}
-use Rattle.shop_request.specs.Requests.{Sense, asking, HasSense}
-use Rattle.shop_request.specs.declared.routes.Route.TheVariants.{Plans}
+use Rattle.shop_request.specs.Requests.{Sense, silent, faulty, asking, HasSense}
+use Rattle.shop_request.specs.declared.routes.Route.{Route}
+use Rattle.shop_request.specs.declared.routes.Route.TheVariants.{Plans, Backup}
 use Rattle.shop_planning.specs.Questions.{IsPosed}
 use Rattle.shop_planning.specs.declared.posed.Posed.{Posed}
 use Rattle.shop_plans.specs.declared.questions.PlansQuery.{PlansQuery}
@@ -23,18 +25,33 @@ use Rattle.shop_serve.specs.declared.faults.ServeFault.{ServeFault}
 use Rattle.shop_serve.specs.declared.faults.ServeFault.TheVariants.{NoMemory, Port}
 use Rattle.shop_book.specs.declared.books.Book.{Ghosts}
 use Rattle.shop_book.specs.Kept.{OnContent}
-use Rattle.shop_wire.specs.AnswerBytes.{Telling, replied, bytes_of}
+use Rattle.shop_wire.specs.Replays.{ExchangesLead}
+use Rattle.shop_wire.specs.AnswerBytes.{Telling, answer_bytes, backup_answer, replied, bytes_of}
 use Rattle.shop_wire.specs.Serves.{SenseStep, exchanged, body_plans, IsServed}
 use Rattle.shop_serve.specs.declared.serving.TheConstants.{MOST_SERVED}
 use Rattle.shop_serve.specs.Sites.{own_bytes}
 use Rattle.shop_serve.specs.declared.sites.Site.{Site}
+use Rattle.shop_serve.specs.Times.{Times, Copies, Tells, TellsNone}
+use Rattle.std.specs.declared.time.Instant.{Instant}
 
 -- What is done with a request: it goes to its route, with this sense, and this is told; or the site answers by itself; or its
--- body is a question, and this is what it asks of the content, which is thought about.
+-- body is a question, and this is what it asks of the content, which is thought about; or it asks for a backup, by this body, and
+-- this came of it.
 pub data Handling : Type 0 where
   routed : Sense → Telling → Handling
   ruled : Ruling → Handling
   begun : List ℕ → PlansQuery → Posed → Handling
+  copied : List ℕ → Result ℕ Refusal → Handling
+
+-- whether a backup is asked for
+abbrev pub is_backup : Route → Bool
+is_backup Backup = true
+is_backup _ = false
+
+abbrev pub asks_backup : Sense → Bool
+asks_backup silent = false
+asks_backup (faulty f) = false
+asks_backup (asking route text) = is_backup route
 
 -- What was served: the bytes that came of a connection, what was done, and the bytes that were made of it.
 pub record Turn : Type 0 where
@@ -43,24 +60,29 @@ pub record Turn : Type 0 where
   pub answer : List ℕ
 
 -- By its head the request goes to its route, and the answer is that of its sense but for some last bytes; or it doesn't, and the
--- answer is the site's own. A question is asked at its route, and has no answer yet.
+-- answer is the site's own. A question is asked at its route, and has no answer yet. A backup is asked for at
+-- its route, and what came of it is told.
 abbrev pub IsHandling : Site → (input answer : List ℕ) → Handling → Type 0
 IsHandling site input answer (routed sense telling) =
-    HasRuling site.guard.port site.guard.has_page input Routed × HasSense input sense
+    HasRuling site.guard.port site.guard.has_page site.guard.has_backups input Routed × HasSense input sense
     × ((unwritten : List ℕ) × (answer ++ unwritten ≡ bytes_of sense telling))
-IsHandling site input answer (ruled r) = HasRuling site.guard.port site.guard.has_page input r × (r ≢ Routed) × (answer ≡ own_bytes site r)
+IsHandling site input answer (ruled r) = HasRuling site.guard.port site.guard.has_page site.guard.has_backups input r × (r ≢ Routed) × (answer ≡ own_bytes site r)
 IsHandling site input answer (begun body query posed) =
-    HasRuling site.guard.port site.guard.has_page input Routed × HasSense input (asking Plans body) × (body_plans body ≡ Some query) × (answer ≡ [])
+    HasRuling site.guard.port site.guard.has_page site.guard.has_backups input Routed × HasSense input (asking Plans body) × (body_plans body ≡ Some query) × (answer ≡ [])
+IsHandling site input answer (copied body outcome) =
+    HasRuling site.guard.port site.guard.has_page site.guard.has_backups input Routed × HasSense input (asking Backup body) × (answer ≡ answer_bytes (backup_answer outcome))
 
 -- some bytes came, and this is what was done with them
 abbrev pub IsTurn : Site → Turn → Type 0
 IsTurn site t = (0 < length t.input) × IsHandling site t.input t.answer t.handling
 
--- What the site answers by itself does nothing, and a question neither. What that asks is asked of the content as it is then.
+-- What the site answers by itself does nothing, and a question and a backup neither. What a question asks is asked of the content as
+-- it is then.
 abbrev pub HandlingStep : Content → Handling → Content → Type 0
 HandlingStep old (routed sense telling) new = SenseStep old sense telling new
 HandlingStep old (ruled r) new = new ≡ old
 HandlingStep old (begun body query posed) new = (new ≡ old) × IsPosed old query posed
+HandlingStep old (copied body outcome) new = new ≡ old
 
 -- one after another
 abbrev pub InTurn : Site → Content → List Turn → Content → Type 0
@@ -72,24 +94,26 @@ abbrev pub exchange_of : Handling → List (Message × Reply)
 exchange_of (routed sense telling) = exchanged sense telling
 exchange_of (ruled r) = []
 exchange_of (begun body query posed) = []
+exchange_of (copied body outcome) = []
 
 -- the messages among them, each with its reply
 abbrev pub exchanges : List Turn → List (Message × Reply)
 exchanges = flat_map (λ t. exchange_of t.handling)
 
--- a failed store is told
+-- a failed store is told; a backup that wasn't made tells nothing of the store
 abbrev pub TellsFailure : Handling → Type 0
 TellsFailure (routed sense telling) = telling ≡ replied (Refused StoreFault)
 TellsFailure (ruled r) = ⊥
 TellsFailure (begun body query posed) = ⊥
+TellsFailure (copied body outcome) = ⊥
 
 -- a failed store is told of only where it failed meanwhile
 abbrev pub TellOfFailures : List Turn → ℕ → ℕ → Type 0
 TellOfFailures served before after = (t : Turn) → IsIn t served → TellsFailure t.handling → StoreFailed before after
 
 -- The book held old and holds next, and at most so many requests led from one to the other, each of which came as some bytes.
--- A failed store was told of only where it failed. Where a history gives old, one with each message that was accepted, once,
--- gives next, and this is its account.
+-- A crash leaves what it may leave after the messages among them. A failed store was told of only where it failed. Where a
+-- history gives old, one with each message that was accepted, once, gives next, and this is its account.
 pub record HasServedTurns (site : Site) {B : Type 0} (book : Ghosts B) (before after : B) (old : Content) (count : ℕ) : Type 0 where
   pub served : List Turn
   pub few : length served ≤ count
@@ -97,6 +121,7 @@ pub record HasServedTurns (site : Site) {B : Type 0} (book : Ghosts B) (before a
   pub run : InTurn site old served next
   pub held : book.holds after next
   pub sound : IsSound json_texts next
+  pub crash : ExchangesLead book before after old (exchanges served) next
   pub failures : CountsUp (book.failed before) (book.failed after)
   pub blame : TellOfFailures served (book.failed before) (book.failed after)
   pub account : HasAccount json_texts old (map (λ e. e.0) (exchanges served)) (map (λ e. e.1) (exchanges served)) next
@@ -119,9 +144,37 @@ abbrev pub IsUnserved : Site → {B : Type 0} → Ghosts B → B → B → ℕ �
 IsUnserved site book before after limit NoMemory = after ≡ before
 IsUnserved site book before after limit Port = HasServed site book before after limit
 
--- The whole answer to some bytes: by their head they went to their route, and that is the answer to what they stand for; or the
--- site answered by itself, and the book is the same.
+-- a backup is asked for, at its route
+abbrev pub AsksBackup : Site → List ℕ → Type 0
+AsksBackup site came = HasRuling site.guard.port site.guard.has_page site.guard.has_backups came Routed × ((body : List ℕ) × HasSense came (asking Backup body))
+
+-- something else is
+abbrev pub AsksElse : List ℕ → Type 0
+AsksElse came = (sense : Sense) × HasSense came sense × (asks_backup sense ≡ false)
+
+-- The whole answer to some bytes that ask for no backup: by their head they went to their route, and that is the answer to what they
+-- stand for; or the site answered by itself, and the book is the same.
+abbrev pub IsAnsweredAlone : Site → {B : Type 0} → Ghosts B → B → B → (came answer : List ℕ) → Type 0
+IsAnsweredAlone site book before after came answer =
+    (HasRuling site.guard.port site.guard.has_page site.guard.has_backups came Routed × IsServed book before after (Some came) (Some []) (Some answer) [] × AsksElse came)
+    ⊎ ((r : Ruling) × HasRuling site.guard.port site.guard.has_page site.guard.has_backups came r × (r ≢ Routed) × (answer ≡ own_bytes site r) × (after ≡ before))
+
+-- the whole answer to some bytes that ask for a backup, of which this came
+abbrev pub IsBackupAnswer : Site → (came answer : List ℕ) → Result ℕ Refusal → Type 0
+IsBackupAnswer site came answer outcome = AsksBackup site came × (answer ≡ answer_bytes (backup_answer outcome))
+
+-- the whole answer to some bytes; a backup changes no book
 abbrev pub IsAnswered : Site → {B : Type 0} → Ghosts B → B → B → (came answer : List ℕ) → Type 0
 IsAnswered site book before after came answer =
-    (HasRuling site.guard.port site.guard.has_page came Routed × IsServed book before after (Some came) (Some []) (Some answer) [])
-    ⊎ ((r : Ruling) × HasRuling site.guard.port site.guard.has_page came r × (r ≢ Routed) × (answer ≡ own_bytes site r) × (after ≡ before))
+    IsAnsweredAlone site book before after came answer ⊎ ((outcome : Result ℕ Refusal) × IsBackupAnswer site came answer outcome × (after ≡ before))
+
+-- the same, and what came of a backup that it tells came of one that was made meanwhile
+abbrev pub IsAnsweredMeanwhile : Site → {B : Type 0} → Ghosts B → B → B → (seen between : Times) → (came answer : List ℕ) → Type 0
+IsAnsweredMeanwhile site book before after seen between came answer =
+    (IsAnsweredAlone site book before after came answer × TellsNone seen between)
+    ⊎ ((outcome : Result ℕ Refusal) × IsBackupAnswer site came answer outcome × (after ≡ before) × Copies seen between outcome)
+
+-- and then the time was read
+abbrev pub IsAnsweredThen : Site → {B : Type 0} → Ghosts B → B → B → (seen seeing : Times) → Instant → (came answer : List ℕ) → Type 0
+IsAnsweredThen site book before after seen seeing now came answer =
+    (between : Times) × IsAnsweredMeanwhile site book before after seen between came answer × Tells between seeing now

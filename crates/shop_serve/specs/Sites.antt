@@ -1,8 +1,8 @@
--- What a site answers by itself: to requests of other sites, and for its page.
+-- What a site answers by itself: to requests of other sites, for its page, and for backups where none are made.
 use Rattle.std.specs.Prelude.{◌≡◌, ℕ, List, [], ◌++◌, length, Option, Some, None, Bool, true, false, codes, decimal}
 use Rattle.shop_request.specs.declared.faults.Fault.TheVariants as faults
 use Rattle.shop_request.specs.declared.guards.Ruling.{Ruling}
-use Rattle.shop_request.specs.declared.guards.Ruling.TheVariants.{Routed, Forbidden, Page, OnlyGet}
+use Rattle.shop_request.specs.declared.guards.Ruling.TheVariants.{Routed, Forbidden, Page, OnlyGet, NoBackups}
 use Rattle.shop_serve.specs.declared.sites.Site.{Site}
 use Rattle.shop_wire.specs.AnswerBytes.{answer_bytes, fault_answer}
 
@@ -36,3 +36,4 @@ own_bytes site Routed = []
 own_bytes site Forbidden = forbidden_bytes
 own_bytes site Page = page_bytes site.page.items
 own_bytes site OnlyGet = answer_bytes (fault_answer faults.OnlyGet)
+own_bytes site NoBackups = answer_bytes (fault_answer faults.NotFound)

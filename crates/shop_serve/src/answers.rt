@@ -1,21 +1,26 @@
-//! What is made of the bytes of a request: its route's answer, what the site answers by itself, or a question that is to be
-//! thought about.
+//! What is made of the bytes of a request: its route's answer, what the site answers by itself, a question that is to be
+//! thought about, or a backup that is to be made.
 
-ghost use Rattle.std.specs.Prelude.{◌≡◌, ◌≢◌, ◌⊎◌, ◌<◌, ◌++◌, length, IfOk, IfSome, Some, [], string_bytes, decimal};
+ghost use Rattle.std.specs.Prelude.{◌≡◌, ◌≢◌, ◌⊎◌, ◌<◌, ◌++◌, ℕ, Result, length, IfOk, IfSome, Some, [], string_bytes, decimal};
+ghost use Rattle.shop_records.specs.declared.refusals.Refusal.{Refusal as RefusalOf};
 ghost use Rattle.shop_request.specs.Guards.{HasRuling};
 ghost use Rattle.shop_request.specs.declared.guards.Ruling.TheVariants as ruling;
 ghost use Rattle.shop_request.specs.declared.faults.Fault.TheVariants as faults;
-ghost use Rattle.shop_wire.specs.AnswerBytes.{answer_bytes, fault_answer};
-ghost use Rattle.shop_serve.specs.Making.{IsMade};
-ghost use Rattle.shop_serve.specs.Serving.{HasServed};
+ghost use Rattle.shop_wire.specs.AnswerBytes.{answer_bytes, backup_answer, fault_answer};
+ghost use Rattle.shop_request.specs.Requests.{HasSense, sense_of};
+ghost use Rattle.shop_serve.specs.Making.{IsMadeMeanwhile, IsNext};
+ghost use Rattle.shop_serve.specs.Serving.{HasServed, asks_backup};
+ghost use Rattle.shop_serve.specs.Times.{Copies};
 ghost use Rattle.shop_serve.specs.Sites.{is_routed, own_bytes, page_bytes, page_fields, page_start};
 
 use crate::sites::Site;
+use crate::watches::Watch;
 use shop_book::Book;
 use shop_planning::Thought;
-use shop_request::Ruling;
+use shop_request::{Inbound, Route, Ruling, read_request};
+use shop_rules::Refusal;
 use shop_text::{Counted, Failed, Sink};
-use shop_wire::begin_request;
+use shop_wire::{backup_answer, begin_inbound};
 use std::alloc::{AllocError, Global};
 
 const FORBIDDEN: &[u8] =
@@ -23,6 +28,9 @@ const FORBIDDEN: &[u8] =
 
 const ONLY_GET: &[u8] =
     b"HTTP/1.1 405 Method Not Allowed\r\nAllow: GET\r\nContent-Length: 0\r\nConnection: close\r\n\r\n";
+
+const NOT_FOUND: &[u8] =
+    b"HTTP/1.1 404 Not Found\r\nContent-Length: 0\r\nConnection: close\r\n\r\n";
 
 const PAGE_START: &str =
     "HTTP/1.1 200 OK\r\nContent-Type: text/html; charset=utf-8\r\nContent-Length: ";
@@ -35,6 +43,13 @@ const PAGE_FIELDS: &str =
 pub(crate) enum Made {
     Answer(Vec<u8>),
     Thought(Thought),
+}
+
+/// What is next with a request: what was made of it is there, or a backup is to be made.
+#[derive(Drop)]
+pub(crate) enum Next {
+    Made(Made),
+    Backup,
 }
 
 // An answer, as it is made.
@@ -66,22 +81,47 @@ impl Sink for Answer {
     }
 }
 
-// Serves the bytes that came at their route, and gives the whole answer, or begins their question.
-fn routed_answer<B: Book>(alloc: Global, site: &Site, came: &[u8], book: &mut B) -> Option<Made>
+// Whether a backup is asked for.
+fn asks_backup(inbound: &Inbound) -> bool
+    ensures { result ≡ asks_backup (sense_of inbound.now) }
+{
+    match inbound {
+        Inbound::Asks(route, _) => matches!(route, Route::Backup),
+        _ => false,
+    }
+}
+
+// What the bytes that came stand for.
+fn inbound_of(alloc: Global, site: &Site, came: &[u8]) -> Option<Inbound>
+    ensures { IfSome result (λ inbound. HasSense came.now (sense_of inbound)) }
+{
+    let mut source = Counted::new(came);
+    match read_request(alloc, &site.routes, &mut source) {
+        Ok(inbound) => Some(inbound),
+        Err(_) => None,
+    }
+}
+
+// Serves the bytes that came at their route, and gives the whole answer, or begins their question. A backup that they ask for
+// is still to be made.
+fn routed_answer<B: Book>(alloc: Global, site: &Site, came: &[u8], book: &mut B) -> Option<Next>
     requires some { 0 < length came.now }
-    requires goes { HasRuling site.now.guard.port site.now.guard.has_page came.now ruling.Routed }
-    ensures made { IfSome result (IsMade site.now B.Book book.old book.new came.now) }
+    requires goes { HasRuling site.now.guard.port site.now.guard.has_page site.now.guard.has_backups came.now ruling.Routed }
+    ensures made { IfSome result (IsNext site.now B.Book book.old book.new came.now) }
     ensures step { HasServed site.now B.Book book.old book.new 1 }
     ensures honest { B.is_honest book.new → B.is_honest book.old }
 {
-    let mut source = Counted::new(came);
+    let inbound = inbound_of(alloc, site, came)?;
+    if asks_backup(&inbound) {
+        return Some(Next::Backup);
+    }
     let mut sink = Answer {
         bytes: Vec::new(alloc),
         failures: 0,
     };
-    match begin_request(alloc, &site.routes, &mut source, &mut sink, book) {
-        Ok(None) => Some(Made::Answer(sink.bytes)),
-        Ok(Some(thought)) => Some(Made::Thought(thought)),
+    match begin_inbound(alloc, &inbound, &mut sink, book) {
+        Ok(None) => Some(Next::Made(Made::Answer(sink.bytes))),
+        Ok(Some(thought)) => Some(Next::Made(Made::Thought(thought))),
         Err(_) => None,
     }
 }
@@ -119,20 +159,16 @@ fn own_answer(alloc: Global, site: &Site, ruling: Ruling) -> Result<Vec<u8>, All
         Ruling::Routed => Ok(Vec::new(alloc)),
         Ruling::Forbidden => Vec::from_slice(alloc, FORBIDDEN),
         Ruling::OnlyGet => Vec::from_slice(alloc, ONLY_GET),
+        Ruling::NoBackups => Vec::from_slice(alloc, NOT_FOUND),
         Ruling::Page => page_answer(alloc, &site.page),
     }
 }
 
-/// Serves the bytes that came, and gives the whole answer, or begins their question. Where memory is wanting there is nothing,
-/// though what was asked for may be done.
-pub(crate) fn answer_of<B: Book>(
-    alloc: Global,
-    site: &Site,
-    came: &[u8],
-    book: &mut B,
-) -> Option<Made>
+// Serves the bytes that came, and gives the whole answer, or begins their question. A backup that they ask for is still to be
+// made. Where memory is wanting there is nothing, though what was asked for may be done.
+fn answer_of<B: Book>(alloc: Global, site: &Site, came: &[u8], book: &mut B) -> Option<Next>
     requires { 0 < length came.now }
-    ensures made { IfSome result (IsMade site.now B.Book book.old book.new came.now) }
+    ensures made { IfSome result (IsNext site.now B.Book book.old book.new came.now) }
     ensures step { HasServed site.now B.Book book.old book.new 1 }
     ensures honest { B.is_honest book.new → B.is_honest book.old }
 {
@@ -141,7 +177,64 @@ pub(crate) fn answer_of<B: Book>(
         return routed_answer(alloc, site, came, book);
     }
     match own_answer(alloc, site, ruling) {
-        Ok(answer) => Some(Made::Answer(answer)),
+        Ok(answer) => Some(Next::Made(Made::Answer(answer))),
         Err(_) => None,
+    }
+}
+
+// Tells who runs the server of an answer of 98 or 99.
+fn note_made<K: Watch>(watch: &K, made: &Made) {
+    if let Made::Answer(answer) = made {
+        watch.note(answer);
+    }
+}
+
+// Tells who runs the server that memory was wanting for a backup.
+fn note_want<K: Watch>(watch: &K, outcome: Result<u32, Refusal>, answer: &str) {
+    if outcome == Err(Refusal::NoMemory) {
+        watch.note(answer.as_bytes());
+    }
+}
+
+// Makes a backup, and the answer that tells what came of it.
+fn copied_answer<K: Watch>(alloc: Global, watch: &mut K) -> Option<Vec<u8>>
+    ensures { IfSome result (λ answer. (outcome : Result ℕ RefusalOf)
+        × Copies (K.times watch.old) (K.times watch.new) outcome
+        × (answer.items ≡ answer_bytes (backup_answer outcome))) }
+{
+    let outcome = watch.back_up(alloc);
+    match backup_answer(alloc, outcome) {
+        Ok(answer) => {
+            note_want(watch, outcome, answer.as_str());
+            Some(answer.into_bytes())
+        }
+        Err(_) => None,
+    }
+}
+
+/// Serves the bytes that came, and gives the whole answer, or begins their question. A backup that they ask for is made. Where
+/// memory is wanting there is nothing, though what was asked for may be done.
+pub(crate) fn made_of<K: Watch, B: Book>(
+    alloc: Global,
+    site: &Site,
+    came: &[u8],
+    watch: &mut K,
+    book: &mut B,
+) -> Option<Made>
+    requires { 0 < length came.now }
+    ensures made { IfSome result (IsMadeMeanwhile site.now B.Book book.old book.new
+        (K.times watch.old) (K.times watch.new) came.now) }
+    ensures step { HasServed site.now B.Book book.old book.new 1 }
+    ensures honest { B.is_honest book.new → B.is_honest book.old }
+{
+    match answer_of(alloc, site, came, book)? {
+        Next::Made(made) => {
+            note_made(watch, &made);
+            Some(made)
+        }
+        Next::Backup => {
+            let answer = copied_answer(alloc, watch)?;
+            Some(Made::Answer(answer))
+        }
     }
 }

@@ -26,6 +26,9 @@ pub(crate) trait Connection {
     /// What it took, where that is known.
     ghost contents: { Self → Option (List ℕ) };
 
+    /// It was told the end of what it takes.
+    ghost has_ended: { Self → Type 0 };
+
     /// Nothing more came of it so far.
     ghost is_drained: { Self → Type 0 };
 
@@ -42,7 +45,8 @@ pub(crate) trait Connection {
         ensures bytes { ReadConsumes (remaining self.old) (remaining self.new) result room.new }
         ensures drained { result ≡ Err Waits → is_drained self.new }
         ensures lost { result ≡ Err Lost → is_lost self.new }
-        ensures kept { contents self.new ≡ contents self.old };
+        ensures kept { contents self.new ≡ contents self.old }
+        ensures ended { has_ended self.old → has_ended self.new };
 
     /// Has it take the first of some bytes.
     fn write_some(&mut self, bytes: &[u8]) -> Result<usize, Halt>
@@ -55,6 +59,7 @@ pub(crate) trait Connection {
 
     /// Ends what it takes.
     fn end_writing(&mut self)
+        ensures ended { has_ended self.new }
         ensures kept { contents self.new ≡ contents self.old };
 }
 
@@ -62,6 +67,8 @@ impl Connection for TcpStream {
     ghost remaining = { λ _. None };
 
     ghost contents = { λ _. None };
+
+    ghost has_ended = { λ _. ⊤ };
 
     ghost is_drained = { λ _. ⊤ };
 

@@ -9,19 +9,20 @@ use crate::connections::Connection;
 use crate::ports::Port;
 use shop_book::Book;
 
-/// A connection that brings a whole request, and is attended to when it comes, has its answer: it took first bytes of the
-/// answer to its own bytes. Or its own bytes are a question, which is thought about.
+/// A connection that brings a whole request, and is attended to when it comes, has its answer: it took the whole answer to its
+/// own bytes, and was told its end; or first bytes of it, until it took no more. Or its own bytes are a question, which is
+/// thought about.
 pub(crate) fn whole_is_answered<C: Connection, B: Book>()
     ensures { (site : SiteGhost) → WholeIsAnswered C.Connection site B.Book }
 {}
 
 /// Turn after turn, from none open on, at most 256 connections are open.
 pub(crate) fn few_are_open<C: Connection, P: Port<C>, B: Book>()
-    ensures { (site : SiteGhost) → FewAreOpen C.Connection site B.Book ((p : P) × P.is_deaf p) }
+    ensures { (site : SiteGhost) → FewAreOpen C.Connection site B.Book P.Port }
 {}
 
 /// Turn after turn, from none open on, each open connection has its own: what is thought about for it is what its own bytes ask
 /// of the content that the book had when they were read, and its answer is the one to its own bytes.
 pub(crate) fn each_has_its_own<C: Connection, P: Port<C>, B: Book>()
-    ensures { (site : SiteGhost) → EachHasItsOwn C.Connection site B.Book ((p : P) × P.is_deaf p) }
+    ensures { (site : SiteGhost) → EachHasItsOwn C.Connection site B.Book P.Port }
 {}

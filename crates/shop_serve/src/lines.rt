@@ -6,16 +6,16 @@ ghost use Rattle.std.specs.Time.{instant_nanos};
 ghost use Rattle.std.specs.Io.KnownBytes.{IsAtEnd};
 ghost use Rattle.shop_request.specs.Reading.{IsReadOn};
 ghost use Rattle.shop_request.specs.Senses.{IsSettled};
-ghost use Rattle.shop_serve.specs.Lines.{AwaitsMore, ClosesLate, IsAttended, IsAttendedAt, HasRoom, IsClosedBy, IsForsaken, IsMute, IsOldest, IsOpened, IsSpoiled, IsTurnedAway, MakesRoom, MayGo, NoneMayGo, TakesAnswer, is_begun, is_late, is_unanswered, unanswered};
+ghost use Rattle.shop_serve.specs.Lines.{AwaitsMore, ClosesLate, IsAttended, IsAttendedAt, HasRoom, IsClosedBy, IsForsaken, IsMute, IsOldest, IsOpened, IsSpoiled, IsTurnedAway, MakesRoom, MayGo, NoneMayGo, StopsAt, TakesAnswer, is_begun, is_late, is_unanswered, unanswered};
 ghost use Rattle.shop_serve.specs.Making.{IsAsked, put_answer, put_made, put_thought};
 ghost use Rattle.shop_planning.specs.Thoughts.{posed_in};
 ghost use Rattle.shop_serve.specs.declared.lines.Fate.TheVariants as fate;
-ghost use Rattle.shop_serve.specs.Serving.{Advances, HasServed, IsAnswered};
+ghost use Rattle.shop_serve.specs.Serving.{Advances, HasServed, IsAnsweredThen};
 ghost use Rattle.shop_serve.specs.Times.{Tells, TellsNone};
 ghost use Rattle.shop_serve.specs.declared.transfers.Given.TheVariants as given;
 ghost use Rattle.shop_serve.specs.declared.transfers.Taken.TheVariants as taken;
 
-use crate::answers::{Made, answer_of};
+use crate::answers::{Made, made_of};
 use crate::connections::Connection;
 use crate::ports::Port;
 use crate::sites::Site;
@@ -61,7 +61,7 @@ pub(crate) enum Fate {
     NoMemory,
 }
 
-// Hands over what is left of the answer, as far as it is taken.
+// Hands over what is left of the answer, as far as it is taken. Behind its last byte it is ended.
 fn answer_on<C: Connection>(line: &mut Line<C>) -> Given
     ensures kept { (line.new.came ≡ line.old.came) × (line.new.answer ≡ line.old.answer) }
     ensures since { line.new.since ≡ line.old.since }
@@ -74,6 +74,9 @@ fn answer_on<C: Connection>(line: &mut Line<C>) -> Given
     ensures whole { result ≡ given.Whole
         → IsSomeAnd line.new.answer (λ answer. line.new.sent ≡ length answer.items) }
     ensures full { result ≡ given.Waits → IsSome line.old.answer → C.is_full line.new.stream }
+    ensures stops { result ≢ given.Lost
+        → IfSome line.old.answer (λ answer.
+        StopsAt C.Connection answer.items line.new.stream line.new.sent) }
     ensures lost { result ≡ given.Lost → C.is_lost line.new.stream
         ⊎ IsSomeAnd line.old.answer (λ answer. length answer.items < line.old.sent) }
     ensures memory { result ≢ given.NoMemory }
@@ -122,14 +125,7 @@ fn put_made<C>(line: &mut Line<C>, made: Made, now: Instant)
     }
 }
 
-// Tells who runs the server of an answer of 98 or 99.
-fn note_made<K: Watch>(watch: &K, made: &Made) {
-    if let Made::Answer(answer) = made {
-        watch.note(answer);
-    }
-}
-
-// Takes what has come of a request, and has it answered or its question begun once it is whole.
+// Takes what has come of a request, and has it answered, be it by a backup, or its question begun once it is whole.
 fn ask<C: Connection, K: Watch, B: Book>(
     alloc: Global,
     site: &Site,
@@ -147,7 +143,7 @@ fn ask<C: Connection, K: Watch, B: Book>(
         × (line.new.thought ≡ None) × (book.new ≡ book.old) × C.is_drained line.new.stream }
     ensures goes_on { result ≡ taken.Waits → (line.new.since ≡ line.old.since)
         × TellsNone (K.times watch.old) (K.times watch.new) }
-    ensures since { result ≡ taken.Whole
+    ensures since { result ≡ taken.Whole → IsSome line.new.thought
         → Tells (K.times watch.old) (K.times watch.new) line.new.since }
     ensures awaits { result ≡ taken.Waits → AwaitsMore line.old.came.items line.old.needed
         → AwaitsMore line.new.came.items line.new.needed }
@@ -159,7 +155,8 @@ fn ask<C: Connection, K: Watch, B: Book>(
     ensures whole { result ≡ taken.Whole → IsSettled line.new.came.items
         ⊎ IsAtEnd (C.remaining line.new.stream) }
     ensures own { IfSome line.new.answer
-        (λ answer. IsAnswered site.now B.Book book.old book.new line.new.came.items answer.items) }
+        (λ answer. IsAnsweredThen site.now B.Book book.old book.new (K.times watch.old)
+        (K.times watch.new) line.new.since line.new.came.items answer.items) }
     ensures asked { IfSome line.new.thought
         (λ t. (t.last ≡ None) × IsAsked site.now B.Book book.old book.new line.new.came.items
         (posed_in t.thought)) }
@@ -178,10 +175,9 @@ fn ask<C: Connection, K: Watch, B: Book>(
         Taken::Whole => (),
     }
     watch.stop();
-    let Some(made) = answer_of(alloc, site, &line.came, book) else {
+    let Some(made) = made_of(alloc, site, &line.came, watch, book) else {
         return Taken::NoMemory;
     };
-    note_made(watch, &made);
     put_made(line, made, watch.now());
     Taken::Whole
 }
@@ -249,16 +245,16 @@ fn attend<C: Connection, K: Watch, B: Book>(
     answer_on(line)
 }
 
-// Ends an answer that was handed over, and drops what still comes. The connection stays while more of the request may come: to
-// close before its end would lose the answer.
+// Drops what still comes behind an answer that was handed over and ended. The connection stays while more of the request may
+// come: to close before its end would lose the answer.
 fn finish<C: Connection>(line: &mut Line<C>) -> Fate
     ensures kept { (line.new.came ≡ line.old.came) × (line.new.answer ≡ line.old.answer)
         × (line.new.sent ≡ line.old.sent) }
     ensures since { line.new.since ≡ line.old.since }
     ensures thought { line.new.thought ≡ line.old.thought }
     ensures contents { C.contents line.new.stream ≡ C.contents line.old.stream }
+    ensures ended { C.has_ended line.old.stream → C.has_ended line.new.stream }
 {
-    line.stream.end_writing();
     if drop_rest(&mut line.stream) != Rest::MayCome {
         return Fate::Over;
     }
@@ -392,7 +388,7 @@ fn make_room<C: Drop>(lines: &mut Slab<Line<C>>)
     }
 }
 
-/// Opens a connection, be it in another's place, and gives its key. One that can't be watched is closed.
+/// Opens a connection, be it in another's place, and gives its key, under which it is watched. One that can't be is closed.
 pub(crate) fn open_line<C: Drop, P: Port<C>>(
     alloc: Global,
     port: &mut P,
@@ -401,8 +397,9 @@ pub(crate) fn open_line<C: Drop, P: Port<C>>(
     lines: &mut Slab<Line<C>>,
 ) -> Option<usize>
     requires room { HasRoom lines.old }
-    ensures opened { IfSome result (λ key. IsOpened now stream key lines.old lines.new) }
-    ensures closed { result ≡ None → IsTurnedAway ((p : P) × P.is_deaf p) lines.old lines.new }
+    ensures opened { IfSome result (λ key. IsOpened P.Port now stream key lines.old lines.new) }
+    ensures watched { IfSome result (λ key. P.is_watched port.new stream key) }
+    ensures closed { result ≡ None → IsTurnedAway P.Port lines.old lines.new }
     ensures fewer { unanswered lines.new ≤ unanswered lines.old + 1 }
     ensures told { P.told port.new ≡ P.told port.old }
     ensures given { P.given port.new ≡ P.given port.old }

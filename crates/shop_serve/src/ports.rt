@@ -1,8 +1,8 @@
 //! What connections come by: a port, and a listener that is watched.
 
-ghost use Rattle.std.specs.Prelude.{◌≡◌, ℕ, List, Option, None, OnOk, map, false, ⊤};
+ghost use Rattle.std.specs.Prelude.{◌≡◌, ℕ, List, Option, None, OnOk, map, true, false, ⊤};
 ghost use Rattle.mio.specs.Events.{items};
-ghost use Rattle.shop_serve.specs.Rounds.{given_by, key_of};
+ghost use Rattle.shop_serve.specs.Ports.{given_by, key_of};
 ghost use Rattle.shop_serve.specs.Times.{Adds};
 
 use crate::faults::ServeFault;
@@ -73,6 +73,9 @@ pub(crate) trait Port<C> {
     /// The keys that the last wait reported.
     ghost reported: { Self → List ℕ };
 
+    /// It has a connection reported under a key.
+    ghost is_watched: { Self → C → ℕ → Type 0 };
+
     /// It can't have one more connection reported.
     ghost is_deaf: { Self → Type 0 };
 
@@ -93,6 +96,7 @@ pub(crate) trait Port<C> {
     /// Has a connection reported under a key from now on.
     fn watch(&mut self, stream: &mut C, key: usize) -> bool
         ensures same { stream.new ≡ stream.old }
+        ensures watched { result ≡ true → is_watched self.new stream.new key }
         ensures deaf { result ≡ false → is_deaf self.new }
         ensures told { told self.new ≡ told self.old }
         ensures given { given self.new ≡ given self.old };
@@ -184,6 +188,8 @@ impl<'a> Port<Stream> for Door<'a> {
     ghost given = { λ _. None };
 
     ghost reported = { λ door. door.keys.items };
+
+    ghost is_watched = { λ _ _ _. ⊤ };
 
     ghost is_deaf = { λ _. ⊤ };
 

@@ -17,9 +17,11 @@ use crate::ports::{Door, Listener, Port};
 use crate::sites::Site;
 use crate::thinking::{next_wait, think};
 use crate::watches::{Stopwatch, Watch};
+use shop_backup::Backups;
 use shop_book::Book;
 use slab::Slab;
 use std::alloc::Global;
+use std::fs::Files;
 use std::io::Eprint;
 use std::net::Net;
 use std::time::{Clock, Duration};
@@ -44,9 +46,8 @@ fn receive<C: Connection + Drop, P: Port<C>, K: Watch, B: Book>(
     book: &mut B,
 )
     requires room { HasRoom lines.old }
-    ensures received { IsReceived C.Connection site.now B.Book
-        ((p : P) × P.is_deaf p) stream lines.old lines.new book.old book.new
-        (K.times watch.old) (K.times watch.new) }
+    ensures received { IsReceived C.Connection site.now B.Book P.Port stream lines.old lines.new
+        book.old book.new (K.times watch.old) (K.times watch.new) }
     ensures told { P.told port.new ≡ P.told port.old }
     ensures given { P.given port.new ≡ P.given port.old }
     ensures run { Advances site.now B.Book book.old book.new (unanswered lines.old + 1)
@@ -74,8 +75,7 @@ fn accept_waiting<C: Connection + Drop, P: Port<C>, K: Watch, B: Book>(
     requires bound { accepted.old ≤ limit }
     ensures each { (came : List C) × (accepted.new ≡ accepted.old + length came)
         × Adds (P.given port.old) (P.given port.new) came
-        × AreReceived C.Connection site.now B.Book
-        ((p : P) × P.is_deaf p) came lines.old lines.new book.old book.new
+        × AreReceived C.Connection site.now B.Book P.Port came lines.old lines.new book.old book.new
         (K.times watch.old) (K.times watch.new) }
     ensures told { P.told port.new ≡ P.told port.old }
     ensures run { Advances site.now B.Book book.old book.new (unanswered lines.old + accepted.new)
@@ -136,7 +136,7 @@ fn turn<C: Connection + Drop, P: Port<C>, K: Watch, B: Book>(
     requires bound { accepted.old ≤ limit }
     ensures round { (came : List C) × (accepted.new ≡ accepted.old + length came)
         × Adds (P.given port.old) (P.given port.new) came
-        × ((now : Moment) × IsRound C.Connection site.now B.Book ((p : P) × P.is_deaf p)
+        × ((now : Moment) × IsRound C.Connection site.now B.Book P.Port
         (record { now = now; keys = P.reported port.old; came = came }) lines.old lines.new book.old
         book.new (K.times watch.old) (K.times watch.new)) }
     ensures waits { IfSome result
@@ -166,7 +166,7 @@ fn serve_port<C: Connection + Drop, P: Port<C>, K: Watch, B: Book>(
     book: &mut B,
 ) -> Result<(), ServeFault>
     ensures all { OnOk result
-        (HasServedAll C.Connection site.now B.Book ((p : P) × P.is_deaf p) limit (P.told port.old)
+        (HasServedAll C.Connection site.now B.Book P.Port limit (P.told port.old)
         (P.told port.new) (P.given port.old) (P.given port.new) book.old book.new
         (K.times watch.old) (K.times watch.new)) }
     ensures served { HasServed site.now B.Book book.old book.new limit }
@@ -216,17 +216,18 @@ fn most_served(limit: Option<u32>) -> u64
 /// bytes is read; a request is answered once it is whole, one after another. A fault of one ends that one alone. Each has
 /// 10 seconds from when it was accepted to the last byte of its request, and 10 more to take its answer; the time in which
 /// a request is answered isn't counted. Where 256 are open, the oldest that has no answer on its way makes room for the
-/// next; where each has one, the next waits.
+/// next; where each has one, the next waits. A backup that is asked for is made between two requests.
 ///
 /// `NoMemory` before the first connection; `Port` where none can be accepted for good, or waited for, and then the rest isn't
 /// served.
 #[tactic(auto, using(crate::proofs::Turns::none_served))]
-pub fn serve_on<R: Net + Clock + Eprint, B: Book>(
+pub fn serve_on<R: Net + Clock + Eprint + Files, B: Book>(
     rt: &R,
     alloc: Global,
     listener: &Listener,
     limit: Option<u32>,
     site: &Site,
+    backups: Option<&Backups>,
     book: &mut B,
 ) -> Result<(), ServeFault>
     ensures ok { OnOk result (HasServed site.now B.Book book.old book.new (most_served limit)) }
@@ -235,6 +236,6 @@ pub fn serve_on<R: Net + Clock + Eprint, B: Book>(
     ensures honest { B.is_honest book.new → B.is_honest book.old }
 {
     let mut port = Door::new(rt, alloc, listener)?;
-    let mut watch = Stopwatch::new(rt)?;
+    let mut watch = Stopwatch::new(rt, backups)?;
     serve_port(alloc, &mut port, &mut watch, most_served(limit), site, book)
 }

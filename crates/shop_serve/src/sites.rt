@@ -1,4 +1,4 @@
-//! What is served on a port: the routes, the guard before them, and a page.
+//! What is served on a port: the routes, the guard before them, a page, and whether backups are made.
 
 ghost use Rattle.std.specs.Prelude.{◌≡◌, IfOk, option_map};
 
@@ -16,15 +16,22 @@ pub struct Site {
 impl Site {
     ghost use Rattle.shop_serve.specs.Sites.{HasPage};
 
-    /// The site of a port, with a page of these bytes, or without one. The only error is want of memory.
-    pub fn new(alloc: Global, port: u32, page: Option<Vec<u8>>) -> Result<Site, AllocError>
+    /// The site of a port, with a page of these bytes, or without one, and with backups or without any. The only error is want
+    /// of memory.
+    pub fn new(
+        alloc: Global,
+        port: u32,
+        page: Option<Vec<u8>>,
+        has_backups: bool,
+    ) -> Result<Site, AllocError>
         ensures port { IfOk result (λ site. site.guard.port ≡ port) }
+        ensures backups { IfOk result (λ site. site.guard.has_backups ≡ has_backups) }
         ensures page { IfOk result (λ site. HasPage site (option_map (λ p. p.items) page)) }
     {
         let routes = Routes::new(alloc)?;
         match page {
             Some(page) => {
-                let guard = Guard::new(alloc, port, true)?;
+                let guard = Guard::new(alloc, port, true, has_backups)?;
                 Ok(Site {
                     routes,
                     guard,
@@ -32,7 +39,7 @@ impl Site {
                 })
             }
             None => {
-                let guard = Guard::new(alloc, port, false)?;
+                let guard = Guard::new(alloc, port, false, has_backups)?;
                 Ok(Site {
                     routes,
                     guard,

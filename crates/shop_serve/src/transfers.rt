@@ -1,7 +1,7 @@
 //! Bytes taken from a connection until they are a whole request, and the bytes of its answer handed over.
 
 ghost use Rattle.std.specs.Prelude.{◌≡◌, ◌≢◌, ◌⊎◌, ◌<◌, ◌≤◌, ◌++◌, ℕ, List, Option, [], length, take};
-ghost use Rattle.shop_serve.specs.Lines.{AwaitsMore, IsMute};
+ghost use Rattle.shop_serve.specs.Lines.{AwaitsMore, IsMute, StopsAt};
 ghost use Rattle.std.specs.Io.KnownBytes.{Appends, Consumes, IsAtEnd};
 ghost use Rattle.shop_request.specs.Reading.{IsReadOn};
 ghost use Rattle.shop_request.specs.Senses.{IsSettled};
@@ -130,7 +130,7 @@ pub(crate) enum Given {
 }
 
 /// Hands over what is left of an answer, as far as it is taken: behind what was handed over before come the next of its
-/// bytes, and no others.
+/// bytes, and no others. Behind its last byte it is ended.
 pub(crate) fn hand_over<C: Connection>(stream: &mut C, answer: &[u8], sent: &mut usize) -> Given
     requires { sent.old ≤ length answer.now }
     ensures within { sent.new ≤ length answer.now }
@@ -139,6 +139,7 @@ pub(crate) fn hand_over<C: Connection>(stream: &mut C, answer: &[u8], sent: &mut
         → Appends before (C.contents stream.new) (take sent.new answer.now) }
     ensures whole { result ≡ given.Whole → sent.new ≡ length answer.now }
     ensures full { result ≡ given.Waits → C.is_full stream.new }
+    ensures stops { result ≢ given.Lost → StopsAt C.Connection answer.now stream.new sent.new }
     ensures lost { result ≡ given.Lost → C.is_lost stream.new }
     ensures memory { result ≢ given.NoMemory }
 {
@@ -149,6 +150,7 @@ pub(crate) fn hand_over<C: Connection>(stream: &mut C, answer: &[u8], sent: &mut
             Err(Halt::Lost) => return Given::Lost,
         }
     }
+    stream.end_writing();
     Given::Whole
 }
 
@@ -165,6 +167,7 @@ pub(crate) fn drop_rest<C: Connection>(stream: &mut C) -> Rest
     ensures ended { result ≡ rest.Ended → IsAtEnd (C.remaining stream.new) }
     ensures lost { result ≡ rest.Lost → C.is_lost stream.new }
     ensures kept { C.contents stream.new ≡ C.contents stream.old }
+    ensures told { C.has_ended stream.old → C.has_ended stream.new }
 {
     let mut room = [0; ROOM];
     for _ in 0..MOST_DROPS {

@@ -18,7 +18,7 @@ use Rattle.shop_book.specs.declared.books.Book.{Ghosts}
 use Rattle.shop_book.specs.declared.books.TheConstants.{MOST_FAILURES}
 use Rattle.shop_book.specs.Failures.{one_more_failure}
 use Rattle.shop_desk.specs.Faults.{CountsUp, StoreFailed}
-use Rattle.shop_desk.specs.Handled.{HasAccount}
+use Rattle.shop_desk.specs.Handled.{HasAccount, LeftBy}
 use Rattle.shop_desk.proofs.Steps.{fault_step}
 use Rattle.shop_desk.proofs.Blame.{up_reply}
 use Rattle.shop_desk.proofs.Accounts.{account_same, account_step}
@@ -27,14 +27,14 @@ use Rattle.shop_text.specs.Tickets.{ticket_of}
 use Rattle.shop_text.specs.Yields.{yield_of}
 use Rattle.shop_text.proofs.ToldTickets.{ticket_told, report_told}
 use Rattle.shop_request.specs.declared.routes.Route.{Route}
-use Rattle.shop_request.specs.declared.routes.Route.TheVariants.{Message, Plan, Plans, Bound, Totals, Rack, Trace, Demand, Ticket, Yield, Materials, Parts, PartsBehind, Demands, DemandsOf, Orders, OrdersBehind, OrderLines, Jobs, Job, Terminal}
+use Rattle.shop_request.specs.declared.routes.Route.TheVariants.{Message, Plan, Plans, Bound, Backup, Totals, Rack, Trace, Demand, Ticket, Yield, Materials, Parts, PartsBehind, Demands, DemandsOf, Orders, OrdersBehind, OrderLines, Jobs, Job, Terminal}
 use Rattle.shop_request.specs.Requests.{asking}
 use Rattle.shop_wire.specs.AnswerBytes.{Telling, replied, printed}
-use Rattle.shop_wire.specs.Replays.{IsNoMessage, PlansStep, line_message, with_reply}
+use Rattle.shop_wire.specs.Replays.{ExchangesLead, IsNoMessage, PlansStep, line_message, with_reply}
 use Rattle.shop_wire.specs.Serves.{AskStep, HasServed, MessageStep, PrintStep, TellsText, asked_at, body_plans, code_at, numbered, text_at}
 use Rattle.shop_wire.specs.Tellings.{IsToldOf, IsUnread, PrintsCounted, TellsCounted}
-use Rattle.shop_wire.proofs.Answered.{told_reply}
-use Rattle.shop_wire.proofs.Meant.{unread_not_store}
+use Rattle.shop_wire.proofs.Answered.{told_reply, unread_not_store}
+use Rattle.shop_wire.proofs.Crashes.{leads_one, leads_unread}
 
 -- ---- messages
 
@@ -135,65 +135,70 @@ refused_account m refusal (Some message) = account_same json_texts m m refl
 
 module _ {B : Type 0} (book : Ghosts B) (before after : B) (m : Content) where
   pub message_served : (body : List ℕ) (message : MessageOf) (reply : Reply) (next : Content) → line_message body ≡ Some message → IsMessage message → Step json_texts m message reply next
-      → book.holds after next → IsSound json_texts next → (reply ≡ Refused StoreFault → StoreFailed (book.failed before) (book.failed after))
+      → book.holds after next → IsSound json_texts next → ((left : book.Left) → book.may_leave after left → LeftBy json_texts book.stands (book.may_leave before) m message reply next left)
+      → (reply ≡ Refused StoreFault → StoreFailed (book.failed before) (book.failed after))
       → HasServed book before after m (asking Message body) (replied reply)
-  message_served body message reply next is is_message step held sound blame =
+  message_served body message reply next is is_message step held sound crash blame =
       record {
         next = next;
         step = subst (λ (o : Option MessageOf). MatchOption o (IsNoMessage m reply next) (λ message. Step json_texts m message reply next)) (sym is) step;
         held = held;
         sound = sound;
+        crash = subst (λ o. ExchangesLead book before after m (with_reply o (replied reply)) next) (sym is)
+            (leads_one json_texts book.stands (book.may_leave before) (book.may_leave after) m next message reply step crash);
         blame = λ e. blame (told_reply reply (Refused StoreFault) e);
         account = subst (λ o. AccountOf m o (replied reply) next) (sym is) (account_step json_texts m next message reply is_message step);
       }
 
   pub message_refused : (body : List ℕ) (refusal : Refusal) → IsUnread refusal (line_message body) → book.holds after m → IsSound json_texts m
-      → HasServed book before after m (asking Message body) (replied (Refused refusal))
-  message_refused body refusal why held sound =
+      → ((left : book.Left) → book.may_leave after left → book.may_leave before left) → HasServed book before after m (asking Message body) (replied (Refused refusal))
+  message_refused body refusal why held sound keeps =
       record {
         next = m;
         step = message_unread m body refusal why;
         held = held;
         sound = sound;
+        crash = leads_unread json_texts book.stands (book.may_leave before) (book.may_leave after) m refusal (line_message body) why sound keeps;
         blame = λ e. absurd (unread_not_store refusal (line_message body) why (refused_same refusal (told_reply (Refused refusal) (Refused StoreFault) e)));
         account = refused_account m refusal (line_message body);
       }
 
   -- ---- what changes nothing
 
-  module _ (held : book.holds after m) (sound : IsSound json_texts m) where
+  module _ (held : book.holds after m) (sound : IsSound json_texts m) (keeps : (left : book.Left) → book.may_leave after left → book.may_leave before left) where
     pub asked_served : (route : Route) (text : List ℕ) (reply : Reply) → route ≢ Message → route ≢ Plans → route ≢ Ticket → route ≢ Yield → AskStep m (asked_at route text) reply m
         → (reply ≡ Refused StoreFault → StoreFailed (book.failed before) (book.failed after)) → HasServed book before after m (asking route text) (replied reply)
     asked_served Message text reply a b c d step blame = absurd (a refl)
     asked_served Plans text reply a b c d step blame = absurd (b refl)
     asked_served Ticket text reply a b c d step blame = absurd (c refl)
     asked_served Yield text reply a b c d step blame = absurd (d refl)
-    asked_served Plan text reply a b c d step blame = record { next = m; step = step; held = held; sound = sound; blame = λ e. blame (told_reply reply (Refused StoreFault) e); account = account_same json_texts m m refl }
-    asked_served Bound text reply a b c d step blame = record { next = m; step = step; held = held; sound = sound; blame = λ e. blame (told_reply reply (Refused StoreFault) e); account = account_same json_texts m m refl }
-    asked_served Totals text reply a b c d step blame = record { next = m; step = step; held = held; sound = sound; blame = λ e. blame (told_reply reply (Refused StoreFault) e); account = account_same json_texts m m refl }
-    asked_served Rack text reply a b c d step blame = record { next = m; step = step; held = held; sound = sound; blame = λ e. blame (told_reply reply (Refused StoreFault) e); account = account_same json_texts m m refl }
-    asked_served Trace text reply a b c d step blame = record { next = m; step = step; held = held; sound = sound; blame = λ e. blame (told_reply reply (Refused StoreFault) e); account = account_same json_texts m m refl }
-    asked_served Demand text reply a b c d step blame = record { next = m; step = step; held = held; sound = sound; blame = λ e. blame (told_reply reply (Refused StoreFault) e); account = account_same json_texts m m refl }
-    asked_served Materials text reply a b c d step blame = record { next = m; step = step; held = held; sound = sound; blame = λ e. blame (told_reply reply (Refused StoreFault) e); account = account_same json_texts m m refl }
-    asked_served Parts text reply a b c d step blame = record { next = m; step = step; held = held; sound = sound; blame = λ e. blame (told_reply reply (Refused StoreFault) e); account = account_same json_texts m m refl }
-    asked_served PartsBehind text reply a b c d step blame = record { next = m; step = step; held = held; sound = sound; blame = λ e. blame (told_reply reply (Refused StoreFault) e); account = account_same json_texts m m refl }
-    asked_served Demands text reply a b c d step blame = record { next = m; step = step; held = held; sound = sound; blame = λ e. blame (told_reply reply (Refused StoreFault) e); account = account_same json_texts m m refl }
-    asked_served DemandsOf text reply a b c d step blame = record { next = m; step = step; held = held; sound = sound; blame = λ e. blame (told_reply reply (Refused StoreFault) e); account = account_same json_texts m m refl }
-    asked_served Orders text reply a b c d step blame = record { next = m; step = step; held = held; sound = sound; blame = λ e. blame (told_reply reply (Refused StoreFault) e); account = account_same json_texts m m refl }
-    asked_served OrdersBehind text reply a b c d step blame = record { next = m; step = step; held = held; sound = sound; blame = λ e. blame (told_reply reply (Refused StoreFault) e); account = account_same json_texts m m refl }
-    asked_served OrderLines text reply a b c d step blame = record { next = m; step = step; held = held; sound = sound; blame = λ e. blame (told_reply reply (Refused StoreFault) e); account = account_same json_texts m m refl }
-    asked_served Jobs text reply a b c d step blame = record { next = m; step = step; held = held; sound = sound; blame = λ e. blame (told_reply reply (Refused StoreFault) e); account = account_same json_texts m m refl }
-    asked_served Job text reply a b c d step blame = record { next = m; step = step; held = held; sound = sound; blame = λ e. blame (told_reply reply (Refused StoreFault) e); account = account_same json_texts m m refl }
-    asked_served Terminal text reply a b c d step blame = record { next = m; step = step; held = held; sound = sound; blame = λ e. blame (told_reply reply (Refused StoreFault) e); account = account_same json_texts m m refl }
+    asked_served Plan text reply a b c d step blame = record { next = m; step = step; held = held; sound = sound; crash = (refl, keeps); blame = λ e. blame (told_reply reply (Refused StoreFault) e); account = account_same json_texts m m refl }
+    asked_served Bound text reply a b c d step blame = record { next = m; step = step; held = held; sound = sound; crash = (refl, keeps); blame = λ e. blame (told_reply reply (Refused StoreFault) e); account = account_same json_texts m m refl }
+    asked_served Backup text reply a b c d step blame = record { next = m; step = step; held = held; sound = sound; crash = (refl, keeps); blame = λ e. blame (told_reply reply (Refused StoreFault) e); account = account_same json_texts m m refl }
+    asked_served Totals text reply a b c d step blame = record { next = m; step = step; held = held; sound = sound; crash = (refl, keeps); blame = λ e. blame (told_reply reply (Refused StoreFault) e); account = account_same json_texts m m refl }
+    asked_served Rack text reply a b c d step blame = record { next = m; step = step; held = held; sound = sound; crash = (refl, keeps); blame = λ e. blame (told_reply reply (Refused StoreFault) e); account = account_same json_texts m m refl }
+    asked_served Trace text reply a b c d step blame = record { next = m; step = step; held = held; sound = sound; crash = (refl, keeps); blame = λ e. blame (told_reply reply (Refused StoreFault) e); account = account_same json_texts m m refl }
+    asked_served Demand text reply a b c d step blame = record { next = m; step = step; held = held; sound = sound; crash = (refl, keeps); blame = λ e. blame (told_reply reply (Refused StoreFault) e); account = account_same json_texts m m refl }
+    asked_served Materials text reply a b c d step blame = record { next = m; step = step; held = held; sound = sound; crash = (refl, keeps); blame = λ e. blame (told_reply reply (Refused StoreFault) e); account = account_same json_texts m m refl }
+    asked_served Parts text reply a b c d step blame = record { next = m; step = step; held = held; sound = sound; crash = (refl, keeps); blame = λ e. blame (told_reply reply (Refused StoreFault) e); account = account_same json_texts m m refl }
+    asked_served PartsBehind text reply a b c d step blame = record { next = m; step = step; held = held; sound = sound; crash = (refl, keeps); blame = λ e. blame (told_reply reply (Refused StoreFault) e); account = account_same json_texts m m refl }
+    asked_served Demands text reply a b c d step blame = record { next = m; step = step; held = held; sound = sound; crash = (refl, keeps); blame = λ e. blame (told_reply reply (Refused StoreFault) e); account = account_same json_texts m m refl }
+    asked_served DemandsOf text reply a b c d step blame = record { next = m; step = step; held = held; sound = sound; crash = (refl, keeps); blame = λ e. blame (told_reply reply (Refused StoreFault) e); account = account_same json_texts m m refl }
+    asked_served Orders text reply a b c d step blame = record { next = m; step = step; held = held; sound = sound; crash = (refl, keeps); blame = λ e. blame (told_reply reply (Refused StoreFault) e); account = account_same json_texts m m refl }
+    asked_served OrdersBehind text reply a b c d step blame = record { next = m; step = step; held = held; sound = sound; crash = (refl, keeps); blame = λ e. blame (told_reply reply (Refused StoreFault) e); account = account_same json_texts m m refl }
+    asked_served OrderLines text reply a b c d step blame = record { next = m; step = step; held = held; sound = sound; crash = (refl, keeps); blame = λ e. blame (told_reply reply (Refused StoreFault) e); account = account_same json_texts m m refl }
+    asked_served Jobs text reply a b c d step blame = record { next = m; step = step; held = held; sound = sound; crash = (refl, keeps); blame = λ e. blame (told_reply reply (Refused StoreFault) e); account = account_same json_texts m m refl }
+    asked_served Job text reply a b c d step blame = record { next = m; step = step; held = held; sound = sound; crash = (refl, keeps); blame = λ e. blame (told_reply reply (Refused StoreFault) e); account = account_same json_texts m m refl }
+    asked_served Terminal text reply a b c d step blame = record { next = m; step = step; held = held; sound = sound; crash = (refl, keeps); blame = λ e. blame (told_reply reply (Refused StoreFault) e); account = account_same json_texts m m refl }
 
     pub plans_served : (body : List ℕ) (telling : Telling) → PlansStep m (body_plans body) telling m → (telling ≡ replied (Refused StoreFault) → StoreFailed (book.failed before) (book.failed after))
         → HasServed book before after m (asking Plans body) telling
-    plans_served body telling step blame = record { next = m; step = step; held = held; sound = sound; blame = blame; account = account_same json_texts m m refl }
+    plans_served body telling step blame = record { next = m; step = step; held = held; sound = sound; crash = (refl, keeps); blame = blame; account = account_same json_texts m m refl }
 
     pub ticket_served : (part : List ℕ) (telling : Telling) → PrintsCounted (text_at m Ticket part) telling (book.failed before) (book.failed after) → HasServed book before after m (asking Ticket part) telling
     ticket_served part telling h =
-        record { next = m; step = printed_step m (text_at m Ticket part) telling _ _ h; held = held; sound = sound; blame = printed_blame (text_at m Ticket part) telling _ _ (asked_agrees (ticket_of m) (λ number. ticket_told json_texts m number sound) (numbered part)) h; account = account_same json_texts m m refl }
+        record { next = m; step = printed_step m (text_at m Ticket part) telling _ _ h; held = held; sound = sound; crash = (refl, keeps); blame = printed_blame (text_at m Ticket part) telling _ _ (asked_agrees (ticket_of m) (λ number. ticket_told json_texts m number sound) (numbered part)) h; account = account_same json_texts m m refl }
 
     pub yield_served : (part : List ℕ) (telling : Telling) → PrintsCounted (text_at m Yield part) telling (book.failed before) (book.failed after) → HasServed book before after m (asking Yield part) telling
     yield_served part telling h =
-        record { next = m; step = printed_step m (text_at m Yield part) telling _ _ h; held = held; sound = sound; blame = printed_blame (text_at m Yield part) telling _ _ (asked_agrees (yield_of m) (report_told m) (code_at part)) h; account = account_same json_texts m m refl }
+        record { next = m; step = printed_step m (text_at m Yield part) telling _ _ h; held = held; sound = sound; crash = (refl, keeps); blame = printed_blame (text_at m Yield part) telling _ _ (asked_agrees (yield_of m) (report_told m) (code_at part)) h; account = account_same json_texts m m refl }

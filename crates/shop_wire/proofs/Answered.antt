@@ -26,20 +26,28 @@ use Rattle.shop_plans.specs.declared.questions.PlansQuery.{PlansQuery}
 use Rattle.shop_plans.specs.Questions.{plans_query_of}
 use Rattle.shop_planning.specs.Questions.{AnswersPlans}
 use Rattle.shop_desk.specs.Faults.{StoreFailed, TellOfFailures}
-use Rattle.shop_desk.specs.Handled.{HasAccount}
+use Rattle.shop_desk.specs.Handled.{HasAccount, LeftBy}
 use Rattle.shop_desk.proofs.Steps.{fault_step}
 use Rattle.shop_desk.proofs.Blame.{tell_one}
 use Rattle.shop_desk.proofs.Accounts.{account_same, account_step}
 use Rattle.shop_wire.specs.Lines.{kept_of, longest_line}
 use Rattle.shop_wire.specs.Tellings.{IsRead, IsUnread}
 use Rattle.shop_wire.specs.AnswerBytes.{Telling, replied, printed}
-use Rattle.shop_wire.specs.Replays.{data_of, IsNoMessage, IsReplied, PlansStep, TellsPlans, ValueStep, LineStep, line_message, replies_in, with_reply, HasAnswered}
+use Rattle.shop_wire.specs.Replays.{data_of, IsNoMessage, IsReplied, PlansStep, TellsPlans, ValueStep, LineStep, line_message, replies_in, with_reply, ExchangesLead, HasAnswered}
+use Rattle.shop_wire.proofs.Crashes.{leads_one, leads_unread}
 
 pub not_store : (refusal : Refusal) → refusal ≡ BadMessage → refusal ≢ StoreFault
 not_store refusal is e = cc
 
-pub memory_not_store : NoMemory ≢ StoreFault
-memory_not_store e = cc
+-- want of memory or nothing that can be read: the store isn't blamed
+pub unread_not_store : {B : Type 0} (refusal : Refusal) (o : Option B) → IsUnread refusal o → refusal ≢ StoreFault
+unread_not_store refusal o (inl is) e = cc
+unread_not_store refusal o (inr why) e = not_store refusal why.0 e
+
+-- what is no value is no message
+pub unread_line : (refusal : Refusal) (o : Option Data) → IsUnread refusal o → IsUnread refusal (option_and_then message_of o)
+unread_line refusal o (inl is) = inl is
+unread_line refusal o (inr why) = inr (why.0, ap (option_and_then message_of) why.1)
 
 pub told_reply : (reply other : Reply) → replied reply ≡ replied other → reply ≡ other
 told_reply reply other e = cc
@@ -159,48 +167,59 @@ tell_told : (a b : ℕ) (telling : Telling) → (telling ≡ replied (Refused St
 tell_told a b (replied reply) blame = tell_one a b reply (λ is. blame (ap replied is))
 tell_told a b (printed text) blame = λ none. absurd none
 
+-- what a crash may leave after it
+abbrev pub LeadsOne : {B : Type 0} → Ghosts B → B → B → Content → Telling → Content → Option Message → Type 0
+LeadsOne book before after old telling next o = ExchangesLead book before after old (exchange o telling) next
+
 module _ {B : Type 0} (book : Ghosts B) (before after : B) (m : Content) where
+  refused_crash : (refusal : Refusal) (o : Option Message) → IsUnread refusal o → IsSound json_texts m → ((left : book.Left) → book.may_leave after left → book.may_leave before left)
+      → LeadsOne book before after m (replied (Refused refusal)) m o
+  refused_crash refusal None why sound keeps = leads_unread json_texts book.stands (book.may_leave before) (book.may_leave after) m refusal None why sound keeps
+  refused_crash refusal (Some message) why sound keeps = leads_unread json_texts book.stands (book.may_leave before) (book.may_leave after) m refusal (Some message) why sound keeps
+
   -- by an element of any kind
   module _ {X : Type 0} (step : Content → X → Telling → Content → Type 0) (message_in : X → Option Message) (x : X) where
     pub one_answered : (telling : Telling) (next : Content) → step m x telling next → book.holds after next → IsSound json_texts next
-        → (telling ≡ replied (Refused StoreFault) → StoreFailed (book.failed before) (book.failed after)) → AccountOne m telling next (message_in x)
+        → LeadsOne book before after m telling next (message_in x) → (telling ≡ replied (Refused StoreFault) → StoreFailed (book.failed before) (book.failed after)) → AccountOne m telling next (message_in x)
         → HasAnswered step message_in book before after m (x ∷ []) (telling ∷ [])
-    one_answered telling next is held sound blame account =
-        record { next = next; run = (next, is, refl); held = held; sound = sound; blame = tell_told (book.failed before) (book.failed after) telling blame; account = account }
+    one_answered telling next is held sound crash blame account =
+        record { next = next; run = (next, is, refl); held = held; sound = sound; crash = crash; blame = tell_told (book.failed before) (book.failed after) telling blame; account = account }
 
-    -- refused, and the store not blamed
-    pub one_refused : (refusal : Refusal) (telling : Telling) → telling ≡ replied (Refused refusal) → (refusal ≢ StoreFault) → step m x (replied (Refused refusal)) m → book.holds after m
-        → IsSound json_texts m → HasAnswered step message_in book before after m (x ∷ []) (telling ∷ [])
-    one_refused refusal telling told other is held sound =
+    -- refused unread
+    pub one_refused : (refusal : Refusal) (telling : Telling) → telling ≡ replied (Refused refusal) → IsUnread refusal (message_in x) → step m x (replied (Refused refusal)) m → book.holds after m
+        → IsSound json_texts m → ((left : book.Left) → book.may_leave after left → book.may_leave before left) → HasAnswered step message_in book before after m (x ∷ []) (telling ∷ [])
+    one_refused refusal telling told why is held sound keeps =
         subst (λ t. HasAnswered step message_in book before after m (x ∷ []) (t ∷ [])) (sym told)
-        (one_answered (replied (Refused refusal)) m is held sound (λ e. absurd (other (same refusal e))) (refused_account m refusal (message_in x)))
+        (one_answered (replied (Refused refusal)) m is held sound (refused_crash refusal (message_in x) why sound keeps) (λ e. absurd (unread_not_store refusal (message_in x) why (same refusal e))) (refused_account m refusal (message_in x)))
       where
         same : (refusal : Refusal) → replied (Refused refusal) ≡ replied (Refused StoreFault) → refusal ≡ StoreFault
         same refusal e = cc
 
   pub message_answered : (d : Data) (message : Message) (reply : Reply) (next : Content) → message_of d ≡ Some message → IsMessage message → Step json_texts m message reply next
-      → book.holds after next → IsSound json_texts next → (reply ≡ Refused StoreFault → StoreFailed (book.failed before) (book.failed after))
-      → HasAnswered ValueStep message_of book before after m (d ∷ []) (replied reply ∷ [])
-  message_answered d message reply next is is_message step held sound blame =
-      one_answered ValueStep message_of d (replied reply) next (of_message m next d reply message is step) held sound (λ e. blame (told_reply reply (Refused StoreFault) e))
+      → book.holds after next → IsSound json_texts next → ((left : book.Left) → book.may_leave after left → LeftBy json_texts book.stands (book.may_leave before) m message reply next left)
+      → (reply ≡ Refused StoreFault → StoreFailed (book.failed before) (book.failed after)) → HasAnswered ValueStep message_of book before after m (d ∷ []) (replied reply ∷ [])
+  message_answered d message reply next is is_message step held sound crash blame =
+      one_answered ValueStep message_of d (replied reply) next (of_message m next d reply message is step) held sound
+      (subst (LeadsOne book before after m (replied reply) next) (sym is) (leads_one json_texts book.stands (book.may_leave before) (book.may_leave after) m next message reply step crash))
+      (λ e. blame (told_reply reply (Refused StoreFault) e))
       (subst (AccountOne m (replied reply) next) (sym is) (account_step json_texts m next message reply is_message step))
 
   -- what is no message, and leaves the content
   unsent_answered : (d : Data) (telling : Telling) → message_of d ≡ None → ValueStep m d telling m → book.holds after m → IsSound json_texts m
-      → (telling ≡ replied (Refused StoreFault) → StoreFailed (book.failed before) (book.failed after)) → HasAnswered ValueStep message_of book before after m (d ∷ []) (telling ∷ [])
-  unsent_answered d telling none step held sound blame =
-      one_answered ValueStep message_of d telling m step held sound blame (subst (AccountOne m telling m) (sym none) (account_same json_texts m m refl))
+      → ((left : book.Left) → book.may_leave after left → book.may_leave before left) → (telling ≡ replied (Refused StoreFault) → StoreFailed (book.failed before) (book.failed after)) → HasAnswered ValueStep message_of book before after m (d ∷ []) (telling ∷ [])
+  unsent_answered d telling none step held sound keeps blame =
+      one_answered ValueStep message_of d telling m step held sound (subst (LeadsOne book before after m telling m) (sym none) (refl, keeps)) blame (subst (AccountOne m telling m) (sym none) (account_same json_texts m m refl))
 
   pub query_answered : (d : Data) (query : Query) (reply : Reply) → message_of d ≡ None → query_of d ≡ Some query → Answers m query reply
-      → book.holds after m → IsSound json_texts m → (reply ≡ Refused StoreFault → StoreFailed (book.failed before) (book.failed after))
+      → book.holds after m → IsSound json_texts m → ((left : book.Left) → book.may_leave after left → book.may_leave before left) → (reply ≡ Refused StoreFault → StoreFailed (book.failed before) (book.failed after))
       → HasAnswered ValueStep message_of book before after m (d ∷ []) (replied reply ∷ [])
-  query_answered d query reply none is answers held sound blame =
-      unsent_answered d (replied reply) none (of_query m m d reply query none is answers refl) held sound (λ e. blame (told_reply reply (Refused StoreFault) e))
+  query_answered d query reply none is answers held sound keeps blame =
+      unsent_answered d (replied reply) none (of_query m m d reply query none is answers refl) held sound keeps (λ e. blame (told_reply reply (Refused StoreFault) e))
 
   pub plans_answered : (d : Data) (telling : Telling) → message_of d ≡ None → query_of d ≡ None → PlansStep m (plans_query_of d) telling m
-      → book.holds after m → IsSound json_texts m → (telling ≡ replied (Refused StoreFault) → StoreFailed (book.failed before) (book.failed after))
+      → book.holds after m → IsSound json_texts m → ((left : book.Left) → book.may_leave after left → book.may_leave before left) → (telling ≡ replied (Refused StoreFault) → StoreFailed (book.failed before) (book.failed after))
       → HasAnswered ValueStep message_of book before after m (d ∷ []) (telling ∷ [])
-  plans_answered d telling none nothing step held sound blame = unsent_answered d telling none (of_plans m m d telling none nothing step) held sound blame
+  plans_answered d telling none nothing step held sound keeps blame = unsent_answered d telling none (of_plans m m d telling none nothing step) held sound keeps blame
 
   -- a line that is a value is answered as the value
   pub value_answered : (line : List ℕ) (d : Data) (telling : Telling) → data_of line ≡ Some d → HasAnswered ValueStep message_of book before after m (d ∷ []) (telling ∷ [])
@@ -211,6 +230,7 @@ module _ {B : Type 0} (book : Ghosts B) (before after : B) (m : Content) where
         run = (one.run.0, line_answered m one.run.0 line d telling is one.run.1, one.run.2);
         held = one.held;
         sound = one.sound;
+        crash = subst (LeadsOne book before after m telling one.next) (sym (ap (option_and_then message_of) is)) one.crash;
         blame = one.blame;
         account = subst (AccountOne m telling one.next) (sym (ap (option_and_then message_of) is)) one.account;
       }

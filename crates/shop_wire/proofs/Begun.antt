@@ -1,5 +1,5 @@
 -- Questions for plans that were answered or begun.
-use Rattle.std.proofs.Common.{◌≡◌, ℕ, ap, inl, inr, List, Option, Some, Result, Ok, Err, refl, sym, subst}
+use Rattle.std.proofs.Common.{◌≡◌, ℕ, ap, inl, List, Option, Some, Result, Ok, Err, refl, sym, subst}
 use Rattle.std.specs.Prelude.{IfOk, IfErr, IfSome}
 use Rattle.shop_records.specs.declared.messages.Reply.TheVariants.{Refused}
 use Rattle.shop_records.specs.declared.refusals.Refusal.{Refusal}
@@ -21,9 +21,8 @@ use Rattle.shop_request.specs.Requests.{HasSense, asking}
 use Rattle.shop_wire.specs.AnswerBytes.{Telling, replied}
 use Rattle.shop_wire.specs.Serves.{HasServed, IsBegun, body_plans}
 use Rattle.shop_wire.specs.Tellings.{IsRead, IsUnread}
-use Rattle.shop_wire.proofs.Answered.{plans_answered_to, plans_unread, tells_refusal}
+use Rattle.shop_wire.proofs.Answered.{plans_answered_to, plans_unread, tells_refusal, unread_not_store}
 use Rattle.shop_wire.proofs.Acted.{plans_served, store_failed}
-use Rattle.shop_wire.proofs.Meant.{unread_not_store}
 
 -- ---- what was read
 
@@ -68,9 +67,9 @@ module _ {B : Type 0} (book : Ghosts B) (before after : B) (body : List ℕ) whe
   posed_begun question left (Err refusal) asks sense poses keeps = tt
 
   refused_served : (question : PlansQuery) (refusal : Refusal) (m : Content) → body_plans body ≡ Some question → AnswersPlans m question (Err refusal) → book.holds after m → IsSound json_texts m
-      → (refusal ≡ StoreFault → StoreFailed (book.failed before) (book.failed after)) → HasServed book before after m (asking Plans body) (replied (Refused refusal))
-  refused_served question refusal m asks answers held sound blame =
-      plans_served book before after m held sound body (replied (Refused refusal))
+      → ((left : book.Left) → book.may_leave after left → book.may_leave before left) → (refusal ≡ StoreFault → StoreFailed (book.failed before) (book.failed after)) → HasServed book before after m (asking Plans body) (replied (Refused refusal))
+  refused_served question refusal m asks answers held sound keeps blame =
+      plans_served book before after m held sound keeps body (replied (Refused refusal))
       (plans_answered_to m (body_plans body) question (replied (Refused refusal)) asks (tells_refusal m question refusal (replied (Refused refusal)) refl answers))
       (λ e. blame (told_refusal refusal StoreFault (replied (Refused refusal)) refl e))
 
@@ -79,12 +78,12 @@ module _ {B : Type 0} (book : Ghosts B) (before after : B) (body : List ℕ) whe
       → IfErr r (λ refusal. OnContent book before after (λ m. IsSound json_texts m → HasServed book before after m (asking Plans body) (replied (Refused refusal))))
   posed_refused question (Ok thought) asks answers keeps = tt
   posed_refused question (Err refusal) asks answers keeps = λ honest m held sound.
-      refused_served question refusal m asks (answers honest m held) (keeps.stays honest m held) sound (λ is. plans_blame Thought refusal (book.failed before) (book.failed after) is keeps.failures)
+      refused_served question refusal m asks (answers honest m held) (keeps.stays honest m held) sound (keeps.crash honest m held) (λ is. plans_blame Thought refusal (book.failed before) (book.failed after) is keeps.failures)
 
   pub unread_served : (refusal : Refusal) (m : Content) → IsUnread refusal (body_plans body) → book.holds after m → IsSound json_texts m
-      → HasServed book before after m (asking Plans body) (replied (Refused refusal))
-  unread_served refusal m unread held sound =
-      plans_served book before after m held sound body (replied (Refused refusal)) (plans_unread m (body_plans body) refusal (replied (Refused refusal)) unread refl)
+      → ((left : book.Left) → book.may_leave after left → book.may_leave before left) → HasServed book before after m (asking Plans body) (replied (Refused refusal))
+  unread_served refusal m unread held sound keeps =
+      plans_served book before after m held sound keeps body (replied (Refused refusal)) (plans_unread m (body_plans body) refusal (replied (Refused refusal)) unread refl)
       (λ e. absurd (unread_not_store refusal (body_plans body) unread (told_refusal refusal StoreFault (replied (Refused refusal)) refl e)))
 
   pub refused_told : (refusal : Refusal) (telling : Telling) → telling ≡ replied (Refused refusal)

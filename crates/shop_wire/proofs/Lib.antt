@@ -1,3 +1,4 @@
+pub mod Crashes
 pub mod Answered
 pub mod Parts
 pub mod Passed

@@ -10,17 +10,11 @@ use Rattle.std.proofs.lemmas.Slice.Eq.{bytes_eq-Decides}
 use Rattle.std.proofs.lemmas.Str.{IsUtf8-from_is_utf8, is_utf8-from_IsUtf8}
 use Rattle.cut_measure.proofs.Digits.{own}
 use Rattle.shop_records.specs.declared.refusals.Refusal.{Refusal}
-use Rattle.shop_records.specs.declared.refusals.Refusal.TheVariants.{NoMemory, StoreFault}
+use Rattle.shop_records.specs.declared.refusals.Refusal.TheVariants.{NoMemory}
 use Rattle.shop_wire.specs.Serves.{ranged}
 use Rattle.shop_wire.specs.Tellings.{IsUnread}
-use Rattle.shop_wire.proofs.Answered.{not_store}
 
 -- ---- what isn't there
-
--- want of memory or no message: the store isn't blamed
-pub unread_not_store : {B : Type 0} (refusal : Refusal) (o : Option B) → IsUnread refusal o → refusal ≢ StoreFault
-unread_not_store refusal o (inl is) e = cc
-unread_not_store refusal o (inr why) e = not_store refusal why.0 e
 
 -- where memory wasn't wanting, nothing is there
 pub nothing_there : {B : Type 0} (refusal : Refusal) (o : Option B) → IsUnread refusal o → refusal ≢ NoMemory → o ≡ None

@@ -23,8 +23,9 @@ use Rattle.shop_desk.specs.Handled.{HasAccount}
 use Rattle.shop_desk.proofs.Blame.{tell_more}
 use Rattle.shop_desk.proofs.Accounts.{account_same, account_more}
 use Rattle.shop_wire.specs.AnswerBytes.{Telling}
-use Rattle.shop_wire.specs.Replays.{InTurn, exchanges, HasAnswered, LineStep, line_message, IsReplayed, replies_in, reply_in, telling_line, telling_lines, with_reply}
-use Rattle.shop_wire.proofs.Answered.{AccountOne, whole_line, data_of-kept_of}
+use Rattle.shop_wire.specs.Replays.{ExchangesLead, InTurn, exchanges, HasAnswered, LineStep, line_message, IsReplayed, replies_in, reply_in, telling_line, telling_lines, with_reply}
+use Rattle.shop_wire.proofs.Answered.{AccountOne, LeadsOne, whole_line, data_of-kept_of}
+use Rattle.shop_wire.proofs.Crashes.{leads_join}
 
 -- ---- what was answered
 
@@ -51,7 +52,7 @@ module _ {X B : Type 0} (step : Content → X → Telling → Content → Type 0
 
   pub none_answered : (at : B) (m : Content) → book.holds at m → IsSound json_texts m → HasAnswered step message_in book at at m [] []
   none_answered at m held sound =
-      record { next = m; run = refl; held = held; sound = sound; blame = λ none. absurd none; account = account_same json_texts m m refl }
+      record { next = m; run = refl; held = held; sound = sound; crash = (refl, λ left it. it); blame = λ none. absurd none; account = account_same json_texts m m refl }
 
   pub more_answered : (a b c : B) (m : Content) (xs more : List X) (tellings later : List Telling) → CountsUp (book.failed a) (book.failed b) → CountsUp (book.failed b) (book.failed c)
       → (one : HasAnswered step message_in book a b m xs tellings) → HasAnswered step message_in book b c one.next more later → HasAnswered step message_in book a c m (xs ++ more) (tellings ++ later)
@@ -61,6 +62,8 @@ module _ {X B : Type 0} (step : Content → X → Telling → Content → Type 0
         run = InTurn-append m one.next two.next xs more tellings later one.run two.run;
         held = two.held;
         sound = two.sound;
+        crash = subst (λ es. ExchangesLead book a c m es two.next) (sym (exchanges-append m one.next xs more tellings later one.run))
+            (leads_join json_texts book.stands (book.may_leave a) (book.may_leave b) (book.may_leave c) m one.next two.next (exchanges step message_in xs tellings) (exchanges step message_in more later) one.crash two.crash);
         blame = subst (λ rs. TellOfFailures rs (book.failed a) (book.failed c)) (sym (filter_map-append reply_in tellings later))
             (tell_more (book.failed a) (book.failed b) (book.failed c) (replies_in tellings) (replies_in later) up next one.blame two.blame);
         account = subst (λ es. HasAccount json_texts m (map (λ (e : Message × Reply). e.0) es) (map (λ (e : Message × Reply). e.1) es) two.next) (sym (exchanges-append m one.next xs more tellings later one.run))
@@ -141,6 +144,7 @@ module _ {B : Type 0} (book : Ghosts B) where
         run = (one.run.0, whole_line m one.run.0 whole t one.run.1, one.run.2);
         held = one.held;
         sound = one.sound;
+        crash = subst (LeadsOne book before after m t one.next) (ap (option_and_then message_of) (data_of-kept_of whole)) one.crash;
         blame = one.blame;
         account = subst (AccountOne m t one.next) (ap (option_and_then message_of) (data_of-kept_of whole)) one.account;
       }

@@ -23,7 +23,7 @@ same_answer s t f g b d p q r =
 
 module _ {B : Type 0} (book : Ghosts B) (at : B) (a b : Option (List ℕ)) where
   silent_served : (m : Content) → book.holds at m → IsSound json_texts m → HasServed book at at m silent (replied (Refused BadMessage))
-  silent_served m held sound = record { next = m; step = refl; held = held; sound = sound; blame = λ e. absurd (cc e); account = account_same json_texts m m refl }
+  silent_served m held sound = record { next = m; step = refl; held = held; sound = sound; crash = (refl, λ left it. it); blame = λ e. absurd (cc e); account = account_same json_texts m m refl }
 
   pub silent_told : (sense : Sense) → sense ≡ silent → IsServedAs book at at a a sense []
   silent_told sense is =
@@ -31,7 +31,7 @@ module _ {B : Type 0} (book : Ghosts B) (at : B) (a b : Option (List ℕ)) where
       (record { telling = replied (Refused BadMessage); bytes = []; told = refl; written = Appends-nil a; run = λ h m held sound. silent_served m held sound })
 
   fault_served : (f : Fault) (m : Content) → book.holds at m → IsSound json_texts m → HasServed book at at m (faulty f) (replied (Refused BadMessage))
-  fault_served f m held sound = record { next = m; step = refl; held = held; sound = sound; blame = λ e. absurd (cc e); account = account_same json_texts m m refl }
+  fault_served f m held sound = record { next = m; step = refl; held = held; sound = sound; crash = (refl, λ left it. it); blame = λ e. absurd (cc e); account = account_same json_texts m m refl }
 
   fault_told : (f : Fault) (sense : Sense) → sense ≡ faulty f → (done rest : List ℕ) → done ++ rest ≡ answer_bytes (fault_answer f) → Appends a b done → IsServedAs book at at a b sense rest
   fault_told f sense is done rest told written =

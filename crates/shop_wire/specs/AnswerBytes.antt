@@ -1,14 +1,15 @@
 -- The bytes of an answer of HTTP.
-use Rattle.std.specs.Prelude.{ℕ, Bool, true, false, List, [], ◌∷◌, ◌++◌, ◌==◌, length, Option, Some, None, codes, decimal, if◌then◌else◌}
+use Rattle.std.specs.Prelude.{ℕ, Bool, true, false, List, [], ◌∷◌, ◌++◌, ◌==◌, length, Option, Some, None, Result, Ok, Err, codes, decimal, if◌then◌else◌}
 use Rattle.http.specs.StatusCode.{code_digits}
 use Rattle.shop_records.specs.declared.refusals.Refusal.{Refusal}
 use Rattle.shop_records.specs.declared.refusals.Refusal.TheVariants.{BadMessage, NoMaterial, NoDemand, NoOrder, NoPart, NoJob, NoMemory, StoreFault}
 use Rattle.shop_records.specs.declared.messages.Reply.{Reply}
+use Rattle.shop_records.specs.declared.messages.Reply.TheVariants.{Refused}
 use Rattle.shop_records.specs.Messages.{refusal_in}
 use Rattle.shop_request.specs.declared.faults.Fault.{Fault}
 use Rattle.shop_request.specs.declared.faults.Fault.TheVariants as faults
 use Rattle.shop_request.specs.declared.routes.Route.{Route}
-use Rattle.shop_request.specs.declared.routes.Route.TheVariants.{Plans}
+use Rattle.shop_request.specs.declared.routes.Route.TheVariants.{Plans, Backup}
 use Rattle.shop_request.specs.Routes.{takes_body}
 use Rattle.shop_request.specs.Requests.{Sense, silent, faulty, asking}
 use Rattle.shop_forms.specs.Forms.{json_texts}
@@ -90,13 +91,25 @@ abbrev pub reply_answer : Route → Reply → Answer
 reply_answer route reply =
     record { status = status_in (takes_body route) (refusal_in reply); fields = codes "Content-Type: application/json" ++ head_line_end; body = json_texts.of_reply reply }
 
--- the plans of a whole order are JSON, a ticket and a report are lines
+-- the plans of a whole order and the number of a backup are JSON, a ticket and a report are lines
 abbrev pub text_fields : Route → List ℕ
 text_fields Plans = codes "Content-Type: application/json" ++ head_line_end
+text_fields Backup = codes "Content-Type: application/json" ++ head_line_end
 text_fields _ = codes "Content-Type: text/plain" ++ head_line_end
 
 abbrev pub text_answer : Route → List ℕ → Answer
 text_answer route text = record { status = 200; fields = text_fields route; body = text }
+
+-- ---- backups
+
+-- the number of a backup that was made
+abbrev pub backup_text : ℕ → List ℕ
+backup_text number = codes "{\"backup\":" ++ decimal number ++ codes ",\"ok\":\"backup\"}"
+
+-- it is told, or why none was made
+abbrev pub backup_answer : Result ℕ Refusal → Answer
+backup_answer (Ok number) = text_answer Backup (backup_text number)
+backup_answer (Err refusal) = reply_answer Backup (Refused refusal)
 
 -- What a line or a request is told: a reply, or a text.
 pub data Telling : Type 0 where

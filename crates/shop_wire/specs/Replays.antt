@@ -23,7 +23,7 @@ use Rattle.shop_planning.specs.Questions.{AnswersPlans}
 use Rattle.shop_book.specs.declared.books.Book.{Ghosts}
 use Rattle.shop_book.specs.Kept.{OnContent}
 use Rattle.shop_desk.specs.Faults.{TellOfFailures}
-use Rattle.shop_desk.specs.Handled.{HasAccount}
+use Rattle.shop_desk.specs.Handled.{HasAccount, Leads}
 use Rattle.shop_wire.specs.Lines.{longest_line}
 use Rattle.shop_wire.specs.AnswerBytes.{Telling, replied, printed}
 
@@ -80,6 +80,10 @@ abbrev pub with_reply : Option Message → Telling → List (Message × Reply)
 with_reply (Some message) (replied reply) = (message, reply) ∷ []
 with_reply _ telling = []
 
+-- what a crash may leave of the book now is what it may leave after each of these messages in turn, by its reply
+abbrev pub ExchangesLead : {B : Type 0} → Ghosts B → B → B → Content → List (Message × Reply) → Content → Type 0
+ExchangesLead book before after old es next = Leads json_texts book.stands (book.may_leave before) old (map (λ e. e.0) es) (map (λ e. e.1) es) next (book.may_leave after)
+
 -- ---- what is asked in turn, whether by lines or otherwise: what an element may be told, and the message that it is
 
 module _ {X : Type 0} (step : Content → X → Telling → Content → Type 0) (message_in : X → Option Message) where
@@ -94,14 +98,15 @@ module _ {X : Type 0} (step : Content → X → Telling → Content → Type 0) 
   abbrev pub exchanges : List X → List Telling → List (Message × Reply)
   exchanges asked tellings = flat_map (λ e. with_reply (message_in e.0) e.1) (zip asked tellings)
 
-  -- The book held old and holds next: all was answered in turn. Replies tell of a failed store only where it failed. Where a
-  -- history gives old, one whose messages are those of that history with each message among these that was accepted, once,
-  -- gives next, and this is its account.
+  -- The book held old and holds next: all was answered in turn. A crash leaves what it may leave after the messages among
+  -- these. Replies tell of a failed store only where it failed. Where a history gives old, one whose messages are those of that
+  -- history with each message among these that was accepted, once, gives next, and this is its account.
   pub record HasAnswered {B : Type 0} (book : Ghosts B) (before after : B) (old : Content) (asked : List X) (tellings : List Telling) : Type 0 where
     pub next : Content
     pub run : InTurn old asked tellings next
     pub held : book.holds after next
     pub sound : IsSound json_texts next
+    pub crash : ExchangesLead book before after old (exchanges asked tellings) next
     pub blame : TellOfFailures (replies_in tellings) (book.failed before) (book.failed after)
     pub account : HasAccount json_texts old (map (λ e. e.0) (exchanges asked tellings)) (map (λ e. e.1) (exchanges asked tellings)) next
 

@@ -31,10 +31,10 @@ use Rattle.shop_desk.specs.Handled.{HasAccount}
 use Rattle.shop_text.specs.Tickets.{ticket_of}
 use Rattle.shop_text.specs.Yields.{yield_of}
 use Rattle.shop_request.specs.declared.routes.Route.{Route}
-use Rattle.shop_request.specs.declared.routes.Route.TheVariants.{Message, Plan, Plans, Bound, Totals, Rack, Trace, Demand, Ticket, Yield, Materials, Parts, PartsBehind, Demands, DemandsOf, Orders, OrdersBehind, OrderLines, Jobs, Job, Terminal}
+use Rattle.shop_request.specs.declared.routes.Route.TheVariants.{Message, Plan, Plans, Bound, Backup, Totals, Rack, Trace, Demand, Ticket, Yield, Materials, Parts, PartsBehind, Demands, DemandsOf, Orders, OrdersBehind, OrderLines, Jobs, Job, Terminal}
 use Rattle.shop_request.specs.Routes.{takes_body}
 use Rattle.shop_request.specs.Requests.{Sense, silent, faulty, asking, HasSense}
-use Rattle.shop_wire.specs.Replays.{data_of, line_message, IsNoMessage, IsReplied, PlansStep, with_reply}
+use Rattle.shop_wire.specs.Replays.{ExchangesLead, data_of, line_message, IsNoMessage, IsReplied, PlansStep, with_reply}
 use Rattle.shop_wire.specs.AnswerBytes.{Telling, replied, printed, bytes_of}
 
 -- ---- what is asked for
@@ -156,6 +156,7 @@ RequestStep old Message text telling new = IsReplied telling (λ reply. MessageS
 RequestStep old Plan text telling new = IsReplied telling (λ reply. AskStep old (asked_at Plan text) reply new)
 RequestStep old Plans text telling new = PlansStep old (body_plans text) telling new
 RequestStep old Bound text telling new = IsReplied telling (λ reply. AskStep old (asked_at Bound text) reply new)
+RequestStep old Backup text telling new = IsReplied telling (λ reply. AskStep old (asked_at Backup text) reply new)
 RequestStep old Totals text telling new = IsReplied telling (λ reply. AskStep old (asked_at Totals text) reply new)
 RequestStep old Rack text telling new = IsReplied telling (λ reply. AskStep old (asked_at Rack text) reply new)
 RequestStep old Trace text telling new = IsReplied telling (λ reply. AskStep old (asked_at Trace text) reply new)
@@ -191,13 +192,15 @@ sense_message _ = None
 abbrev pub exchanged : Sense → Telling → List (MessageOf × Reply)
 exchanged sense telling = with_reply (sense_message sense) telling
 
--- The book held old and holds next, a step later. A failed store is told of only where it failed. Where a history gives
--- old, one with the message, if it was accepted and isn't a repeat, gives next, and this is its account.
+-- The book held old and holds next, a step later. A crash leaves what it may leave after the message, if there was one. A
+-- failed store is told of only where it failed. Where a history gives old, one with the message, if it was accepted and isn't a
+-- repeat, gives next, and this is its account.
 pub record HasServed {B : Type 0} (book : Ghosts B) (before after : B) (old : Content) (sense : Sense) (telling : Telling) : Type 0 where
   pub next : Content
   pub step : SenseStep old sense telling next
   pub held : book.holds after next
   pub sound : IsSound json_texts next
+  pub crash : ExchangesLead book before after old (exchanged sense telling) next
   pub blame : telling ≡ replied (Refused StoreFault) → StoreFailed (book.failed before) (book.failed after)
   pub account : HasAccount json_texts old (map (λ e. e.0) (exchanged sense telling)) (map (λ e. e.1) (exchanged sense telling)) next
 

@@ -16,5 +16,5 @@ mod told;
 
 pub use faults::{ReplayFault, WireFault};
 pub use replays::replay;
-pub use serving::{begin_request, serve_one, serve_request};
-pub use telling::{plans_answer, plans_refused};
+pub use serving::{begin_inbound, begin_request, serve_one, serve_request};
+pub use telling::{backup_answer, plans_answer, plans_refused};

@@ -212,8 +212,11 @@ fn plans_body(inbound: &Inbound) -> Option<&[u8]>
     }
 }
 
-// Answers what was read, or poses its question.
-fn begin_inbound<W: Sink, B: Book>(
+/// Does what was read of a request and writes the answer, as `serve_request`; but a question at `/plans` that was posed isn't
+/// answered: it is given to whoever thinks about it, and nothing is written.
+///
+/// `Write` and `NoMemory` as there.
+pub fn begin_inbound<W: Sink, B: Book>(
     alloc: Global,
     inbound: &Inbound,
     sink: &mut W,

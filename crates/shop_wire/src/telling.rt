@@ -1,7 +1,7 @@
 //! The bytes of an answer to a request: its status, its fields and its body.
 
-ghost use Rattle.std.specs.Prelude.{◌≡◌, ◌≤◌, ◌<◌, IfOk, IfSome, decimal, string_bytes};
-ghost use Rattle.shop_wire.specs.AnswerBytes.{answer_bytes, fault_answer, fault_fields, fault_status, phrase, printed, refusal_status, replied, reply_answer, status_in, telling_answer, text_answer, text_fields, unfound};
+ghost use Rattle.std.specs.Prelude.{◌≡◌, ◌≤◌, ◌<◌, IfOk, IfSome, Ok, decimal, string_bytes};
+ghost use Rattle.shop_wire.specs.AnswerBytes.{answer_bytes, backup_answer, backup_text, fault_answer, fault_fields, fault_status, phrase, printed, refusal_status, replied, reply_answer, status_in, telling_answer, text_answer, text_fields, unfound};
 ghost use Rattle.shop_wire.specs.Tellings.{IsPrinted, telling_of};
 ghost use Rattle.shop_records.specs.Messages.{refusal_in};
 ghost use Rattle.shop_records.specs.declared.messages.Reply.TheVariants.{Refused};
@@ -170,7 +170,7 @@ fn text_fields(route: Route) -> &'static str
     ensures { result.now ≡ text_fields route }
 {
     match route {
-        Route::Plans => "Content-Type: application/json\r\n",
+        Route::Plans | Route::Backup => "Content-Type: application/json\r\n",
         _ => "Content-Type: text/plain\r\n",
     }
 }
@@ -210,4 +210,29 @@ pub fn plans_refused(alloc: Global) -> Result<String, AllocError>
         ≡ answer_bytes (telling_answer AtPlans (replied (Refused NoMemory)))) }
 {
     told_text(alloc, Route::Plans, refused(Refusal::NoMemory))
+}
+
+// The text that tells a backup's number.
+fn backup_text(alloc: Global, number: u32) -> Result<String, AllocError>
+    ensures { IfOk result (λ text. string_bytes text ≡ backup_text number) }
+{
+    format!(in alloc; "{{\"backup\":{number},\"ok\":\"backup\"}}")
+}
+
+// The answer that tells a backup's number.
+fn number_answer(alloc: Global, number: u32) -> Result<String, AllocError>
+    ensures { IfOk result (λ whole. string_bytes whole ≡ answer_bytes (backup_answer (Ok number))) }
+{
+    let body = backup_text(alloc, number)?;
+    text_answer_text(alloc, Route::Backup, body.as_str())
+}
+
+/// The answer at `/backup`: the number of a backup that was made, or why none was.
+pub fn backup_answer(alloc: Global, made: Result<u32, Refusal>) -> Result<String, AllocError>
+    ensures { IfOk result (λ whole. string_bytes whole ≡ answer_bytes (backup_answer made)) }
+{
+    match made {
+        Ok(number) => number_answer(alloc, number),
+        Err(refusal) => told_text(alloc, Route::Backup, refused(refusal)),
+    }
 }

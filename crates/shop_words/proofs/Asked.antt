@@ -81,7 +81,7 @@ no_orders_file rows none (Plan file kerf step) asked = asked
 no_orders_file rows none (PlanOrder file kerf step calls) asked = asked
 no_orders_file rows none (Orders file None) asked = nothing (first_of (codes "FILE") rows) file.now none asked.0
 no_orders_file rows none (Orders file (Some told)) asked = nothing (first_of (codes "FILE") rows) file.now none asked.0
-no_orders_file rows none (Serve port store shop limit page) asked = asked
+no_orders_file rows none (Serve port store shop limit page backup) asked = asked
 no_orders_file rows none (Ticket store job) asked = asked
 no_orders_file rows none (Yield store material) asked = asked
 
@@ -92,7 +92,7 @@ no_orders_message rows some none (Plan file kerf step) asked = asked
 no_orders_message rows some none (PlanOrder file kerf step calls) asked = asked
 no_orders_message rows some none (Orders file None) asked = absurd (cc (sym asked.1 ∙ some))
 no_orders_message rows some none (Orders file (Some told)) asked = none told asked.1
-no_orders_message rows some none (Serve port store shop limit page) asked = asked
+no_orders_message rows some none (Serve port store shop limit page backup) asked = asked
 no_orders_message rows some none (Ticket store job) asked = asked
 no_orders_message rows some none (Yield store material) asked = asked
 
@@ -102,7 +102,7 @@ no_serve_store rows none (Plan file kerf step) asked = asked
 no_serve_store rows none (PlanOrder file kerf step calls) asked = asked
 no_serve_store rows none (Orders file None) asked = asked
 no_serve_store rows none (Orders file (Some told)) asked = asked
-no_serve_store rows none (Serve port store shop limit page) asked = nothing (first_of (codes "store") rows) store.now none asked.1
+no_serve_store rows none (Serve port store shop limit page backup) asked = nothing (first_of (codes "store") rows) store.now none asked.1
 no_serve_store rows none (Ticket store job) asked = asked
 no_serve_store rows none (Yield store material) asked = asked
 
@@ -112,7 +112,7 @@ no_serve_shop rows none (Plan file kerf step) asked = asked
 no_serve_shop rows none (PlanOrder file kerf step calls) asked = asked
 no_serve_shop rows none (Orders file None) asked = asked
 no_serve_shop rows none (Orders file (Some told)) asked = asked
-no_serve_shop rows none (Serve port store shop limit page) asked = nothing (first_of (codes "shop") rows) shop.now none asked.2
+no_serve_shop rows none (Serve port store shop limit page backup) asked = nothing (first_of (codes "shop") rows) shop.now none asked.2
 no_serve_shop rows none (Ticket store job) asked = asked
 no_serve_shop rows none (Yield store material) asked = asked
 
@@ -128,7 +128,7 @@ no_ticket_store rows none (Plan file kerf step) asked = asked
 no_ticket_store rows none (PlanOrder file kerf step calls) asked = asked
 no_ticket_store rows none (Orders file None) asked = asked
 no_ticket_store rows none (Orders file (Some told)) asked = asked
-no_ticket_store rows none (Serve port store shop limit page) asked = asked
+no_ticket_store rows none (Serve port store shop limit page backup) asked = asked
 no_ticket_store rows none (Ticket store job) asked = nothing (first_of (codes "store") rows) store.now none asked.0
 no_ticket_store rows none (Yield store material) asked = asked
 
@@ -138,7 +138,7 @@ no_yield_store rows none (Plan file kerf step) asked = asked
 no_yield_store rows none (PlanOrder file kerf step calls) asked = asked
 no_yield_store rows none (Orders file None) asked = asked
 no_yield_store rows none (Orders file (Some told)) asked = asked
-no_yield_store rows none (Serve port store shop limit page) asked = asked
+no_yield_store rows none (Serve port store shop limit page backup) asked = asked
 no_yield_store rows none (Ticket store job) asked = asked
 no_yield_store rows none (Yield store material) asked = nothing (first_of (codes "store") rows) store.now none asked.0
 
@@ -148,7 +148,7 @@ no_yield_code rows none (Plan file kerf step) asked = asked
 no_yield_code rows none (PlanOrder file kerf step calls) asked = asked
 no_yield_code rows none (Orders file None) asked = asked
 no_yield_code rows none (Orders file (Some told)) asked = asked
-no_yield_code rows none (Serve port store shop limit page) asked = asked
+no_yield_code rows none (Serve port store shop limit page backup) asked = asked
 no_yield_code rows none (Ticket store job) asked = asked
 no_yield_code rows none (Yield store material) asked = none material asked.1
 

@@ -52,6 +52,9 @@ limit_rule = record (option_rule (codes "limit")) { parser = Some (Signed (pos 1
 abbrev pub page_rule : Rule
 page_rule = option_rule (codes "page")
 
+abbrev pub backup_rule : Rule
+backup_rule = option_rule (codes "backup")
+
 abbrev pub order_rule : Rule
 order_rule = option_rule (codes "order")
 
@@ -89,10 +92,10 @@ replay_app = new_app (codes "replay")
 abbrev pub orders_app : App
 orders_app = with_rule (with_rule (with_rule (with_rule (new_app (codes "orders")) (word_rule (codes "FILE"))) order_rule) terminal_rule) message_number_rule
 
--- `serve --port N --store FILE --shop FILE [--limit N] [--page FILE]`
+-- `serve --port N --store FILE --shop FILE [--limit N] [--page FILE] [--backup FOLDER]`
 abbrev pub serve_app : App
 serve_app =
-    with_rule (with_rule (with_rule (with_rule (with_rule (new_app (codes "serve")) port_rule) store_rule) (path_rule (codes "shop"))) limit_rule) page_rule
+    with_rule (with_rule (with_rule (with_rule (with_rule (with_rule (new_app (codes "serve")) port_rule) store_rule) (path_rule (codes "shop"))) limit_rule) page_rule) backup_rule
 
 -- `ticket --store FILE JOB`
 abbrev pub ticket_app : App
@@ -127,6 +130,7 @@ argument_rule argument.Store = store_rule
 argument_rule argument.Shop = path_rule (codes "shop")
 argument_rule argument.Limit = limit_rule
 argument_rule argument.Page = page_rule
+argument_rule argument.Backup = backup_rule
 argument_rule argument.Job = job_rule
 argument_rule argument.Material = word_rule (codes "MATERIAL")
 
@@ -233,10 +237,11 @@ IsLimit rows (Some n) =
     ⊎ ((is_some (first_of (codes "limit") rows) ≡ false) × (is_some (first_of (codes "page") rows) ≡ false) × (n ≡ MOST_CONNECTIONS))
 
 abbrev pub IsServeAsked : List Row → Request → Type 0
-IsServeAsked rows (Serve port store shop limit page) =
+IsServeAsked rows (Serve port store shop limit page backup) =
     HasNumber (codes "port") rows 1 LAST_PORT port × (first_of (codes "store") rows ≡ Some store.now)
     × (first_of (codes "shop") rows ≡ Some shop.now) × IsLimit rows limit
     × (first_of (codes "page") rows ≡ option_map (λ p. p.now) page)
+    × (first_of (codes "backup") rows ≡ option_map (λ p. p.now) backup)
 IsServeAsked rows _ = ⊥
 
 abbrev pub IsTicketAsked : List Row → Request → Type 0

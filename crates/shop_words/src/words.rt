@@ -79,6 +79,8 @@ pub enum Request<'a> {
         /// How many connections, 1 to 1000000; where there is none, no number of them ends it.
         limit: Option<u32>,
         page: Option<&'a str>,
+        /// The folder of backups.
+        backup: Option<&'a str>,
     },
     /// Print the ticket of a job of a store.
     Ticket {
@@ -121,6 +123,7 @@ enum Argument {
     Shop,
     Limit,
     Page,
+    Backup,
     Job,
     Material,
 }
@@ -260,6 +263,17 @@ fn page_arg<'a>(alloc: Global) -> Arg<'a>
     )
 }
 
+fn backup_arg<'a>(alloc: Global) -> Arg<'a>
+    ensures { line.IsArg line.backup_rule result }
+{
+    option_arg(
+        alloc,
+        "backup",
+        "FOLDER",
+        "The folder in which a backup of the store is made for each POST to /backup: 1, 2 and so on; it has to be there",
+    )
+}
+
 fn order_arg<'a>(alloc: Global) -> Arg<'a>
     ensures { line.IsArg line.order_rule result }
 {
@@ -334,6 +348,7 @@ fn arg_of<'a>(alloc: Global, argument: Argument) -> Arg<'a>
         ),
         Argument::Limit => limit_arg(alloc),
         Argument::Page => page_arg(alloc),
+        Argument::Backup => backup_arg(alloc),
         Argument::Job => job_arg(alloc),
         Argument::Material => word_arg(alloc, "MATERIAL", "The material's code"),
     }
@@ -410,13 +425,14 @@ fn serve_command<'a>(alloc: Global) -> Result<Command<'a>, AllocError>
         alloc,
         "serve",
         "Adds the materials of a shop file and serves terminals over HTTP, on this machine alone",
-        "Example:\n  cutshop serve --port 8017 --store shop.db --shop shop.toml --page page/terminal.html",
+        "Examples:\n  cutshop serve --port 8017 --store shop.db --shop shop.toml --page page/terminal.html\n  cutshop serve --port 8017 --store shop.db --shop shop.toml --backup backups",
         &[
             Argument::Port,
             Argument::Store,
             Argument::Shop,
             Argument::Limit,
             Argument::Page,
+            Argument::Backup,
         ],
     )
 }
@@ -636,12 +652,14 @@ fn serve_request<'a>(serve: &ArgMatches<'a>) -> Option<Request<'a>>
     let shop = serve.get_str("shop")?;
     let limit = limit_of(serve)?;
     let page = serve.get_str("page");
+    let backup = serve.get_str("backup");
     Some(Request::Serve {
         port,
         store,
         shop,
         limit,
         page,
+        backup,
     })
 }
 

@@ -5,6 +5,7 @@ use Rattle.shop_commands.specs.contracts.storeless.StorelessBookBook.TheImpl as 
 use Rattle.shop_wire.proofs.Fresh.{from_fresh}
 use Rattle.shop_commands.proofs.Replayed.{stopped}
 use Rattle.shop_commands.specs.Sinks.{change_of}
+use Rattle.shop_commands.specs.Sources.{source_change}
 use Rattle.shop_commands.proofs.replays.replay_fresh.Goals as goal
 
 -- no failure was counted
@@ -21,5 +22,5 @@ pub returns-clause-err : goal.returns-clause-err
 returns-clause-err g c =
     let p = c.in-Err.ensures.err in
     let fresh = from_fresh mem.ghosts c.new-book.result c.replay.new.book tt c.new-book.ensures never (g.W.Sink.held c.args.sink.now) (g.W.Sink.held c.replay.new.sink) p.0 p.3 p.5 in
-    stopped (g.S.Source.left c.args.source.now) (change_of g.W.Sink c.args.sink.now c.replay.new.sink) c.in-Err.fault c.from.result c.from.ensures
-    p.0 p.1 p.2 p.3 p.4 fresh (λ is. c.replay.ensures.write (c.in-Err.is ∙ ap Err is))
+    stopped (source_change g.S.Source c.args.source.now c.replay.new.source) (change_of g.W.Sink c.args.sink.now c.replay.new.sink) c.in-Err.fault c.from.result c.from.ensures
+    p.0 p.1 p.2 p.3 p.4 fresh (λ is. c.replay.ensures.read (c.in-Err.is ∙ ap Err is)) (λ is. c.replay.ensures.write (c.in-Err.is ∙ ap Err is))

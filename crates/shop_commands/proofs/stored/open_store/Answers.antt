@@ -1,5 +1,8 @@
-use Rattle.shop_commands.proofs.Opened.{unopened}
+use Rattle.std.proofs.Common.{subst}
 use Rattle.shop_commands.proofs.stored.open_store.Goals as goal
 
+pub returns-in-Ok-clause-ok : goal.returns-in-Ok-clause-ok
+returns-in-Ok-clause-ok g c = subst (g.O.Opens.gives c.args.stores c.args.store.now) c.in-Ok.is c.open.ensures
+
 pub returns-in-Err-clause-err : goal.returns-in-Err-clause-err
-returns-in-Err-clause-err g c = unopened c.in-Err.fault c.from.result c.from.ensures
+returns-in-Err-clause-err g c = (c.in-Err.fault, subst (g.O.Opens.gives c.args.stores c.args.store.now) c.in-Err.is c.open.ensures, c.from.ensures)

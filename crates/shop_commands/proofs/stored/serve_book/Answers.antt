@@ -5,4 +5,4 @@ pub returns-in-Ok-clause-ok : goal.returns-in-Ok-clause-ok
 returns-in-Ok-clause-ok g c = record { mid = c.add_entries.new.book; shop = c.in_ok-add_entries.ensures.ok; told = c.in_ok-listener.ensures.ok; served = c.in-Ok.ensures.ok }
 
 pub returns-clause-err : goal.returns-clause-err
-returns-clause-err g c = inr (inr (record { mid = c.add_entries.new.book; shop = c.in_ok-add_entries.ensures.ok; told = c.in_ok-listener.ensures.ok; left = c.in-Err.ensures.err }))
+returns-clause-err g c = inr (inr (inr (record { mid = c.add_entries.new.book; shop = c.in_ok-add_entries.ensures.ok; told = c.in_ok-listener.ensures.ok; left = c.in-Err.ensures.err })))

@@ -1,12 +1,13 @@
 use Rattle.std.proofs.Common.{◌≡◌, ℕ, List, sym, subst}
 use Rattle.std.specs.Io.KnownBytes.{IsAtEnd}
-use Rattle.std.specs.Prelude.{◌⊎◌, None, IfSome}
+use Rattle.std.specs.Prelude.{◌⊎◌, None, IfSome, IsSome}
 use Rattle.shop_planning.specs.Thoughts.{posed_in}
 use Rattle.shop_request.specs.Senses.{IsSettled}
 use Rattle.shop_serve.specs.declared.lines.Line.{Line}
-use Rattle.shop_serve.specs.Making.{IsAsked, IsMade}
-use Rattle.shop_serve.specs.Serving.{IsAnswered}
-use Rattle.shop_serve.proofs.Attending.{made-asked, made-own, made-whole}
+use Rattle.shop_serve.specs.Making.{IsAsked, IsMadeMeanwhile}
+use Rattle.shop_serve.specs.Serving.{IsAnsweredThen}
+use Rattle.shop_serve.specs.Times.{Tells}
+use Rattle.shop_serve.proofs.Attending.{made-asked, made-own, made-timed, made-whole}
 use Rattle.shop_serve.proofs.Turns.{none_served}
 use Rattle.shop_serve.proofs.lines.ask.Goals as goal
 
@@ -22,16 +23,38 @@ returns-in-Waits-clause-one g c = none_served c.args.site.now g.B.Book c.args.bo
 pub returns-clause-own : goal.returns-clause-own
 returns-clause-own g c =
     let before : Line g.row.C.Denot = record { stream = c.take_bytes.new.stream; since = c.args.line.now.since; came = c.take_bytes.new.came; needed = c.take_bytes.new.needed; thought = c.args.line.now.thought; answer = c.args.line.now.answer; sent = c.args.line.now.sent } in
-    subst (λ (l : Line g.row.C.Denot). IfSome l.answer (λ answer. IsAnswered c.args.site.now g.B.Book c.args.book.now c.answer_of.new.book l.came.items answer.items)) (sym c.put_made.ensures)
-    (made-own g.C.Connection c.args.site.now g.B.Book c.args.book.now c.answer_of.new.book before c.in-Some.made _
-    (subst (λ (came : List ℕ). IsMade c.args.site.now g.B.Book c.args.book.now c.answer_of.new.book came c.in-Some.made) c.deref.ensures.value c.in-Some.ensures.made))
+    let seen = g.K.Watch.times c.args.watch.now in
+    let between = g.K.Watch.times c.made_of.new.watch in
+    let seeing = g.K.Watch.times c.now.new.self in
+    let book = c.made_of.new.book in
+    let made = subst (λ (t : _). IsMadeMeanwhile c.args.site.now g.B.Book c.args.book.now book t between before.came.items c.in-Some.made) c.stop.ensures
+    (subst (λ (came : List ℕ). IsMadeMeanwhile c.args.site.now g.B.Book c.args.book.now book (g.K.Watch.times c.stop.new.self) between came c.in-Some.made) c.deref.ensures.value c.in-Some.ensures.made) in
+    subst (λ (l : Line g.row.C.Denot). IfSome l.answer (λ answer. IsAnsweredThen c.args.site.now g.B.Book c.args.book.now book seen seeing l.since l.came.items answer.items)) (sym c.put_made.ensures)
+    (made-own g.C.Connection c.args.site.now g.B.Book c.args.book.now book seen between seeing before c.in-Some.made c.now.result made c.now.ensures)
+
+pub returns-clause-since : goal.returns-clause-since
+returns-clause-since g c whole =
+    let before : Line g.row.C.Denot = record { stream = c.take_bytes.new.stream; since = c.args.line.now.since; came = c.take_bytes.new.came; needed = c.take_bytes.new.needed; thought = c.args.line.now.thought; answer = c.args.line.now.answer; sent = c.args.line.now.sent } in
+    let seen = g.K.Watch.times c.args.watch.now in
+    let between = g.K.Watch.times c.made_of.new.watch in
+    let seeing = g.K.Watch.times c.now.new.self in
+    let book = c.made_of.new.book in
+    let made = subst (λ (t : _). IsMadeMeanwhile c.args.site.now g.B.Book c.args.book.now book t between before.came.items c.in-Some.made) c.stop.ensures
+    (subst (λ (came : List ℕ). IsMadeMeanwhile c.args.site.now g.B.Book c.args.book.now book (g.K.Watch.times c.stop.new.self) between came c.in-Some.made) c.deref.ensures.value c.in-Some.ensures.made) in
+    subst (λ (l : Line g.row.C.Denot). IsSome l.thought → Tells seen seeing l.since) (sym c.put_made.ensures)
+    (made-timed g.C.Connection c.args.site.now g.B.Book c.args.book.now book seen between seeing before c.in-Some.made c.now.result made c.now.ensures)
 
 pub returns-clause-asked : goal.returns-clause-asked
 returns-clause-asked g c =
     let before : Line g.row.C.Denot = record { stream = c.take_bytes.new.stream; since = c.args.line.now.since; came = c.take_bytes.new.came; needed = c.take_bytes.new.needed; thought = c.args.line.now.thought; answer = c.args.line.now.answer; sent = c.args.line.now.sent } in
-    subst (λ (l : Line g.row.C.Denot). IfSome l.thought (λ t. (t.last ≡ None) × IsAsked c.args.site.now g.B.Book c.args.book.now c.answer_of.new.book l.came.items (posed_in t.thought))) (sym c.put_made.ensures)
-    (made-asked g.C.Connection c.args.site.now g.B.Book c.args.book.now c.answer_of.new.book before c.in-Some.made _
-    (subst (λ (came : List ℕ). IsMade c.args.site.now g.B.Book c.args.book.now c.answer_of.new.book came c.in-Some.made) c.deref.ensures.value c.in-Some.ensures.made))
+    let seen = g.K.Watch.times c.args.watch.now in
+    let between = g.K.Watch.times c.made_of.new.watch in
+    let seeing = g.K.Watch.times c.now.new.self in
+    let book = c.made_of.new.book in
+    let made = subst (λ (t : _). IsMadeMeanwhile c.args.site.now g.B.Book c.args.book.now book t between before.came.items c.in-Some.made) c.stop.ensures
+    (subst (λ (came : List ℕ). IsMadeMeanwhile c.args.site.now g.B.Book c.args.book.now book (g.K.Watch.times c.stop.new.self) between came c.in-Some.made) c.deref.ensures.value c.in-Some.ensures.made) in
+    subst (λ (l : Line g.row.C.Denot). IfSome l.thought (λ t. (t.last ≡ None) × IsAsked c.args.site.now g.B.Book c.args.book.now book l.came.items (posed_in t.thought))) (sym c.put_made.ensures)
+    (made-asked g.C.Connection c.args.site.now g.B.Book c.args.book.now book seen between seeing before c.in-Some.made c.now.result made)
 
 pub returns-clause-whole : goal.returns-clause-whole
 returns-clause-whole g c whole =

@@ -16,7 +16,7 @@ returns-clause-attended g c stays known =
     let rests : c.args.line.now.thought ≡ None = search rules in
     attended-first g.C.Connection c.args.site.now g.B.Book c.args.line.now c.ask.new.line c.answer_on-2.new.line c.args.book.now c.ask.new.book (g.K.Watch.times c.args.watch.now) (g.K.Watch.times c.ask.new.watch) c.answer_on-2.result none rests
     (c.ask.ensures.read (λ over. absurd (cc (over, c.in-Whole.is))) (λ none. absurd (cc (none, c.in-Whole.is)))) c.ask.ensures.kept (c.ask.ensures.begins c.in-Whole.is) (c.ask.ensures.whole c.in-Whole.is) c.ask.ensures.own c.ask.ensures.asked (c.ask.ensures.since c.in-Whole.is)
-    c.answer_on-2.ensures.kept c.answer_on-2.ensures.since c.answer_on-2.ensures.thought c.answer_on-2.ensures.idle stays known c.answer_on-2.ensures.takes c.answer_on-2.ensures.whole c.answer_on-2.ensures.full
+    c.answer_on-2.ensures.kept c.answer_on-2.ensures.since c.answer_on-2.ensures.thought c.answer_on-2.ensures.idle stays c.answer_on-2.ensures.takes c.answer_on-2.ensures.stops
 
 pub returns-then-is_some-clause-lost : goal.returns-then-is_some-clause-lost
 returns-then-is_some-clause-lost g c lost =

@@ -1,7 +1,7 @@
 use Rattle.std.proofs.Common.{◌≡◌, ◌++◌, map}
 use Rattle.std.specs.Slice.Iter.{iter_rest}
 use Rattle.mio.specs.Events.{items}
-use Rattle.shop_serve.specs.Rounds.{key_of}
+use Rattle.shop_serve.specs.Ports.{key_of}
 use Rattle.shop_serve.proofs.ports.note_keys.Given as goal
 
 -- the keys so far, and those that are still to come

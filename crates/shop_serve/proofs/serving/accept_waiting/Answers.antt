@@ -2,7 +2,7 @@ use Rattle.std.proofs.Common.{◌+◌, ◌∙◌, [], ◌∷◌, refl, subst, sy
 use Rattle.std.specs.Prelude.{Ok}
 use Rattle.shop_serve.specs.Lines.{unanswered}
 use Rattle.shop_serve.specs.declared.faults.ServeFault.{ServeFault}
-use Rattle.shop_serve.specs.Rounds.{given_by}
+use Rattle.shop_serve.specs.Ports.{given_by}
 use Rattle.shop_serve.specs.Times.{Adds}
 use Rattle.shop_serve.proofs.Gathered.{adds-none, came-none, came-all, came-one}
 use Rattle.shop_serve.proofs.Turns.{stays, advances_more}

@@ -7,7 +7,7 @@ use Rattle.shop_serve.proofs.serving.accept_waiting.Given as goal
 abbrev pub invariant-loop : goal.invariant-loop
 invariant-loop g l =
     record {
-      each : CameSoFar g.C.Connection l.site g.B.Book ((p : g.row.P.Denot) × g.P.Port.is_deaf p) (g.P.Port.given l.fn.port) (g.P.Port.given l.port) l.fn.accepted l.accepted l.fn.lines l.lines l.fn.book l.book (g.K.Watch.times l.fn.watch) (g.K.Watch.times l.watch);
+      each : CameSoFar g.C.Connection l.site g.B.Book g.P.Port (g.P.Port.given l.fn.port) (g.P.Port.given l.port) l.fn.accepted l.accepted l.fn.lines l.lines l.fn.book l.book (g.K.Watch.times l.fn.watch) (g.K.Watch.times l.watch);
       told : g.P.Port.told l.port ≡ g.P.Port.told l.fn.port;
       run : Advances l.site g.B.Book l.fn.book l.book (unanswered l.fn.lines + l.accepted) (unanswered l.lines + l.fn.accepted);
       bound : l.accepted ≤ l.limit;

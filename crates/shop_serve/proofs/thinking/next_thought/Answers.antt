@@ -1,7 +1,7 @@
 use Rattle.std.proofs.Common.{◌∙◌, None, sym, subst, refl}
 use Rattle.std.specs.Prelude.{IsSome}
 use Rattle.shop_serve.specs.declared.thinking.Place.{Place}
-use Rattle.shop_serve.proofs.Thoughts.{IsFoundSo, found-first, found-none, found-passed, found-taken}
+use Rattle.shop_serve.proofs.Thoughts.{IsFoundSo, found-first, found-passed, found-taken}
 use Rattle.shop_serve.proofs.thinking.next_thought.Goals as goal
 
 pub loop-key-init : goal.loop-key-init

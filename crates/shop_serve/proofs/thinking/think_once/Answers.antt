@@ -1,4 +1,4 @@
-use Rattle.std.proofs.Common.{◌∙◌, ℕ, Some, inr, refl, sym, ap, subst}
+use Rattle.std.proofs.Common.{ℕ, Some, inr, refl, sym, ap, subst}
 use Rattle.std.specs.declared.alloc.Global.{Global}
 use Rattle.std.specs.Prelude.{Vec, IfSome, string_bytes}
 use Rattle.shop_planning.specs.Thoughts.{posed_in}

@@ -1,8 +1,7 @@
 use Rattle.serde_json.specs.View.{view}
 use Rattle.shop_wire.specs.Replays.{LineStep, data_of, line_message}
 use Rattle.shop_wire.specs.Tellings.{telling_of}
-use Rattle.shop_wire.proofs.Answered.{value_answered, one_refused, line_unread}
-use Rattle.shop_wire.proofs.Meant.{unread_not_store}
+use Rattle.shop_wire.proofs.Answered.{value_answered, one_refused, line_unread, unread_line}
 use Rattle.shop_wire.proofs.answers.answer.Goals as goal
 
 pub returns-in-Ok-clause-step : goal.returns-in-Ok-clause-step
@@ -12,4 +11,4 @@ returns-in-Ok-clause-step g c = λ honest m held sound.
 pub returns-in-Err-clause-step : goal.returns-in-Err-clause-step
 returns-in-Err-clause-step g c = λ honest m held sound.
     one_refused g.B.Book c.args.book.now c.args.book.now m LineStep line_message c.args.line.now c.in-Err.refusal (telling_of c.refused.result) c.refused.ensures.told
-    (unread_not_store c.in-Err.refusal (data_of c.args.line.now) c.in-Err.ensures) (line_unread m c.args.line.now c.in-Err.refusal c.in-Err.ensures) held sound
+    (unread_line c.in-Err.refusal (data_of c.args.line.now) c.in-Err.ensures) (line_unread m c.args.line.now c.in-Err.refusal c.in-Err.ensures) held sound (λ left it. it)

@@ -1,9 +1,10 @@
+use Rattle.std.proofs.Common.{inl, refl}
 use Rattle.shop_forms.specs.Forms.{message_of, query_of}
 use Rattle.serde_json.specs.View.{view}
 use Rattle.shop_plans.specs.Questions.{plans_query_of}
 use Rattle.shop_wire.specs.Replays.{ValueStep}
 use Rattle.shop_wire.specs.Tellings.{telling_of}
-use Rattle.shop_wire.proofs.Answered.{query_answered, plans_answered, plans_read, one_refused, of_no_memory, memory_not_store}
+use Rattle.shop_wire.proofs.Answered.{query_answered, plans_answered, plans_read, one_refused, of_no_memory}
 use Rattle.shop_wire.proofs.Meant.{nothing_there}
 use Rattle.shop_desk.proofs.Blame.{up_reply}
 use Rattle.shop_wire.proofs.answers.query_told.Goals as goal
@@ -11,15 +12,15 @@ use Rattle.shop_wire.proofs.answers.query_told.Goals as goal
 pub returns-in-Ok-clause-step : goal.returns-in-Ok-clause-step
 returns-in-Ok-clause-step g c = λ none honest m held sound.
     query_answered g.B.Book c.args.book.now c.ask.new.book m (view c.args.value.now) c.in-Ok.query c.ask.result none c.in-Ok.ensures.ok (c.ask.ensures.answer honest m held)
-    (c.ask.ensures.keeps.stays honest m held) sound c.ask.ensures.store_fault
+    (c.ask.ensures.keeps.stays honest m held) sound (c.ask.ensures.keeps.crash honest m held) c.ask.ensures.store_fault
 
 pub returns-in-Ok-clause-failures : goal.returns-in-Ok-clause-failures
 returns-in-Ok-clause-failures g c = up_reply (g.B.Book.failed c.args.book.now) (g.B.Book.failed c.ask.new.book) c.ask.result c.ask.ensures.keeps.failures
 
 pub returns-in-NoMemory-clause-step : goal.returns-in-NoMemory-clause-step
 returns-in-NoMemory-clause-step g c = λ none honest m held sound.
-    one_refused g.B.Book c.args.book.now c.args.book.now m ValueStep message_of (view c.args.value.now) _ (telling_of c.refused.result) c.refused.ensures.told memory_not_store
-    (of_no_memory m (view c.args.value.now)) held sound
+    one_refused g.B.Book c.args.book.now c.args.book.now m ValueStep message_of (view c.args.value.now) _ (telling_of c.refused.result) c.refused.ensures.told (inl refl)
+    (of_no_memory m (view c.args.value.now)) held sound (λ left it. it)
 
 pub returns-in_default-clause-step : goal.returns-in_default-clause-step
 returns-in_default-clause-step g c = λ none honest m held sound.
@@ -27,7 +28,7 @@ returns-in_default-clause-step g c = λ none honest m held sound.
     let asked = plans_query_of d in
     let read = plans_read c.read_plans.result asked c.read_plans.ensures.ok c.read_plans.ensures.err in
     plans_answered g.B.Book c.args.book.now c.plans_told.new.book m d (telling_of c.plans_told.result) none (nothing_there c.in-Err.refusal (query_of d) c.in-Err.ensures.err c.in_default.not-NoMemory)
-    (c.plans_told.ensures.answer asked read honest m held) (c.plans_told.ensures.keeps.stays honest m held) sound (c.plans_told.ensures.store_fault asked read)
+    (c.plans_told.ensures.answer asked read honest m held) (c.plans_told.ensures.keeps.stays honest m held) sound (c.plans_told.ensures.keeps.crash honest m held) (c.plans_told.ensures.store_fault asked read)
 
 pub returns-in_default-clause-honest : goal.returns-in_default-clause-honest
 returns-in_default-clause-honest g c = c.plans_told.ensures.keeps.honest

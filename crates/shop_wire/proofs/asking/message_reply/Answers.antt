@@ -5,7 +5,7 @@ use Rattle.shop_wire.proofs.asking.message_reply.Goals as goal
 pub returns-in-Ok-clause-served : goal.returns-in-Ok-clause-served
 returns-in-Ok-clause-served g c = λ honest m held sound.
     let l = c.handle_with_text.ensures.step honest m held sound in
-    message_served g.B.Book c.args.book.now c.handle_with_text.new.book m c.args.body.now c.in-Ok.message c.handle_with_text.result.0 l.next c.in-Ok.ensures c.handle_with_text.ensures.message l.step l.held l.sound
+    message_served g.B.Book c.args.book.now c.handle_with_text.new.book m c.args.body.now c.in-Ok.message c.handle_with_text.result.0 l.next c.in-Ok.ensures c.handle_with_text.ensures.message l.step l.held l.sound l.crash
     (c.handle_with_text.ensures.store_fault honest m held sound)
 
 pub returns-in-Ok-clause-failures : goal.returns-in-Ok-clause-failures
@@ -13,4 +13,4 @@ returns-in-Ok-clause-failures g c = up_answer (g.B.Book.failed c.args.book.now) 
 
 pub returns-in-Err-clause-served : goal.returns-in-Err-clause-served
 returns-in-Err-clause-served g c = λ honest m held sound.
-    message_refused g.B.Book c.args.book.now c.args.book.now m c.args.body.now c.in-Err.refusal c.in-Err.ensures held sound
+    message_refused g.B.Book c.args.book.now c.args.book.now m c.args.body.now c.in-Err.refusal c.in-Err.ensures held sound (λ left it. it)

@@ -19,18 +19,18 @@ returns-in-Plans-clause-served g c = λ honest m held sound.
 pub returns-in-Ticket-clause-served : goal.returns-in-Ticket-clause-served
 returns-in-Ticket-clause-served g c = λ honest m held sound.
     subst (λ r. HasServed g.B.Book c.args.book.now c.ticket_told.new.book m (asking r c.args.text.now) (telling_of c.ticket_told.result)) (sym c.in-Ticket.is)
-    (ticket_served g.B.Book c.args.book.now c.ticket_told.new.book m (c.ticket_told.ensures.keeps.stays honest m held) sound c.args.text.now (telling_of c.ticket_told.result)
+    (ticket_served g.B.Book c.args.book.now c.ticket_told.new.book m (c.ticket_told.ensures.keeps.stays honest m held) sound (c.ticket_told.ensures.keeps.crash honest m held) c.args.text.now (telling_of c.ticket_told.result)
     (c.ticket_told.ensures.answer honest m held))
 
 pub returns-in-Yield-clause-served : goal.returns-in-Yield-clause-served
 returns-in-Yield-clause-served g c = λ honest m held sound.
     subst (λ r. HasServed g.B.Book c.args.book.now c.yield_told.new.book m (asking r c.args.text.now) (telling_of c.yield_told.result)) (sym c.in-Yield.is)
-    (yield_served g.B.Book c.args.book.now c.yield_told.new.book m (c.yield_told.ensures.keeps.stays honest m held) sound c.args.text.now (telling_of c.yield_told.result)
+    (yield_served g.B.Book c.args.book.now c.yield_told.new.book m (c.yield_told.ensures.keeps.stays honest m held) sound (c.yield_told.ensures.keeps.crash honest m held) c.args.text.now (telling_of c.yield_told.result)
     (c.yield_told.ensures.answer honest m held))
 
 pub returns-in_default-clause-served : goal.returns-in_default-clause-served
 returns-in_default-clause-served g c = λ honest m held sound.
-    asked_served g.B.Book c.args.book.now c.ask_reply.new.book m (c.ask_reply.ensures.keeps.stays honest m held) sound c.args.route c.args.text.now c.ask_reply.result
+    asked_served g.B.Book c.args.book.now c.ask_reply.new.book m (c.ask_reply.ensures.keeps.stays honest m held) sound (c.ask_reply.ensures.keeps.crash honest m held) c.args.route c.args.text.now c.ask_reply.result
     c.in_default.not-Message c.in_default.not-Plans c.in_default.not-Ticket c.in_default.not-Yield (c.ask_reply.ensures.answer honest m held) c.ask_reply.ensures.store_fault
 
 pub returns-in_default-clause-failures : goal.returns-in_default-clause-failures

@@ -1,8 +1,7 @@
 use Rattle.shop_records.specs.declared.refusals.Refusal.TheVariants.{StoreFault}
 use Rattle.shop_wire.specs.Tellings.{telling_of}
-use Rattle.shop_wire.proofs.Answered.{plans_answered_to, plans_unread}
+use Rattle.shop_wire.proofs.Answered.{plans_answered_to, plans_unread, unread_not_store}
 use Rattle.shop_wire.proofs.Begun.{asked_none, asked_some, told_refusal}
-use Rattle.shop_wire.proofs.Meant.{unread_not_store}
 use Rattle.shop_wire.proofs.plans.plans_told.Goals as goal
 
 pub returns-in-Ok-clause-answer : goal.returns-in-Ok-clause-answer

@@ -9,4 +9,4 @@ pub returns-in-Ok-clause-refused : goal.returns-in-Ok-clause-refused
 returns-in-Ok-clause-refused g c = posed_refused g.B.Book c.args.book.now c.pose.new.book c.args.body.now c.in-Ok.question c.pose.result c.in-Ok.ensures c.pose.ensures.refused c.pose.ensures.keeps
 
 pub returns-in-Err-clause-refused : goal.returns-in-Err-clause-refused
-returns-in-Err-clause-refused g c = λ honest m held sound. unread_served g.B.Book c.args.book.now c.args.book.now c.args.body.now c.in-Err.refusal m c.in-Err.ensures held sound
+returns-in-Err-clause-refused g c = λ honest m held sound. unread_served g.B.Book c.args.book.now c.args.book.now c.args.body.now c.in-Err.refusal m c.in-Err.ensures held sound (λ left it. it)

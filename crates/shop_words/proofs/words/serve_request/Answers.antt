@@ -21,4 +21,5 @@ returns c = (
   sym (c.in_ok-shop.ensures ∙ first_value-rows (found_of c.args.serve.now) (codes "shop")),
   c.in_ok-limit.ensures,
   sym (c.get_str-page.ensures ∙ first_value-rows (found_of c.args.serve.now) (codes "page")),
+  sym (c.get_str-backup.ensures ∙ first_value-rows (found_of c.args.serve.now) (codes "backup")),
 )

@@ -1,0 +1,69 @@
+//! Where backups are made: what is done there, step by step.
+
+ghost use Rattle.std.specs.Prelude.{◌≡◌, ◌∷◌, [], ℕ, List, Option, IfOk, IsSome, Ok, OnErr, OnOk, Some, true, false};
+ghost use Rattle.shop_backup.specs.Deeds.{Adds, Deed, cleared, finished, kept, made, passed};
+
+use crate::faults::BackupFault;
+use shop_advice::BackupCause;
+use shop_streams::{Sink, Source};
+
+/// A file of a store: that of its database, or its log.
+#[derive(Clone, Copy, Debug, PartialEq, Eq)]
+pub enum Half {
+    Store,
+    Log,
+}
+
+/// A place where backups of a store are made, each under a number.
+pub trait Shelf<S: Source, W: Sink> {
+    ghost use Rattle.shop_backup.specs.declared.shelves.Half.{Half};
+
+    /// What was done so far, where that is known.
+    ghost done: { Self → Option (List Deed) };
+
+    /// What a file of the store holds, where it is known what was done.
+    ghost holds: { Self → Half → List ℕ };
+
+    /// Begins the backup of a number, unless one of it is there, whole or not, and tells whether it did.
+    fn begin(&mut self, number: u32) -> Result<bool, BackupFault>
+        ensures holds { holds self.new ≡ holds self.old }
+        ensures passed { result ≡ Ok false
+            → Adds (done self.old) (done self.new) (passed number ∷ []) }
+        ensures made { result ≡ Ok true
+            → Adds (done self.old) (done self.new) (made number ∷ []) }
+        ensures err { OnErr result (done self.new ≡ done self.old) };
+
+    /// A file of the store, to be read from its first byte on.
+    fn source(&mut self, half: Half) -> Result<S, BackupFault>
+        ensures holds { holds self.new ≡ holds self.old }
+        ensures done { done self.new ≡ done self.old }
+        ensures left { IfOk result
+            (λ source. IsSome (done self.old) → S.left source ≡ Some (holds self.old half)) };
+
+    /// A new file of the backup that was begun, in which nothing is yet.
+    fn sink(&mut self, number: u32, half: Half) -> Result<W, BackupFault>
+        ensures holds { holds self.new ≡ holds self.old }
+        ensures done { done self.new ≡ done self.old }
+        ensures empty { IfOk result (λ sink. IsSome (done self.old) → W.held sink ≡ Some []) };
+
+    /// Why a file couldn't be written.
+    fn cause(&self, sink: &W) -> BackupCause;
+
+    /// Has a file of the backup on the disk, as it was written.
+    fn keep(&mut self, number: u32, half: Half, sink: W) -> Result<(), BackupFault>
+        ensures holds { holds self.new ≡ holds self.old }
+        ensures ok { OnOk result ((bytes : List ℕ) → W.held sink ≡ Some bytes
+            → Adds (done self.old) (done self.new) (kept number half bytes ∷ [])) }
+        ensures err { OnErr result (done self.new ≡ done self.old) };
+
+    /// Gives the backup its name, once its files are on the disk, and has that there, too.
+    fn finish(&mut self, number: u32) -> Result<(), BackupFault>
+        ensures holds { holds self.new ≡ holds self.old }
+        ensures ok { OnOk result (Adds (done self.old) (done self.new) (finished number ∷ [])) }
+        ensures err { OnErr result (done self.new ≡ done self.old) };
+
+    /// Takes away what was made of a backup that isn't whole, as far as that goes.
+    fn clear(&mut self, number: u32)
+        ensures holds { holds self.new ≡ holds self.old }
+        ensures cleared { Adds (done self.old) (done self.new) (cleared number ∷ []) };
+}

@@ -1,0 +1,55 @@
+-- What a crash may leave, a message after another.
+use Rattle.std.proofs.Common.{◌≡◌, List, [], ◌∷◌, ◌++◌, map, Option, Some, None, inl, inr, refl, sym, subst}
+use Rattle.shop_records.specs.declared.messages.Message.{Message}
+use Rattle.shop_records.specs.declared.messages.Reply.{Reply}
+use Rattle.shop_records.specs.declared.messages.Reply.TheVariants.{Refused}
+use Rattle.shop_records.specs.declared.refusals.Refusal.{Refusal}
+use Rattle.shop_records.specs.declared.refusals.Refusal.TheVariants.{NoMemory}
+use Rattle.shop_records.specs.Messages.{Texts}
+use Rattle.shop_records.specs.Content.{Content}
+use Rattle.shop_records.specs.Soundness.{IsSound}
+use Rattle.shop_machine.specs.Machine.{Step}
+use Rattle.shop_desk.specs.Handled.{LeftBy, Leads}
+use Rattle.shop_desk.proofs.Steps.{faulted, left_more}
+use Rattle.shop_wire.specs.AnswerBytes.{replied}
+use Rattle.shop_wire.specs.Replays.{with_reply}
+use Rattle.shop_wire.specs.Tellings.{IsUnread}
+
+module _ (texts : Texts) {Left : Type 0} (stands : Left → Content → Type 0) where
+  -- one message
+  pub leads_one : (before after : Left → Type 0) (old next : Content) (message : Message) (answer : Reply) → Step texts old message answer next
+      → ((left : Left) → after left → LeftBy texts stands before old message answer next left) → Leads texts stands before old (message ∷ []) (answer ∷ []) next after
+  leads_one before after old next message answer step crash = (next, step, (refl, crash))
+
+  -- what wasn't read as a message, though it may be one: nothing was done, and it was refused
+  pub leads_unread : (before after : Left → Type 0) (m : Content) (refusal : Refusal) (o : Option Message) → IsUnread refusal o → IsSound texts m → ((left : Left) → after left → before left)
+      → Leads texts stands before m (map (λ e. e.0) (with_reply o (replied (Refused refusal)))) (map (λ e. e.1) (with_reply o (replied (Refused refusal)))) m after
+  leads_unread before after m refusal None why sound keeps = (refl, keeps)
+  leads_unread before after m refusal (Some message) (inl is) sound keeps =
+      let done = faulted texts stands before after (λ c. c ≡ m) m message NoMemory (λ n s. n refl) sound refl keeps in
+      let leads = leads_one before after m done.next message (Refused NoMemory) done.step done.crash in
+      subst (λ r. Leads texts stands before m (message ∷ []) (Refused r ∷ []) m after) (sym is) (subst (λ c. Leads texts stands before m (message ∷ []) (Refused NoMemory ∷ []) c after) done.held leads)
+  leads_unread before after m refusal (Some message) (inr why) sound keeps = absurd (cc why.1)
+
+  -- what may be left grows with what could be left before
+  leads_grow : (before mid after : Left → Type 0) → ((left : Left) → mid left → before left) → (old new : Content) (messages : List Message) (answers : List Reply)
+      → Leads texts stands mid old messages answers new after → Leads texts stands before old messages answers new after
+  leads_grow before mid after grows old new [] [] leads = (leads.0, λ left it. grows left (leads.1 left it))
+  leads_grow before mid after grows old new [] (r ∷ rs) leads = absurd leads
+  leads_grow before mid after grows old new (m ∷ ms) [] leads = absurd leads
+  leads_grow before mid after grows old new (m ∷ ms) (r ∷ rs) leads = (
+    leads.0,
+    leads.1,
+    leads_grow (LeftBy texts stands before old m r leads.0) (LeftBy texts stands mid old m r leads.0) after
+        (left_more texts stands before mid grows old m r leads.0) leads.0 new ms rs leads.2,
+  )
+
+  -- exchanges, and then more of them
+  pub leads_join : (before mid after : Left → Type 0) (old at new : Content) (es fs : List (Message × Reply))
+      → Leads texts stands before old (map (λ e. e.0) es) (map (λ e. e.1) es) at mid → Leads texts stands mid at (map (λ e. e.0) fs) (map (λ e. e.1) fs) new after
+      → Leads texts stands before old (map (λ e. e.0) (es ++ fs)) (map (λ e. e.1) (es ++ fs)) new after
+  leads_join before mid after old at new [] fs first second =
+      leads_grow before mid after first.1 old new (map (λ e. e.0) fs) (map (λ e. e.1) fs)
+      (subst (λ (c : Content). Leads texts stands mid c (map (λ e. e.0) fs) (map (λ e. e.1) fs) new after) first.0 second)
+  leads_join before mid after old at new (e ∷ es) fs first second =
+      (first.0, first.1, leads_join (LeftBy texts stands before old e.0 e.1 first.0) mid after first.0 at new es fs first.2 second)
