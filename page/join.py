@@ -1,0 +1,22 @@
+#!/usr/bin/env python3
+"""Joins the files of page/src to page/terminal.html, which the program serves: document.html, in which each line {{NAME}} stands
+for the file of that name."""
+
+import os
+import re
+
+HERE = os.path.dirname(os.path.abspath(__file__))
+
+
+def source(name):
+    with open(os.path.join(HERE, "src", name), encoding="utf-8", newline="") as file:
+        return file.read()
+
+
+def joined():
+    return re.sub(r"(?m)^\{\{(.+)\}\}\n", lambda line: source(line[1]), source("document.html"))
+
+
+if __name__ == "__main__":
+    with open(os.path.join(HERE, "terminal.html"), "w", encoding="utf-8", newline="") as file:
+        file.write(joined())

@@ -1,0 +1,116 @@
+// ---- The document.
+
+// An element; text and data go through textContent and attributes, never through markup.
+function el(name, given = {}, ...children) {
+  const made = document.createElement(name);
+  for (const [key, value] of Object.entries(given)) {
+    if (key === "on")
+      for (const [event, act] of Object.entries(value)) made.addEventListener(event, act);
+    else if (key === "text") made.textContent = value;
+    else if (key in made && typeof value !== "string") made[key] = value;
+    else made.setAttribute(key, value);
+  }
+  made.append(...children.filter(child => child !== null && child !== undefined && child !== ""));
+  return made;
+}
+
+const drawn = new WeakMap();
+
+// What the pointer or the space bar holds down, and what is filled once it is let go: a press on a button that is made anew
+// meanwhile would be lost.
+const held = {
+  target: null,
+  waiting: new Map()
+};
+
+function hold(event) {
+  if (event.type !== "keydown" || event.key === " ") held.target = event.target;
+}
+
+function letGo() {
+  held.target = null;
+  setTimeout(() => {
+    for (const [holder, how] of [...held.waiting]) fill(holder, ...how);
+  });
+}
+
+// Fills a holder anew only where what it shows has changed; the focus stays where it was, or goes to the panel's heading
+// where what had it is gone.
+function fill(holder, shown, build) {
+  held.waiting.delete(holder);
+  if (holder.contains(held.target)) {
+    held.waiting.set(holder, [shown, build]);
+    return;
+  }
+  const text = JSON.stringify(shown) ?? "";
+  if (drawn.get(holder) === text) return;
+  drawn.set(holder, text);
+  const focused = holder.contains(document.activeElement) ? document.activeElement : null, key = focused?.dataset.key;
+  const chosen = holder.tagName === "SELECT" ? holder.value : null;
+  holder.replaceChildren(...[build()].flat().filter(Boolean));
+  if (chosen && [...holder.options].some(option => option.value === chosen)) holder.value = chosen;
+  if (key) holder.querySelector(`[data-key="${CSS.escape(key)}"]`)?.focus({preventScroll: true});
+  if (focused && document.activeElement === document.body) focusHeading(holder.closest(".panel"));
+}
+
+// Whether what had the focus can't keep it: it is gone, hidden, or can't be pressed any more.
+function isLost(focused) { return focused === document.body || focused.disabled || !focused.getClientRects().length; }
+
+function focusHeading(panel) {
+  const heading = panel?.querySelector("h2");
+  if (!heading) return;
+  heading.tabIndex = -1;
+  heading.focus({preventScroll: true});
+}
+
+function quiet(text) { return el("p", {class: "quiet", text}); }
+
+// A button that opens another view.
+function opener(view, text) {
+  return el("button", {
+    class: "small",
+    text,
+    on: {
+      click: () => {
+        location.hash = view;
+      }
+    }
+  });
+}
+
+function figure(value, words) { return el("div", {}, el("b", {text: value}), el("span", {text: words})); }
+
+// Says in the live region what was done, for those who don't see it; notices are live regions of their own.
+function say(words) { $("said").textContent = words; }
+
+let faultsShown = 0;
+
+// Marks a field with what is wrong with it, told beneath it until it is changed; or with nothing.
+function markField(field, words) {
+  $(field.getAttribute("aria-describedby"))?.remove();
+  field.classList.toggle("badfield", Boolean(words));
+  for (const name of ["aria-invalid", "aria-describedby"]) field.removeAttribute(name);
+  if (!words) return;
+  const id = `fault${++faultsShown}`;
+  field.setAttribute("aria-invalid", "true");
+  field.setAttribute("aria-describedby", id);
+  field.closest("label").after(el("div", {class: "fault", id, text: `${fieldWords(field.dataset.field)} ${words}`}));
+  field.addEventListener("input", () => markField(field, ""), {once: true});
+}
+
+// Marks all fields of a holder by their names.
+function markFields(holder, faults) {
+  for (const field of holder.querySelectorAll("[data-field]")) markField(field, faults[field.dataset.field]);
+}
+
+// Goes to the first bad field of a holder, if there is one.
+function goToFault(holder) {
+  const bad = holder.querySelector(".badfield");
+  bad?.focus();
+  return Boolean(bad);
+}
+
+function showFault(id, words) {
+  if ($(id).textContent !== words) $(id).textContent = words;
+  $(id).hidden = !words;
+}

@@ -1,0 +1,118 @@
+// ---- What the plans of all look like: a list of pictures to one scale, and what they come to.
+
+const MOST_CARDS = 60;
+
+function showPlans() {
+  const plans = shownPlans(), {found, part} = toCut, list = $("planList");
+  const told = plans.map(plan => [plan.tree, plan.parts, plan.buy, plan.w, plan.h, plan.parts.map(name => found?.jobs.get(name))]);
+  fill(list, [told, list.clientWidth, window.innerHeight], () => plans.length ? planCards(plans) : []);
+  fill($("planFigures"), [told, toCut.picked, toCut.tried.length], () => plans.length && planFigures(plans));
+  const says = found && !part ? [boundSays(found)] : [];
+  fill($("boundSays"), [says, Boolean(toCut.planning), found?.calls, Boolean(found?.sent)],
+    () => says.map(text => el("p", {}, el("b", {text}), " ", searchOnButton())));
+  fill($("missing"), [found?.missing, part], () => found?.missing.length && !part ? missingRows(found) : []);
+  showTried();
+  $("reserve").disabled = !canReserve(plans);
+  $("reserve").textContent = part ? tr`Reserve ${part}` : tr`Reserve all`;
+}
+
+function canReserve(plans) {
+  if (toCut.part) return plans.length > 0 && plans[0].counts.size > 0 && !staleWords(plans[0]);
+  return plans.some(plan => plan.parts.length) && !toCut.found.sent;
+}
+
+// A button that searches longer, where that may find more.
+function searchOnButton() {
+  const {found, planning} = toCut;
+  if (planning || found.proved || found.sent || found.calls >= MOST_CALLS) return null;
+  return el("button", {class: "small", text: tr`Search longer`, "data-key": "longer", on: {click: searchOn}});
+}
+
+// The largest plan gives the scale of all. Where there is room the pieces stand beside the picture.
+function planCards(plans) {
+  const largest = {w: Math.max(...plans.map(plan => plan.w)), h: Math.max(...plans.map(plan => plan.h))};
+  const wide = $("planList").clientWidth - 22, isBeside = wide >= 460 && plans[0].material.kind !== "bar";
+  const size = {room: Math.max(180, isBeside ? wide - 202 : wide), largest, isPlain: true};
+  const cards = plans.slice(0, MOST_CARDS).map(plan => planCard(plan, size, isBeside));
+  if (plans.length > MOST_CARDS) cards.push(quiet(tr`And ${count(plans.length - MOST_CARDS, "other plan")}.`));
+  const [{material}] = plans, boxes = plans.slice(0, MOST_CARDS).flatMap(plan => layPlan(plan.root, material));
+  return [...cards, legendOf(boxes, material)];
+}
+
+// A plan with how often it is cut, from which parts, and whose its pieces are.
+function planCard(plan, size, isBeside) {
+  const {material, root, parts, buy, isRest} = plan, many = unitsOf(plan), holder = el("div", {class: "picture"});
+  drawPlan(holder, root, material, {wordsOf: plannedWords, hasLegend: false, ...size});
+  const kindTag = buy ? tr`to buy` : isRest ? tr`remnant` : "";
+  const head = el("h3", {}, many > 1 ? el("span", {class: "same", text: `${many} × `}) : null,
+    sizeText(material.kind, plan.w, plan.h), kindTag ? el("span", {class: "tag", text: kindTag}) : null,
+    parts.length ? el("span", {class: "quiet", text: `${namesOf(parts.map(part => ({part})))}${jobsWords(parts)}`}) : null);
+  return el("section", {class: `planned${isBeside ? " beside" : ""}`}, head, holder,
+    pieceList(material.kind, layPlan(root, material)));
+}
+
+// Whose the pieces of a plan are, and what is kept of it.
+function pieceList(kind, boxes) {
+  const pieces = groupsOf(boxes.filter(box => box.fate === "piece"), box => box.demand);
+  const rests = groupsOf(boxes.filter(box => box.fate === "kept"), box => `${box.w} ${box.h}`).map(same =>
+    `${same.length > 1 ? `${same.length} × ` : ""}${sizeText(kind, same[0].w, same[0].h)}`);
+  return el("ul", {}, ...pieces.map(same => pieceItem(same.length, pieceSize(kind, same[0]), same[0].demand)),
+    rests.length ? el("li", {class: "rests"}, el("span", {text: tr`Kept on the rack: ${rests.join(", ")}`})) : null);
+}
+
+function pieceItem(pieces, size, demand) {
+  return el("li", {}, el("b", {class: "number", text: `${grouped(pieces)} × ${size}`}), el("span", {text: lineWords(demand)}));
+}
+
+// Whose a demand is.
+function lineWords(demand) {
+  const {order = "?", line = "?"} = shop.lines.get(demand) || {};
+  return tr`${order}, line ${line} (no. ${demand})`;
+}
+
+// The jobs that parts were reserved as.
+function jobsWords(parts) {
+  const jobs = parts.map(part => toCut.found?.jobs.get(part)).filter(Boolean);
+  return jobs.length ? `: ${jobs.length > 1 ? tr`jobs ${jobs.join(", ")}` : tr`job ${jobs[0]}`}` : "";
+}
+
+function planFigures(plans) {
+  const [{material, worth}] = plans, {kind} = material, cells = {piece: 0, kept: 0, kerf: 0, scrap: 0};
+  let whole = 0, cuts = 0;
+  for (const plan of plans) {
+    const many = unitsOf(plan), by = cellsByFate(layPlan(plan.root, material));
+    for (const fate of Object.keys(cells)) cells[fate] += many * by[fate];
+    whole += many * plan.w * plan.h;
+    cuts += many * plan.root.cuts;
+  }
+  const pieces = countOf(plans), {part, found} = toCut;
+  return [
+    part ? null : figure(usedWords({plans, material}), tr`are cut up`),
+    figure(grouped(pieces), word(pieces === 1 ? "piece" : "pieces")),
+    figure(grouped(cuts), word(cuts === 1 ? "cut" : "cuts")),
+    figure(percent(cells.piece, whole), tr`in pieces`),
+    figure(percent(cells.kept, whole), part ? tr`kept as rests` : tr`kept as rests, ${cellsText(kind, cells.kept)}`),
+    figure(percent(cells.kerf + cells.scrap, whole), tr`kerf and scrap`),
+    part || !found ? null : figure(String(plans.length), word(plans.length === 1 ? "different plan" : "different plans")),
+    ...part ? priceFigures(worth) : []
+  ];
+}
+
+// What one part's plan is worth, where plans by steps told a ceiling.
+function priceFigures(worth) {
+  const ceiling = ceilingOf(toCut.tried), {dropped} = chosenPlan();
+  if (!Number.isFinite(ceiling)) return [];
+  return [
+    figure(grouped(worth), tr`price for the planner`), figure(percent(worth, ceiling), tr`of the ceiling ${grouped(ceiling)}`),
+    dropped ? figure(dropped, tr`dropped, not wanted so often`) : null
+  ];
+}
+
+// Whose the pieces are that aren't planned.
+function missingRows({missing, material: {kind}}) {
+  const rows = missing.map(({demand, pieces}) => {
+    const row = shop.demands.find(other => other.demand === demand);
+    return pieceItem(pieces, row ? sizeText(kind, row.w, row.h) : "", demand);
+  });
+  return [el("h3", {text: tr`Not planned, as nothing that stands has room for it`}), el("ul", {}, ...rows)];
+}

@@ -1,0 +1,350 @@
+// ---- The terminal: numbered messages, kept until they are answered.
+
+const storage = {
+  read(key, otherwise) {
+    try {
+      return JSON.parse(localStorage.getItem(key)) ?? otherwise;
+    } catch { return otherwise; }
+  },
+  write(key, value) { localStorage.setItem(key, JSON.stringify(value)); },
+  forget(key) { localStorage.removeItem(key); },
+  keys(prefix) {
+    try {
+      return Object.keys(localStorage).filter(key => key.startsWith(prefix)).sort();
+    } catch { return []; }
+  },
+};
+
+// A message has a key of its own, so that no tab overwrites what another keeps: its mark, by which messages stand in the
+// order in which they were typed. With its answer it is kept on, for the tab that typed it and for the log.
+const MESSAGE = "cutshop.message.", MOST_ANSWERED = 60, MOST_LOGGED = 12;
+
+const terminal = {
+  number: storage.read("cutshop.terminal", 0),
+  message(mark) { return storage.read(MESSAGE + mark, null); },
+  messages() { return storage.keys(MESSAGE).map(key => storage.read(key, null)).filter(Boolean); },
+  kept() { return this.messages().filter(message => !message.reply && message.terminal === this.number); },
+  answered() { return this.messages().filter(message => message.reply); },
+  keep(message) {
+    storage.write(MESSAGE + message.mark, message);
+    showKeptSoon();
+  },
+  forget(mark) {
+    storage.forget(MESSAGE + mark);
+    showKept();
+  },
+  trouble: "",
+  isSpent: false,  // whether a message was sent under the last number that there is
+};
+
+// What to do in this tab when a message that was typed here is accepted, by the message's mark.
+const whenAccepted = new Map();
+
+// Two tabs of one browser are one terminal: one of them at a time numbers and sends.
+function alone(work) { return navigator.locks ? navigator.locks.request("cutshop.terminal", work) : work(); }
+
+function pause(time) { return new Promise(resolve => setTimeout(resolve, time)); }
+
+// Keeps a command as a message and sends it; false where it can't be kept. One that waits already isn't kept twice.
+function send(command, what, accepted = () => {}) {
+  if (!terminal.number) {
+    chooseTerminal();
+    return false;
+  }
+  try {
+    keepCommand({what, command}, accepted);
+  } catch {
+    tell(tr`${what}: not sent, because this browser can't keep it until it is answered`, "refused");
+    return false;
+  }
+  sendKept();
+  return true;
+}
+
+function keepCommand({what, command, many}, accepted, known = terminal.kept()) {
+  const text = JSON.stringify(command), same = known.find(kept => JSON.stringify(kept.command) === text);
+  const mark = same ? same.mark : newMark();
+  if (!same) terminal.keep({mark, terminal: terminal.number, number: 0, what, command, end: endOf(command), many});
+  whenAccepted.set(mark, accepted);
+}
+
+// Takes over what waits in lists, one for each terminal, as earlier pages kept it.
+function adoptLists() {
+  for (const key of storage.keys("cutshop.kept.")) {
+    const sender = Number(key.split(".")[2]);
+    for (const message of storage.read(key, []))
+      storage.write(MESSAGE + message.mark, {...message, terminal: sender, end: endOf(message.command)});
+    storage.forget(key);
+  }
+}
+
+let marks = 0;
+
+function newMark() { return `${Date.now()}.${String(marks++).padStart(6, "0")}.${Math.random()}`; }
+
+function timeOf(mark) { return Number(mark.split(".")[0]); }
+
+const sending = {
+  busy: false,
+  timer: 0,
+  dropping: new Set()
+};
+
+async function sendKept() {
+  if (sending.busy || !terminal.kept().length) return;
+  clearTimeout(sending.timer);
+  sending.busy = true;
+  try {
+    await alone(async () => {
+      while (terminal.kept().length && await sendFirst())
+        ;
+    });
+    terminal.isSpent = false;
+  } catch (error) {
+    terminal.isSpent = error instanceof NumbersSpent;
+    if (!(error instanceof NoAnswer || error instanceof Refused || terminal.isSpent)) console.error(error);
+  }
+  sending.busy = false;
+  showKept();
+  sendLater();
+}
+
+function sendLater() {
+  clearTimeout(sending.timer);
+  if (terminal.kept().length) sending.timer = setTimeout(sendKept, 3000);
+}
+
+// True where the first kept message waits no more.
+async function sendFirst() {
+  const first = await numbered(terminal.kept()[0]);
+  if (!first) return true;
+  const body = JSON.stringify({...first.command, number: first.number, terminal: first.terminal});
+  const {status, text} = await request("/message", {body});
+  const reply = readReply(text);
+  terminal.trouble = status >= 500 && reply ? await refusalWords(reply) : "";
+  if (status >= 500 || (status === 200 && !reply)) return false;
+  await answered(first, reply || {refused: status});
+  return true;
+}
+
+// The message with its number, which is kept before it is sent, and stays. What waits is read anew once the shop told the
+// last number, so that what another tab sent before gets no second one. Nothing where it waits no more.
+async function numbered(message) {
+  if (message.number) return message;
+  const {last} = await ask(`/terminal/${message.terminal}`);
+  const kept = terminal.kept(), waiting = kept.find(other => other.mark === message.mark);
+  if (!waiting || waiting.number) return waiting;
+  if (waiting.terminal !== message.terminal) return undefined;
+  if (sending.dropping.has(waiting.mark)) return forgetUnsent(waiting);
+  waiting.number = Math.max(last, ...kept.map(other => other.number)) + 1;
+  if (waiting.number > MAX_NUMBER) throw new NumbersSpent();
+  terminal.keep(waiting);
+  return waiting;
+}
+
+function spentWords(number) {
+  return tr`The numbers of terminal ${number} are spent, as a message was sent under the last one, ${MAX_NUMBER}.`;
+}
+
+// What was surely not sent yet goes along to another number of the terminal.
+function moveUnsent(number) {
+  for (const message of terminal.kept().filter(other => !other.number))
+    storage.write(MESSAGE + message.mark, {...message, terminal: number});
+  storage.write("cutshop.terminal", number);
+  Object.assign(terminal, {number, isSpent: false});
+}
+
+// Keeps an answer in place of its command, and tells it.
+async function answered({mark, terminal: sender, number, what, command, end, many}, reply) {
+  const isRefused = reply.refused !== undefined, why = isRefused ? await refusalWords(reply, command) : "";
+  const words = isRefused ? tr`Refused: ${what}: ${why}` : `${what}: ${outcomeWords(command, reply, end)}`;
+  terminal.keep({mark, terminal: sender, number, words, reply, many});
+  if (many)
+    changeMany(many, told => {
+      if (isRefused) told.refused.push([command.part || what, why]);
+      else told.done++;
+    });
+  for (const {mark: old} of terminal.answered().slice(0, -MOST_ANSWERED)) terminal.forget(old);
+  tellAnswer({mark, words, reply, many});
+}
+
+function tellAnswer({mark, words, reply, many}) {
+  const isRefused = reply.refused !== undefined;
+  if (!many) tell(words, isRefused ? "refused" : "good", linkOf(reply));
+  if (!isRefused) whenAccepted.get(mark)?.(reply);
+  whenAccepted.delete(mark);
+  if (many) tellMany(many);
+  if (!many || manyTold.has(many)) refreshNow();
+  else showKept();
+}
+
+// Where to go on from an answer.
+function linkOf({ok, job, first}) {
+  if (ok === "reserve") return {words: tr`To the saw`, go: () => openJob(job)};
+  return ["order", "import"].includes(ok) ? {words: tr`Plan all`, go: () => planOrdered(first)} : null;
+}
+
+// Another tab keeps a message or its answer, which it may be closed before it sends.
+function hearOfMessage(key) {
+  hearAnswers();
+  showKeptSoon();
+  sendLater();
+  if (storage.read(key, null)?.reply) refreshNow();
+}
+
+// Tells the answers of messages that were typed in this tab and sent by another.
+function hearAnswers() {
+  for (const mark of [...whenAccepted.keys()]) {
+    const message = terminal.message(mark);
+    if (message?.reply) tellAnswer(message);
+    else if (!message) whenAccepted.delete(mark);
+  }
+}
+
+// A message has its number before it is sent. One without was surely not sent, unless another tab is just sending it: so it
+// is dropped in turn, and not where tabs can't take turns. What another tab kept last may take a moment to be seen here.
+function canDrop(message) { return Boolean(navigator.locks) && !message.number; }
+
+async function drop(messages) {
+  for (const {mark} of messages) sending.dropping.add(mark);
+  showKept();
+  await alone(async () => {
+    await pause(200);
+    for (const {mark, what} of messages) {
+      const message = terminal.message(mark);
+      if (message && canDrop(message) && !message.reply) forgetUnsent(message);
+      else if (message && !message.many) tell(tr`${what}: it was sent before it could be dropped`, "refused");
+    }
+  });
+  for (const {mark} of messages) sending.dropping.delete(mark);
+  hearAnswers();
+  showKept();
+}
+
+function forgetUnsent({mark, many}) {
+  terminal.forget(mark);
+  whenAccepted.delete(mark);
+  if (!many) return;
+  changeMany(many, told => {
+    told.dropped++;
+  });
+  tellMany(many);
+}
+
+function outcomeWords(command, reply, end) {
+  const more = reply.count - 1, ordered = tr`${count(reply.count, "line")} ordered, pieces wanted from no. ${reply.first} on`;
+  switch (command.do) {
+    case "receive":
+      return tr`${count(reply.count, "unit")} received, ${reply.act}/0${more ? tr` to ${reply.act}/${more}` : ""}`;
+    case "order": return ordered;
+    case "import":
+      if (isOldImport(command, reply)) return tr`was ordered already, pieces wanted from no. ${reply.first} on: nothing was done`;
+      return reply.act ? tr`${ordered}, unit ${reply.act}/0 received` : ordered;
+    case "reserve": return tr`job ${reply.job}, ${count(reply.cuts, "cut")}`;
+    case "done":
+    case "break": return endWords(reply, end);
+    default: return tr`done`;
+  }
+}
+
+// What is known of a job's end when it is typed: its kind, and which rests want a label, where the job is shown.
+function endOf(command) {
+  if (!["done", "break"].includes(command.do)) return undefined;
+  const told = command.job === atSaw.job && atSaw.told,
+        kind = told ? told.kind : shop.kindOfJob.get(command.job) || "sheet";
+  const halt = command.do === "break" ? haltOf(command) : null;
+  const kept = told ? layPlan(told.root, limitsOf(told), halt).filter(box => box.fate === "kept") : [];
+  return {kind, labels: kept.map(box => `${command.job}/${box.node} (${sizeText(kind, box.w, box.h)})`)};
+}
+
+function endWords(reply, {kind, labels}) {
+  const words = leftWords(kind, reply.pieces, reply.rack, reply.kerf, reply.scrap);
+  return labels.length ? tr`${words}. Label what is kept: ${labels.join(", ")}` : words;
+}
+
+function leftWords(kind, ...cells) {
+  const [pieces, kept, kerf, scrap] = cells.map(number => cellsText(kind, number));
+  return tr`pieces ${pieces}, kept ${kept}, kerf ${kerf}, scrap ${scrap}`;
+}
+
+// ---- Many messages of one press: each is kept and sent like all others, and they are told together. How far they are is
+// kept beside them: how many there are, how many were done, refused (with their names and why) and dropped.
+
+const MANY_KEPT = "cutshop.many.";
+
+const manyTold = new Set();
+
+// What to do in this tab when none of many messages waits any more.
+const whenManyOver = new Map();
+
+// `parts` are pairs of a name and its command; `view` is where to go then. False where not all can be kept.
+function sendMany(what, parts, accepted, over = () => {}, view = "") {
+  if (!terminal.number) {
+    chooseTerminal();
+    return false;
+  }
+  for (const key of storage.keys(MANY_KEPT))
+    if (isOver(storage.read(key, {}))) storage.forget(key);
+  const many = newMark(), known = terminal.kept();
+  let kept = 0;
+  try {
+    storage.write(MANY_KEPT + many, {what, of: parts.length, done: 0, dropped: 0, refused: [], view});
+    whenManyOver.set(many, over);
+    for (const [name, command] of parts) {
+      keepCommand({what: name, command, many}, reply => accepted(command, reply), known);
+      kept++;
+    }
+  } catch {
+    tell(tr`${what}: ${parts.length - kept} not sent, because this browser can't keep them until they are answered`, "refused");
+    changeMany(many, told => {
+      told.of = kept;
+    });
+  }
+  sendKept();
+  return kept === parts.length;
+}
+
+function isOver({of = 0, done = 0, dropped = 0, refused = []}) { return done + dropped + refused.length >= of; }
+
+function changeMany(many, change) {
+  const told = storage.read(MANY_KEPT + many, null);
+  if (!told) return;
+  change(told);
+  try {
+    storage.write(MANY_KEPT + many, told);
+  } catch { return; }  // (then what came of them isn't told as a sum; the log has each answer)
+}
+
+// Tells what came of many messages, once none of them waits.
+function tellMany(many) {
+  const told = storage.read(MANY_KEPT + many, null);
+  if (!told || !isOver(told) || manyTold.has(many)) return;
+  manyTold.add(many);
+  const {what, of, done, dropped, refused, view} = told, parts = [tr`${done} of ${of} done`];
+  if (dropped) parts.push(tr`${dropped} dropped`);
+  for (const words of new Set(refused.map(([, why]) => why))) {
+    const names = refused.filter(([, why]) => why === words).map(([name]) => name);
+    parts.push(tr`${names.length} refused (${names.join(", ")}): ${words}`);
+  }
+  tell(`${refused.length ? tr`Refused: ` : ""}${what}: ${parts.join("; ")}`, refused.length ? "refused" : "good",
+    view && done ? {words: tr`To the saw`, go: () => { location.hash = view; }} : null);
+  whenManyOver.get(many)?.(told);
+  whenManyOver.delete(many);
+}
+
+// How far many messages are, in a row of what waits.
+function manyRow(many, messages) {
+  const told = storage.read(MANY_KEPT + many, {what: "", of: messages.length, done: 0, dropped: 0, refused: []});
+  const gone = told.of - messages.length, unsent = messages.filter(canDrop);
+  const refused = told.refused.length ? tr`, ${told.refused.length} refused` : "";
+  const words = tr`${told.what}: ${gone} of ${told.of} answered${refused}`;
+  const button = el("button", {
+    class: "small",
+    text: tr`Drop the rest`,
+    "data-key": many,
+    "aria-label": tr`Drop the rest of: ${told.what}`,
+    on: {click: () => drop(unsent)}
+  });
+  return el("div", {class: "waiting"}, el("span", {text: words}), unsent.length ? button : null,
+    el("progress", {max: told.of, value: gone, "aria-label": words}));
+}

@@ -1,0 +1,113 @@
+// ---- Orders: one checker of a line's seven texts, for the form and for files.
+
+const FIELDS = ["line", "material", "length", "width", "turn", "count", "worth"];
+
+// A field's name as people read it.
+function fieldWords(name) { return word(name === "worth" ? tr`price for the planner` : name); }
+
+// What is wrong with the seven texts of a line, by field.
+function lineFaults([line, material, length, width, turn, pieces, worth], before) {
+  const isBar = materialOf(material)?.kind === "bar", isTurn = ["yes", "no"].includes(turn);
+  const faults = {
+    line: wholeFault(line, 4294967295) || (Number(line) > before ? "" : tr`${line}: line numbers have to rise`),
+    material: materialOf(material) ? "" : tr`${quoted(material)}: no such material`,
+    length: lengthFault(length, 200000),
+    width: lengthFault(width, 60000) || (isBar && readMm(width) !== 1 ? tr`${width} mm: a bar's is 0.1 mm` : ""),
+    turn: !isTurn ? tr`${quoted(turn)}: write yes or no` : isBar && turn === "yes" ? tr`yes: a bar can't turn, write no` : "",
+    count: wholeFault(pieces, MAX_WANTED),
+    worth: worth ? wholeFault(worth, 1000000000) : ""
+  };
+  return Object.fromEntries(Object.entries(faults).filter(([, words]) => words));
+}
+
+// The line of a message that seven good texts say.
+function lineOf([line, material, length, width, turn, pieces, worth]) {
+  return {
+    count: Number(pieces),
+    h: readMm(width),
+    line: Number(line),
+    material,
+    turn: turn === "yes",
+    w: readMm(length),
+    worth: Number(worth)
+  };
+}
+
+// A line's seven texts with what may be left empty: a bar's width, and where all else is good a worth, which is the piece's
+// size in mm or mm².
+function fillLine([line, material, length, width, turn, pieces, worth], before) {
+  const isBar = kindOf(material) === "bar", high = width || (isBar ? "0.1" : "");
+  const texts = [line, material, length, high, turn, pieces, worth];
+  if (worth || Object.keys(lineFaults(texts, before)).length) return texts;
+  const w = readMm(length), h = readMm(high);
+  const size = Math.min(1000000000, Math.max(1, Math.round(isBar ? w / 10 : w * h / 100)));
+  return [...texts.slice(0, 6), String(size)];
+}
+
+function readCode(id) { return $(id).value.trim().replace(/[a-z]/g, letter => letter.toUpperCase()); }
+
+function addOrderLine() {
+  if ($("orderLines").children.length >= MAX_LINES)
+    return showFault("orderFault", tr`An order has at most ${MAX_LINES} lines.`);
+  const input = (name, words, mode) =>
+    el("label", {class: "field"}, words, el("input", {"data-field": name, inputmode: mode, autocomplete: "off"}));
+  const material = el("select", {"data-field": "material", on: {change: adaptLines}},
+    ...shop.materials.map(
+      row => el("option", {value: row.material, text: row.material, selected: row.material === shop.material})));
+  const line = el("div", {class: "orderline", role: "group"}, el("label", {class: "field"}, tr`Material`, material),
+    input("length", tr`Length mm`, "decimal"), input("width", tr`Width mm`, "decimal"),
+    el("label", {class: "field"}, tr`Turn`, el("input", {type: "checkbox", "data-field": "turn"})),
+    input("count", tr`Count`, "numeric"), input("worth", tr`Price for the planner`, "numeric"), el("button", {
+      type: "button",
+      class: "small",
+      text: "✗",
+      on: {
+        click: () => {
+          line.remove();
+          if (!$("orderLines").children.length) addOrderLine();
+          else adaptLines();
+        }
+      }
+    }));
+  $("orderLines").append(line);
+  adaptLines();
+}
+
+// A bar's line has no width and doesn't turn; lines are numbered as they stand.
+function adaptLines() {
+  [...$("orderLines").children].forEach((line, i) => {
+    const isBar = kindOf(line.querySelector("[data-field=material]").value) === "bar";
+    for (const name of ["width", "turn"]) {
+      const field = line.querySelector(`[data-field=${name}]`);
+      field.disabled = isBar;
+      if (isBar) markField(field, "");
+    }
+    line.setAttribute("aria-label", tr`Line ${i + 1}`);
+    line.querySelector("button").setAttribute("aria-label", tr`Remove line ${i + 1}`);
+  });
+}
+
+function lineTexts(line, number) {
+  const field = name => line.querySelector(`[data-field=${name}]`), text = name => field(name).value.trim();
+  const isBar = field("width").disabled, turn = !isBar && field("turn").checked ? "yes" : "no";
+  return fillLine([
+    String(number), text("material"), text("length"), isBar ? "" : text("width"), turn, text("count"), text("worth")
+  ], number - 1);
+}
+
+function sendOrder(event) {
+  event.preventDefault();
+  const order = readCode("orderCode"), lines = [...$("orderLines").children];
+  const texts = lines.map((line, i) => lineTexts(line, i + 1));
+  showFault("orderFault", lines.length ? "" : NO_MATERIAL);
+  markField($("orderCode"), codeFault(order));
+  lines.forEach((line, i) => markFields(line, lineFaults(texts[i], i)));
+  if (goToFault($("orderForm")) || !lines.length) return;
+  send({do: "order", lines: texts.map(lineOf), order}, tr`Order ${order}`, clearOrder);
+}
+
+function clearOrder() {
+  $("orderCode").value = "";
+  $("orderLines").replaceChildren();
+  addOrderLine();
+}

@@ -1,0 +1,268 @@
+// ---- Which orders there are, and how many pieces of their lines are wanted.
+
+// lines: of orders all lines, as they were told last; seen: of open orders the open lines behind which these were read; read:
+// when the open lines were read last; turn: whose lines are read anew though nothing of them is seen to have changed; folds:
+// which orders a person opened or closed; typed: of demands the numbers that were typed; found: the order that was looked for;
+// sought: what is looked for; note: what came of that; isListed: whether the list of all was read.
+const inOrders = {
+  lines: new Map(),
+  seen: new Map(),
+  read: 0,
+  turn: 0,
+  folds: new Map(),
+  typed: new Map(),
+  found: "",
+  sought: "",
+  note: "",
+  isListed: false
+};
+
+function isFinishedToo() { return $("finishedToo").checked; }
+
+async function readOrders() {
+  await readOpenOrders();
+  if (isFinishedToo()) {
+    [shop.allOrders, shop.moreAllOrders] =
+      await readPages("/orders", "orders", shop.allOrderPages, row => `/orders/${row.order}`);
+    inOrders.isListed = true;
+  }
+  const listed = isFinishedToo() ? shop.allOrders.map(row => row.order) : [];
+  const open = new Set(shop.orders.map(row => row.order)), shown = listed.filter(order => inOrders.folds.get(order));
+  for (const order of new Set([inOrders.found, ...shown]))
+    if (order && !open.has(order) && !await readIfThere(order)) inOrders.found = "";
+}
+
+// The open orders, each with all of its lines: these are read anew where an open one changed or isn't read, behind a pause, and
+// else in turn.
+async function readOpenOrders() {
+  const now = performance.now();
+  if (now - inOrders.read > 2 * PAUSE) inOrders.seen.clear();
+  const [rows, more] = await readPages("/demands/0", "demands", shop.orderPages, row => `/demands/${row.demand}`);
+  const orders = groupsOf(rows, row => row.order), turn = inOrders.turn++ % (orders.length || 1);
+  learnLines(rows);
+  for (const [i, open] of orders.entries()) {
+    const [{order}] = open, text = JSON.stringify(open), isPart = more && i === orders.length - 1;
+    if (isPart || i === turn || inOrders.seen.get(order) !== text) await readLines(order);
+    inOrders.seen.set(order, text);
+  }
+  [shop.orders, shop.moreOrders, inOrders.read] = [rows, more, now];
+}
+
+async function readLines(order, read = askCalmly) {
+  const {lines} = await read(`/order/${order}`);
+  learnLines(lines);
+  inOrders.lines.set(order, lines);
+  return lines;
+}
+
+// The lines of an order, or null where there is none of this code.
+function readIfThere(order, read = askCalmly) {
+  return readLines(order, read).catch(error => {
+    if (error.reply?.refused !== 43) throw error;
+    return null;
+  });
+}
+
+// What became of the pieces of an order, over all of its lines.
+function sumsOf(order, lines) {
+  const sum = key => lines.reduce((all, row) => all + row[key], 0);
+  return {order, lines: lines.length, wanted: sum("wanted"), reserved: sum("reserved"), made: sum("made")};
+}
+
+function stateOf({wanted, made}) { return wanted === 0 ? tr`cancelled` : made === wanted ? tr`finished` : tr`open`; }
+
+function showOrders() {
+  notePromised();
+  if (!$("orderLines").children.length && shop.materials.length) addOrderLine();
+  const rows = ordersToShow(), {found, note, lines} = inOrders, going = [...shop.amending];
+  const more = isFinishedToo() ? shop.moreAllOrders : shop.moreOrders;
+  const shown = rows.map(([row, isOpen]) => [row, isOpen, isOpen && lines.get(row.order)]);
+  fill($("orderList"), [shown, more, isFinishedToo(), shop.materials, going, inOrders.read > 0, inOrders.isListed],
+    () => orderRows(rows, more));
+  fill($("foundOrder"), [found, note, lines.get(found), shop.materials, going], foundRows);
+}
+
+// The orders of the list, and whether each is unfolded: few are at first.
+function ordersToShow() {
+  const open = [...new Set(shop.orders.map(row => row.order))].filter(order => inOrders.lines.has(order));
+  const rows = isFinishedToo() ? shop.allOrders : open.map(order => sumsOf(order, inOrders.lines.get(order)));
+  const isFew = !isFinishedToo() && rows.reduce((all, row) => all + row.lines, 0) <= MOST_OPEN;
+  return rows.map(row => [row, inOrders.folds.get(row.order) ?? isFew]);
+}
+
+function orderRows(rows, more) {
+  const isRead = isFinishedToo() ? inOrders.isListed : inOrders.read;
+  if (!rows.length) return [quiet(!isRead ? "…" : isFinishedToo() ? tr`There is no order.` : tr`No order is open.`)];
+  return [
+    quiet(tr`How many pieces of a line are wanted can be changed to more or fewer, down to what is made and reserved.`),
+    ...rows.map(([row, isOpen]) => orderCard(row, isOpen, orderFold(row.order, isOpen), "")),
+    moreButton(more, isFinishedToo() ? "allOrderPages" : "orderPages")
+  ];
+}
+
+function foundRows() {
+  const {found, note, lines} = inOrders;
+  if (!found) return note ? [el("p", {class: note === "…" ? "quiet" : "fault", text: note})] : [];
+  return [orderCard(sumsOf(found, lines.get(found)), true, el("span", {text: tr`Order ${found}`}), "f")];
+}
+
+function orderFold(order, isOpen) {
+  return el("button", {
+    class: "unfold",
+    text: order,
+    "data-key": `u${order}`,
+    "aria-expanded": String(isOpen),
+    on: {click: () => unfold(order, !isOpen)}
+  });
+}
+
+async function unfold(order, isOpen) {
+  inOrders.folds.set(order, isOpen);
+  showOrders();
+  if (!isOpen) return;
+  await readLines(order, ask).catch(() => {});
+  showOrders();
+}
+
+// An order: its state, its sums, and where it is unfolded its lines.
+function orderCard(row, isOpen, title, key) {
+  const {order} = row, lines = isOpen && inOrders.lines.get(order), sums = lines ? sumsOf(order, lines) : row;
+  const shown = lines ? lines.map(line => lineForm(line, key)) : isOpen ? [quiet("…")] : [], go = () => cancelOrder(order);
+  return el("div", {class: "ordered"},
+    el("h3", {}, title, el("span", {class: "quiet", text: stateOf(sums)}),
+      leftOf(sums) ? cancelButton(`${key}o${order}`, tr`Cancel order`, tr`Cancel order ${order}`, go) : null),
+    drawProgress(sums), quiet(progressWords(sums)), ...shown);
+}
+
+function cancelButton(key, text, words, go) {
+  return el("button", {
+    type: "button",
+    class: "small",
+    text,
+    "data-key": `c${key}`,
+    "aria-label": words,
+    on: {click: go}
+  });
+}
+
+// A line: how many of its pieces are wanted can be changed, and what is left of it cancelled.
+function lineForm(row, key) {
+  const {demand, line, order} = row, going = shop.amending.get(demand), size = sizeText(kindOf(row.material), row.w, row.h);
+  const field = el("input", {
+    inputmode: "numeric",
+    autocomplete: "off",
+    "data-key": `${key}w${demand}`,
+    "data-field": "wanted",
+    "aria-label": tr`How many are wanted of line ${line} of order ${order}`,
+    value: inOrders.typed.get(demand) ?? String(going ?? row.wanted),
+    on: {input: () => inOrders.typed.set(demand, field.value)}
+  });
+  const change = el("button", {
+    class: "small",
+    text: tr`Change`,
+    "data-key": `${key}a${demand}`,
+    "aria-label": tr`Change line ${line} of order ${order}`
+  });
+  const state = going !== undefined ? tr`waits for its answer` : row.wanted ? progressWords(row) : tr`cancelled`;
+  const go = () => cancelLine(row), submit = event => {
+    event.preventDefault();
+    changeLine(row, field);
+  };
+  return el("form", {class: "stocked", novalidate: "", on: {submit}},
+    el("div", {}, el("b", {text: `${tr`line ${line}`}: ${row.material} ${size}`}), el("div", {class: "quiet", text: state})),
+    el("div", {class: "buttons"}, el("label", {class: "quiet"}, tr`wanted `, field), change,
+      leftOf(row) ? cancelButton(`${key}l${demand}`, tr`Cancel`, tr`Cancel line ${line} of order ${order}`, go) : null));
+}
+
+// What is wrong with a number that is typed for a demand, or nothing.
+function wantedFault(text, row) {
+  const least = row.reserved + row.made, number = readWhole(text, 0, MAX_NUMBER);
+  if (number === null) return tr`${quoted(text)}: write a whole number from ${grouped(least)} to ${grouped(MAX_WANTED)}`;
+  if (number < least) return `${grouped(number)}: ${leastWords(row)}`;
+  return number > MAX_WANTED ? `${grouped(number)}: ${mostWords()}` : "";
+}
+
+function leastWords({made, reserved}) {
+  return tr`${grouped(made)} made, ${grouped(reserved)} reserved: ${grouped(made + reserved)} is the least`;
+}
+
+function mostWords() { return tr`${grouped(MAX_WANTED)} is the most`; }
+
+// Why the shop refused an amend, as the demand is now.
+async function amendFault({demand}, {refused}) {
+  if (refused === 41) return mostWords();
+  const row = refused === 63 ? await readDemand(demand).catch(() => null) : null;
+  return row ? leastWords(row) : "";
+}
+
+function changeLine(row, field) {
+  const {demand, line, order} = row, text = field.value.trim(), fault = wantedFault(text, row), wanted = Number(text);
+  markField(field, fault);
+  if (fault) return field.focus();
+  const what = tr`Order ${order}, line ${line}: ${grouped(wanted)} wanted in place of ${grouped(row.wanted)}`;
+  if (wanted === row.wanted || send({demand, do: "amend", wanted}, what, noteAmended)) inOrders.typed.delete(demand);
+  showOrders();
+}
+
+function cancelLine(row) { return cancel(tr`Cancel line ${row.line} of order ${row.order}`, [row]); }
+
+async function cancelOrder(order) {
+  const what = tr`Cancel order ${order}`;
+  try {
+    await cancel(what, await readLines(order, ask));
+  } catch (error) { tell(`${what}: ${await faultWords(error)}`, "refused"); }
+}
+
+// Cancels what is neither made nor reserved of lines of an order, after one question.
+async function cancel(what, rows) {
+  const {made, reserved} = sumsOf("", rows), left = rows.filter(row => leftOf(row) > 0);
+  if (!left.length) return tell(tr`${what}: nothing of it is left`, "refused");
+  const words = [tr`${what}? ${count(left.reduce((all, row) => all + leftOf(row), 0), "piece")} fewer are wanted then.`];
+  if (made + reserved) words.push(tr`${grouped(made)} made and ${grouped(reserved)} reserved stay wanted.`);
+  if (reserved) words.push(tr`To cancel what is reserved too, release its jobs first.`);
+  if (!await confirmed(words.join(" "), what)) return;
+  const commands = left.map(({demand, line, made: done, reserved: kept}) =>
+    [tr`line ${line}`, {demand, do: "amend", wanted: done + kept}]);
+  for (const {demand} of left) inOrders.typed.delete(demand);
+  if (commands.length === 1) send(commands[0][1], what, noteAmended);
+  else sendMany(what, commands, (_, reply) => noteAmended(reply));
+  showOrders();
+}
+
+// Enters what was amended into the lines that are known, which are read anew all the same.
+function noteAmended({demand, wanted}) {
+  for (const [order, lines] of inOrders.lines)
+    inOrders.lines.set(order, lines.map(row => row.demand === demand ? {...row, wanted} : row));
+  inOrders.seen.clear();
+  showView();
+}
+
+function findOrder(event) {
+  event.preventDefault();
+  const text = readCode("findOrder");
+  markField($("findOrder"), text ? "" : tr`is empty: write its code or the number of its pieces wanted`);
+  if (!goToFault($("findForm"))) showOrder(text);
+}
+
+// Shows an order by its code or the number of its pieces wanted, unless another is looked for meanwhile.
+async function showOrder(text) {
+  const told = {found: "", note: ""};
+  Object.assign(inOrders, {sought: text, found: "", note: "…"});
+  showOrders();
+  try {
+    told.found = await orderOf(text);
+  } catch (error) { told.note = await faultWords(error); }
+  if (inOrders.sought !== text) return;
+  Object.assign(inOrders, told);
+  showOrders();
+  if (!told.found && !told.note) markField($("findOrder"), tr`“${text}” is no order's code and no number of pieces wanted`);
+  if (!goToFault($("findForm")) && window.innerWidth <= 1000) $("findForm").scrollIntoView({block: "center"});
+}
+
+// The code of the order that has this code, or of which the pieces of this number are; or nothing.
+async function orderOf(text) {
+  if (!codeFault(text) && await readIfThere(text, ask)) return text;
+  const number = readWhole(text, 1, 2147483647), row = number && await readDemand(number);
+  if (row) await readLines(row.order, ask);
+  return row ? row.order : "";
+}

@@ -1,0 +1,60 @@
+// ---- Refusals in words.
+
+const REFUSALS = {
+  10: tr`the shop can't read this message`,
+  11:
+    tr`this number was used for another message: is another device the same terminal? Choose another number for one of them`,
+  20: tr`there is no such material`,
+  21: tr`the material is known with other values`,
+  22: tr`a material of this kind can't have these limits`,
+  30: tr`this material can't have these sides: nothing is over 20000.0 × 6000.0 mm`,
+  31: tr`1 to 100 units are received at a time`,
+  32: tr`that is more of the material than the books can count`,
+  33: tr`the shop's numbers are spent`,
+  40: tr`an order with this code is there already`,
+  41: tr`a line can't be ordered so: line numbers have to rise, sides have to be the material's, a bar can't turn`,
+  42: tr`there are no such pieces wanted`,
+  43: tr`there is no order with this code`,
+  50: tr`there is no such part`,
+  51: tr`the part doesn't stand any more: it is reserved, cut, scrap or returned`,
+  52: tr`only a whole unit, as it was received, can be returned`,
+  60: tr`the plan isn't one of this part, or has no piece`,
+  61: tr`the plan has a piece of another material`,
+  62: tr`a piece of the plan hasn't the size that is wanted`,
+  63: tr`the plan has more pieces than are left of some that are wanted`,
+  70: tr`there is no such job`,
+  71: tr`the job is over already`,
+  72: tr`work can't have halted so: each cut needs all cuts above it`,
+  80: tr`the file's text isn't of its form`,
+  90: tr`none of the pieces fits the part`,
+  91:
+    tr`the plan is too large: at most 500 steps a side, 255 cuts, and bars of 15000.0 mm. Try a larger grid, fewer kinds of pieces, or a smaller part`,
+  92: tr`the grid is 0, or larger than a side of a piece with the kerf`,
+  93: tr`there is nothing to plan: choose kinds of pieces of which some are left, at most 40 for a grid and 100 for all`,
+  98: tr`the shop is out of memory`,
+  99: tr`the shop's store failed`,
+};
+
+// What a refusal says, with its number; of 63 also which demand it is or what is the least, of 61 and 62 nothing that isn't
+// told.
+async function refusalWords(reply, command = {}) {
+  if (reply.refused === 403)
+    return tr`the shop takes this from its own page alone: open it at 127.0.0.1 or localhost (status 403)`;
+  if (!reply.name) return tr`the shop didn't take it (status ${reply.refused})`;
+  let words = REFUSALS[reply.refused] || tr`the shop refused it`;
+  if (command.do === "amend") words = await amendFault(command, reply) || words;
+  else if (reply.refused === 63) words = await overdrawnWords(countPieces(command.tree)) || words;
+  return `${words} (${reply.refused} ${reply.name})`;
+}
+
+async function overdrawnWords(counts) {
+  for (const [demand, pieces] of counts) {
+    const row = await ask(`/demand/${demand}`).catch(() => null);
+    if (row && pieces > leftOf(row)) return onlyLeftWords(row);
+  }
+  return "";
+}
+
+function onlyLeftWords(row) {
+  return tr`only ${leftOf(row)} of pieces no. ${row.demand} ${leftOf(row) === 1 ? "is" : "are"} left`;
+}

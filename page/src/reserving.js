@@ -1,0 +1,46 @@
+// ---- What was planned is reserved: by a message for each part, all by one press.
+
+// From then on it is passed over, and the focus goes to the next step.
+function reserve() {
+  const {part, found} = toCut, plans = shownPlans(), [{tree}] = plans;
+  if (part) {
+    if (!sendReserve(part, tree)) return;
+    forgetPlans();
+    showToCut();
+    focusNextStep();
+    return say(tr`Reserve ${part}: sent`);
+  }
+  const parts = plans.flatMap(plan => plan.parts.map(name => [name, plan.tree]));
+  toCut.planning?.abort();
+  if (!(parts.length === 1 ? sendReserve(...parts[0], found) : sendReserves(parts, found))) return;
+  Object.assign(toCut, {planning: null, note: "", fault: ""});
+  found.sent = new Set(parts.map(([name]) => name));
+  showToCut();
+  focusNextStep();
+  say(tr`Reserve all: ${count(parts.length, "message")} sent`);
+}
+
+function sendReserve(part, tree, found = null) {
+  return send({do: "reserve", part, tree}, tr`Reserve ${part}`, ({job}) => reserved(part, tree, job, found));
+}
+
+function sendReserves(parts, found) {
+  const commands = parts.map(([part, tree]) => [tr`Reserve ${part}`, {do: "reserve", part, tree}]);
+  return sendMany(tr`Reserve all of ${found.material.material}`, commands,
+    ({part, tree}, {job}) => reserved(part, tree, job, found), told => reservesOver(told, found), "saw");
+}
+
+function reserved(part, tree, job, found) {
+  found?.jobs.set(part, job);
+  noteReserved(part, tree, job);
+  showView();
+}
+
+// Some that were refused are told, and what is left is planned anew by one press.
+function reservesOver({refused}, found) {
+  found.refused = refused.map(([part]) => part);
+  if (toCut.found !== found || !refused.length) return showView();
+  toCut.note = tr`Not reserved: ${namesOf(found.refused.map(part => ({part})))}. The others are.`;
+  showView();
+  readLists();
+}

@@ -1,0 +1,486 @@
+// ---- At the saw.
+
+// told: the job that is shown, with its plan; opening: the number that was asked for last; plans: of waiting jobs that may be
+// equal, each job's plan.
+const atSaw = {
+  plans: new Map(),
+  job: 0,
+  told: null,
+  opening: 0,
+  breaking: false,
+  lost: null,
+  canvas: null
+};
+
+// The halts of broken jobs: what this visit sent, and what traces told.
+const halts = new Map();
+
+// A job with all that its plan hangs on: a store that was restored, or another one, has another job under the same number.
+function keyOf({job, material, part, w, h, kerf, tree}) { return [job, material, part, w, h, kerf, tree].join(" "); }
+
+// The cuts that were made, kept in this browser while their job waits.
+const ticks = {
+  of(job) { return new Set(this.kept(job)?.made || []); },
+  kept(job) { return storage.read("cutshop.ticks", {})[job]; },
+  set(told, made) {
+    this.write(all => {
+      all[told.job] = {key: keyOf(told), made: [...made]};
+    });
+  },
+  forget(job) {
+    this.write(all => {
+      delete all[job];
+    });
+  },
+  // Those of another plan, or of a job that is over, are dropped.
+  keepTo(told) {
+    const kept = this.kept(told.job);
+    if (kept && (kept.key !== keyOf(told) || told.state !== "waiting")) this.forget(told.job);
+  },
+  write(change) {
+    const all = storage.read("cutshop.ticks", {});
+    change(all);
+    try {
+      storage.write("cutshop.ticks", all);
+    } catch { tell(tr`This browser can't keep ticks.`, "refused"); }
+  },
+};
+
+function waitingJobs() {
+  const code = $("jobMaterial").value;
+  return shop.jobs.filter(row => !code || row.material === code);
+}
+
+// Reads the plans of waiting jobs whose material, sides and cuts are those of another.
+async function readPlans() {
+  const alike = groupsOf(shop.jobs, row => [row.material, row.w, row.h, row.cuts].join(" ")).filter(rows => rows.length > 1);
+  const plans = new Map();
+  for (const {job} of alike.flat()) plans.set(job, (await askCalmly(`/job/${job}`)).tree);
+  atSaw.plans = plans;
+}
+
+// Waiting jobs of one plan: the same material, sides and cuts for the same demands.
+function kindOfPlan(row, tree = atSaw.plans.get(row.job)) {
+  return tree ? [row.material, row.w, row.h, tree].join(" ") : tr`job ${row.job}`;
+}
+
+function showSaw() {
+  const kinds = groupsOf(waitingJobs(), row => kindOfPlan(row));
+  fill($("jobList"), [kinds, atSaw.job, shop.moreJobs, shop.materials],
+    () => [...kinds.flatMap(rows => rows.map((row, i) => jobRow(row, i ? 0 : rows.length))),
+      ...(kinds.length ? [] : [quiet(tr`No job waits.`), opener("tocut", tr`Plan one`)]), moreButton(shop.moreJobs, "jobPages")]);
+  $("printWaiting").disabled = !kinds.length;
+  showJob();
+}
+
+// A waiting job; the first of several with the same plan says how many there are.
+function jobRow(row, same) {
+  const isShown = row.job === atSaw.job;
+  return el("button", {
+    class: `row${isShown ? " chosen" : ""}`,
+    "data-key": `j${row.job}`,
+    "aria-pressed": String(isShown),
+    on: {click: () => openJob(row.job)}
+  },
+    el("div", {}, same > 1 ? el("div", {class: "same", text: tr`${same} × the same`}) : null, el("b", {text: tr`Job ${row.job}`}),
+      el("span", {class: "tag", text: count(row.cuts, "cut")}),
+      el("div", {text: row.material}),
+      el("div", {class: "quiet", text: `${row.part}, ${sizeText(kindOf(row.material), row.w, row.h)}`})));
+}
+
+// Opens a job that somebody chose. What is shown stays where there is no such job, or no answer.
+async function openJob(job) {
+  atSaw.opening = job;
+  if (location.hash !== "#saw") location.hash = "saw";
+  let told = null, fault = "";
+  try {
+    told = await readJob(job, ask);
+  } catch (error) { fault = isRefused(error, 70) ? noJobWords(job) : tr`Job ${job}: ${await faultWords(error)}.`; }
+  if (atSaw.opening !== job) return;
+  showFault("jobFault", fault);
+  if (!told) return;
+  takeJob(told);
+  showSaw();
+  faceJob();
+  refreshNow();
+}
+
+function isRefused(error, number) { return error instanceof Refused && error.reply.refused === number; }
+
+function noJobWords(job) { return tr`There is no job ${job}.`; }
+
+// Brings the ticket's head in sight, and its row in a list that lies across.
+function faceJob() {
+  const {top} = $("jobTitle").getBoundingClientRect(), list = $("jobList"), row = list.querySelector(".chosen");
+  if (row) list.scrollLeft += row.getBoundingClientRect().left - list.getBoundingClientRect().left - 40;
+  $("jobTitle").focus({preventScroll: true});
+  if (top < $("top").offsetHeight || top > window.innerHeight / 2) $("jobTitle").scrollIntoView();
+}
+
+// Reads the job that is shown, or where none is the first that waits; of a broken one then how the work halted.
+async function readShown() {
+  const shown = atSaw.job, job = shown || waitingJobs()[0]?.job;
+  if (!job) return;
+  try {
+    const told = await readJob(job);
+    if (atSaw.job === shown) takeJob(told);
+  } catch (error) {
+    if (!isRefused(error, 70) || atSaw.job !== shown) throw error;
+    Object.assign(atSaw, {job: 0, told: null});
+    showFault("jobFault", noJobWords(job));
+  }
+  if (atSaw.told?.state !== "broken" || halts.has(keyOf(atSaw.told))) return;
+  showView();
+  await traceCuts(atSaw.told);
+}
+
+// A job with its plan, and whose its pieces are.
+async function readJob(job, by = askCalmly) {
+  const told = await by(`/job/${job}`);
+  for (const demand of countPieces(told.tree).keys())
+    if (!shop.lines.has(demand)) learnLines([await by(`/demand/${demand}`)]);
+  Object.assign(told, {kind: kindOf(told.material), root: readPlan(told.tree, told.w, told.h, told.kerf)});
+  shop.kindOfJob.set(job, told.kind);
+  if (told.state !== "broken") halts.delete(keyOf(told));
+  return told;
+}
+
+// Reads a halt, as long as its job is shown: a cut that was made left its strip, or nothing where the saw takes nothing; of
+// another its rectangle is one part.
+async function traceCuts(told) {
+  const halt = {made: new Set(), lost: null, scrapped: new Set()};
+  for (const cut of cutsOf(told.root)) {
+    if (cut.above.some(above => !halt.made.has(above))) continue;
+    if (atSaw.job !== told.job) return;
+    const part = await askCalmly(`/trace/${told.job}/${cut.node}`).catch(error => {
+      if (!isRefused(error, 50)) throw error;
+    });
+    if (!part || part.state === "kerf") halt.made.add(cut.cut);
+    else if (part.state === "scrap") halt.scrapped.add(cut.cut);
+  }
+  halts.set(keyOf(told), halt);
+}
+
+function takeJob(told) {
+  const isSame = atSaw.told && keyOf(atSaw.told) === keyOf(told) && told.state === "waiting";
+  Object.assign(atSaw, {job: told.job, told}, isSame ? {} : {breaking: false, lost: null});
+  ticks.keepTo(told);
+}
+
+function limitsOf(told) {
+  return materialOf(told.material) || {kind: told.kind, kerf: told.kerf, min_long: 1, min_short: 1};
+}
+
+// The message that ends a job, while it has no answer.
+function endSent(job) { return terminal.kept().map(entry => entry.command).find(command => command.job === job); }
+
+// The halt that is marked, or to which a job that isn't done was sent or came; none where no trace was read yet.
+function shownHalt(told, sent, state) {
+  if (atSaw.breaking) return {made: ticks.of(told.job), lost: atSaw.lost};
+  if (state === "released") return {made: new Set(), lost: null};
+  if (state === "broken") return sent ? haltOf(sent) : halts.get(keyOf(told));
+  return null;
+}
+
+// What is known of a job: the state to which it came or was sent, its halt, the cuts that were made, what they left, and
+// whether the plan alone is known, as nothing was cut or no trace was read yet.
+function workOf(told) {
+  const sent = endSent(told.job), state = sent ? ENDS[sent.do] : told.state, isWaiting = state === "waiting";
+  const halt = shownHalt(told, sent, state), isPlan = state === "released" || (state === "broken" && !halt);
+  const all = state === "done" ? cutsOf(told.root).map(cut => cut.cut) : [];
+  const made = halt ? halt.made : isWaiting ? ticks.of(told.job) : new Set(all);
+  const boxes = isPlan ? [] : layPlan(told.root, limitsOf(told), halt);
+  const left = new Map(boxes.filter(box => box.fate !== "kerf").map(box => [box.node, box]));
+  return {told, sent, state, isWaiting, isPlan, halt, made, boxes, left};
+}
+
+function showJob() {
+  const told = atSaw.told;
+  $("jobPanel").hidden = !told;
+  if (!told) return;
+  const work = workOf(told), {isWaiting, halt, made} = work;
+  const shown = [
+    keyOf(told), work.state, work.sent, atSaw.breaking, [...made], halt && [halt.lost, [...halt.scrapped || []]],
+    $("jobPicture").clientWidth, limitsOf(told)
+  ];
+  $("jobTitle").textContent = tr`Job ${told.job}${isWaiting ? "" : `, ${stateWords(work)}`}: ${told.material}, part ${told.part}`;
+  $("jobWords").textContent = jobWords(work);
+  $("jobButtons").hidden = atSaw.breaking;
+  for (const id of ["done", "release"]) $(id).hidden = !isWaiting;
+  $("startBreak").hidden = !isWaiting || !told.root.cuts;
+  $("nextJob").hidden = !jobBehind();
+  $("breakPanel").hidden = !atSaw.breaking;
+  $("tickWords").textContent =
+    atSaw.breaking || !isWaiting ? "" : tr`Click a cut to tick it off. Ticks stay in this browser.`;
+  fill($("jobFigures"), shown, () => jobFigures(work));
+  fill($("jobPieces"), shown, () => jobPieces(work));
+  fill($("cutList"), shown, () => cutsOf(told.root).map(cut => el("li", {}, cutRow(cut, work))));
+  fill($("jobSheet"), shown, () => jobSheet(work));
+  fill($("jobPicture"), shown, () => []);
+  if (!$("jobPicture").firstChild) drawJob(work);
+  if (atSaw.breaking) showBreakWords(made);
+}
+
+function drawJob({told, made, halt, isWaiting, isPlan}) {
+  const restName = box => `${told.job}/${box.node}`;
+  atSaw.canvas = drawPlan($("jobPicture"), told.root, limitsOf(told), {
+    wordsOf: box => pieceWords(box, shop.lines.get(box.demand)),
+    restName,
+    made,
+    halt,
+    planned: isPlan,
+    onCut: isWaiting ? clickCut : null
+  });
+}
+
+// Shows in the picture what a cut divides.
+function pointOut(cut) {
+  if (!atSaw.canvas) return;
+  const {shown} = atSaw.canvas;
+  if (!cut) return shown.setAttribute("visibility", "hidden");
+  for (const [key, value] of Object.entries({...place(atSaw.canvas, cut), visibility: "visible"}))
+    shown.setAttribute(key, value);
+}
+
+const STATES = {
+  waiting: tr`waits`,
+  done: tr`done`,
+  broken: tr`broken off`,
+  released: tr`released`
+};
+
+// The state to which a message brings its job.
+const ENDS = {
+  done: "done",
+  break: "broken",
+  release: "released"
+};
+
+function stateWords({state, sent}) { return `${STATES[state]}${sent ? tr`, unanswered` : ""}`; }
+
+function jobWords({told, sent, state, isPlan}) {
+  if (sent) return tr`The message waits for its answer.`;
+  if (state === "released") return tr`The job was released: nothing was cut, and part ${told.part} was given back as it was.`;
+  if (isPlan) return tr`The work was broken off. What was cut is being asked for; until then this is what was planned.`;
+  return state === "broken" ? tr`The work was broken off: this is what was cut, and what was left.` : "";
+}
+
+function jobFigures(work) {
+  const {told, isPlan, halt, made, boxes} = work, {cuts} = told.root;
+  const pieces = boxes.filter(box => box.fate === "piece").length;
+  return [
+    figure(sizeText(told.kind, told.w, told.h), tr`part to cut`), figure(`${mm(told.kerf)} mm`, tr`kerf`),
+    halt ? figure(tr`${made.size} of ${cuts}`, tr`cuts made`) : figure(cuts, word(cuts === 1 ? "cut" : "cuts")),
+    isPlan ? null : figure(pieces, word(pieces === 1 ? "piece" : "pieces")), figure(stateWords(work), tr`state`)
+  ];
+}
+
+// Whose the pieces are, and which rests are kept under which name.
+function jobPieces({told, boxes}) {
+  return piecesTable(told.kind, boxes, box => tr`kept: label it ${namesIn(told, box)}`);
+}
+
+function piecesTable(kind, boxes, restWords) {
+  const right = text => el("td", {class: "right", text}), pieces = boxes.filter(box => box.fate === "piece");
+  const rows = [...new Set(pieces.map(box => box.demand))].map(demand => {
+    const {order, line} = shop.lines.get(demand) || {}, same = pieces.filter(box => box.demand === demand), [one] = same;
+    return el("tr", {}, right(`${same.length} ×`), right(pieceSize(kind, one)),
+      el("td", {text: tr`order ${order}, line ${line} (no. ${demand})`}));
+  });
+  const kept = boxes.filter(box => box.fate === "kept").map(box => el("tr", {}, right(tr`rest`),
+                      right(sizeText(kind, box.w, box.h)), el("td", {text: restWords(box)})));
+  return [el("table", {}, el("tbody", {}, ...rows, ...kept))];
+}
+
+function cutWords(cut, told) {
+  const across = told.kind === "bar" ? tr`Saw` : cut.axis === "x" ? tr`Saw across` : tr`Saw along`;
+  const from = told.kind === "bar" ? "" : cut.axis === "x" ? tr` from the left` : tr` from the top`;
+  return [tr`${across} at ${mm(cut.at)} mm`, tr`${from} of ${sizeText(told.kind, cut.w, cut.h)}`];
+}
+
+function cutState({cut}, {halt, made}) {
+  if (halt?.lost === cut) return ["lost", tr`✗ went wrong: `];
+  if (made.has(cut)) return ["made", tr`✓ made: `];
+  if (halt?.scrapped?.has(cut)) return ["", tr`not made, or went wrong: `];
+  return ["", halt ? tr`not made: ` : ""];
+}
+
+function cutRow(cut, work) {
+  const [state, came] = cutState(cut, work), [at, of] = cutWords(cut, work.told);
+  const words = el("div", {}, came ? el("span", {class: "state", text: came}) : null,
+    el("b", {class: "number", text: at}), of, el("div", {class: "quiet", text: cutGives(cut, work)}));
+  const given = {
+    class: `cut ${state}`,
+    on: {
+      mouseenter: () => pointOut(cut),
+      mouseleave: () => pointOut(null),
+      focus: () => pointOut(cut),
+      blur: () => pointOut(null)
+    }
+  };
+  const mark = el("span", {class: "mark", text: String(cut.cut + 1)});
+  if (!work.isWaiting) return el("div", given, mark, words);
+  given.on.click = () => clickCut(cut.cut);
+  return el("button", {...given, "data-key": `c${cut.cut}`, "aria-pressed": String(state !== "")}, mark, words);
+}
+
+// The rectangles that lie beside a cut and aren't cut again.
+function besideCut(cut, left) { return [cut.first, cut.second].map(node => node && left.get(node.node)).filter(Boolean); }
+
+// What falls off at a cut: pieces and rests, or nothing that is named yet; of one that isn't made what it was to give.
+function cutGives(cut, {told, isPlan, halt, made, left}) {
+  const isMade = !isPlan && (!halt || made.has(cut.cut));
+  const ends = [cut.first, cut.second].filter(node => node && node.kind !== "cut");
+  const given = (isMade ? besideCut(cut, left) : ends).map(box => partWords(box, told));
+  const trims = !cut.second && cut.first.kind === "cut";
+  return [
+    given.length ? `${isMade ? tr`gives` : tr`was to give`} ${given.join("; ")}` : "",
+    trims ? tr`${isMade ? tr`trims` : tr`was to trim`} ${mm(cut.side - cut.at)} mm off` : ""
+  ].filter(Boolean).join("; ");
+}
+
+// A piece, a rest with what becomes of it, or a rest of a plan, which has no fate.
+function partWords(box, told) {
+  const size = sizeText(told.kind, box.w, box.h);
+  if (box.kind !== "piece") {
+    const name = box.kind === "rest" ? tr`rest ` : box.uncut ? tr`uncut ` : "";
+    const fate = box.fate === "kept" ? tr`, kept as ${told.job}/${box.node}` : box.fate ? `, ${word(box.fate)}` : "";
+    return `${name}${size}${fate}`;
+  }
+  const {order, line} = shop.lines.get(box.demand) || {};
+  return tr`piece ${size} of ${order} line ${line} (no. ${box.demand})${box.turned ? tr` turned` : ""}`;
+}
+
+// The ticket on paper: a line a cut, in smaller print where there are many, so that it stays on one sheet with the picture.
+function linesClass({cuts}) { return cuts > 90 ? "many most" : cuts > 24 ? "many" : ""; }
+
+function jobSheet(work) {
+  $("jobSheet").className = `printonly cutlines ${linesClass(work.told.root)}`;
+  $("jobPanel").classList.toggle("most", work.told.root.cuts > 90);
+  return cutLines(work);
+}
+
+function cutLines({told, halt, made, isWaiting, left}) {
+  return cutsOf(told.root).map(cut => {
+    const across = told.kind === "bar" ? "" : cut.axis === "x" ? tr`across ` : tr`along `;
+    const gives = besideCut(cut, left).map(box => sheetWords(box, told));
+    const mark = isWaiting ? "☐" : made.has(cut.cut) ? "✓" : halt?.lost === cut.cut ? "✗" : halt ? "–" : "☐";
+    return el("p", {}, `${mark} ${cut.cut + 1} `, el("b", {text: `${across}${mm(cut.at)} mm`}),
+      tr` of ${sizeText(told.kind, cut.w, cut.h)}${gives.length ? ` → ${gives.join(", ")}` : ""}`);
+  });
+}
+
+function sheetWords(box, told) {
+  if (box.kind !== "piece") return box.fate === "kept" ? tr`keep ${namesIn(told, box)}` : word(box.fate);
+  const {order, line} = shop.lines.get(box.demand) || {};
+  return `${order}/${line}${box.turned ? " ↻" : ""}`;
+}
+
+// A click ticks a cut with all above it, or takes it back with all below it; or marks the one that went wrong.
+function clickCut(number) {
+  const {told} = atSaw, made = ticks.of(told.job), cuts = cutsOf(told.root), cut = cuts[number];
+  const takeBack = from => {
+    for (const other of cuts)
+      if (other.cut === from || other.above.includes(from)) made.delete(other.cut);
+  };
+  const isWrong = atSaw.breaking && document.querySelector("[name=breakMode]:checked").value === "lost";
+  if (isWrong) atSaw.lost = atSaw.lost === number ? null : number;
+  if (isWrong || made.has(number)) takeBack(number);
+  else made.add(number);
+  if (made.has(number) || isWrong)
+    for (const above of cut.above) made.add(above);
+  if (atSaw.lost !== null && (made.has(atSaw.lost) || cuts[atSaw.lost].above.some(above => !made.has(above))))
+    atSaw.lost = null;
+  ticks.set(told, made);
+  showJob();
+  say(tr`${made.size} of ${count(cuts.length, "cut")} ticked`);
+}
+
+function showBreakWords(made) {
+  const words = breakWords(made);
+  if ($("breakWords").textContent !== words) $("breakWords").textContent = words;
+  $("sendBreak").disabled = !canBreak(made);
+}
+
+// Whether something was begun, and not all made.
+function canBreak(made) { return (made.size > 0 || atSaw.lost !== null) && made.size < atSaw.told.root.cuts; }
+
+function breakWords(made) {
+  const {told, lost} = atSaw, {root, kind} = told;
+  if (made.size === root.cuts) return tr`All cuts are marked as made: the job is done, not broken.`;
+  if (!canBreak(made)) return tr`No cut is marked yet. If none was begun, release the job instead.`;
+  const cells = cellsByFate(layPlan(root, limitsOf(told), {made, lost}));
+  const wrong = lost === null ? tr`none went wrong` : tr`cut ${lost + 1} went wrong`;
+  const left = leftWords(kind, cells.piece, cells.kept, cells.kerf, cells.scrap + cells.lost);
+  return tr`${made.size} of ${count(root.cuts, "cut")} made, ${wrong}. Then: ${left}.`;
+}
+
+// Opens or closes the panel of a break.
+function setBreaking(isOn) {
+  Object.assign(atSaw, {breaking: isOn, lost: null});
+  document.querySelector("[name=breakMode][value=made]").checked = true;
+  showJob();
+}
+
+async function finish() {
+  const {told} = atSaw, made = ticks.of(told.job).size, all = told.root.cuts;
+  const words = made && made < all
+    ? tr`Only ${made} of ${count(all, "cut")} are ticked. Were all made? A job that is done stays done.`
+    : tr`Job ${told.job}: ${all === 1 ? tr`the cut was` : tr`all ${all} cuts were`} made? A job that is done stays done.`;
+  if (await confirmed(words, tr`Done`, made && made < all ? "no" : "yes"))
+    endJob(told, {do: "done", job: told.job}, tr`Job ${told.job} done`);
+}
+
+function sendBreak() {
+  const {told, lost} = atSaw, made = [...ticks.of(told.job)].sort((a, b) => a - b);
+  endJob(told, {cuts: made, do: "break", job: told.job, lost: lost === null ? false : lost}, tr`Break off job ${told.job}`);
+}
+
+async function release() {
+  const {told} = atSaw;
+  if (await confirmed(releaseWords(told), tr`Release`))
+    endJob(told, {do: "release", job: told.job}, tr`Release job ${told.job}`);
+}
+
+function releaseWords({job, part, root}) {
+  const made = ticks.of(job).size;
+  if (!made) return tr`Release job ${job}, of which no cut was made? Its part ${part} stands again, as it was.`;
+  const marked = tr`${made} of ${count(root.cuts, "cut")} ${made === 1 ? "is" : "are"} marked as made`;
+  const other = made === root.cuts ? tr`Done` : tr`Broken off…`;
+  return tr`${marked}, and “${other}” is for that. Release job ${job} all the same, as if part ${part} was never cut?`;
+}
+
+// Sends what ends a job. From then on nothing on the ticket ends it a second time, unless the shop refuses.
+function endJob(told, command, what) {
+  send(command, what, () => {
+    if (command.do === "break") halts.set(keyOf(told), haltOf(command));
+    ticks.forget(told.job);
+    toldJobs.delete(`/job/${told.job}`);
+    if (told.job !== atSaw.job) return;
+    atSaw.told = {...atSaw.told, state: ENDS[command.do]};
+    setBreaking(false);
+    if (command.do === "done") openSame(told);
+  });
+  setBreaking(false);
+  faceJob();
+}
+
+// Opens the next waiting job with the plan of one that was done, where the saw is still looked at.
+function openSame(told) {
+  const next = waitingJobs().find(row => row.job !== told.job && kindOfPlan(row) === kindOfPlan(told, told.tree));
+  if (next && viewName() === "saw") openJob(next.job);
+}
+
+function showAnyJob(event) {
+  event.preventDefault();
+  const job = readWhole($("jobNumber").value, 1, 2147483647);
+  if (job === null) return showFault("jobFault", tr`A job's number is a whole number from 1 on.`);
+  openJob(job);
+}
+
+// The job that waits behind the shown one, or the first; of the chosen material where there is another of it.
+function jobBehind() {
+  const others = rows => rows.filter(row => row.job !== atSaw.job), near = others(waitingJobs());
+  const rows = near.length ? near : others(shop.jobs);
+  return rows.find(row => row.job > atSaw.job) || rows[0];
+}

@@ -1,0 +1,152 @@
+// ---- Start.
+
+function onClick(id, act) { $(id).addEventListener("click", act); }
+
+function listenToPlans() {
+  onClick("planAll", planAll);
+  onClick("printAll", printReserved);
+  onClick("stopPlan", stopPlan);
+  onClick("propose", propose);
+  $("buyForm").addEventListener("submit", planBuying);
+  onClick("tryStep", tryStep);
+  onClick("askBound", askBound);
+  onClick("reserve", reserve);
+  $("step").addEventListener("keydown", event => {
+    if (event.key === "Enter") tryStep();
+  });
+  window.addEventListener("storage", () => {
+    for (const name of ["leftOut", "partsOut"]) toCut[name] = readOut(`cutshop.${name}`);
+  });
+}
+
+function listenToSaw() {
+  $("jobMaterial").addEventListener("change", () => {
+    showSaw();
+    refreshNow();
+  });
+  $("jobNumber").addEventListener("input", () => showFault("jobFault", ""));
+  $("jobForm").addEventListener("submit", showAnyJob);
+  onClick("done", finish);
+  onClick("startBreak", () => {
+    setBreaking(true);
+    document.querySelector("[name=breakMode]:checked").focus();
+  });
+  onClick("stopBreak", () => {
+    setBreaking(false);
+    $("startBreak").focus();
+  });
+  onClick("sendBreak", sendBreak);
+  onClick("release", release);
+  onClick("nextJob", () => openJob(jobBehind().job));
+  onClick("printJob", () => window.print());
+  onClick("printWaiting", printWaiting);
+  window.addEventListener("afterprint", () => document.body.classList.remove("sheets"));
+}
+
+function listenToOrders() {
+  onClick("addLine", () => {
+    addOrderLine();
+    $("orderLines").lastChild.querySelector("[data-field=length]").focus();
+  });
+  $("orderForm").addEventListener("submit", sendOrder);
+  // (so that a file that was mended can be picked again)
+  for (const id of ["csvFile", "problemFile"])
+    $(id).addEventListener("click", () => {
+      $(id).value = "";
+    });
+  $("csvFile").addEventListener("change", showCsv);
+  $("problemFile").addEventListener("change", showProblem);
+  $("problemMaterial").addEventListener("change", showProblem);
+  $("findForm").addEventListener("submit", findOrder);
+  $("finishedToo").addEventListener("change", () => {
+    showView();
+    refreshNow();
+  });
+}
+
+function listenToStock() {
+  $("receiveMaterial").addEventListener("change", adaptReceive);
+  $("receiveForm").addEventListener("submit", receive);
+  $("traceForm").addEventListener("submit", event => {
+    event.preventDefault();
+    trace($("tracePart").value.trim());
+  });
+}
+
+function listenToTerminal() {
+  onClick("terminalButton", chooseTerminal);
+  onClick("terminalCancel", () => $("terminalDialog").close());
+  $("terminalForm").addEventListener("submit", useTerminal);
+  $("terminalDialog").addEventListener("cancel", event => {
+    if (!terminal.number) event.preventDefault();
+  });
+}
+
+function listenToWindow() {
+  for (const button of document.querySelectorAll("nav button"))
+    button.addEventListener("click", () => {
+      location.hash = button.dataset.view;
+    });
+  window.addEventListener("hashchange", () => {
+    forgetRead();
+    showView();
+    say($(viewName()).getAttribute("aria-label"));
+    refreshNow();
+  });
+  window.addEventListener("resize", showView);
+  window.addEventListener("storage", event => {
+    const number = storage.read("cutshop.terminal", 0);
+    if (number !== terminal.number) Object.assign(terminal, {number, isSpent: false});
+    if (event.key?.startsWith(MESSAGE)) hearOfMessage(event.key);
+    showView();
+  });
+  document.addEventListener("visibilitychange", () => {
+    if (document.hidden) return;
+    hearAnswers();
+    refreshNow();
+  });
+  for (const done of ["pointerdown", "keydown"]) {
+    document.addEventListener(done, hold, true);
+    document.addEventListener(done, wake);
+  }
+  // (a click comes behind its pointer's or key's release, and what it does is drawn at once)
+  for (const done of ["pointerup", "keyup"]) document.addEventListener(done, () => setTimeout(letGo), true);
+  for (const done of ["click", "pointercancel"]) document.addEventListener(done, letGo, true);
+  window.addEventListener("blur", letGo);
+  new ResizeObserver(keepInPlace).observe($("top"));
+  document.addEventListener("keydown", viewByKey);
+}
+
+const above = {
+  high: 0,
+  width: 0
+};
+
+// Where a notice comes or goes, what lies below stays where it is in the window.
+function keepInPlace() {
+  const {height: high} = $("top").getBoundingClientRect(), more = high - above.high;
+  const isSameWindow = above.width === window.innerWidth;
+  Object.assign(above, {high, width: window.innerWidth});
+  document.documentElement.style.setProperty("--above", `${high}px`);
+  if (isSameWindow && more) window.scrollBy(0, more);
+}
+
+// The keys 1 to 5 open the views, where no field takes them.
+function viewByKey(event) {
+  const isTyping =
+    event.target.closest?.("input:not([type=checkbox], [type=radio], [type=file]), select, textarea, dialog");
+  const name = !isTyping && !event.ctrlKey && !event.metaKey && Object.keys(VIEWS)[Number(event.key) - 1];
+  if (!name) return;
+  event.preventDefault();
+  location.hash = name;
+  document.querySelector(`nav [data-view=${name}]`).focus();
+}
+
+translateDocument();
+for (const listen of [listenToPlans, listenToSaw, listenToOrders, listenToStock, listenToTerminal, listenToWindow]) listen();
+showView();
+refreshNow();
+adoptLists();
+showKept();
+if (terminal.number) sendKept();
+else chooseTerminal();

@@ -1,0 +1,254 @@
+// ---- Stock.
+
+const traced = {
+  chain: null,
+  width: 0
+};
+
+// folds: which sizes a person opened or closed; wanted: how many of a row are to go.
+const inStock = {
+  folds: new Map(),
+  wanted: new Map()
+};
+
+function showStock() {
+  notePromised();
+  $("stockTitle").textContent = shop.material ? tr`${shop.material}: standing and reserved` : tr`Standing and reserved`;
+  const shown = [shop.parts, [...shop.partsGoing], shop.moreParts, shop.material, shop.partsOf, shop.isKnown];
+  fill($("stockList"), shown, stockRows);
+  if (traced.chain && traced.width !== $("tracePicture").clientWidth) drawChain();
+  adaptReceive();
+}
+
+// Rows by what they have in common, in the order in which they come.
+function groupsOf(rows, keyOfRow) {
+  const groups = new Map();
+  for (const row of rows) {
+    const key = keyOfRow(row);
+    if (groups.has(key)) groups.get(key).push(row);
+    else groups.set(key, [row]);
+  }
+  return [...groups.values()];
+}
+
+// Over so many rows each size is folded at first.
+const MOST_OPEN = 12;
+
+// All remnants, then the units size by size, the largest first; standing ones of one batch and size are one row.
+function stockRows() {
+  if (!shop.parts.length) return [quiet(shop.partsOf ? tr`Nothing stands. Receive some.` : noMaterial())];
+  const large = [...shop.parts].sort((a, b) => b.w * b.h - a.w * a.h || b.w - a.w);
+  const remnants = large.filter(isRemnant), units = large.filter(part => !isRemnant(part));
+  const sizes = groupsOf(units, part => `${part.w} ${part.h}`);
+  const folds = [remnants, ...sizes].filter(parts => parts.length).map(parts => [parts, stockGroups(parts)]);
+  const isOpen = folds.reduce((sum, [, rows]) => sum + rows.length, 0) <= MOST_OPEN;
+  return [...folds.map(([parts, rows]) => stockFold(parts, rows, isOpen)), moreButton(shop.moreParts, "partPages", PART_PAGES)];
+}
+
+function stockGroups(parts) {
+  const isGoing = part => shop.partsGoing.has(part.part);
+  return groupsOf(parts, part => part.state !== "standing" ? part.part
+    : `${isRemnant(part) ? "" : part.batch} ${part.w} ${part.h} ${isGoing(part)}`);
+}
+
+// A size, or all remnants, with its rows, which are shown when it is opened.
+function stockFold(parts, rows, isOpen) {
+  const [part] = parts, isRest = isRemnant(part), key = `f${shop.material} ${isRest ? "" : `${part.w} ${part.h}`}`;
+  const reserved = parts.filter(row => row.state === "reserved").length;
+  const what = isRest ? count(parts.length, "remnant") : sizeText(kindOf(shop.material), part.w, part.h);
+  const more = [isRest ? "" : count(parts.length, "unit"), reserved ? tr`${reserved} reserved` : ""].filter(Boolean).join(", ");
+  return el("details", {
+    class: "fold",
+    open: inStock.folds.get(key) ?? isOpen,
+    on: {toggle: event => inStock.folds.set(key, event.target.open)}
+  },
+    el("summary", {"data-key": key}, what, el("span", {text: more})),
+    el("div", {}, ...rows.map(stockRow)));
+}
+
+// Parts' names, those that follow one another as a range.
+function namesOf(parts) {
+  const runs = [];
+  for (const {part} of parts) {
+    const [act, node] = part.split("/").map(Number), run = runs[runs.length - 1];
+    if (run && run.act === act && run.last === node - 1) run.last = node;
+    else runs.push({act, first: node, last: node});
+  }
+  return runs.map(({act, first, last}) => `${act}/${first}${last > first ? tr` to ${act}/${last}` : ""}`).join(", ");
+}
+
+function stockRow(parts) {
+  const [part] = parts, isGoing = shop.partsGoing.has(part.part), isMany = parts.length > 1 && isFree(part);
+  const batches = [...new Set(parts.map(row => row.batch))].join(", ");
+  const state = isGoing ? tr`waits for its answer` : part.state === "standing" ? tr`standing` : tr`reserved, job ${part.of}`;
+  const what = parts.length > 1 ? count(parts.length, isRemnant(part) ? "remnant" : "unit")
+    : isRemnant(part)           ? tr`remnant`
+                                : tr`unit`;
+  const rest = parts.length > 1
+    ? el("details", {}, el("summary", {text: tr`one by one`, "data-key": `e${part.part}`}),
+        ...parts.map(other => el("div", {class: "stocked"}, el("span", {class: "number", text: other.part}),
+                       el("div", {class: "buttons"}, ...stockActs([other])))))
+    : null;
+  return el("div", {class: "stocked"},
+    el("div", {}, el("b", {class: "number", text: sizeText(kindOf(shop.material), part.w, part.h)}),
+      el("div", {text: `${what}, ${state}`}), el("div", {class: "quiet", text: tr`${namesOf(parts)}, batch ${batches}`})),
+    el("div", {class: "buttons"}, isMany ? howManyField(parts) : null, ...stockActs(parts)), rest);
+}
+
+// How many parts of a row are to go, the first ones.
+function howManyField(parts) {
+  const [{part}] = parts;
+  return el("label", {class: "quiet"}, tr`how many `, el("input", {
+    inputmode: "numeric",
+    autocomplete: "off",
+    "data-key": `n${part}`,
+    "data-count": part,
+    "aria-label": tr`How many of the ${parts.length} that begin with ${part}`,
+    value: inStock.wanted.get(part) || "1",
+    on: {
+      input: event => {
+        inStock.wanted.set(part, event.target.value);
+        event.target.removeAttribute("aria-invalid");
+      }
+    }
+  }));
+}
+
+function stockActs(parts) {
+  const [part] = parts, key = parts.length > 1 ? "m" : "";
+  const act = (text, letter, go) => el("button", {
+    class: "small",
+    text,
+    "data-key": `${key}${letter}${part.part}`,
+    "aria-label": `${text} ${parts.length > 1 ? tr`of the ${parts.length} that begin with ` : ""}${part.part}`,
+    on: {click: go}
+  });
+  return [
+    parts.length === 1 ? act(tr`Trace`, "t", () => trace(part.part)) : null,
+    isFree(part) ? act(tr`Scrap`, "s", () => takeAway("scrap", tr`Scrap`, parts)) : null,
+    isFree(part) && !isRemnant(part) ? act(tr`Return`, "r", () => takeAway("return", tr`Return`, parts)) : null
+  ];
+}
+
+// Scraps or returns the first of these parts, as many as are wanted, after one question.
+async function takeAway(word, words, parts) {
+  const field = document.querySelector(`[data-count="${CSS.escape(parts[0].part)}"]`);
+  const wanted = parts.length > 1 ? readWhole(field.value, 1, parts.length) : 1;
+  if (wanted === null) {
+    field.setAttribute("aria-invalid", "true");
+    field.focus();
+    return tell(tr`${words}: write how many, a whole number from 1 to ${parts.length}`, "refused");
+  }
+  const chosen = parts.slice(0, wanted), [{part, w, h}] = chosen, size = sizeText(kindOf(shop.material), w, h);
+  const what = wanted > 1 ? `${words} ${wanted} × ${shop.material} ${size}` : `${words} ${part}`;
+  const asked = wanted > 1 ? `${what} (${namesOf(chosen)})` : `${what}, ${shop.material} ${size}`;
+  if (!await confirmed(tr`${asked}? This can't be taken back.`, wanted > 1 ? `${words} ${wanted}` : words)) return;
+  inStock.wanted.delete(part);
+  const gone = name => {
+    noteGone(name);
+    showView();
+  };
+  if (wanted === 1) send({do: word, part}, what, () => gone(part));
+  else {
+    const commands = chosen.map(({part: name}) => [`${words} ${name}`, {do: word, part: name}]);
+    sendMany(what, commands, command => gone(command.part));
+  }
+  showView();
+}
+
+function adaptReceive() {
+  const isBar = kindOf($("receiveMaterial").value) === "bar";
+  $("receiveH").disabled = isBar;
+  if (!isBar) return;
+  $("receiveH").value = "";
+  markField($("receiveH"), "");
+}
+
+function receive(event) {
+  event.preventDefault();
+  const material = $("receiveMaterial").value, kind = kindOf(material), batch = readCode("receiveBatch");
+  const [length, high, pieces] = ["receiveW", "receiveH", "receiveCount"].map(id => $(id).value.trim());
+  const width = kind === "bar" ? "0.1" : high;
+  showFault("receiveFault", material ? "" : NO_MATERIAL);
+  if (!material) return;
+  markFields($("receiveForm"), {
+    batch: codeFault(batch),
+    length: lengthFault(length, 200000),
+    width: lengthFault(width, 60000),
+    units: wholeFault(pieces, 100)
+  });
+  if (goToFault($("receiveForm"))) return;
+  const w = readMm(length), h = readMm(width), units = Number(pieces);
+  send(
+    {batch, count: units, do: "receive", h, material, w}, tr`Receive ${units} × ${material} ${sizeText(kind, w, h)}`, () => {
+      for (const id of ["receiveBatch", "receiveW", "receiveH"]) $(id).value = "";
+      $("receiveCount").value = "1";
+    });
+}
+
+async function trace(name) {
+  $("tracePart").value = name;
+  $("tracePicture").replaceChildren();
+  traced.chain = null;
+  if (!PART_NAME.test(name))
+    return $("traceWords")
+      .replaceChildren(el("p", {class: "fault", text: tr`A part's name is a number, / and a number, like 2/4.`}));
+  try {
+    traced.chain = await chainOf(name);
+    const [part] = traced.chain;
+    if (part.state === "piece" && !shop.lines.has(part.of)) learnLines([await ask(`/demand/${part.of}`)]);
+    $("traceWords").replaceChildren(...traceWords(traced.chain));
+    drawChain();
+    if (window.innerWidth <= 1000) $("tracePanel").scrollIntoView({block: "nearest"});
+  } catch (error) { $("traceWords").replaceChildren(el("p", {class: "fault", text: await faultWords(error)})); }
+}
+
+// The part, then the part that its job cut, and so on, the unit last. A job's number is its act's.
+async function chainOf(name) {
+  const chain = [await ask(`/trace/${name}`)];
+  for (let last = chain[0]; last.part !== last.root && chain.length < 50; last = chain[chain.length - 1]) {
+    const job = await ask(`/job/${last.part.split("/")[0]}`);
+    chain.push(await ask(`/trace/${job.part}`));
+  }
+  const last = chain[chain.length - 1];
+  return last.part === last.root ? chain : [...chain, await ask(`/trace/${last.root}`)];
+}
+
+function drawChain() {
+  traced.width = $("tracePicture").clientWidth;
+  drawTrace($("tracePicture"), traced.chain, chainKind(traced.chain));
+}
+
+// The trace doesn't tell the kind of the material: a unit that is a tenth high is a bar.
+function chainKind(chain) { return chain[chain.length - 1].h === 1 ? "bar" : "sheet"; }
+
+function traceWords(chain) {
+  const part = chain[0], unit = chain[chain.length - 1], kind = chainKind(chain);
+  const {order, line} = shop.lines.get(part.of) || {};
+  const state = {
+    reserved: tr`reserved for job ${part.of}`,
+    cut: tr`cut by job ${part.of}`,
+    piece: tr`a piece of order ${order}, line ${line} (no. ${part.of})`,
+    kerf: tr`taken by the saw`,
+    standing: tr`stands`,
+    scrap: tr`scrap`,
+    returned: tr`returned to its supplier`
+  }[part.state];
+  const at = kind === "bar" ? `${mm(part.x)} mm` : tr`${mm(part.x)} mm from the left, ${mm(part.y)} mm from the top`;
+  const where = chain.length === 1 ? tr`It is a unit as it was received.`
+                                   : tr`It lay in unit ${unit.part} (${sizeText(kind, unit.w, unit.h)}) at ${at}.`;
+  const go = () => {
+    location.hash = "orders";
+    $("findOrder").value = order;
+    markField($("findOrder"), "");
+    showOrder(order);
+  };
+  const came = chain.slice(0, -1)
+                 .map((from, i) => tr`${from.part} came of job ${from.part.split("/")[0]}, which cut ${chain[i + 1].part}`)
+                 .join("; ");
+  return [
+    el("p", {}, el("b", {text: `${part.part}, ${sizeText(kind, part.w, part.h)}: ${state}.`})),
+    el("p", {text: tr`${where} Batch ${part.batch}.`}), came ? quiet(`${came}.`) : "",
+    part.state === "piece" ? el("button", {class: "small", text: tr`Order ${order}`, on: {click: go}}) : ""
+  ];
+}

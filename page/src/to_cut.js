@@ -1,0 +1,221 @@
+// ---- To cut.
+
+// part: the one that is planned alone, or none where all that stands is; like: what others have in common with it; leftOut,
+// partsOut: the demands and the parts that are left out, by their keys; found: the plans that were found; tried: plans of the one part, that one and those by steps; picked:
+// the one of these that a person chose; waits: whether planning waits for the answer to what was reserved before; note: what
+// became of what was planned.
+const toCut = {
+  part: "",
+  like: "",
+  leftOut: readOut("cutshop.leftOut"),
+  partsOut: readOut("cutshop.partsOut"),
+  found: null,
+  tried: [],
+  picked: null,
+  planning: null,
+  waits: false,
+  note: "",
+  fault: "",
+  bound: ""
+};
+
+function showToCut() {
+  const hadFocus = $("planPanel").contains(document.activeElement);
+  notePromised();
+  fill($("wanted"), [demandsToCut(), [...toCut.leftOut], shop.moreDemands, shop.material, shop.isKnown], wantedRows);
+  passOverTaken();
+  const choices = partChoices();
+  fill($("cutFrom"), [choices, toCut.part, [...toCut.partsOut], shop.moreParts, shop.material, shop.partsOf, shop.isKnown],
+    () => cutFromRows(choices));
+  showQuestion();
+  showPlans();
+  if (hadFocus && isLost(document.activeElement)) focusNextStep();
+}
+
+// Where the part that is planned alone was taken by another terminal, its plans go, and that is told; the next of its batch and
+// size is planned in its place.
+function passOverTaken() {
+  const {part, like} = toCut;
+  if (!part || shop.partsOf !== shop.material || shop.moreParts) return;
+  if (shop.parts.some(row => row.part === part && row.state === "standing")) return;
+  const next = shop.parts.find(row => isFree(row) && likenessOf(row) === like);
+  const words = tr`Part ${part} doesn't stand any more: it was taken elsewhere.`;
+  if (next) planOrder(next.part);
+  else forgetPlans();
+  toCut.note = next ? `${words} ${tr`${next.part} is planned in its place.`}` : words;
+  say(toCut.note);
+}
+
+// Where the next step is: what was planned is reserved, then printed; else all is planned.
+function focusNextStep() {
+  const next = ["reserve", toCut.found?.sent ? "printAll" : "planAll", "planAll"].find(id => !$(id).disabled);
+  $(next || "planTitle").focus({preventScroll: true});
+}
+
+function wantedRows() {
+  const demands = demandsToCut();
+  if (!demands.length)
+    return [
+      quiet(shop.materials.length ? tr`Nothing is open of this material.` : noMaterial()),
+      opener("orders", tr`Make an order`)
+    ];
+  const left = demands.filter(row => leftOf(row) > 0), out = left.filter(isLeftOut), all = demands.length - left.length;
+  return [
+    out.length ? el("div", {class: "buttons"}, tr`${count(out.length, ...KINDS)} left out`, putBackButton(out)) : null,
+    left.length ? demandTable(left) : null,
+    all ? quiet(tr`Of ${count(all, ...left.length ? OTHER_KINDS : KINDS)} all that aren't made are reserved.`) : null,
+    left.length ? null : opener("saw", tr`At the saw`), moreButton(shop.moreDemands, "demandPages")
+  ];
+}
+
+// The demands of which something is left, a line each, below their orders.
+function demandTable(rows) {
+  const head = ["", tr`Line`, tr`Size in mm`, tr`Left`, tr`No.`].map(
+    (text, i) => el("th", {text, scope: "col", class: i > 2 ? "right" : "", title: i === 4 ? tr`the number of these pieces wanted` : ""}));
+  return el("div", {class: "scroll"}, el("table", {class: "demands"}, el("thead", {}, el("tr", {}, ...head)),
+    ...groupsOf(rows, row => row.order).map(same => el("tbody", {}, orderRow(same), ...same.map(demandRow)))));
+}
+
+function putBackButton(rows) {
+  return el("button",
+    {class: "small", id: "putBack", text: tr`Put all back`, "data-key": "back", on: {click: () => passOver(rows, false)}});
+}
+
+// An order, with one box for all of its demands.
+function orderRow(rows) {
+  const chosen = rows.filter(row => !isLeftOut(row)), [{order}] = rows;
+  const box = el("input", {
+    type: "checkbox",
+    "data-key": `o${order}`,
+    checked: chosen.length > 0,
+    "aria-label": tr`All of order ${order}`,
+    on: {change: event => passOver(rows, !event.target.checked)}
+  });
+  box.indeterminate = chosen.length > 0 && chosen.length < rows.length;
+  return el("tr", {class: "order"},
+    el("th", {colspan: "5", scope: "colgroup"}, el("label", {class: "heading"}, box, tr`Order ${order}`)));
+}
+
+// What is left out stays so in this browser: a demand by its number, order and line, a part by what it has in common with
+// others, so that no other store's is meant.
+const MAX_LEFT_OUT = 1000;
+
+function readOut(key) { return new Set(storage.read(key, [])); }
+
+function leftOutKey(row) { return `${row.demand} ${row.order} ${row.line}`; }
+
+function partOutKey(part) {
+  const rest = isRemnant(part) ? [part.root, part.w, part.h] : [];
+  return [shop.material, likenessOf(part), ...rest].join(" ");
+}
+
+function isLeftOut(row) { return toCut.leftOut.has(leftOutKey(row)); }
+
+function isPartOut(part) { return toCut.partsOut.has(partOutKey(part)); }
+
+function passOver(rows, isOver) {
+  leaveOut("leftOut", rows.map(leftOutKey), isOver);
+  say(`${count(rows.length, ...KINDS)} ${isOver ? tr`left out` : tr`taken in`}`);
+}
+
+function passOverParts(parts, isOver) {
+  leaveOut("partsOut", parts.map(partOutKey), isOver);
+  say(`${parts.map(part => part.part).join(", ")} ${isOver ? tr`left out` : tr`taken in`}`);
+}
+
+function leaveOut(name, keys, isOver) {
+  const out = toCut[name];
+  for (const key of keys)
+    if (isOver) out.add(key);
+    else out.delete(key);
+  try {
+    storage.write(`cutshop.${name}`, [...out].slice(-MAX_LEFT_OUT));
+  } catch { tell(tr`This browser can't keep what is left out: it is forgotten with this page.`, "refused"); }
+  forgetPlans();
+  showToCut();
+}
+
+// A demand of which something is left; a click anywhere in its line takes it in or leaves it out.
+function demandRow(row) {
+  const size = sizeText(kindOf(row.material), row.w, row.h), right = text => el("td", {class: "right", text});
+  const box = el("input", {
+    type: "checkbox",
+    "data-key": `d${row.demand}`,
+    checked: !isLeftOut(row),
+    "aria-label": tr`Line ${row.line} of order ${row.order}: ${leftOf(row)} of ${size}`,
+    on: {change: event => passOver([row], !event.target.checked)}
+  });
+  return el("tr", {
+    class: "demand",
+    title: tr`${progressWords(row)}; price for the planner ${grouped(row.worth)}${row.turn ? tr`; may turn` : ""}`,
+    on: {click: event => event.target === box || box.click()}
+  },
+    el("td", {}, box), right(String(row.line)),
+    el("td", {class: "number"}, el("b", {text: size.replace("\u00a0mm", "")}),
+      row.turn ? el("span", {text: " ↻", "aria-label": tr`may turn`}) : null),
+    right(tr`${grouped(leftOf(row))} of ${grouped(row.wanted)}`), right(String(row.demand)));
+}
+
+function chosenDemands() { return demandsToCut().filter(row => leftOf(row) > 0 && !isLeftOut(row)); }
+
+// What units have in common that are one row: batch and size. A remnant is a row of its own.
+function likenessOf(part) { return isRemnant(part) ? part.part : `${part.batch} ${part.w} ${part.h}`; }
+
+// Standing parts, those first that something fits, remnants before units and small ones before large ones; units of one
+// batch and size are one row.
+function partChoices() {
+  const groups = new Map(), chosen = chosenDemands();
+  for (const part of shop.parts.filter(isFree)) {
+    const key = likenessOf(part);
+    if (groups.has(key)) groups.get(key).units++;
+    else
+      groups.set(
+        key, {...part, units: 1, remnant: isRemnant(part), fits: chosen.filter(row => fitsPart(row, part)).length});
+  }
+  return [...groups.values()].sort((a, b) => (b.fits > 0) - (a.fits > 0) || b.remnant - a.remnant || a.w * a.h - b.w * b.h);
+}
+
+function cutFromRows(choices) {
+  if (!choices.length)
+    return [quiet(shop.partsOf ? tr`Nothing of this material stands.` : noMaterial()), opener("stock", tr`Receive some`)];
+  const out = choices.filter(isPartOut);
+  const back = el("button",
+    {class: "small", text: tr`Put all back`, "data-key": "parts back", on: {click: () => passOverParts(out, false)}});
+  return [
+    out.length ? el("div", {class: "buttons"}, tr`${count(out.length, "size")} left out`, back) : null, ...choices.map(partRow),
+    moreButton(shop.moreParts, "partPages", PART_PAGES)
+  ];
+}
+
+// A part, or units of one size: a box takes them in or leaves them out, a button plans one of them alone.
+function partRow(part) {
+  const size = sizeText(kindOf(shop.material), part.w, part.h), isChosen = part.part === toCut.part;
+  return el("div", {class: `row${isChosen ? " chosen" : ""}`},
+    el("label", {}, el("input", {
+      type: "checkbox",
+      "data-key": `b${part.part}`,
+      checked: !isPartOut(part),
+      "aria-label": tr`Cut from ${size}, ${part.part}`,
+      on: {change: event => passOverParts([part], !event.target.checked)}
+    }),
+      el("b", {class: "number", text: size}),
+      el("div", {}, el("span", {class: "tag", text: part.remnant ? tr`remnant` : count(part.units, "unit")}),
+        el("div", {class: "quiet", text: tr`${part.part}, batch ${part.batch}`}), el("div", {
+          class: "quiet",
+          text: part.fits ? tr`${count(part.fits, ...KINDS)} fit${part.fits === 1 ? "s" : ""}` : tr`nothing chosen fits`
+        }))),
+    el("button", {
+      class: "small",
+      text: tr`Alone`,
+      "data-key": `p${part.part}`,
+      "aria-label": tr`Plan ${part.part} alone`,
+      disabled: !part.fits,
+      on: {click: () => planAlone(part.part)}
+    }));
+}
+
+function forgetPlans() {
+  toCut.planning?.abort();
+  Object.assign(toCut,
+    {part: "", like: "", found: null, tried: [], picked: null, planning: null, waits: false, note: "", fault: "", bound: ""});
+}

@@ -1,0 +1,109 @@
+// ---- Views and their refreshing: a pass asks for what is shown, one request after another, some seconds after the last;
+// seldom where nothing is done and nothing changes, and not at all while the page is hidden.
+
+const VIEWS = {
+  tocut: {show: showToCut, read: [readDemands, readParts, readOthers]},
+  saw: {show: showSaw, read: [readShown, showView, readPlans]},
+  orders: {show: showOrders, read: [readOrders]},
+  stock: {show: showStock, read: [readParts, readDemands, readOthers]},
+  yield: {show: showYield, read: [readTotals, readBackups]},
+};
+
+// The pause between two passes while nothing was done or changed for less than so long.
+const MINUTE = 60000, PAUSE = 4000, PAUSES = [[MINUTE, PAUSE], [60 * MINUTE, 15000], [Infinity, MINUTE]];
+// The materials change where the shop is started anew, which may not be seen.
+const MATERIALS_STAY = 2 * MINUTE;
+// lively: when something was done or changed; ended: when the last pass ended; lost: the shop didn't answer since materials
+// were read.
+const refresh = {
+  timer: 0,
+  running: false,
+  again: false,
+  lively: 0,
+  ended: 0,
+  lost: true,
+  materials: 0
+};
+
+function viewName() {
+  const name = location.hash.slice(1);
+  return Object.hasOwn(VIEWS, name) ? name : "tocut";
+}
+
+function showView() {
+  const name = viewName();
+  for (const view of document.querySelectorAll(".view")) {
+    view.hidden = view.id !== name;
+    view.classList.toggle("current", view.id === name);
+  }
+  for (const button of document.querySelectorAll("nav button")) {
+    if (button.dataset.view === name) button.setAttribute("aria-current", "page");
+    else button.removeAttribute("aria-current");
+  }
+  $("terminalButton").textContent = tr`Terminal ${terminal.number || "?"}`;
+  showName();
+  showMaterials();
+  showCsvButtons();
+  VIEWS[name].show();
+}
+
+// The shop's name, as it was written into this browser, is the window's title and the page's.
+function showName() {
+  const name = storage.read("cutshop.name", "") || "cutshop";
+  if (document.title !== name) document.title = name;
+  if ($("shopTitle").textContent !== name) $("shopTitle").textContent = name;
+  $("shopTitle").title = name;
+}
+
+function refreshNow() {
+  refresh.lively = performance.now();
+  clearTimeout(refresh.timer);
+  if (refresh.running) refresh.again = true;
+  else refreshPass();
+}
+
+// Somebody does something: the next pass comes at once, or the shortest pause behind the last.
+function wake() {
+  refresh.lively = performance.now();
+  if (!refresh.running) waitForPass();
+}
+
+function waitForPass() {
+  clearTimeout(refresh.timer);
+  refresh.timer = setTimeout(refreshPass, Math.max(0, refresh.ended + pauseOf() - performance.now()));
+}
+
+function pauseOf() {
+  const quiet = performance.now() - refresh.lively;
+  return refresh.lost ? PAUSE : PAUSES.find(([end]) => quiet < end)[1];
+}
+
+// A question that fails stops neither the others nor the view's drawing.
+async function refreshPass() {
+  Object.assign(refresh, {running: true, again: false});
+  const before = knownText(), steps = document.hidden ? [] : [renewMaterials, readJobs, ...VIEWS[viewName()].read, showView];
+  for (const step of steps) {
+    try {
+      await step();
+    } catch (error) {
+      if (!(error instanceof NoAnswer || error instanceof Refused)) console.error(error);
+    }
+  }
+  Object.assign(refresh, {running: false, ended: performance.now()});
+  if (knownText() !== before) refresh.lively = refresh.ended;
+  if (refresh.again) refreshPass();
+  else waitForPass();
+}
+
+function knownText() {
+  const {materials, jobs, demands, orders, allOrders, parts, totals, open} = shop;
+  return JSON.stringify([materials, jobs, demands, orders, allOrders, parts, [...totals], [...open], atSaw.told?.state]);
+}
+
+async function renewMaterials() {
+  if (!refresh.lost && shop.materials.length && performance.now() - refresh.materials < MATERIALS_STAY) return;
+  await readMaterials();
+  toldJobs.clear();
+  backups.isKnown = false;
+  Object.assign(refresh, {lost: false, materials: performance.now()});
+}
