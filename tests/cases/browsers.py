@@ -224,6 +224,7 @@ def page_files(trial):
         ("text.toml", "no.html", "fault shop text"),
         ("shop.toml", "page.html", "fault store"),
     ):
-        ran = trial.run("serve", "--port", "1", "--store", ".", "--shop", shop_file, "--page", name)
-        trial.ended(ran, 1, err=f"{line}\n", sent=f"{shop_file} {name}")
+        for store in (".",) if line == "fault store" else (".", "new.db"):
+            ran = trial.run("serve", "--port", "1", "--store", store, "--shop", shop_file, "--page", name)
+            trial.ended(ran, 1, err=f"{line}\n", sent=f"{shop_file} {name} {store}")
     trial.holds(not os.path.exists(trial.path("new.db")), "no store is made")

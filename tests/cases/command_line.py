@@ -349,50 +349,110 @@ def ranges(trial):
         )
 
 
+# Mistakes, each with what its text names.
 MISTAKES = """
-serve
-replay lines.txt
-replay --kerf 1
-plan --kerf 1 --step 1
-plan a.txt b.txt --kerf 1 --step 1
-plan a.txt --kerf 1
-plan a.txt --step 1
-plan a.txt --kerf 201 --step 1
-plan a.txt --kerf -1 --step 1
-plan a.txt --kerf 1x --step 1
-plan a.txt --kerf 1 --step 200001
-plan a.txt --kerf 1 --kerf 2 --step 1
-ticket --store a.db 0
-ticket --store a.db 2147483648
-ticket --store a.db
-ticket 1
-yield --store a.db steel
-yield --store a.db ABCDEFGHIJKLMNOPQ
-yield STEEL
-serve --port 0 --store a.db --shop a.toml
-serve --port 65536 --store a.db --shop a.toml
-serve --port 1 --store a.db --shop a.toml --limit 0
-serve --port 1 --store a.db --shop a.toml --limit 1000001
-serve --port 1 --store a.db
-serve --port 1 --shop a.toml
-nothing
---nothing
+serve = --port <N>
+serve = --store <FILE>
+serve = --shop <FILE>
+replay lines.txt = 'lines.txt'
+replay --kerf 1 = '--kerf'
+plan --kerf 1 --step 1 = <FILE>
+plan a.txt b.txt --kerf 1 --step 1 = 'b.txt'
+plan a.txt --kerf 1 = plan wants --step
+plan a.txt --step 1 = --kerf <N>
+plan a.txt --kerf 201 --step 1 = '201' for '--kerf <N>'
+plan a.txt --kerf -1 --step 1 = '-1'
+plan a.txt --kerf 1x --step 1 = '1x' for '--kerf <N>'
+plan a.txt --kerf 1 --step 200001 = '200001' for '--step <N>'
+plan a.txt --kerf 1 --kerf 2 --step 1 = '--kerf <N>'
+plan a.txt --kerf 1 --step 1 --port 1 = '--port'
+ticket --store a.db 0 = '0' for '<JOB>'
+ticket --store a.db 2147483648 = '2147483648' for '<JOB>'
+ticket --store a.db x = 'x' for '<JOB>'
+ticket --store a.db 1 2 = '2'
+ticket --store a.db = <JOB>
+ticket 1 = --store <FILE>
+yield --store a.db steel = MATERIAL
+yield --store a.db ABCDEFGHIJKLMNOPQ = MATERIAL
+yield --store a.db = <MATERIAL>
+yield STEEL = --store <FILE>
+serve --port 0 --store a.db --shop a.toml = '0' for '--port <N>'
+serve --port 65536 --store a.db --shop a.toml = '65536' for '--port <N>'
+serve --port x --store a.db --shop a.toml = 'x' for '--port <N>'
+serve --port 1 --store a.db --shop a.toml --limit 0 = '0' for '--limit <N>'
+serve --port 1 --store a.db --shop a.toml --limit 1000001 = '1000001' for '--limit <N>'
+serve --port 1 --store a.db --shop a.toml --limit 1 --limit 2 = '--limit <N>'
+serve --port 1 --store a.db --shop a.toml --pages a.html = '--pages'
+serve --port 1 --store a.db = --shop <FILE>
+serve --port 1 --shop a.toml = --store <FILE>
+nothing = 'nothing'
+--nothing = '--nothing'
 """
+
+
+def mistaken(trial, words, named=""):
+    """Wants status 2 of these words, nothing on standard output, and an error that names this before it tells the usage."""
+    ran = trial.run(*words)
+    told = ran.err.decode().partition("\n\nUsage: ")[0]
+    trial.equal((ran.status, ran.out, told[: len(MISTAKE)].encode()), (2, b"", MISTAKE), " ".join(words))
+    trial.holds(named in told, f"{' '.join(words)}: {named} isn't named by {told}")
+
+
+def all_mistaken(trial, lines):
+    """The same of lines of words, each with what is named behind an equals sign."""
+    for line in lines.strip().split("\n"):
+        words, _, named = line.partition(" = ")
+        mistaken(trial, words.split(" "), named)
 
 
 @case(
     "mistakes in the words",
-    "An unknown word, one too many, one out of range and none end with status 2, a text on standard error and "
-    "nothing on standard output.",
+    "An unknown word, one too many, one out of range and one that lacks end with status 2, an error on standard error that "
+    "names it, and nothing on standard output; so do no words.",
 )
 def mistakes(trial):
-    for line in MISTAKES.strip().split("\n"):
-        ran = trial.run(*line.split(" "))
-        trial.equal((ran.status, ran.out, ran.err[:7]), (2, b"", MISTAKE), line)
+    all_mistaken(trial, MISTAKES)
     ran = trial.run()
     trial.equal((ran.status, ran.out, bool(ran.err)), (2, b"", True), "no word")
     ran = subprocess.run([trial.program, b"\xff"], capture_output=True, cwd=trial.folder)
     trial.equal((ran.returncode, ran.stdout, ran.stderr[:7]), (2, b"", MISTAKE), "a word that is no UTF-8")
+    trial.equal(os.listdir(trial.folder), [], "files that are made")
+
+
+@case(
+    "what stops a serve before its store",
+    "A mistake in the words, a shop file that is bad or isn't there, a page that isn't there or is too large, and a folder of "
+    "backups that isn't there make no store, and leave one that is there byte for byte.",
+)
+def before_store(trial):
+    for name, text in (("text.toml", "material = 1"), ("entry.toml", STEEL + "[[material]]\ncode = 1\n"), ("shop.toml", STEEL)):
+        trial.write(name, text)
+    trial.write("long.html", b"a" * 1048577)
+    trial.write("page.html", b"<p>")
+    trial.run("ticket", "--store", "old.db", "1")
+    with open(trial.path("old.db"), "rb") as file:
+        content = file.read()
+    before = sorted(os.listdir(trial.folder))
+    wanted = [
+        ("fault file\n", "no.toml"),
+        ("fault shop text\n", "text.toml"),
+        ("fault shop entry 2\n", "entry.toml"),
+        ("fault file\n", "shop.toml", "--page", "no.html"),
+        ("fault file\n", "shop.toml", "--page", "."),
+        ("fault file\n", "shop.toml", "--page", "long.html"),
+        ("fault file\n", "shop.toml", "--page", "no.html", "--backup", "."),
+        ("fault backup\n", "shop.toml", "--page", "page.html", "--backup", "nowhere"),
+        ("fault backup\n", "shop.toml", "--backup", "shop.toml"),
+    ]
+    for store in ("new.db", "old.db"):
+        serve = ("serve", "--port", "1", "--store", store, "--shop")
+        for line, *words in wanted:
+            trial.ended(trial.run(*serve, *words), 1, err=line, sent=f"{store} {words}")
+            trial.equal(sorted(os.listdir(trial.folder)), before, f"{store} {words}")
+        mistaken(trial, (*serve, "shop.toml", "--limit", "0"), "--limit")
+        trial.equal(sorted(os.listdir(trial.folder)), before, f"{store} with a mistake in the words")
+    with open(trial.path("old.db"), "rb") as file:
+        trial.equal(file.read() == content, True, "the store that was there")
 
 
 @case("help", "Help names each command and each of its options on standard output, with status 0.")

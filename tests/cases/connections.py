@@ -4,7 +4,7 @@ import os
 import socket
 
 from kit.case import case
-from kit.shop import answer, begin_line, end_line, read_all, request_of
+from kit.shop import answer, begin_line, end_line, is_silent, read_all, request_of
 
 GLASS = '{"do":"material","kerf":1,"kind":"sheet","material":"GLASS","min_long":5,"min_short":4,"number":1,"terminal":1}'
 SHEET = '{"batch":"B-1","count":1,"do":"receive","h":8,"material":"GLASS","number":2,"terminal":1,"w":10}'
@@ -100,6 +100,44 @@ def limited(trial):
     trial.equal(shop.end(), (0, f"listening on 127.0.0.1:{shop.port}\n".encode(), log))
     again = trial.shop(limit=1)
     trial.equal(again.reply(TOTALS), totals(80, 0, 0, 0))
+
+
+@case(
+    "a limit is exact",
+    "Connections that say nothing, end early or are refused count, and as long as fewer than the limit were served the shop "
+    "goes on; behind the last one nothing listens to the port any more.",
+)
+def exact(trial):
+    shop = trial.shop(limit=5)
+    wanted = [(b"", b""), (request_of(TOTALS)[:9], answer(400)), (b"GET /nowhere HTTP/1.1\r\nHost: x\r\n\r\n", answer(404))]
+    wanted += [(request_of(GLASS), answer(200, '{"material":"GLASS","ok":"material"}'))]
+    for request, told in wanted:
+        trial.equal(shop.exchange(request), told, request)
+        trial.equal(shop.has_ended(), False, request)
+    trial.equal(shop.exchange(request_of(TOTALS)), answer(200, totals(0, 0, 0, 0).replace(b":80,", b":0,")))
+    trial.equal(shop.end()[0], 0)
+    try:
+        shop.connect().close()
+        trial.holds(False, "a sixth connection is taken")
+    except ConnectionRefusedError:
+        pass
+
+
+@case(
+    "connections over the limit",
+    "Of three connections that are open at once a shop with a limit of two serves the first two, however early the third one "
+    "asks, and ends then.",
+)
+def over_limit(trial):
+    shop = trial.shop(limit=2)
+    with shop.connect() as first, shop.connect() as second, shop.connect() as third:
+        third.sendall(request_of(SHEET))
+        second.sendall(request_of(GLASS))
+        trial.equal(read_all(second), answer(200, '{"material":"GLASS","ok":"material"}'))
+        trial.equal((is_silent(third, 0.3), shop.has_ended(0)), (True, False), "the third one, before the first one asked")
+        first.sendall(request_of(TOTALS))
+        trial.equal(read_all(first), answer(200, totals(0, 0, 0, 0).replace(b":80,", b":0,")))
+        trial.equal((shop.end()[0], read_all(third)), (0, b""))
 
 
 @case("terminals at both ends", "Terminals 1 and 4294967295 are served, and 0 is refused 10, for it is the shop file's.")

@@ -5,6 +5,7 @@ import glob
 import os
 import re
 
+import __main__
 from kit.case import CASES, case
 
 TOP = os.path.join(os.path.dirname(os.path.abspath(__file__)), "..", "..")
@@ -39,11 +40,31 @@ def is_there(name):
     )
 
 
-@case("each case is named in the examples", "docs/EXAMPLES.md has the name and the sentence of each case, and names no other.")
+@case(
+    "each case has a name of its own",
+    "`tests/run --table` prints the name and the sentence of each case once, and no other row.",
+)
 def names(trial):
-    rows = re.findall(r"^\| (.+?) \| (.+) \|$", text_of("docs/EXAMPLES.md").partition("\n## Cases\n")[2], re.MULTILINE)
-    told = {name: says for name, says in rows if name not in ("Name", "---")}
-    trial.equal(told, {it.name: it.says.replace("|", "\\|") for it in CASES})
+    rows = re.findall(r"^\| (.+?) \| (.+) \|$", "\n".join(__main__.table(CASES)), re.MULTILINE)
+    told = [it for it in rows if it != ("Name", "What it shows")]
+    trial.equal(told, [(it.name, it.says.replace("|", "\\|")) for it in CASES])
+    trial.equal(len({name for name, _ in told}), len(told))
+
+
+def cited_cases(text):
+    """The cases that a document cites: in a table whose last column is “the case”, and behind the word case."""
+    rows = "".join(re.findall(r"^\|[^\n]*the case \|\n((?:\|.*\n)+)", text, re.MULTILINE))
+    return re.findall(r"“([^”]+)”", rows) + re.findall(r"\bcases? “([^”]+)”", text)
+
+
+@case("cited cases are there", "Each case that a document cites is in the suite, and words behind `tests/run` choose one.")
+def cases(trial):
+    there = [it.name for it in CASES]
+    named = [(it, cited) for it in documents() for cited in cited_cases(text_of(it))]
+    words = [(it, cited) for it in documents() for cited in re.findall(r"tests/run ([a-z][a-z' ]*[a-z])", text_of(it))]
+    trial.holds(len(named) > 30 and len(words) > 2, f"{len(named)} cases and {len(words)} words are cited")
+    trial.equal([it for it in named if it[1] not in there], [])
+    trial.equal([it for it in words if not any(it[1] in name for name in there)], [])
 
 
 @case("cited files are there", "Each file that a document cites is in the repository.")
@@ -61,16 +82,44 @@ def files(trial):
 
 @case(
     "cited edits are there",
-    "Each edit that docs/PROMISES.md tells as refused is in must-fail/ or more-edits/ of a crate, and it tells each of them.",
+    "Each edit that docs/PROMISES.md tells as refused is in must-fail/ or more-edits/, and each of must-fail/ is told there.",
 )
 def edits(trial):
-    there = edit_names()
     cited = set()
     for passage in re.findall(r"Refused[^\n]*", text_of("docs/PROMISES.md")):
         cited |= {it for it in re.findall(r"`([a-z_0-9]+)`", passage) if "_" in it}
     crates = set(os.listdir(f"{TOP}/crates"))
-    trial.equal(sorted(cited - there - crates), [])
-    trial.equal(sorted(there - cited), [])
+    trial.equal(sorted(cited - edit_names() - crates), [])
+    trial.equal(sorted(edit_names("must-fail") - cited), [])
+
+
+def edited(path):
+    """Applies an edit to the files that it names. The first line that it can't apply, or None."""
+    texts, name = {}, None
+    with open(path, encoding="utf-8") as file:
+        lines = [it.rstrip("\n").partition(": ") for it in file]
+    for (kind, _, told), (_, _, new) in zip(lines, [*lines[1:], ("", "", "")]):
+        if kind == "file":
+            name = os.path.join(os.path.dirname(path), "..", told)
+            if not os.path.exists(name):
+                return told
+            texts.setdefault(name, text_of(name))
+        elif kind == "old":
+            if texts[name].count(told) != 1:
+                return told
+            texts[name] = texts[name].replace(told, new)
+    return None
+
+
+@case(
+    "edits change what is there",
+    "Each edit, of must-fail/ or more-edits/, names files that are there, and each text that it changes stands once.",
+)
+def applied(trial):
+    paths = sorted(glob.glob(f"{TOP}/crates/*/m*/*.edit"))
+    lost = [(os.path.relpath(it, TOP), why) for it in paths if (why := edited(it)) is not None]
+    trial.holds(len(paths) > 500, f"{len(paths)} edits")
+    trial.equal(lost, [])
 
 
 def code_of(crate, kinds="src specs proofs"):
@@ -79,8 +128,8 @@ def code_of(crate, kinds="src specs proofs"):
     return re.sub(r"(?://|--).*", "", "\n".join(text_of(it) for it in paths))
 
 
-def edit_names():
-    return {os.path.basename(it).removesuffix(".edit") for it in glob.glob(f"{TOP}/crates/*/m*/*.edit")}
+def edit_names(folder="m*"):
+    return {os.path.basename(it).removesuffix(".edit") for it in glob.glob(f"{TOP}/crates/*/{folder}/*.edit")}
 
 
 def names_in(span):
@@ -118,6 +167,21 @@ def crates_of_names(trial):
     trial.equal(lost, [])
 
 
+@case(
+    "cited definitions are where they are said to be",
+    "In an item of docs/DEFINITIONS.md each name behind the files is defined in one of them.",
+)
+def definitions(trial):
+    rows = re.findall(r"^- .*?: (`[^:]*\.antt`): (.*)$", text_of("docs/DEFINITIONS.md"), re.MULTILINE)
+    lost = []
+    for files, names in rows:
+        text = "\n".join(text_of(f"crates/{it}") for it in re.findall(r"`([^`]+\.antt)`", files))
+        defined = set(re.findall(r"^ *(?:(?:abbrev|unfoldable|pub|record|data) +)+(\w+)", text, re.MULTILINE))
+        lost += [f"{it} in {files}" for it in re.findall(r"`(\w+)`", names) if it not in defined]
+    trial.holds(len(rows) > 50, f"{len(rows)} rows")
+    trial.equal(lost, [])
+
+
 def contracts_of(crates):
     """What the crates declare: each name of a function, a type or a trait with the names of the clauses under it."""
     told = {}
@@ -129,16 +193,17 @@ def contracts_of(crates):
 
 
 def promises():
-    """The rows of docs/PROMISES.md that tell of calls: a section's crates, the first cell, and the second."""
+    """The items of docs/PROMISES.md that tell of calls: a section's crates, the calls, and their contract."""
     for head, body in re.findall(r"(?ms)^## ([^\n]*)\n(.*?)(?=^## |\Z)", text_of("docs/PROMISES.md")):
         own = re.findall(r"`(\w+)`", head)
-        for first, second in re.findall(r"^\| (`.*?) \| (.*?) \|$", body if own else "", re.MULTILINE):
+        for first, second in re.findall(r"^- ((?:laws? )?`.*?): (.*)$", body if own else "", re.MULTILINE):
             yield own, first, second
 
 
 @case(
     "cited contracts are there",
-    "In docs/PROMISES.md the calls of a row are declared in the crates of its section, and the clauses that it names stand under one of them.",
+    "In docs/PROMISES.md the calls of an item are declared in the crates of its section, and the clauses that it names stand "
+    "under one of them.",
 )
 def contracts(trial):
     crates = set(os.listdir(f"{TOP}/crates"))

@@ -8,7 +8,7 @@ from cases.far_sides import LONGEST
 from cases.limits_of_lines import added, compact, imported, material, over_both, refused
 from cases.order_files import HEADER
 from cases.stores import DAY, ROWS, filled, long_answer
-from kit import tables
+from kit import aged, tables
 from kit.case import case
 from kit.shop import answer
 
@@ -211,29 +211,14 @@ def listed(shop, path):
 JOBS = 5000
 
 
-def open_work():
-    """The rows of a shop with 5000 waiting jobs of as many units and demands."""
-    units = [(act, node) for act in range(1, JOBS // 100 + 1) for node in range(100)]
-    first = JOBS // 100 + 1
-    rows = {it: [] for it in ROWS}
-    rows["meta"] = [("act", first + JOBS - 1), ("demand", JOBS), ("version", 2)]
-    rows["materials"] = [("S", 1, 0, 5, 4)]
-    rows["orders"] = [(f"A-{it:02}",) for it in range(JOBS // 200)]
-    rows["parts"] = [(*it, "S", "B", *it, 0, 0, 5, 4, 1, first + number) for number, it in enumerate(units)]
-    rows["jobs"] = [(first + number, *it, f"p{number + 1}", 0) for number, it in enumerate(units)]
-    rows["demands"] = [(it + 1, f"A-{it // 200:02}", it % 200 + 1, "S", 5, 4, 0, 1, 2, 1, 0) for it in range(JOBS)]
-    rows["totals2"] = [("S", 20 * JOBS, 20 * JOBS, 0, 0, 0, 0, 0)]
-    return rows, first
-
-
 @case(
     "5000 jobs and 5000 demands of a file",
     "Of 5000 waiting jobs and 5000 open demands in a file each list tells the hundred behind its number and whether others "
     "follow; the last job is done, and the lists end before it.",
 )
 def many_jobs(trial):
-    rows, first = open_work()
-    tables.make(trial.path("shop.db"), rows)
+    work, first = aged.open_work(JOBS, "S", 5, 4)
+    tables.make(trial.path("shop.db"), aged.book("S", 1, 0, first + JOBS - 1, JOBS, 20 * JOBS, **work))
     shop, last = trial.shop(), first + JOBS - 1
     for after in (0, first - 1, first, 2500, last - 101, last - 100, last - 99, last - 1, last):
         wanted = [it for it in range(first, last + 1) if it > after]
@@ -295,15 +280,13 @@ def many_materials(trial):
 )
 def late_acts(trial):
     for number, act in enumerate((1000000, 2147483000)):
-        rows = {it: [] for it in ROWS}
-        rows["meta"] = [("act", act + 1), ("demand", act), ("version", 2)]
-        rows["materials"] = [("S", 1, 0, 5, 4)]
-        rows["orders"] = [("A",)]
-        rows["parts"] = [(act, it, "S", "B", act, it, 0, 0, 5, 4, int(it == 7), (act + 1) * (it == 7)) for it in range(10)]
-        rows["jobs"] = [(act + 1, act, 7, f"p{act}", 0)]
-        rows["demands"] = [(act, "A", 4294967295, "S", 5, 4, 0, 1, 1, 1, 0)]
-        rows["totals2"] = [("S", 200, 200, 0, 0, 0, 0, 0)]
-        path = tables.make(trial.path(f"{number}.db"), rows)
+        work = {
+            "orders": [("A",)],
+            "parts": [(act, it, "S", "B", act, it, 0, 0, 5, 4, int(it == 7), (act + 1) * (it == 7)) for it in range(10)],
+            "jobs": [(act + 1, act, 7, f"p{act}", 0)],
+            "demands": [(act, "A", 4294967295, "S", 5, 4, 0, 1, 1, 1, 0)],
+        }
+        path = tables.make(trial.path(f"{number}.db"), aged.book("S", 1, 0, act + 1, act, 200, **work))
         ticket = f"job {act + 1} waiting\npart {act}/7 S 0.5 x 0.4 kerf 0.0\n"
         ticket += f"   0 piece at 0.0 0.0 of 0.5 x 0.4 demand {act} A line 4294967295\ncuts 0 pieces 1\n"
         trial.ended(trial.run("ticket", "--store", path, str(act + 1)), 0, ticket)
@@ -320,21 +303,54 @@ def late_acts(trial):
         trial.equal(shop.reply(compact(unit)).decode(), compact({"act": act + 2, "count": 1, "ok": "receive"}))
 
 
+ACTS = 1000000
+
+
+@case(
+    "a file of a million acts",
+    "Behind a file of 1000000 acts, a unit and jobs that were released, the ticket of the last job and of the one before are "
+    "told, the lists tell that job alone, and it is done.",
+)
+def million_acts(trial):
+    released = [(it, 1, 0, "p1", 3) for it in range(2, ACTS)]
+    work = {
+        "orders": [("A",)],
+        "parts": [(1, 0, "S", "B", 1, 0, 0, 0, 5, 4, 1, ACTS)],
+        "jobs": [*released, (ACTS, 1, 0, "p1", 0)],
+        "demands": [(1, "A", 1, "S", 5, 4, 0, 1, 1, 1, 0)],
+    }
+    path = tables.make(trial.path("shop.db"), aged.book("S", 1, 0, ACTS, 1, 20, **work))
+    shop = trial.shop()
+
+    def ticket(job, state):
+        lines = [f"job {job} {state}", "part 1/0 S 0.5 x 0.4 kerf 0.0", "   0 piece at 0.0 0.0 of 0.5 x 0.4 demand 1 A line 1"]
+        return "\n".join([*lines, "cuts 0 pieces 1", ""])
+
+    for job, state in ((ACTS, "waiting"), (ACTS - 1, "released"), (2, "released")):
+        trial.equal(long_answer(shop, f"/ticket/{job}").decode(), ticket(job, state))
+    for after in (0, ACTS - 2, ACTS - 1):
+        trial.equal(listed(shop, f"/jobs/{after}"), ([ACTS], False), f"jobs behind {after}")
+    trial.equal(listed(shop, f"/jobs/{ACTS}"), ([], False))
+    reply = shop.reply(compact({"do": "done", "job": ACTS, "number": 1, "terminal": 1}))
+    trial.equal(reply.decode(), compact({"job": ACTS, "kerf": 0, "ok": "done", "pieces": 20, "rack": 0, "scrap": 0}))
+    trial.equal(listed(shop, "/jobs/0"), ([], False))
+    line, reply = received("S", 5, 9, ACTS + 1)
+    trial.equal(shop.reply(line).decode(), reply)
+    if trial.whole:
+        shop.kill()
+        trial.ended(trial.run("ticket", "--store", path, str(ACTS)), 0, ticket(ACTS, "done"))
+
+
 @case(
     "a report of over 100 KB",
     "A yield report of 4000 parts, over 100 KB, is the same over HTTP and by `yield`, and has each part in order.",
 )
 def long_report(trial):
-    rows = {it: [] for it in ROWS}
-    rows["meta"] = [("act", 40), ("demand", 0), ("version", 2)]
-    rows["materials"] = [("GLASS", 1, 1, 5, 4)]
-    names = [(act, node) for act in range(1, 41) for node in range(100)]
-    rows["parts"] = [(*it, "GLASS", "B-1", *it, 0, 0, 100, 80, 0, 0) for it in names]
-    rows["totals2"] = [("GLASS", 32000000, 32000000, 0, 0, 0, 0, 0)]
-    path = tables.make(trial.path("shop.db"), rows)
+    parts = aged.units(4000, "GLASS", 100, 80)
+    path = tables.make(trial.path("shop.db"), aged.book("GLASS", 1, 1, 40, 0, 32000000, parts=parts))
     numbers = [("received", 32000000), ("stock", 32000000), ("rack", 0), ("pieces", 0), ("kerf", 0), ("scrap", 0), ("returned", 0)]
     lines = ["yield GLASS sheet", *[f"{name:8}{number:17}" for name, number in numbers], "yield 0.0 %"]
-    lines += [f"part {act}/{node} 10.0 x 8.0 standing" for act, node in names]
+    lines += [f"part {act}/{node} 10.0 x 8.0 standing" for act, node, *_ in parts]
     report = "\n".join([*lines, "end", ""])
     trial.holds(len(report) > 100000, len(report))
     shop = trial.shop()

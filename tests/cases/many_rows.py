@@ -2,10 +2,15 @@
 
 import itertools
 import json
+import shutil
+from collections import Counter
 
-from cases.limits_of_lines import refused
-from kit import tables
+from cases.limits_of_lines import added, imported, over_both, refused
+from cases.order_files import HEADER
+from kit import aged, tables
 from kit.case import case
+from kit.days import Replay
+from kit.plans import cut_from
 from kit.questions import compact, name_key, rows_of
 from kit.yards import Yard
 
@@ -120,6 +125,16 @@ def many_orders(trial):
             trial.equal(orders_of(shop, after), (behind[:100], len(behind) > 100), after)
 
 
+def check_parts(trial, shop, code, names):
+    """The pages of a material's standing parts are those of these names, at the first, the last and some between."""
+    afters = [None, names[0], names[len(names) // 2], *names[-102:-99], *names[-2:]]
+    for after in afters:
+        behind = [it for it in names if after is None or it > after]
+        text = "{}/{}".format(*after) if after else ""
+        page = json.loads(shop.reply(compact({"ask": "parts", "after": text, "material": code})))
+        trial.equal(([name_key(it["part"]) for it in page["parts"]], page["more"]), (behind[:100], len(behind) > 100), text)
+
+
 @case(
     "70000 parts of a material in memory",
     "A material of which 70000 units stand in `replay` is counted, listed from any name on, cut, scrapped and returned.",
@@ -139,94 +154,319 @@ def many_parts(trial):
     trial.equal(shop.reply('{"ask":"totals","material":"STEEL"}').decode(), wanted)
     gone = [(1, 0), (400, 50), (700, 99)]
     names = [it for it in itertools.product(range(1, 701), range(100)) if it not in gone] + [(job, 2)]
-    for after in ("", "1/0", "399/99", "400/50", "655/35", "700/97", "700/98", f"{job}/2"):
-        behind = [it for it in names if not after or it > name_key(after)]
+    check_parts(trial, shop, "STEEL", names)
+    for after in ("399/99", "400/50", "655/35"):
+        behind = [it for it in names if it > name_key(after)]
         page = json.loads(shop.reply(compact({"ask": "parts", "after": after, "material": "STEEL"})))
-        trial.equal(([name_key(it["part"]) for it in page["parts"]], page["more"]), (behind[:100], len(behind) > 100), after)
+        trial.equal(([name_key(it["part"]) for it in page["parts"]], page["more"]), (behind[:100], True), after)
     rack = json.loads(shop.reply('{"ask":"rack","material":"STEEL"}'))["parts"]
     trial.equal(rack, [{"h": 1, "part": f"{job}/2", "state": "standing", "w": 67}])
 
 
-# A shop that is old.
+@case(
+    "65535 to 70001 parts of a material in a file",
+    "Of 65535 and of 69999 standing units in a file, and of the next two, each is counted and listed from any name on; one is "
+    "cut, one scrapped and one returned, also when the shop is opened again.",
+)
+def many_parts_in_file(trial):
+    for count in (65535, 69999):
+        acts = (count + 99) // 100
+        rows = aged.book("STEEL", 0, 3, acts, 0, 100 * count, parts=aged.units(count, "STEEL", 100))
+        shop = served(trial, tables.make(trial.path(f"{count}.db"), rows))
+        names, yard = [it[:2] for it in rows["parts"]], Yard()
+        yard.acts = acts
+        for _ in range(2):
+            yard.receive("STEEL", 100)
+            yard.fill(trial, shop)
+            names.append((yard.acts, 0))
+            check_parts(trial, shop, "STEEL", names)
+        demand = yard.bars("STEEL", (30, 3))
+        job = yard.cut("400/50", f"x30 p{demand} r")
+        yard.send(do="scrap", part="1/0")
+        yard.send(do="return", part="650/99")
+        names = [it for it in names if it not in ((1, 0), (400, 50), (650, 99))] + [(job, 2)]
+        totals = {"kerf": 3, "pieces": 30, "rack": 67, "returned": 100, "scrap": 100, "stock": 100 * (count - 1)}
+        wanted = compact({"material": "STEEL", "ok": "totals", "received": 100 * (count + 2), **totals})
+        for _ in range(2):
+            # (each message of the yard, sent again, gets its reply and changes nothing)
+            yard.fill(trial, shop)
+            trial.equal(shop.reply('{"ask":"totals","material":"STEEL"}').decode(), wanted)
+            check_parts(trial, shop, "STEEL", names)
+            shop.kill()
+            shop = served(trial, shop.store)
+        shop.kill()
 
-HISTORY = 1000000
 
-# The least of so many rounds counts, in each of which a question is asked so many times.
-ROUNDS, TIMES = 4, 25
-
-RECEIVE = {"batch": "B", "count": 1, "do": "receive", "h": 1, "material": "STEEL", "w": 100}
-AMEND = {"demand": 40, "do": "amend", "wanted": 7}
-
-
-def old_store(trial, count):
-    """A store with 20 units, 20 waiting jobs, 20 remnants and an order of 40 open demands, and between them so many parts that
-    were scrapped, as many jobs that are done, and orders of a demand that is made."""
-    yard = Yard()
-    yard.material("STEEL", 3)
-    demand = yard.bars("STEEL", *[(30, 9)] * 40)
-    for act in range(1, 21):
-        yard.receive("STEEL", 100, 1, 3)
-    store = f"old-{count}.db"
-    shop = yard.serve(trial, store)
-    shop.kill()
-    parts = ",".join(f"({HISTORY + it}, 0, 'STEEL', 'B', 1, 0, 0, 0, 100, 1, 5, 0)" for it in range(count))
-    jobs = ",".join(f"({HISTORY + it}, {HISTORY + it}, 0, 'x30 p1 r', 1)" for it in range(count))
-    orders = ",".join(f"('OLD-{it}')" for it in range(count))
-    demands = ",".join(f"({HISTORY + it}, 'OLD-{it}', 1, 'STEEL', 30, 1, 0, 1, 1, 0, 1)" for it in range(count))
-    tables.change(
-        shop.store,
-        f"INSERT INTO parts VALUES {parts}; INSERT INTO jobs VALUES {jobs}; INSERT INTO orders VALUES {orders};"
-        f"INSERT INTO demands VALUES {demands}; UPDATE totals2 SET scrap = scrap + {100 * count};"
-        f"UPDATE meta SET value = {HISTORY + count} WHERE name <> 'version'",
-    )
-    shop, before = trial.shop(store), len(yard.lines)
-    yard.acts = yard.demands = HISTORY + count
-    for act in range(1, 21):
-        yard.cut(f"{act}/0", f"x30 p{demand + act} r")
-        yard.reserve(f"{act}/1", f"x30 p{demand + act} r")
-    for line in yard.lines[before:]:
-        trial.holds(b'"ok"' in shop.reply(line), line)
+def served(trial, path):
+    shop = trial.shop(path)
+    trial.holds(shop.is_open, f"{path}: {getattr(shop, 'errors', b'')}")
     return shop
 
 
-def costs(trial, shop):
-    """How many seconds of a processor each question takes, and a message; the least of some rounds."""
-    asked = {
-        "materials": '{"ask":"materials"}',
-        "totals": '{"ask":"totals","material":"STEEL"}',
-        "parts": '{"after":"","ask":"parts","material":"STEEL"}',
-        "parts behind": '{"after":"15/0","ask":"parts","material":"STEEL"}',
-        "demands": '{"after":0,"ask":"demands"}',
-        "demands of a material": '{"after":0,"ask":"demands","material":"STEEL"}',
-        "demands behind": f'{{"after":{HISTORY - 1},"ask":"demands"}}',
-        "jobs": '{"after":0,"ask":"jobs"}',
-        "job": f'{{"ask":"job","job":{HISTORY}}}',
-        "rack": '{"ask":"rack","material":"STEEL"}',
-        "terminal": '{"ask":"terminal","terminal":1}',
-        "orders": '{"after":"","ask":"orders"}',
-        "orders behind": '{"after":"OLD-5","ask":"orders"}',
-        "lines": '{"ask":"lines","order":"A-1-1"}',
-        "lines of an old order": '{"ask":"lines","order":"OLD-500"}',
-    }
-    told, number = {}, 0
+@case(
+    "70000 receipts in memory",
+    "`replay` keeps apart 70000 receipts of a unit each, every one of a batch of its own: the last are listed and traced, and "
+    "the very last is returned.",
+)
+def many_receipts(trial):
+    yard, count = Yard(), 70000
+    yard.material("STEEL", 3)
+    for it in range(1, count + 1):
+        yard.send(do="receive", material="STEEL", batch=f"B-{it}", w=it, h=1, count=1)
+    yard.send(do="return", part=f"{count}/0")
+    asked = [compact({"ask": "trace", "part": f"{it}/0"}) for it in (1, 65535, 65536, 65537, count)]
+    asked.append(compact({"ask": "parts", "after": f"{count - 3}/0", "material": "STEEL"}))
+    told = [json.loads(it) for it in trial.replay([*yard.lines, *asked]).out.split(b"\n")[:-1]]
+    trial.equal([it for it in told if "ok" not in it], [])
+    for it in told[-6:-1]:
+        act = it["w"]
+        state = "returned" if act == count else "standing"
+        wanted = {"batch": f"B-{act}", "part": f"{act}/0", "root": f"{act}/0", "state": state}
+        trial.equal({key: it[key] for key in wanted}, wanted)
+    trial.equal([it["w"] for it in told[-6:-1]], [1, 65535, 65536, 65537, count])
+    last = [(f"{it}/0", f"B-{it}") for it in (count - 2, count - 1)]
+    trial.equal([(it["part"], it["batch"]) for it in told[-1]["parts"]], last)
+
+
+@case(
+    "repeats of orders of 13, 100 and 200 lines",
+    "Orders of 13, 100 and 200 lines and an order file of 200, sent again, have their replies, also when the shop is opened "
+    "again; with another last line they are refused 11. Plans of 13 and of 40 of their demands hold a piece of each.",
+)
+def long_repeats(trial):
+    yard, text = Yard(), HEADER + "".join(f"{it},B,3.0,0.1,no,3,30\n" for it in range(1, 201))
+    yard.material("B")
+    yard.receive("B", 400)
+    steps, others = [(yard.lines[0], added("B")), (yard.lines[1], '{"act":1,"count":1,"ok":"receive"}')], []
+    for count in (13, 100, 200):
+        first = yard.bars("B", *[(10, 1)] * count)
+        order = json.loads(yard.lines[-1])
+        steps.append((yard.lines[-1], compact({"count": count, "first": first, "ok": "order", "order": order["order"]})))
+        order["lines"][-1]["count"] = 2
+        others.append((compact(order), refused(11, "NumberReused")))
+    wanted = compact({"act": 0, "count": 200, "first": yard.demands + 1, "ok": "import", "order": "C-1"})
+    steps.append((imported(90, "C-1", "csv", text), wanted))
+    others.append((imported(90, "C-1", "csv", text.replace("\n200,B,3.0", "\n200,B,3.1")), refused(11, "NumberReused")))
+    over_both(trial, [*steps, *steps, *others, *steps])
+    shop = trial.shop()
+    for line, reply in [*steps, *others]:
+        trial.equal(shop.reply(line).decode(), reply, line[:200])
+    for count in (13, 40):
+        asked = {"ask": "plan", "demands": list(range(1, count + 1)), "part": "1/0", "step": 0}
+        told = json.loads(shop.reply(compact(asked)))
+        pieces = cut_from(400, 1, 0, {it: (10, 1, False) for it in range(1, count + 1)}, told["tree"])
+        trial.equal((told["worth"], pieces), (count, Counter(range(1, count + 1))))
+
+
+# A shop that is old.
+
+# The least of so many rounds counts, in each of which each thing is done so many times.
+ROUNDS, TIMES = 4, 25
+
+# A demand of which many pieces are wanted, and one whose wanted pieces are said anew.
+PLENTY, SAID = 39, 40
+
+
+def begun():
+    """A yard with 20 units of three bars and an order of 40 open demands."""
+    yard = Yard()
+    yard.material("STEEL", 3)
+    yard.bars("STEEL", *[(30, 9)] * 40)
+    yard.amend(PLENTY, 1000000)
+    for _ in range(20):
+        yard.receive("STEEL", 100, 1, 3)
+    return yard
+
+
+def work(yard):
+    """Cuts a bar of each unit, of which a remnant is left, and reserves another one."""
+    for act in range(1, 21):
+        yard.cut(f"{act}/0", f"x30 p{act} r")
+        yard.reserve(f"{act}/1", f"x30 p{act} r")
+
+
+def history_file(trial, count):
+    """A store with such units and demands, and so much history behind them; it is made once."""
+
+    def make(path):
+        yard = begun()
+        shop = yard.serve(trial, path, limit=len(yard.lines))
+        trial.equal(shop.end()[0], 0)
+        tables.insert(path, aged.history(count, "STEEL"))
+        tables.change(path, f"UPDATE totals2 SET scrap = scrap + {100 * count}")
+
+    return aged.once(f"history-{count}.db", make)
+
+
+def old_store(trial, count, more=0):
+    """A shop over a file with such units and demands, so much history, and then such remnants and jobs; where `more` is said also
+    so many waiting jobs and open demands between."""
+    path = shutil.copy(history_file(trial, count), trial.path(f"old-{count}.db"))
+    rows, first = aged.open_work(more, "STEEL", 100, 1, aged.WORK, aged.WORK, "WORK")
+    tables.insert(path, rows)
+    yard = begun().then(2)
+    yard.acts = yard.demands = first + more if more else aged.HISTORY + count
+    sums = f"received = received + {100 * more}, stock = stock + {100 * more}"
+    tables.change(path, f"UPDATE totals2 SET {sums}; UPDATE meta SET value = {yard.acts} WHERE name <> 'version'")
+    work(yard)
+    shop = trial.shop(path)
+    yard.fill(trial, shop)
+    return shop
+
+
+def old_memory(trial, count):
+    """The same in memory, behind so many parts that were cut, and a fifth of so many orders and jobs."""
+    yard = begun()
+    cut = yard.then(5)
+    aged.cut_up(cut, "STEEL", count)
+    undone = cut.then(3)
+    aged.undone(undone, "STEEL", count // 5, "20/2")
+    last = undone.then(2)
+    work(last)
+    shop = Replay(trial, {})
+    lines = [*yard.lines, *cut.lines, *undone.lines, *last.lines]
+    trial.equal([it for it in shop.replies(lines) if b'"ok"' not in it], [])
+    return shop, cut, undone
+
+
+# What is asked of either book, by its name.
+ASKED = {
+    "materials": '{"ask":"materials"}',
+    "totals": '{"ask":"totals","material":"STEEL"}',
+    "parts": '{"after":"","ask":"parts","material":"STEEL"}',
+    "parts behind": '{"after":"15/0","ask":"parts","material":"STEEL"}',
+    "demands": '{"after":0,"ask":"demands"}',
+    "demands of a material": '{"after":0,"ask":"demands","material":"STEEL"}',
+    "demand": '{"ask":"demand","demand":7}',
+    "jobs": '{"after":0,"ask":"jobs"}',
+    "rack": '{"ask":"rack","material":"STEEL"}',
+    "trace": '{"ask":"trace","part":"20/2"}',
+    "terminal": '{"ask":"terminal","terminal":1}',
+    "orders": '{"after":"","ask":"orders"}',
+    "lines": '{"ask":"lines","order":"A-1-1"}',
+    "plan": '{"ask":"plan","demands":[1,2,3],"part":"20/2","step":0}',
+    "bound": '{"ask":"bound","demands":[1,2,3],"h":1,"material":"STEEL","step":0,"w":100}',
+    "plans": '{"ask":"plans","calls":1,"demands":[1],"material":"STEEL","parts":["19/2","20/2"]}',
+    "plans of all": '{"ask":"plans","calls":1,"material":"STEEL"}',
+}
+
+
+def ask(trial, shop, asked):
+    """Asks what a line asks, or a path."""
+    told = shop.get(asked) if asked.startswith("/") else shop.reply(asked)
+    trial.holds(told.startswith(b"HTTP/1.1 200 OK") if asked.startswith("/") else b'"ok"' in told, f"{asked}: {told[:200]}")
+    return told
+
+
+def costs(trial, shop, asked):
+    """How many seconds of a processor each question takes, by its name, and each message; the least of some rounds."""
+    numbers, told = itertools.count(1), {}
+
+    def send(**keys):
+        return json.loads(ask(trial, shop, compact({**keys, "number": next(numbers), "terminal": 7})))
+
+    def receive():
+        return f"{send(do='receive', material='STEEL', batch='B', w=100, h=1, count=1)['act']}/0"
+
+    def reserve(part):
+        return send(do="reserve", part=part, tree=f"x30 p{PLENTY} r")["job"]
+
+    deeds = {name: lambda line=line: ask(trial, shop, line) for name, line in asked.items()}
+    deeds["a receipt"] = receive
+    deeds["an amend"] = lambda: send(do="amend", demand=SAID, wanted=7)
+    deeds["a reservation and its release"] = lambda: send(do="release", job=reserve("20/2"))
+    deeds["a cut"] = lambda: send(do="done", job=reserve(receive()))
+    deeds["a scrap"] = lambda: send(do="scrap", part=receive())
     for _ in range(ROUNDS):
-        for name, keys in [*asked.items(), ("message", RECEIVE), ("amend", AMEND)]:
+        for name, deed in deeds.items():
             before = shop.busy()
             for _ in range(TIMES):
-                number += 1
-                reply = shop.reply(keys if isinstance(keys, str) else compact({**keys, "number": number, "terminal": 7}))
-                trial.holds(b'"ok"' in reply, f"{name}: {reply}")
+                deed()
             told.setdefault(name, []).append(shop.busy() - before)
     return {name: min(its) for name, its in told.items()}
 
 
+def at_most_thrice(trial, few, many, counts):
+    """Each thing takes at most three times the processor time that it takes behind less history."""
+    for name, seconds in many.items():
+        behind = [f"{1e6 * it / TIMES:.0f} microseconds behind {count}" for it, count in zip((few[name], seconds), counts)]
+        trial.holds(seconds <= 3 * few[name], f"{name}: {' and '.join(behind)}")
+
+
+# How much history: of few and of many parts.
+HISTORIES = (1000, 100000)
+
+
 @case(
     "questions and messages of an old shop",
-    "Behind 100000 parts, jobs and orders of history each list, a job, an order, a rack, the totals, a message and an amend take "
-    "at most three times the processor time that they take behind 1000.",
+    "Behind 100000 parts, jobs, orders and messages of history each list, job, order, ticket and report, a rack, the totals, a "
+    "plan, a repeat and each message take at most three times the processor time that they take behind 1000.",
 )
 def old_shop(trial):
-    few, many = [costs(trial, old_store(trial, it)) for it in (1000, 100000)]
-    for name, seconds in many.items():
-        why = f"{name}: {1e6 * seconds / TIMES:.0f} microseconds behind 100000, {1e6 * few[name] / TIMES:.0f} behind 1000"
-        trial.holds(seconds <= 3 * few[name], why)
+    job, (repeat, reply) = aged.HISTORY, aged.scrapped(500)
+    asked = ASKED | {
+        "demands behind": f'{{"after":{job - 1},"ask":"demands"}}',
+        "job": f'{{"ask":"job","job":{job}}}',
+        "trace of an old part": f'{{"ask":"trace","part":"{job}/0"}}',
+        "old demand": f'{{"ask":"demand","demand":{job}}}',
+        "terminal of many": f'{{"ask":"terminal","terminal":{aged.EARLIER}}}',
+        "orders behind": '{"after":"OLD-5","ask":"orders"}',
+        "lines of an old order": '{"ask":"lines","order":"OLD-500"}',
+        "ticket": f"/ticket/{job}",
+        "yield": "/yield/STEEL",
+        "repeat": repeat,
+    }
+    told = []
+    for count in HISTORIES:
+        shop = old_store(trial, count)
+        trial.equal(shop.reply(repeat).decode(), reply)
+        trial.equal(json.loads(shop.reply(asked["terminal of many"]))["last"], count - 1)
+        told.append(costs(trial, shop, asked))
+    at_most_thrice(trial, *told, HISTORIES)
+
+
+@case(
+    "questions and messages of an old shop in memory",
+    "The same of `replay`, behind 100000 parts that were cut, 20000 orders and 20000 jobs, and behind a hundredth of that.",
+)
+def old_in_memory(trial):
+    told = []
+    for count in HISTORIES:
+        shop, cut, undone = old_memory(trial, count)
+        asked = ASKED | {
+            "demands behind": f'{{"after":{cut.demands - 1},"ask":"demands"}}',
+            "job": f'{{"ask":"job","job":{undone.acts - 1}}}',
+            "trace of an old part": f'{{"ask":"trace","part":"{cut.acts}/1"}}',
+            "old demand": f'{{"ask":"demand","demand":{cut.demands}}}',
+            "terminal of many": '{"ask":"terminal","terminal":3}',
+            "orders behind": '{"after":"A-3-","ask":"orders"}',
+            "lines of an old order": compact({"ask": "lines", "order": json.loads(undone.lines[-4])["order"]}),
+            "repeat": undone.lines[100],
+        }
+        told.append(costs(trial, shop, asked))
+        trial.equal(shop.end(), (0, b""))
+    at_most_thrice(trial, *told, HISTORIES)
+
+
+@case(
+    "lists of much work in an old shop",
+    "5000 waiting jobs and 5000 open demands behind 100000 of history are listed, from any number on, in at most three times "
+    "the processor time that they take behind 1000.",
+)
+def much_work(trial):
+    told, more = [], 5000
+    first = aged.WORK + more // 100
+    asked = {
+        "jobs": '{"after":0,"ask":"jobs"}',
+        "jobs in between": f'{{"after":{first + more // 2},"ask":"jobs"}}',
+        "last jobs": f'{{"after":{first + more - 50},"ask":"jobs"}}',
+        "demands": '{"after":0,"ask":"demands"}',
+        "demands of a material": f'{{"after":{aged.HISTORY},"ask":"demands","material":"STEEL"}}',
+        "last demands": f'{{"after":{aged.WORK + more - 50},"ask":"demands"}}',
+    }
+    for count in HISTORIES:
+        shop = old_store(trial, count, more)
+        behind = json.loads(shop.reply(asked["jobs in between"]))["jobs"]
+        trial.equal([it["job"] for it in behind], [first + more // 2 + it for it in range(1, 101)])
+        told.append(costs(trial, shop, asked))
+    at_most_thrice(trial, *told, HISTORIES)

@@ -1,10 +1,16 @@
 """Order files that the program reads by itself, and its version."""
 
+import glob
 import json
+import os
 import re
 import subprocess
 
+from cases.command_line import mistaken
 from kit.case import SECONDS, case, fault_in
+from kit.shop import VERSION
+
+TOP = os.path.join(os.path.dirname(os.path.abspath(__file__)), "..", "..")
 
 HEADER = "line,material,length,width,turn,count,worth\n"
 
@@ -137,36 +143,55 @@ def unread(trial):
 @case(
     "words of an order's message",
     "The three options come together or not at all, with a code, a terminal of 1 to 4294967295 and a number of 0 to "
-    "4294967295; all else ends with status 2.",
+    "4294967295; all else ends with status 2 and a text that names it.",
 )
 def words(trial):
     path = trial.write("orders.csv", HEADER)
     order, terminal, number = MESSAGE[:2], MESSAGE[2:4], MESSAGE[4:]
-    mistakes = [order, terminal, number, order + terminal, order + number, terminal + number]
-    mistakes += [("--order", "a-1") + terminal + number, ("--order", "") + terminal + number, MESSAGE + order]
-    mistakes += [order + ("--terminal", it) + number for it in ("0", "4294967296", "-1", "x")]
-    mistakes += [order + terminal + ("--number", it) for it in ("4294967296", "-1", "x", "")]
-    for options in mistakes:
-        ran = trial.run("orders", path, *options)
-        trial.equal((ran.status, ran.out, ran.err[:7]), (2, b"", b"error: "), " ".join(options))
+    together = [order, terminal, number, order + terminal, order + number, terminal + number]
+    mistakes = [(it, "--order, --terminal and --number of orders stand together") for it in together]
+    mistakes += [(("--order", it) + terminal + number, "--order are codes") for it in ("a-1", "")]
+    mistakes += [(MESSAGE + order, "'--order <CODE>'"), (order + ("--terminal", "-1") + number, "'-1'")]
+    mistakes += [(order + ("--terminal", it) + number, f"'{it}' for '--terminal <N>'") for it in ("0", "4294967296", "x")]
+    mistakes += [(order + terminal + ("--number", "-1"), "'-1'")]
+    mistakes += [(order + terminal + ("--number", it), f"'{it}' for '--number <N>'") for it in ("4294967296", "x", "")]
+    for options, named in mistakes:
+        mistaken(trial, ("orders", path, *options), named)
+    mistaken(trial, ("orders",), "<FILE>")
     for terminal, number in (("1", "0"), ("4294967295", "4294967295")):
         ran = trial.run("orders", path, *order, "--terminal", terminal, "--number", number)
         value = json.loads(ran.out)
         trial.equal((ran.status, value["terminal"], value["number"]), (0, int(terminal), int(number)))
-    trial.equal(trial.run("orders").status, 2, "no file")
 
 
-@case("the version", "`--version` and `-V` print `cutshop` and the version on one line, with status 0.")
+@case(
+    "the version",
+    "`--version` and `-V` print `cutshop` and the version on one line, with status 0: the one that the documents tell of it.",
+)
 def version(trial):
+    told = set()
+    for path in glob.glob(f"{TOP}/*.md") + glob.glob(f"{TOP}/docs/*.md"):
+        with open(path, encoding="utf-8") as file:
+            told |= set(re.findall(r"\b(?:cutshop|[Vv]ersion) (\d+\.\d+\.\d+)\b", file.read()))
+    trial.equal(told, {VERSION}, "the documents")
     for word in ("--version", "-V"):
-        ran = trial.run(word)
-        trial.equal((ran.status, ran.err, bool(re.fullmatch(rb"cutshop \d+\.\d+\.\d+\n", ran.out))), (0, b"", True), ran.out)
+        trial.ended(trial.run(word), 0, f"cutshop {VERSION}\n", sent=word)
 
 
-@case("units in help", "Help says of each number in which unit it is.")
+# Of each command's help the lines of these words, and the unit that each says.
+UNITS = {
+    "plan": {"<FILE>": "tenths of a millimetre", "--kerf": "tenths of a millimetre", "--step": "tenths of a millimetre"},
+    "orders": {"<FILE>": "in millimetres"},
+    "serve": {"--shop": "in millimetres"},
+}
+
+
+@case("units in help", "Help says of each number and of each file in which unit it is, at its own line.")
 def units(trial):
     ran = trial.run("--help")
     trial.equal((ran.status, b"tenths of a millimetre" in ran.out, b"say millimetres" in ran.out), (0, True, True), ran.out)
-    for command, unit in (("plan", b"tenths of a millimetre"), ("orders", b"millimetres"), ("serve", b"millimetres")):
+    for command, words in UNITS.items():
         ran = trial.run(command, "--help")
-        trial.equal((ran.status, unit in ran.out), (0, True), command)
+        lines = [it.strip() for it in ran.out.decode().split("\n")]
+        said = {word: [unit in it for it in lines if it.startswith(word + " ")] for word, unit in words.items()}
+        trial.equal((ran.status, said), (0, {it: [True] for it in words}), command)

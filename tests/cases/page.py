@@ -2,7 +2,9 @@
 
 import concurrent.futures
 import html
+import importlib.util
 import json
+import os
 import re
 import signal
 
@@ -61,6 +63,21 @@ def alone(trial):
     addresses = set(re.findall(r"https?://[^\s\"'`]+", text))
     trial.equal(addresses, {"http://www.w3.org/2000/svg"})
     trial.equal(re.findall(r"innerHTML|outerHTML|insertAdjacentHTML|document\.write|eval\(|srcdoc|\son\w+=\"", text), [])
+
+
+@case(
+    "the page is joined of its files",
+    "`page/terminal.html` is what `page/join.py` makes of the files of `page/src`, in which each has its one place.",
+)
+def is_joined(trial):
+    folder = os.path.dirname(PAGE)
+    found = importlib.util.spec_from_file_location("join", os.path.join(folder, "join.py"))
+    join = importlib.util.module_from_spec(found)
+    found.loader.exec_module(join)
+    with open(PAGE, encoding="utf-8", newline="") as file:
+        trial.holds(file.read() == join.joined(), "it is another: run page/join.py")
+    named = re.findall(r"(?m)^\{\{(.+)\}\}$", join.source("document.html"))
+    trial.equal(sorted([*named, "document.html"]), sorted(os.listdir(os.path.join(folder, "src"))))
 
 
 @case(
@@ -502,7 +519,8 @@ PIECES = {"line": 1, "material": "STEEL", "w": 10000, "h": 1, "turn": False, "co
 @case(
     "what is reserved at the page is answered at once",
     "Reserve by Enter: nothing moves, the focus is at *Plan all*, Enter plans what is left and Tab leads to Reserve, also while the shop is "
-    "silent, whose plans then leave out what was reserved; a bar that another terminal takes is passed over, and that is told.",
+    "silent, whose plans then leave out what was reserved; where another terminal takes a bar the next of its size is planned, and that "
+    "is told.",
 )
 def answered_at_once(trial):
     with Terminal(trial, open_shop(trial)) as it:
@@ -545,10 +563,19 @@ def answered_at_once(trial):
         taken = it.value("chosenPlan().part")
         it.value(f"{by_id('reserve')}.focus()")
         trial.equal(send(3, do="reserve", part=taken, tree="x10000 p1 r").get("ok"), "reserve")
-        it.until(f"toCut.part === '' && !toCut.found && !toCut.tried.length")
-        words = f"Part {taken} doesn't stand any more: it was taken elsewhere."
+        (last,) = [row["part"] for row in it.ask("/parts/STEEL")["parts"] if row["state"] == "standing"]
+        it.until(f"toCut.part === {json.dumps(last)}")
+        it.planned()
+        words = f"Part {taken} doesn't stand any more: it was taken elsewhere. {last} is planned in its place."
+        trial.holds(it.text("planWords").startswith(words), it.text("planWords"))
+        trial.equal(it.value("[document.activeElement.id, countOf(toCut.found.plans)]"), ["planAll", 1])
+        it.key("Tab")
+        trial.equal(it.value("[document.activeElement.id, document.activeElement.textContent]"), ["reserve", f"Reserve {last}"])
+        trial.equal(send(4, do="scrap", part=last).get("ok"), "scrap")
+        it.until("toCut.part === '' && !toCut.found && !toCut.tried.length")
+        words = f"Part {last} doesn't stand any more: it was taken elsewhere."
         it.until(f"{by_id('planWords')}.textContent.startsWith({json.dumps(words)})")
-        trial.equal(it.value("document.activeElement.id"), "planAll")
+        trial.equal(it.value("document.activeElement.id"), "planTitle", "nothing is left to plan from")
         is_quiet(it)
 
 
@@ -662,8 +689,9 @@ def german(trial):
         trial.equal(it.value("document.querySelector('#receiveForm .fault').textContent"), wanted)
         is_german(it, "stock")
         for said in ("2 Zeilen bestellt, Bedarfe ab 1", "war schon bestellt, Bedarfe ab 1: nichts wurde getan"):
-            it.order_file("a-1", "glas.csv", "Material;Länge;Breite;Anzahl;Bemerkung\r\nGLASS;400,5;300;3;eilig\r\nGLASS;250;200;4;\r\n")
+            it.order_file("a-1", "glas.csv", "Material;Länge;Breite;Anzahl;Preis\r\nGLASS;400,5;300;3;9\r\nGLASS;250;200;4;\r\n")
             it.until("imports.last !== null")
+            trial.equal(it.value("document.querySelector('#csvPreview tbody').rows[1].cells[7].textContent"), "50000← leer")
             is_german(it, "orders")
             it.click(by_id("sendCsv"))
             it.says(f"Auftrag A-1 aus einer Datei: {said}")

@@ -483,6 +483,7 @@ def yields(trial):
         trial.equal(it.value(drawn), [[971], [42], [667], [333]])
         it.click("document.querySelector('#yieldBars [data-key=ySTEEL]')")
         it.until(f"{by_id('report')}.textContent.includes('pieces of what was used up66.6')")
+        trial.equal(it.value("document.body.innerText.match(/\\bkg\\b/g)"), None, "weights, which nobody knows")
         it.at_widths("yield-shares")
         is_quiet(it)
 

@@ -1,4 +1,4 @@
-"""What README.md and docs/EXAMPLES.md show as typed is what the program answers."""
+"""What README.md and docs/FORMATS.md show as typed is what the program answers."""
 
 import json
 import os
@@ -45,10 +45,10 @@ def tour(trial):
 
 @case(
     "the order file as typed",
-    "The import of docs/EXAMPLES.md and the messages behind it get the replies that stand there, where STEEL is known.",
+    "The import of docs/FORMATS.md and the messages behind it get the replies that stand there, where STEEL is known.",
 )
 def order_file(trial):
-    sent, wanted = exchanged(blocks("docs/EXAMPLES.md", "\n## An order file\n", "\n## A ticket and a yield report\n"))
+    sent, wanted = exchanged(blocks("docs/FORMATS.md", "\nAn order file (`read_orders`)", "\nA shop file (`read_shop`)"))
     steel = '{"do":"material","kerf":3,"kind":"bar","material":"STEEL","min_long":20,"min_short":1,"number":1,"terminal":1}'
     ran = trial.replay([steel, *sent])
     trial.equal(ran.out.decode().split("\n")[1:-1], wanted, "\n".join(sent))

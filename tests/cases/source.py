@@ -5,7 +5,7 @@ import os
 import re
 from functools import cache
 
-from kit.case import case
+from kit.case import Failed, case
 
 TOP = os.path.join(os.path.dirname(os.path.abspath(__file__)), "..", "..")
 
@@ -29,6 +29,7 @@ LISTED = {
     "shop_planning/src/thought.rt want_of_memory": "a search for what was judged before, whose only fault then is this one, by its contract",
     "shop_request/src/routes.rt new": "the router takes the routes, which are constants, but for want of memory",
     "shop_rows/src/part_rows.rt reserve": "a number of origins of 32 bits: acts end at 2147483647, and each begins one at most",
+    "shop_serve/src/answers.rt note_want": "what the watch told of a backup is asked for, to be noted",
     "shop_serve/src/lines.rt ask": "there is no answer where memory is wanting for it",
     "shop_store/src/named_parts.rt searched_parts": "the taker of parts stops where its list has no room",
     "shop_text/src/yields.rt report_text": "the taker of a report's lines stops where its text has no room",
@@ -219,12 +220,16 @@ def read(path):
 
 def cited(text):
     """The constants of the code that a definition's text cites: crate, module and name of each, by the name that it has there."""
-    found = {}
-    for crate, module, names in re.findall(r"Rattle\.(\w+)\.specs\.declared\.([\w.]+)\.TheConstants\.\{([^}]*)\}", text):
+    found, mentions = {}, 0
+    for crate, module, names in re.findall(r"Rattle\.(\w+)\.specs\.declared\.([\w.]+)\.TheConstants\.\{([A-Z_0-9,\s]*)\}", text):
         found |= {name: f"{crate} {module} {name}" for name in re.split(r"[,\s]+", names.strip())}
+        mentions += 1
     for crate, module, short in re.findall(r"Rattle\.(\w+)\.specs\.declared\.([\w.]+)\.TheConstants as (\w+)", text):
         used = re.findall(rf"\b{short}\.([A-Z_0-9]+)\b", text)
         found |= {f"{short}.{name}": f"{crate} {module} {name}" for name in used}
+        mentions += 1
+    if mentions != len(re.findall(r"\bTheConstants\b", text)):
+        raise Failed(f"\n  constants are cited in another form: {re.findall('.*TheConstants.*', text)}")
     return found
 
 
@@ -237,22 +242,94 @@ def texts(kind):
     return [read(it) for it in sorted(glob.glob(f"{TOP}/crates/*/{folder}/**/*.{ending}", recursive=True))]
 
 
+def equations(text):
+    """The names that a text says to be a number."""
+    return re.findall(rf"[:{{]\s*([\w.]+)\s*≡\s*{NUMBER}\s*(?:\}}|$)", text, re.MULTILINE)
+
+
+def lawful(text, laws):
+    """The names that a definition's text says to be a number, in a record that is one of these laws."""
+    records = re.findall(r"(?m)^(?:pub )?record (\w+)[^\n]*\n((?:[ \t][^\n]*\n|\n)*)", text)
+    return [it for record, body in records if record in laws for it in equations(body)]
+
+
+@cache
+def numbered():
+    """The constants that a definition or a contract cites, and those whose number a law has."""
+    definitions, sources = texts("definitions"), texts("sources")
+    # (a law that is a record is a clause with nothing but its name)
+    laws = {it for text in sources for it in re.findall(r"\bensures \w+ \{ (\w+) \}", text)}
+    every, known, stated = set(), set(), set()
+    said = [*[(it, lawful(it, laws)) for it in definitions], *[(it, equations(it)) for it in sources]]
+    for text, equal in said:
+        by_name = cited(text)
+        every |= set(by_name.values())
+        known |= {by_name[it] for it in equal if it in by_name}
+        stated |= set(equal)
+    for text in definitions:
+        by_name = cited(text)
+        known |= {by_name[it] for name, it in re.findall(r"(?m)^(\w+) = ([\w.]+)$", text) if name in stated and it in by_name}
+    return every, known
+
+
 @case(
     "constants have their numbers in a law",
     "Each constant of the code that a definition or a contract cites has its number in a law, as in `limits_have_numbers`, by its "
     "own name or by that of the definition that is it; others are those of a list, with their reasons, and each of these is one.",
 )
 def numbers(trial):
-    definitions, sources = texts("definitions"), texts("sources")
-    every, known, stated = set(), set(), set()
-    for text in definitions + sources:
-        by_name = cited(text)
-        every |= set(by_name.values())
-        equal = re.findall(rf"[:{{]\s*([\w.]+)\s*≡\s*{NUMBER}\s*(?:\}}|$)", text, re.MULTILINE)
-        known |= {by_name[it] for it in equal if it in by_name}
-        stated |= set(equal)
-    for text in definitions:
-        by_name = cited(text)
-        known |= {by_name[it] for name, it in re.findall(r"(?m)^(\w+) = ([\w.]+)$", text) if name in stated and it in by_name}
+    every, known = numbered()
     trial.holds(len(every) > 20, f"{len(every)} constants")
     trial.equal(sorted(every - known), sorted(NUMBERLESS))
+
+
+# Crates whose answers are hints, and programs of the gate: what limits them is promised to nobody.
+HINTING = {"cut_search", "cut_master", "cut_fill_bars", "cut_fill_sheets", "shop_examples", "cut_example"}
+
+# The number of each other constant that no law has, and what it would change that no clause says.
+LAWLESS = {
+    "cut_tree read MOST_WORDS": ("512", "one word more than a tree of 255 cuts has: the contract has the first fault at one of these"),
+    "shop_backup backing MOST_BACKUPS": ("1000000", "the greatest number of a backup, as the formats have it"),
+    "shop_backup backing ROOM": ("65536", "how much of a file is in memory at once"),
+    "shop_backup folders MOST_TRIES": ("1000", "how often an interrupted call is made again"),
+    "shop_planning asking ALL_ROWS": ("MOST_NUMBERS as usize", "all rows of a list, of which none has a greater number"),
+    "shop_planning asking FIRST_ROWS": ("2000", "so many rows are read first; where these don't suffice all are"),
+    "shop_problems wholes USUAL_CALLS": ("500", "tables of a search where the words say no number, as the formats have it"),
+    "shop_request fields LONGEST_BODY": ("131072", "the definition `most_body` has the number"),
+    "shop_request heads LONGEST_HEAD": ("8192", "the definition `most_head` has the number"),
+    "shop_request heads MOST_FIELDS": ("64", "the definition `most_fields` has the number"),
+    "shop_request pieces ROOM": ("8192", "how much a read of a request brings at most"),
+    "shop_rows part_rows MOST_ORIGINS": ("4294967296", "more are told as want of memory: no more begin, as acts end at 2147483647"),
+    "shop_rows sums TOO_LARGE": ("18446744073709551616", "sums that 64 bits don't hold are no totals"),
+    "shop_serve connections MOST_TRIES": ("1000", "how often an interrupted call is made again"),
+    "shop_serve ports MOST_EVENTS": ("256", "how many connections are reported at once; others are in the next report"),
+    "shop_serve ports MOST_TRIES": ("1000", "how often it is tried to accept one, where those that waited went away"),
+    "shop_serve serving MOST_ACCEPTED": ("64", "how many are accepted before others are attended to"),
+    "shop_serve serving TURN": ("1", "seconds between looks at those that had their time"),
+    "shop_serve thinking MOST_THOUGHTS": ("8", "questions that are thought about at once; others wait"),
+    "shop_serve transfers MOST_BYTES": ("150000", "more bytes than come of any request that is read"),
+    "shop_serve transfers MOST_DROPS": ("1024", "reads at once of what is dropped: more than a socket keeps"),
+    "shop_serve transfers ROOM": ("8192", "how much a read of a connection brings at most"),
+    "shop_store names ROWS_A_LOOK": ("32", "where more than one part in so many stands all rows are gone through"),
+    "shop_store open_work TOO_MANY": ("4294967295", "of so much open work none is listed, and each look searches"),
+    "shop_streams counted MOST_TRIES": ("1000", "how often an interrupted call is made again"),
+    "shop_tables lending MOST_ROWS": ("18446744073709551615", "of more rows than are there the rest is told as a fault of the store"),
+    "shop_wire limits ROOM": ("65536", "how much a read of lines brings at most"),
+}
+
+
+@case(
+    "numbers that no law has",
+    "Each other whole number that is a constant of the code stands in a list, with its number and what it would change that no "
+    "clause says, but those of crates that give hints alone; and each of the list is one.",
+)
+def lawless(trial):
+    _, known = numbered()
+    found = {}
+    for path, code in sources().items():
+        crate, _, file = path.partition("/src/")
+        module = file.removesuffix(".rt").replace("/", ".")
+        for name, value in re.findall(r"\bconst (\w+): (?:[iu]\d+|[iu]size) =\s*([^;]+);", code):
+            if crate not in HINTING and f"{crate} {module} {name}" not in known:
+                found[f"{crate} {module} {name}"] = value.replace("_", "") if value[0].isdigit() else value
+    trial.equal(found, {name: number for name, (number, _) in LAWLESS.items()})

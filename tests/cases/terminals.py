@@ -50,26 +50,32 @@ class Terminal:
         keys |= {"terminal": self.number, "number": index + 1}
         return json.dumps(keys, sort_keys=True, separators=(",", ":"))
 
+    def send(self, shop, index):
+        """Sends its message of an index. Whether a whole answer came, and what of it differs from an earlier one."""
+        line = self.message(index)
+        begin = time.monotonic()
+        try:
+            head, _, body = shop.exchange(request_of(line)).partition(b"\r\n\r\n")
+        except OSError:
+            return False, None
+        self.slowest = max(self.slowest, time.monotonic() - begin)
+        if f"Content-Length: {len(body)}".encode() not in head.split(b"\r\n") or not body:
+            return False, None
+        if b'"ok"' not in body:
+            return True, f"{line} is answered {body}"
+        if index == len(self.told):
+            self.told.append((line, body.decode()))
+        elif self.told[index] != (line, body.decode()):
+            return True, f"{line} was answered {self.told[index][1]} and is answered {body}"
+        return True, None
+
     def send_all(self, shop, count):
         """Sends its messages from the first on, and stops where no whole answer comes. Gives what of the answers differs
         from an earlier one."""
         for index in range(count):
-            line = self.message(index)
-            begin = time.monotonic()
-            try:
-                head, _, body = shop.exchange(request_of(line)).partition(b"\r\n\r\n")
-            except OSError:
-                return None
-            self.slowest = max(self.slowest, time.monotonic() - begin)
-            if f"Content-Length: {len(body)}".encode() not in head.split(b"\r\n") or not body:
-                return None
-            if b'"ok"' not in body:
-                return f"{line} is answered {body}"
-            if index < len(self.told):
-                if self.told[index] != (line, body.decode()):
-                    return f"{line} was answered {self.told[index][1]} and is answered {body}"
-            else:
-                self.told.append((line, body.decode()))
+            is_whole, fault = self.send(shop, index)
+            if not is_whole or fault:
+                return fault
         return None
 
 

@@ -4,7 +4,7 @@
 import random
 from functools import cache
 
-from cases.command_line import MISTAKE, over
+from cases.command_line import all_mistaken, over
 from cases.memory import sweep
 from kit.case import Failed, case
 from kit.faults import Faults
@@ -339,43 +339,44 @@ def calls(trial):
     told(trial, sheet(10, 8, (4, 3, 4)), 1, (1, 1, "yes", 0), "--calls", 5000)
 
 
+# Mistakes, each with what its text names.
 MISTAKES = """
-plan a.txt --whole
-plan --whole --kerf 1
-plan a.txt --whole --kerf
-plan a.txt --whole --whole --kerf 1
-plan a.txt --whole=yes --kerf 1
-plan a.txt yes --whole --kerf 1
-plan a.txt --Whole --kerf 1
-plan a.txt --whole --kerf 201
-plan a.txt --whole --kerf 1 --kerf 2
-plan a.txt --whole --kerf 1 --step 200001
-plan a.txt --whole --kerf 1 --step -1
-plan a.txt --whole --kerf 1 --step
-plan a.txt --whole --kerf 1 --step 2 --step 2
-plan a.txt --whole --kerf 1 --calls 0
-plan a.txt --whole --kerf 1 --calls 5001
-plan a.txt --whole --kerf 1 --calls 4294967296
-plan a.txt --whole --kerf 1 --calls x
-plan a.txt --whole --kerf 1 --calls -1
-plan a.txt --whole --kerf 1 --calls
-plan a.txt --whole --kerf 1 --calls 2 --calls 3
-plan a.txt --whole --kerf 1 --turn
-plan a.txt b.txt --whole --kerf 1
-plan a.txt --kerf 1
-plan a.txt --kerf 1 --calls 5
-plan a.txt --kerf 1 --step 1 --calls 5
-plan a.txt --kerf 1 --step 1 --whole=no
-orders a.csv --whole
-replay --whole
-ticket --store a.db 1 --whole
+plan a.txt --whole = --kerf <N>
+plan --whole --kerf 1 = <FILE>
+plan a.txt --whole --kerf = '--kerf <N>'
+plan a.txt --whole --whole --kerf 1 = '--whole'
+plan a.txt --whole=yes --kerf 1 = '--whole'
+plan a.txt yes --whole --kerf 1 = 'yes'
+plan a.txt --Whole --kerf 1 = '--Whole'
+plan a.txt --whole --kerf 201 = '201' for '--kerf <N>'
+plan a.txt --whole --kerf 1 --kerf 2 = '--kerf <N>'
+plan a.txt --whole --kerf 1 --step 200001 = '200001' for '--step <N>'
+plan a.txt --whole --kerf 1 --step -1 = '-1'
+plan a.txt --whole --kerf 1 --step = '--step <N>'
+plan a.txt --whole --kerf 1 --step 2 --step 2 = '--step <N>'
+plan a.txt --whole --kerf 1 --calls 0 = '0' for '--calls <N>'
+plan a.txt --whole --kerf 1 --calls 5001 = '5001' for '--calls <N>'
+plan a.txt --whole --kerf 1 --calls 4294967296 = '4294967296' for '--calls <N>'
+plan a.txt --whole --kerf 1 --calls x = 'x' for '--calls <N>'
+plan a.txt --whole --kerf 1 --calls -1 = '-1'
+plan a.txt --whole --kerf 1 --calls = '--calls <N>'
+plan a.txt --whole --kerf 1 --calls 2 --calls 3 = '--calls <N>'
+plan a.txt --whole --kerf 1 --turn = '--turn'
+plan a.txt b.txt --whole --kerf 1 = 'b.txt'
+plan a.txt --kerf 1 = --step or --whole
+plan a.txt --kerf 1 --calls 5 = --calls only with --whole
+plan a.txt --kerf 1 --step 1 --calls 5 = --calls only with --whole
+plan a.txt --kerf 1 --step 1 --whole=no = '--whole'
+orders a.csv --whole = '--whole'
+replay --whole = '--whole'
+ticket --store a.db 1 --whole = '--whole'
 """
 
 
 @case(
     "words of a whole order",
     "The words of `plan --whole` stand in any order, numbers with a plus, zeros or an equals sign; help names `--whole` and "
-    "`--calls`; a number out of its range, whose text names it, a word twice, one without its value and `--calls` alone are mistakes.",
+    "`--calls`; a number out of its range, a word twice, one without its value and `--calls` alone are mistakes, whose text names them.",
 )
 def words(trial):
     path, problem = trial.write("order.txt", bar(100, (30, 10)).text()), bar(100, (30, 10))
@@ -388,9 +389,7 @@ def words(trial):
         trial.ended(trial.run("plan", *line.split(" ")), 0, text, sent=line)
     trial.write("-order.txt", problem.text())
     trial.ended(trial.run("plan", "--whole", "--kerf", "3", "--calls", "9", "--step", "2", "--", "-order.txt"), 0, text)
-    for line in MISTAKES.strip().split("\n"):
-        ran = trial.run(*line.split(" "))
-        trial.equal((ran.status, ran.out, ran.err[:7]), (2, b"", MISTAKE), line)
+    all_mistaken(trial, MISTAKES)
     for option, value, why in (
         ("--calls", "5001", "5001 is not in 1..=5000"),
         ("--calls", "0", "0 is not in 1..=5000"),

@@ -3,10 +3,12 @@
 import os
 import subprocess
 import threading
+from contextlib import suppress
 from dataclasses import dataclass
 
 from kit import exchanges, tables
 from kit.case import SECONDS
+from kit.shop import busy
 
 QUESTIONS = [f'{{"ask":"totals","material":"{it}"}}' for it in ("STEEL", "GLASS")]
 QUESTIONS += ['{"ask":"rack","material":"GLASS"}', '{"ask":"demand","demand":1}', '{"ask":"demand","demand":3}']
@@ -109,6 +111,25 @@ class Replay:
         except BrokenPipeError:
             return b""
         return self.process.stdout.readline().removesuffix(b"\n")
+
+    def replies(self, lines):
+        """The replies to many lines, which are sent as fast as they are read."""
+        text = b"".join((it.encode() if isinstance(it, str) else it) + b"\n" for it in lines)
+
+        def write():
+            with suppress(BrokenPipeError):
+                self.process.stdin.write(text)
+                self.process.stdin.flush()
+
+        writer = threading.Thread(target=write)
+        writer.start()
+        told = [self.process.stdout.readline().removesuffix(b"\n") for _ in lines]
+        writer.join()
+        return told
+
+    def busy(self):
+        """For how many seconds it had a processor so far."""
+        return busy(self.process.pid)
 
     def end(self):
         """Its status and what it wrote on standard error, behind the last line."""

@@ -2,13 +2,14 @@
 
     = two bars                          the case's name
     A bar's cells are counted.          the sentence that it shows, up to the first mark below
-    after three pieces                  it begins with all that this case sends and wants
+    after three pieces                  it begins with all that this case, or this shop of shops.txt, sends and wants
     > {"ask":"totals","material":"A"}   a line of a terminal; an empty line is `>` alone
     < {"name":"NoMaterial","refused":20}    its reply
     ~ "GET / HTTP/1.1\\r\\n\\r\\n"          a request, as a text of JSON or a list of texts, each after a number that many times
     < 404                               its answer: a status, and `Allow: GET` or a body of JSON behind it; or `nothing`
     | job 2 done                        behind the status alone: a line of a body that is text
     # a remark
+        "h":8}                          four spaces: the line above goes on here
 
 A case's lines go to `cutshop replay` and, as requests over HTTP, to `cutshop serve` over a store file, which have to answer
 with the same bytes. Requests go to `serve` alone, whole and in pieces.
@@ -17,6 +18,7 @@ with the same bytes. Requests go to `serve` alone, whole and in pieces.
 import json
 import os
 from dataclasses import dataclass, field
+from functools import cache
 
 from kit import case as cases
 from kit.shop import answer, begin_line, end_line, request_of, status_of
@@ -102,29 +104,56 @@ def bytes_of(text):
     return b"".join(came)
 
 
-def read(path):
-    """Adds the cases of a file."""
-    known = {}
+# What cases begin with, by its name; a shop of this file is no case.
+SHOPS = os.path.join(os.path.dirname(os.path.abspath(__file__)), "..", "cases", "shops.txt")
+
+
+def lines_of(path):
+    """The lines of a file, each with the number at which it begins."""
+    lines = []
     with open(path, encoding="utf-8") as file:
         for number, line in enumerate(file, 1):
-            line, at = line.rstrip("\n"), f"{os.path.relpath(path)}:{number}"
-            mark, rest = line[:1], line[2:]
-            if mark == "=":
-                now = known[rest] = Exchange(rest, [], at)
-            elif line.startswith("after ") and not now.steps:
-                now.steps += [it for it in known[line.removeprefix("after ")].steps]
-            elif mark in (">", "~") and mark:
-                sent = bytes_of(rest) if mark == "~" else rest.encode()
-                now.steps.append(Step(at, sent, mark == "~"))
-            elif mark == "<":
-                now.steps[-1].wanted = rest.encode()
-            elif mark == "|":
-                now.steps[-1].lines.append(rest)
-            elif line and mark != "#":
-                now.says.append(line)
-    for it in known.values():
-        lacking = [step.at for step in it.steps if step.wanted is None]
-        if lacking:
-            raise SystemExit(f"{lacking[0]}: nothing is said of what comes of it")
+            line = line.rstrip("\n")
+            if line.startswith("    "):
+                lines[-1] = (lines[-1][0], lines[-1][1] + line[4:])
+            else:
+                lines.append((number, line))
+    return lines
+
+
+def parsed(path, before):
+    """The cases or shops of a file, by their names. They may begin with those before."""
+    known = {}
+    for number, line in lines_of(path):
+        at, mark, rest = f"{os.path.relpath(path)}:{number}", line[:1], line[2:]
+        if mark == "=":
+            now = known[rest] = Exchange(rest, [], at)
+        elif line.startswith("after ") and not now.steps:
+            now.steps += {**before, **known}[line.removeprefix("after ")].steps
+        elif mark in (">", "~") and mark:
+            sent = bytes_of(rest) if mark == "~" else rest.encode()
+            now.steps.append(Step(at, sent, mark == "~"))
+        elif mark == "<":
+            now.steps[-1].wanted = rest.encode()
+        elif mark == "|":
+            now.steps[-1].lines.append(rest)
+        elif line and mark != "#":
+            now.says.append(line)
+    lacking = [step.at for it in known.values() for step in it.steps if step.wanted is None]
+    if lacking:
+        raise SystemExit(f"{lacking[0]}: nothing is said of what comes of it")
+    return known
+
+
+@cache
+def shops():
+    return parsed(SHOPS, {})
+
+
+def read(path):
+    """Adds the cases of a file."""
+    if os.path.samefile(path, SHOPS):
+        return
+    for it in parsed(path, shops()).values():
         EXCHANGES[it.name] = it
         cases.add(it.name, " ".join(it.says), it.at, it.run)

@@ -15,11 +15,11 @@
 
 typedef unsigned long size_t;
 
-enum { EIO = 5, ENOMEM = 12, F_OFD_SETLK = 37, O_CREAT = 0100, O_RDWR = 2, PROT_READ_WRITE = 3, MAP_SHARED = 1, SEEK_END = 2 };
+enum { EIO = 5, ENOMEM = 12, F_OFD_SETLK = 37, O_CREAT = 0100, O_RDWR = 2, PROT_READ_WRITE = 3, MAP_SHARED = 1, SEEK_CUR = 1, SEEK_END = 2 };
 enum { AT_FDCWD = -100, STANDARD_ERROR = 2 };
 enum { READ_CALL = 0, WRITE_CALL = 1, CLOSE_CALL = 3, LSEEK_CALL = 8, PREAD_CALL = 17, PWRITE_CALL = 18, ACCESS_CALL = 21 };
 enum { SENDTO_CALL = 44, RECVFROM_CALL = 45, FCNTL_CALL = 72, FSYNC_CALL = 74, FDATASYNC_CALL = 75, FTRUNCATE_CALL = 77 };
-enum { UNLINK_CALL = 87, FCHMOD_CALL = 91, FCHOWN_CALL = 93, OPENAT_CALL = 257 };
+enum { RENAME_CALL = 82, MKDIR_CALL = 83, RMDIR_CALL = 84, UNLINK_CALL = 87, FCHMOD_CALL = 91, FCHOWN_CALL = 93, OPENAT_CALL = 257 };
 
 extern int *__errno_location(void);
 extern long syscall(long, ...);
@@ -45,10 +45,12 @@ struct path {
 };
 
 // What a call replaced that isn't synced yet: the path's place, where, the bytes before, and the file's length before; or
-// that the file was made.
+// that the file or the folder was made; or that a folder has this path, and had another, whose place is `at`.
+enum { CHANGED = 0, FILE_MADE, FOLDER_MADE, RENAMED };
+
 struct note {
     int path;
-    int is_new;
+    int how;
     long at;
     long count;
     long length;
@@ -137,13 +139,17 @@ static void restore(void) {
     for (int i = note_count - 1; i >= 0; i--) {
         struct note *it = &notes[i];
         int own = paths[it->path].own;
-        if (it->is_new && (stop == DROPPED || i >= standing(it->path, -1))) syscall(UNLINK_CALL, paths[it->path].name);
+        const char *name = paths[it->path].name;
+        int is_undone = stop == DROPPED || i >= standing(it->path, -1);
+        if (it->how == FILE_MADE && is_undone) syscall(UNLINK_CALL, name);
+        if (it->how == FOLDER_MADE && is_undone) syscall(RMDIR_CALL, name);
+        if (it->how == RENAMED && is_undone) syscall(RENAME_CALL, name, paths[it->at].name);
         for (long k = 0, size; k < it->count; k += size) {
             long sector = (it->at + k) / SECTOR, left = (sector + 1) * SECTOR - it->at - k;
             size = it->count - k < left ? it->count - k : left;
             if (stop == DROPPED || i >= standing(it->path, sector)) syscall(PWRITE_CALL, own, it->before + k, size, it->at + k);
         }
-        if (stop == DROPPED && !it->is_new) syscall(FTRUNCATE_CALL, own, it->length);
+        if (stop == DROPPED && it->how == CHANGED) syscall(FTRUNCATE_CALL, own, it->length);
     }
 }
 
@@ -160,11 +166,11 @@ static int fails(int kind) { return is_hit(kind) && failed(error_number); }
 static int is_below(int file) { return file >= 0 && file < MOST_NUMBERS && places[file]; }
 
 // Notes that a path is changed here, over so many bytes.
-static void note(int path, int is_new, long place, long count) {
+static void note(int path, int how, long place, long count) {
     if (stop < DROPPED || note_count == MOST_NOTES) return;
     int own = paths[path].own;
     struct note *it = &notes[note_count++];
-    *it = (struct note){path, is_new, place, count, is_new ? 0 : syscall(LSEEK_CALL, own, 0, SEEK_END), 0};
+    *it = (struct note){path, how, place, count, how ? 0 : syscall(LSEEK_CALL, own, 0, SEEK_END), 0};
     if (count) {
         it->before = real_malloc(count);
         memset(it->before, 0, count);
@@ -172,13 +178,13 @@ static void note(int path, int is_new, long place, long count) {
     }
 }
 
-static void note_of(int file, long place, long count) { note(places[file] - 1, 0, place, count); }
+static void note_of(int file, long place, long count) { note(places[file] - 1, CHANGED, place, count); }
 
-// A file is synced, or by its folder that files were made.
+// A file is synced, or by its folder that files and folders were made and renamed.
 static void forget(int file) {
     int path = places[file] - 1, left = 0, is_folder = paths[path].own < 0;
     for (int i = 0; i < note_count; i++)
-        if (is_folder ? !notes[i].is_new : notes[i].is_new || notes[i].path != path) notes[left++] = notes[i];
+        if (is_folder ? !notes[i].how : notes[i].how || notes[i].path != path) notes[left++] = notes[i];
     note_count = left;
 }
 
@@ -218,6 +224,11 @@ long recv(int file, void *to, size_t count, int flags) {
 
 long write(int file, const void *from, size_t count) {
     if (file == STANDARD_ERROR) return syscall(WRITE_CALL, file, from, count);
+    if (is_below(file)) {
+        if (file_fails()) return -1;
+        note_of(file, syscall(LSEEK_CALL, file, 0, SEEK_CUR), count);
+        return syscall(WRITE_CALL, file, from, count);
+    }
     return fails(WRITE) ? -1 : syscall(WRITE_CALL, file, from, fewer(count));
 }
 
@@ -225,18 +236,20 @@ long send(int file, const void *from, size_t count, int flags) {
     return fails(WRITE) ? -1 : syscall(SENDTO_CALL, file, from, fewer(count), flags, 0L, 0L);
 }
 
+static int is_under(const char *name) { return under && *under && !strncmp(name, under, strlen(under)); }
+
 int open(const char *name, int flags, ...) {
     __builtin_va_list rest;
     __builtin_va_start(rest, flags);
     int mode = flags & O_CREAT ? __builtin_va_arg(rest, int) : 0;
     __builtin_va_end(rest);
-    int is_under = under && *under && !strncmp(name, under, strlen(under));
-    if (is_under && (flags & O_CREAT ? file_fails() : fails(LOOKS))) return -1;
-    int is_new = is_under && flags & O_CREAT && syscall(ACCESS_CALL, name, 0);
+    int is_there = is_under(name);
+    if (is_there && (flags & O_CREAT ? file_fails() : fails(LOOKS))) return -1;
+    int is_new = is_there && flags & O_CREAT && syscall(ACCESS_CALL, name, 0);
     int file = syscall(OPENAT_CALL, AT_FDCWD, name, flags, mode);
     if (file >= 0 && file < MOST_NUMBERS) {
-        places[file] = is_under ? place_of(name) + 1 : 0;
-        if (is_new) note(places[file] - 1, 1, 0, 0);
+        places[file] = is_there ? place_of(name) + 1 : 0;
+        if (is_new) note(places[file] - 1, FILE_MADE, 0, 0);
     }
     return file;
 }
@@ -293,3 +306,21 @@ int fchmod(int file, unsigned mode) { return is_below(file) && file_fails() ? -1
 int fchown(int file, unsigned user, unsigned group) {
     return is_below(file) && file_fails() ? -1 : syscall(FCHOWN_CALL, file, user, group);
 }
+
+int mkdir(const char *name, unsigned mode) {
+    if (is_under(name) && file_fails()) return -1;
+    int result = syscall(MKDIR_CALL, name, mode);
+    if (!result && is_under(name)) note(place_of(name), FOLDER_MADE, 0, 0);
+    return result;
+}
+
+int rename(const char *from, const char *to) {
+    if (is_under(from) && file_fails()) return -1;
+    int result = syscall(RENAME_CALL, from, to);
+    if (!result && is_under(from)) note(place_of(to), RENAMED, place_of(from), 0);
+    return result;
+}
+
+int unlink(const char *name) { return is_under(name) && file_fails() ? -1 : syscall(UNLINK_CALL, name); }
+
+int rmdir(const char *name) { return is_under(name) && file_fails() ? -1 : syscall(RMDIR_CALL, name); }

@@ -128,6 +128,12 @@ def end_line(store):
     return f"cutshop {VERSION}: ended serving {store}\n".encode()
 
 
+def busy(process):
+    """For how many seconds a process had a processor so far."""
+    with open(f"/proc/{process}/schedstat", encoding="ascii") as file:
+        return int(file.read().split()[0]) / 1e9
+
+
 class Shop:
     """A running `cutshop serve`. `limit` is the number of connections after which it ends by itself."""
 
@@ -202,8 +208,7 @@ class Shop:
 
     def busy(self):
         """For how many seconds it had a processor so far."""
-        with open(f"/proc/{self.process.pid}/schedstat", encoding="ascii") as file:
-            return int(file.read().split()[0]) / 1e9
+        return busy(self.process.pid)
 
     def has_ended(self, seconds=0.2):
         """Whether it ended by itself, or does so soon."""

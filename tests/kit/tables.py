@@ -102,11 +102,18 @@ def make(path, found, version=2):
     """Makes a file with the tables of a version by plain SQL, and these rows in them."""
     with closing(sqlite3.connect(path)) as book:
         book.executescript(VERSION_1 + (VERSION_2 if version == 2 else ""))
-        for name in COLUMNS:
-            for row in found.get(name, []):
-                book.execute(f"INSERT INTO {name} VALUES ({', '.join('?' * len(row))})", row)
-        book.commit()
+    insert(path, found)
     return path
+
+
+def insert(path, found):
+    """Puts rows into the tables of a file, which nobody else has open; by table, as tuples or anything that gives them."""
+    with closing(sqlite3.connect(path)) as book:
+        # (a table without rows needn't be there)
+        for name in [it for it in COLUMNS if found.get(it)]:
+            places = ", ".join("?" * len(COLUMNS[name].split()))
+            book.executemany(f"INSERT INTO {name} VALUES ({places})", found[name])
+        book.commit()
 
 
 def dump(path):

@@ -10,6 +10,12 @@ class Yard:
     def __init__(self, terminal=1):
         self.terminal, self.lines, self.acts, self.demands = terminal, [], 0, 0
 
+    def then(self, terminal):
+        """A yard of another terminal, whose messages come behind."""
+        yard = Yard(terminal)
+        yard.acts, yard.demands = self.acts, self.demands
+        return yard
+
     def send(self, **command):
         self.lines.append(compact({"terminal": self.terminal, "number": len(self.lines) + 1, **command}))
 

@@ -1,0 +1,549 @@
+"""Backups of an open shop: what a copy has, its number, when none is made, and that no half one is taken for one."""
+
+import errno
+import json
+import os
+import shutil
+import sqlite3
+import stat
+import time
+from concurrent.futures import ThreadPoolExecutor
+from contextlib import ExitStack, contextmanager
+
+from cases.command_line import STEEL
+from cases.sockets import soon
+from cases.terminals import Terminal, judged_by_modes
+from kit import crowds, tables
+from kit.case import case, fault_in
+from kit.faults import Faults
+from kit.shop import answer, begin_line
+
+FAULT = b'{"name":"StoreFault","refused":99}'
+NO_MEMORY = b'{"name":"NoMemory","refused":98}'
+REQUEST = b"POST /backup HTTP/1.1\r\nHost: shop\r\nContent-Length: 0\r\n\r\n"
+FAILED = "cutshop: answered 99 StoreFault; no backup was made in "
+
+
+def told(number):
+    """The answer that tells a backup's number."""
+    return answer(200, f'{{"backup":{number},"ok":"backup"}}')
+
+
+def open_shop(trial, store="shop.db", folder="backups", **named):
+    """A shop with a folder of backups, which is made where it isn't there."""
+    os.makedirs(trial.path(folder), exist_ok=True)
+    shop = trial.shop(store, words=("--backup", folder), **named)
+    trial.holds(shop.is_open, f"the shop doesn't open: {getattr(shop, 'errors', b'')}")
+    return shop
+
+
+def content(path):
+    with open(path, "rb") as file:
+        return file.read()
+
+
+def rows_of(path):
+    """The rows that a copy has, read from a copy of it."""
+    again = f"{path}-read"
+    for end in ("", "-wal"):
+        shutil.copy(path + end, again + end)
+    rows = tables.rows(again)
+    for end in ("", "-wal", "-shm"):
+        if os.path.exists(again + end):
+            os.remove(again + end)
+    return rows
+
+
+def has_done(trial, rows, terminal, path):
+    """How many messages of a terminal a copy has: the first ones, as they were answered, and the rows that they make."""
+    found = [it for it in rows["kept"] if it[0] == terminal.number]
+    trial.equal(found, [(terminal.number, number, *it) for number, it in enumerate(terminal.told[: len(found)], 1)], path)
+    # (a material, and then by turns a unit, an order, a job, and the two strips and three parts that it leaves)
+    units, orders, jobs, cut = [max(len(found) + it, 0) // 4 for it in (2, 1, 0, -1)]
+    parts = sum(it[2] == terminal.code for it in rows["parts"])
+    made = {it[0] for it in rows["parts"] if it[2] == terminal.code}
+    told = (parts, sum(it[3] == terminal.code for it in rows["demands"]), sum(it[1] in made for it in rows["jobs"]))
+    trial.equal(told, (units + 5 * cut, orders, jobs), f"{path}: the parts, demands and jobs of {len(found)} messages")
+    return len(found)
+
+
+def names(trial, folder="backups"):
+    return sorted(os.listdir(trial.path(folder)))
+
+
+def is_whole(trial, path, terminals):
+    """A copy has the rows of the messages that are kept in it and opens; its messages, sent again, of many the first and the last
+    few, get the replies that they got; those behind are new to it. How many it has of each terminal."""
+    rows = rows_of(path)
+    shop = trial.shop(path)
+    trial.holds(shop.is_open, f"the copy {path} doesn't open: {getattr(shop, 'errors', b'')}")
+    counts = []
+    for it in terminals:
+        count = has_done(trial, rows, it, path)
+        again = it.told[:count] if count <= 12 else it.told[:1] + it.told[count - 3 : count]
+        trial.equal([(line, shop.reply(line).decode()) for line, _ in again], again, path)
+        last = json.loads(shop.get(f"/terminal/{it.number}").partition(b"\r\n\r\n")[2])["last"]
+        trial.equal(last, count, path)
+        counts.append(count)
+    shop.kill()
+    trial.equal(tables.select(path, "PRAGMA integrity_check"), [("ok",)], path)
+    return counts
+
+
+@case(
+    "a backup of an open shop",
+    "Each backup is a folder of the next number with both files under their own names, for their owner alone, as they are between "
+    "two requests: it has each message that was answered before, and none behind.",
+)
+def one_after_another(trial):
+    shop, terminal = open_shop(trial), Terminal(1)
+    for number in range(1, 4):
+        trial.equal(terminal.send_all(shop, 3 * number), None)
+        trial.equal(shop.exchange(REQUEST), told(number))
+        folder = trial.path(f"backups/{number}")
+        trial.equal(sorted(os.listdir(folder)), ["shop.db", "shop.db-wal"])
+        trial.equal(stat.S_IMODE(os.stat(folder).st_mode), 0o700)
+        for name in ("shop.db", "shop.db-wal"):
+            trial.equal(content(f"{folder}/{name}"), content(trial.path(name)), name)
+            trial.equal(stat.S_IMODE(os.stat(f"{folder}/{name}").st_mode), 0o600, name)
+    trial.equal(names(trial), ["1", "2", "3"])
+    trial.equal(terminal.send_all(shop, 12), None)
+    shop.kill()
+    for number in range(1, 4):
+        trial.equal(is_whole(trial, trial.path(f"backups/{number}/shop.db"), [terminal]), [3 * number])
+
+
+@case(
+    "backups of a shop that is new and one that was there",
+    "A store without a message is copied, too, and one that was opened again; each backup and the folder are told on standard error.",
+)
+def noted(trial):
+    for number, is_new in ((1, True), (2, False)):
+        shop = open_shop(trial, limit=2)
+        trial.equal(shop.exchange(REQUEST), told(number))
+        shop.get("/materials")
+        status, _, errors = shop.end()
+        trial.equal(status, 0)
+        lines = errors.splitlines(keepends=True)
+        trial.equal(lines[:2], [begin_line(shop.store, is_new), f"cutshop: made backup {number} in backups\n".encode()])
+        trial.equal(is_whole(trial, trial.path(f"backups/{number}/shop.db"), []), [])
+
+
+@case(
+    "the number of a backup",
+    "It is the least from 1 on that nothing has, be it a folder, a file, a link, or the part of another try.",
+)
+def numbers(trial):
+    shop = open_shop(trial)
+    os.mkdir(trial.path("backups/1"))
+    os.mkdir(trial.path("backups/2.part"))
+    trial.write("backups/4", "")
+    trial.write("backups/5.part", "")
+    os.symlink("nowhere", trial.path("backups/6"))
+    for number in (3, 7, 8):
+        trial.equal(shop.exchange(REQUEST), told(number))
+    os.rmdir(trial.path("backups/1"))
+    for number in (1, 9):
+        trial.equal(shop.exchange(REQUEST), told(number))
+
+
+@case(
+    "what is posted for a backup",
+    "The body says nothing; it is read as any other, and the faults of the request are those of other routes.",
+)
+def bodies(trial):
+    shop, head = open_shop(trial), "POST /backup HTTP/1.1\r\nHost: shop\r\n"
+    number = 0
+    for body in (b"", b"{}", b'{"do":"receive"}', b"\xff" * 131072):
+        number += 1
+        request = f"{head}Content-Length: {len(body)}\r\n\r\n".encode() + body
+        trial.equal(shop.exchange(request, pieces=4096), told(number), body[:20])
+    trial.equal(shop.exchange(b"\r\nPOST /backup?now HTTP/1.0\r\nContent-Length: 0\r\n\r\n"), told(number + 1))
+    wanted = [
+        (f"GET /backup HTTP/1.1\r\nHost: shop\r\n\r\n", answer(405, allow="POST")),
+        (f"{head}\r\n", answer(411)),
+        (f"{head}Content-Length: 131073\r\n\r\n", answer(413)),
+        (f"{head}Content-Length: 2\r\n\r\n1", answer(400)),
+        (f"{head}Content-Length: 0\r\nSec-Fetch-Site: cross-site\r\n\r\n", answer(403)),
+        ("POST /backup/ HTTP/1.1\r\nHost: shop\r\nContent-Length: 0\r\n\r\n", answer(404)),
+        ("POST /backups HTTP/1.1\r\nHost: shop\r\nContent-Length: 0\r\n\r\n", answer(404)),
+    ]
+    for request, want in wanted:
+        trial.equal(shop.exchange(request.encode()), want, request)
+    trial.equal(names(trial), [str(it) for it in range(1, number + 2)])
+
+
+@case(
+    "backups to clients that end nothing",
+    "A client that asks for a backup, keeps its side open and reads to the end has the whole answer and its end soon, of one that is "
+    "made and of one that can't be.",
+)
+def ends(trial):
+    shop = open_shop(trial)
+    for number in (1, 2):
+        soon(trial, shop, REQUEST, told(number))
+    os.rename(trial.path("backups"), trial.path("away"))
+    soon(trial, shop, REQUEST, answer(503, FAULT))
+
+
+@case("no backups without a folder for them", "Without `--backup` there is no route, whatever the method and the body.")
+def no_route(trial):
+    shop = trial.shop()
+    for request in (REQUEST, b"GET /backup HTTP/1.1\r\nHost: shop\r\n\r\n", b"POST /backup HTTP/1.1\r\nHost: shop\r\n\r\n"):
+        trial.equal(shop.exchange(request), answer(404), request)
+    refused = REQUEST.replace(b"\r\n\r\n", b"\r\nOrigin: http://else.example\r\n\r\n")
+    trial.equal(shop.exchange(refused), answer(403))
+
+
+@contextmanager
+def posting(shop, terminals, pause=0.005):
+    """Terminals that send one message after the other meanwhile. What of the answers isn't as it has to be is given as a list."""
+    faults = []
+
+    def post(it, ends):
+        while not ends.wait(pause):
+            is_whole_answer, fault = it.send(shop, len(it.told))
+            if fault or not is_whole_answer:
+                faults.append(f"terminal {it.number}, message {len(it.told) + 1}: {fault}")
+                return
+
+    with ExitStack() as stack:
+        for it in terminals:
+            stack.enter_context(crowds.beside(lambda ends, it=it: post(it, ends)))
+        yield faults
+
+
+@case(
+    "100 backups while terminals post",
+    "Eight terminals post at once, and 100 backups are made meanwhile: each copy opens, has what was answered before it was asked "
+    "for, and nothing that was sent behind its answer; its rows are those of its messages.",
+)
+def beside_posts(trial):
+    shop, terminals, bounds = open_shop(trial), [Terminal(it) for it in range(1, 9)], []
+    with posting(shop, terminals) as faults:
+        for number in range(1, 101):
+            limit, last = time.monotonic() + 30, bounds[-1][1] if bounds else [0]
+            # (each has at least one message more)
+            while sum(len(it.told) for it in terminals) < sum(last) - len(last) + 1 and time.monotonic() < limit:
+                time.sleep(0.001)
+            before = [len(it.told) for it in terminals]
+            trial.equal(shop.exchange(REQUEST), told(number))
+            bounds.append((before, [len(it.told) + 1 for it in terminals]))
+    trial.equal(faults, [])
+    shop.kill()
+    trial.holds(all(first < last for first, last in zip(bounds[0][1], bounds[-1][0])), f"a terminal is silent: {bounds}")
+
+    def check(number):
+        before, behind = bounds[number - 1]
+        counts = is_whole(trial, trial.path(f"backups/{number}/shop.db"), terminals)
+        fits = all(least <= it <= most for least, it, most in zip(before, counts, behind))
+        trial.holds(fits, f"backup {number}: {before}, {counts}, {behind}")
+        return sum(counts)
+
+    with ThreadPoolExecutor(2) as pool:
+        found = list(pool.map(check, range(1, 101)))
+    trial.equal(found, sorted(found))
+
+
+@case(
+    "a store in use stays so behind a backup",
+    "Behind backups the store is in use for every other program, and the shop goes on.",
+)
+def stays_in_use(trial):
+    shop, terminal = open_shop(trial), Terminal(1)
+    for number in (1, 2):
+        trial.equal(terminal.send_all(shop, 4 * number), None)
+        trial.equal(shop.exchange(REQUEST), told(number))
+        ran = trial.run("yield", "--store", shop.store, "M-1")
+        trial.ended(ran, 1, err="fault store\n", why=f"{shop.store}: another program has it open")
+    # (its own programs find it locked, too)
+    trial.equal(tables_are_locked(shop.store), True)
+
+
+def tables_are_locked(path):
+    try:
+        with sqlite3.connect(path, timeout=0) as it:
+            it.execute("SELECT * FROM meta").fetchall()
+    except sqlite3.OperationalError:
+        return True
+    return False
+
+
+@case(
+    "a backup of a store behind a link",
+    "The files have the names that they have where the link leads.",
+)
+def linked(trial):
+    os.mkdir(trial.path("disk"))
+    os.symlink("disk/real.db", trial.path("shop.db"))
+    trial.write("disk/real.db", "")
+    shop, terminal = open_shop(trial), Terminal(1)
+    trial.equal(terminal.send_all(shop, 5), None)
+    trial.equal(shop.exchange(REQUEST), told(1))
+    trial.equal(names(trial, "backups/1"), ["real.db", "real.db-wal"])
+    shop.kill()
+    trial.equal(is_whole(trial, trial.path("backups/1/real.db"), [terminal]), [5])
+
+
+@case(
+    "a store that was moved away",
+    "Where other files lie under the store's names, or none, no backup is made of them; the shop goes on, and once they are back one is.",
+)
+def moved(trial):
+    shop, terminal = open_shop(trial, limit=8), Terminal(1)
+    for end in ("", "-wal"):
+        trial.equal(shop.exchange(REQUEST), told(1 if not end else 2))
+        os.rename(shop.store + end, trial.path(f"away{end}"))
+        trial.equal(shop.exchange(REQUEST), answer(503, FAULT))
+        shutil.copy(trial.path(f"away{end}"), shop.store + end)
+        trial.equal(shop.exchange(REQUEST), answer(503, FAULT))
+        os.rename(trial.path(f"away{end}"), shop.store + end)
+    trial.equal(names(trial), ["1", "2"])
+    trial.equal(terminal.send_all(shop, 1), None)
+    trial.equal(shop.exchange(REQUEST), told(3))
+    errors = shop.end()[2]
+    why = "the store's names lead to other files than those that are open; start this program anew"
+    trial.equal(errors.count(f"{FAILED}backups: {why}\n".encode()), 4, errors)
+
+
+WHY = {
+    "nowhere": "it isn't there; make it first",
+    "file": "it is no folder; name one",
+    "file/in": "it is no folder; name one",
+    "": "it isn't there; make it first",
+}
+
+
+@case(
+    "folders in which no backup can be made",
+    "A folder that isn't there, a file, and a folder in which this account may not write or that it may not read are `fault backup` at "
+    "the start, behind the page and before the store.",
+)
+def no_folder(trial):
+    trial.write("file", "")
+    trial.write("shop.toml", STEEL)
+    trial.write("text.toml", "material = 1")
+    serve = ("serve", "--port", "1", "--store", "nowhere/shop.db")
+    for folder, why in WHY.items():
+        ran = trial.run(*serve, "--shop", "shop.toml", "--backup", folder)
+        trial.ended(ran, 1, err="fault backup\n", why=f"{folder}: {why}", sent=folder)
+    ran = trial.run(*serve, "--shop", "text.toml", "--backup", "nowhere")
+    trial.ended(ran, 1, err="fault shop text\n")
+    ran = trial.run(*serve, "--shop", "shop.toml", "--page", "no.html", "--backup", "nowhere")
+    trial.ended(ran, 1, err="fault file\n")
+    os.mkdir(trial.path("backups"))
+    ran = trial.run(*serve, "--shop", "shop.toml", "--backup", "backups")
+    trial.ended(ran, 1, err="fault store\n")
+    trial.equal((os.path.exists(trial.path("nowhere")), names(trial)), (False, []))
+    for mode in (0o500, 0o300, 0o000):
+        os.chmod(trial.path("backups"), mode)
+        ran = trial.run(*serve, "--shop", "shop.toml", "--backup", "backups", prepare=judged_by_modes)
+        why = "backups: this account may not read it and make files in it"
+        trial.ended(ran, 1, err="fault backup\n", why=why, sent=oct(mode))
+    os.chmod(trial.path("backups"), 0o700)
+
+
+@case(
+    "a folder that goes away",
+    "Where the folder is taken away, can't be written any more or becomes a file a backup is refused 99 and its cause told; the shop goes on.",
+)
+def goes_away(trial):
+    shop, terminal = open_shop(trial, limit=9, prepare=judged_by_modes), Terminal(1)
+    trial.equal(shop.exchange(REQUEST), told(1))
+    os.rename(trial.path("backups"), trial.path("else"))
+    trial.equal(shop.exchange(REQUEST), answer(503, FAULT))
+    trial.write("backups", "")
+    trial.equal(shop.exchange(REQUEST), answer(503, FAULT))
+    os.remove(trial.path("backups"))
+    os.rename(trial.path("else"), trial.path("backups"))
+    os.chmod(trial.path("backups"), 0o500)
+    trial.equal(shop.exchange(REQUEST), answer(503, FAULT))
+    os.chmod(trial.path("backups"), 0o700)
+    trial.equal(terminal.send_all(shop, 4), None)
+    trial.equal(shop.exchange(REQUEST), told(2))
+    errors = shop.end()[2].decode()
+    for why in ("it isn't there; make it first", "it is no folder; name one", "this account may not read it and make files in it"):
+        trial.equal(errors.count(f"{FAILED}backups: {why}\n"), 1, errors)
+    trial.equal(is_whole(trial, trial.path("backups/2/shop.db"), [terminal]), [4])
+
+
+# The calls that change the folder: three at the start, the folder of a backup, its first file, and then that file's bytes.
+FIRST_WRITE = 6
+
+
+@case(
+    "a backup to a full disk",
+    "Where its files can't be written it is refused 99, what was made of it is taken away, and the shop goes on; with room one is made.",
+)
+def full(trial):
+    folder = os.path.realpath(trial.path("backups"))
+    faults = Faults(trial, "files", at=FIRST_WRITE, error=errno.ENOSPC, under=folder)
+    shop, terminal = open_shop(trial, folder=folder, environment=faults.environment, limit=6), Terminal(1)
+    trial.equal(shop.exchange(REQUEST), answer(503, FAULT))
+    trial.equal(names(trial), [])
+    trial.equal(terminal.send_all(shop, 3), None)
+    trial.equal(shop.exchange(REQUEST), told(1))
+    shop.get("/materials")
+    errors = shop.end()[2].decode()
+    trial.equal(errors.count(f"{FAILED}{folder}: its disk is full; make room\n"), 1, errors)
+    trial.equal(is_whole(trial, trial.path("backups/1/shop.db"), [terminal]), [3])
+
+
+# ---- each call in turn
+
+
+def disturbed(trial, day, at, of, stop="", on=False, **named):
+    """Backups between messages, with a fault at a call in the folder, and what is found behind it. How many calls there were."""
+    name = f"{of}-{at}-{stop}-{on}-{named.get('seed', 0)}-{named.get('error', 0)}"
+    folder, store = trial.path(f"backups-{name}"), f"shop-{name}.db"
+    os.mkdir(folder)
+    faults = Faults(trial, of, at=at, stop=stop, on=on, under=os.path.realpath(folder), **named)
+    shop = trial.shop(store, words=("--backup", folder), environment=faults.environment)
+    acknowledged = []
+    if shop.is_open:
+        acknowledged = backed_up(trial, shop, day, bool(stop), on)
+    elif not stop:
+        trial.equal((shop.status, fault_in(shop.errors)), (1, b"fault backup\n"), name)
+    if stop and at:
+        trial.equal(shop.kill() if shop.is_open else shop.status, 9 if faults.calls() >= at else -9, name)
+    shop.kill()
+    check_folder(trial, folder, store, day, acknowledged)
+    calls = faults.calls()
+    faults.end()
+    shutil.rmtree(folder)
+    return calls
+
+
+def backed_up(trial, shop, day, stops, on):
+    """Sends a message and asks for a backup, three times. The numbers of those that were told, each with how many messages were
+    answered before. Where the program doesn't stop each message is accepted."""
+    found = []
+    for count in range(1, 4):
+        try:
+            reply = shop.reply(day.told[count - 1][0]).decode()
+            got = shop.exchange(REQUEST)
+        except OSError:
+            reply, got = "", b""
+        if not stops:
+            trial.equal(reply, day.told[count - 1][1])
+            trial.holds(got == answer(503, FAULT) or got.startswith(b"HTTP/1.1 200 OK\r\n"), f"the answer {got}")
+        if got.startswith(b"HTTP/1.1 200 OK\r\n"):
+            number = json.loads(got.partition(b"\r\n\r\n")[2])["backup"]
+            trial.equal(got, told(number))
+            found.append((number, count))
+    return found
+
+
+def check_folder(trial, folder, store, day, acknowledged):
+    """Each folder with the name of a backup is a whole one, those that were told are there with what was answered before, and a
+    start behind it makes more of them."""
+    wholes = sorted(int(it) for it in os.listdir(folder) if it.isdigit() and it != "0")
+    trial.equal([it for it, _ in acknowledged if it not in wholes], [], f"{folder}: {wholes}")
+    counts = dict(acknowledged)
+    for number in wholes:
+        (count,) = is_whole(trial, f"{folder}/{number}/{store}", [day])
+        trial.holds(counts.get(number, count) == count, f"{folder}/{number} has {count}, and not {counts.get(number)}")
+    shop = trial.shop(store, words=("--backup", folder))
+    trial.holds(shop.is_open, f"{folder}: no start behind it: {getattr(shop, 'errors', b'')}")
+    got = shop.exchange(REQUEST)
+    number = json.loads(got.partition(b"\r\n\r\n")[2])["backup"]
+    trial.equal(got, told(number))
+    trial.holds(number not in wholes, f"{folder}: backup {number} was there")
+    shop.kill()
+    is_whole(trial, f"{folder}/{number}/{store}", [day])
+
+
+def day_of(trial):
+    """A terminal whose messages all were answered."""
+    shop, day = trial.shop("day.db"), Terminal(1)
+    trial.equal(day.send_all(shop, 3), None)
+    shop.kill()
+    return day
+
+
+def sweep(trial, stride, *faults, of="files"):
+    """Disturbs the backups by each of these faults at each call in the folder, or at each of a stride, two at a time."""
+    day = day_of(trial)
+    count = disturbed(trial, day, 0, of)
+    trial.holds(count > 20, f"{count} calls were seen")
+    runs = [(at + 1, named) for named in faults for at in trial.places(count, stride)]
+    with ThreadPoolExecutor(2) as pool:
+        list(pool.map(lambda it: disturbed(trial, day, it[0], of, **it[1]), runs))
+
+
+@case(
+    "a call in the folder of backups fails",
+    "Each call that changes the folder of backups fails in turn, once or from then on: `fault backup` at the start, else 99; the shop goes "
+    "on, each backup that was told is whole, and nothing else has the name of one.",
+)
+def fails(trial):
+    sweep(trial, 3, {"error": errno.EIO}, {"error": errno.ENOSPC, "on": True})
+
+
+@case(
+    "a file of a backup can't be opened",
+    "Each call that opens what is in the folder of backups fails in turn: `fault backup` at the start, else 99, and no half backup.",
+)
+def looks_fail(trial):
+    day = day_of(trial)
+    count = disturbed(trial, day, 0, "looks")
+    for at in range(1, count + 1):
+        disturbed(trial, day, at, "looks", error=errno.EIO)
+
+
+def stopped(how, says, seeds=(0,)):
+    @case(
+        f"stopped within a backup, unsynced writes {how}",
+        f"Stopped at each call that changes the folder of backups, {says}: each folder with a backup's name is a whole one, each that "
+        "was told is there, and the next start makes more.",
+    )
+    def body(trial):
+        sweep(trial, 3, *[{"stop": how, "seed": it} for it in (seeds if trial.whole else seeds[:2])])
+
+
+stopped("kept", "and all that was written stays")
+stopped("dropped", "and what wasn't synced is lost, new files, folders and names too")
+stopped("torn", "and of what wasn't synced some sectors of 512 bytes stay", range(4))
+
+
+@case(
+    "no memory for a backup",
+    "Each request for memory of a shop that makes backups fails in turn: 98, no answer or none of the start; no half backup is left, and "
+    "the shop goes on.",
+)
+def memory(trial):
+    day = day_of(trial)
+    folder = trial.path("backups")
+    os.mkdir(folder)
+
+    def run(at):
+        faults = Faults(trial, "memory", at=at)
+        shop = trial.shop(f"memory-{at}.db", words=("--backup", folder), environment=faults.environment)
+        answers = []
+        if shop.is_open:
+            shop.reply(day.told[0][0])
+            begin = faults.calls()
+            answers = [shop.exchange(REQUEST) for _ in range(2)]
+            calls = (begin, faults.calls())
+        else:
+            calls = (0, 0)
+        shop.kill()
+        faults.end()
+        return calls, answers
+
+    (begin, end), answers = run(0)
+    trial.equal(answers, [told(1), told(2)])
+    shutil.rmtree(folder)
+    for at in trial.places(end - begin, 5):
+        os.mkdir(folder)
+        _, answers = run(begin + at + 1)
+        good = [it for it in answers if it.startswith(b"HTTP/1.1 200 OK\r\n")]
+        for it in answers:
+            known = (b"", answer(503, NO_MEMORY), *[told(number) for number in (1, 2)])
+            trial.holds(it in known, f"at request {begin + at + 1}: {it}")
+        trial.holds(good, f"at request {begin + at + 1}: {answers}")
+        wholes = [it for it in os.listdir(folder) if it.isdigit()]
+        trial.equal([it for it in os.listdir(folder) if it.endswith(".part")], [], f"at request {begin + at + 1}")
+        for number in wholes:
+            is_whole(trial, f"{folder}/{number}/memory-{begin + at + 1}.db", [])
+        shutil.rmtree(folder)
