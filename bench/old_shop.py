@@ -38,6 +38,7 @@ QUESTIONS = {
     "demands": {"ask": "demands", "after": 0},
     "demands of a material": {"ask": "demands", "after": 0, "material": "STEEL"},
     "jobs": {"ask": "jobs", "after": 0},
+    "orders": {"ask": "orders", "after": ""},
     "terminal": {"ask": "terminal", "terminal": 1},
     "materials": {"ask": "materials"},
 }
@@ -50,6 +51,7 @@ ROUTES = {
     "demands": "/demands/0",
     "demands of a material": "/demands/0/STEEL",
     "jobs": "/jobs/0",
+    "orders": "/orders",
     "terminal": "/terminal/1",
     "materials": "/materials",
 }
