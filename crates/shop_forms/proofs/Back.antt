@@ -30,8 +30,7 @@ use Rattle.serde_json.specs.Written.{compact_text, outline}
 use Rattle.serde_json.proofs.Numbers.{number_of-decimal}
 use Rattle.json.specs.Token.{Token}
 use Rattle.serde_json.proofs.Texts.{print-outline}
-use Rattle.shop_forms.specs.Forms.{message_of, sent_head, sent_of, from_one, command_of, material_command, receive_command, order_command, reserve_command, import_in, problem_command, import_by, import_command, amend_command, query_of, asked_of, reply_of, made_of, order_made, reserve_made, ended_cells, first_cuts, listed_cuts, lost_cut, list_data, break_command, has_few_cuts, lines_data, message_data, reply_data, json_texts}
-use Rattle.shop_forms.specs.Told.{HasWideNumbers}
+use Rattle.shop_forms.specs.Forms.{message_of, sent_head, sent_of, from_one, command_of, material_command, receive_command, order_command, reserve_command, import_in, problem_command, import_by, import_command, amend_command, query_of, asked_of, reply_of, made_of, order_made, reserve_made, ended_cells, first_cuts, listed_cuts, lost_cut, list_data, break_command, has_few_cuts, lines_data, message_data, reply_data, json_texts, HasWideNumbers}
 use Rattle.shop_records.specs.Refusals.{refusal_number}
 use Rattle.shop_forms.proofs.ListedRows.{cuts_there, cuts_numbers, cuts_shallow, cuts_json, lines_there, lines_numbers, lines_shallow, lines_json, rack_numbers, rack_shallow, rack_json, materials_numbers, materials_shallow, materials_json, parts_numbers, parts_shallow, parts_json, demands_numbers, demands_shallow, demands_json, jobs_numbers, jobs_shallow, jobs_json, orders_numbers, orders_shallow, orders_json, shallow_first_of_two, shallow_first_of_three, shallow_fourth}
 use Rattle.shop_forms.specs.Fields.{kind_text, small, number_at}

@@ -1,5 +1,5 @@
 -- Messages, queries and replies as JSON values: what a value stands for, and what is printed.
-use Rattle.std.specs.Prelude.{ℕ, ◌&&◌, List, length, map, nat_le, Bool, true, false, if◌then◌else◌, Option, Some, None, option_map, option_and_then, codes, bytes_eq}
+use Rattle.std.specs.Prelude.{ℕ, ◌&&◌, List, length, map, All, nat_le, Bool, true, false, if◌then◌else◌, Option, Some, None, option_map, option_and_then, codes, bytes_eq}
 use Rattle.std.specs.Option.{option_or}
 use Rattle.cut_measure.specs.Names.{Name, name_text}
 use Rattle.cut_measure.specs.declared.sizes.Kind.{Kind}
@@ -25,11 +25,12 @@ use Rattle.shop_records.specs.declared.messages.Reply.{Reply}
 use Rattle.shop_records.specs.declared.messages.Reply.TheVariants as reply
 use Rattle.shop_records.specs.Refusals.{refusal_number, refusal_name}
 use Rattle.shop_records.specs.Columns.{state_of, state_word}
-use Rattle.shop_records.specs.Messages.{Texts}
+use Rattle.shop_records.specs.Messages.{Texts, IsWide}
 use Rattle.serde_json.specs.Data.{Data, array, boolean, object, number, unsigned, Members, member, no_members, put}
 use Rattle.serde_json.specs.Read.{read}
 use Rattle.serde_json.specs.View.{items_of}
 use Rattle.serde_json.specs.Written.{compact_text}
+use Rattle.shop_forms.specs.Told.{HasWideSides, HasWideLimits, HasWidePart, HasWideDemand, HasWideJob, HasWideOrder}
 use Rattle.shop_forms.specs.Fields.{number_at, wide_at, numbers_at, flag_at, text_at, code_at, name_at, kind_at, behind_at, code_behind_at, has_keys, word_at, elements_at, all_of, row, kind_text, state_text, job_state_text, text_member, number_member, name_member, flag_member}
 
 -- A command has a row of keys that is read, the keys that are printed but `terminal` and `number`, in byte order, and the same
@@ -614,6 +615,37 @@ reply_data (reply.Orders more orders) = orders_told more orders
 reply_data (reply.Lines lines order) = lines_told lines order
 reply_data (reply.Refused refusal) =
     object (text_member (codes "name") (refusal_name refusal) (number_member (codes "refused") (refusal_number refusal) no_members))
+
+-- each number of a reply has 64 bits
+abbrev pub HasWideNumbers : Reply → Type 0
+HasWideNumbers (reply.AddMaterial material) = Unit {0}
+HasWideNumbers (reply.Receive act count) = IsWide act × IsWide count
+HasWideNumbers (reply.AddOrder count first order) = IsWide count × IsWide first
+HasWideNumbers (reply.Reserve cuts job) = IsWide cuts × IsWide job
+HasWideNumbers (reply.Done job kerf pieces rack scrap) = IsWide job × IsWide kerf × IsWide pieces × IsWide rack × IsWide scrap
+HasWideNumbers (reply.Break job kerf pieces rack scrap) = IsWide job × IsWide kerf × IsWide pieces × IsWide rack × IsWide scrap
+HasWideNumbers (reply.Release job) = IsWide job
+HasWideNumbers (reply.Scrap part) = Unit {0}
+HasWideNumbers (reply.GiveBack part) = Unit {0}
+HasWideNumbers (reply.Import act count first order) = IsWide act × IsWide count × IsWide first
+HasWideNumbers (reply.Amend demand wanted) = IsWide demand × IsWide wanted
+HasWideNumbers (reply.Totals material received stock rack pieces kerf scrap returned) =
+    IsWide kerf × IsWide pieces × IsWide rack × IsWide received × IsWide returned × IsWide scrap × IsWide stock
+HasWideNumbers (reply.Rack material parts) = All HasWideSides parts
+HasWideNumbers (reply.Trace batch h of part root state w x y) = IsWide h × IsWide of × IsWide w × IsWide x × IsWide y
+HasWideNumbers (reply.Demand demand line made material order reserved wanted) =
+    IsWide demand × IsWide line × IsWide made × IsWide reserved × IsWide wanted
+HasWideNumbers (reply.Plan ceiling dropped tree worth) = IsWide ceiling × IsWide dropped × IsWide worth
+HasWideNumbers (reply.Bound best units) = IsWide best × IsWide units
+HasWideNumbers (reply.Materials materials) = All HasWideLimits materials
+HasWideNumbers (reply.Parts material more parts) = All HasWidePart parts
+HasWideNumbers (reply.Demands demands more) = All HasWideDemand demands
+HasWideNumbers (reply.Jobs jobs more) = All HasWideJob jobs
+HasWideNumbers (reply.Job cuts h job kerf material part state tree w) = IsWide cuts × IsWide h × IsWide job × IsWide kerf × IsWide w
+HasWideNumbers (reply.Terminal last terminal) = IsWide last × IsWide terminal
+HasWideNumbers (reply.Orders more orders) = All HasWideOrder orders
+HasWideNumbers (reply.Lines lines order) = All HasWideDemand lines
+HasWideNumbers (reply.Refused refusal) = IsWide (refusal_number refusal)
 
 -- ---- texts
 

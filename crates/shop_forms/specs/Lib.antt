@@ -2,5 +2,4 @@ pub mod Fields
 pub mod Forms
 pub mod Tokens
 pub mod Members
-pub mod CommandWords
 pub mod Told

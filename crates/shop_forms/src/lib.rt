@@ -2,7 +2,6 @@
 //! of lists are read and written, and what holds of all texts.
 #![tactic(auto)]
 
-mod command_words;
 mod elements;
 mod fields;
 mod laws;
@@ -10,7 +9,6 @@ mod rows;
 mod words;
 mod writing;
 
-pub use command_words::{CommandWord, command_word_of};
 pub use elements::{Listed, Read, rows_at, write_rows};
 pub use fields::{
     code_at, flag_at, has_keys, kind_at, name_at, number_at, part_in, text_at, wide_at, word_at,

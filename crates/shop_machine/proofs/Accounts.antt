@@ -11,7 +11,8 @@ use Rattle.shop_records.specs.declared.records.State.TheVariants.{Standing}
 use Rattle.shop_records.specs.declared.records.Job.{Job}
 use Rattle.shop_records.specs.Columns.{is_free}
 use Rattle.shop_records.specs.Content.{Content, material_at, part_at, job_at, in_state}
-use Rattle.shop_machine.specs.History.{Deed, Receives, ReceivedUnit, acts_in, acts_of, units_in, units_of, material_by, unit_material, material_rule, Reservation, job_of, Owner, stands_as, EachCellIsOwned, ordered_lines}
+use Rattle.shop_machine.specs.Machine.{Deed, Receives}
+use Rattle.shop_machine.specs.History.{ReceivedUnit, acts_in, acts_of, units_in, units_of, material_by, unit_material, material_rule, Reservation, job_of, Owner, stands_as, EachCellIsOwned, ordered_lines}
 use Rattle.shop_records.specs.Elements.{IsIn}
 use Rattle.shop_records.proofs.Basics.{nat_cases, name_cases, in_append, in_later, in_map}
 use Rattle.shop_machine.proofs.OrderedLines.{AskFor}

@@ -1,11 +1,11 @@
 -- A content after a demand was amended.
-use Rattle.std.proofs.Common.{◌≡◌, ℕ, ◌+◌, ◌≤◌, ◌⊎◌, inl, inr, [], ◌∷◌, refl, sym, ap, subst, ◌∙◌, arith}
+use Rattle.std.proofs.Common.{◌≡◌, ℕ, ◌+◌, ◌≤◌, ◌⊎◌, inl, inr, [], ◌∷◌, refl, sym, ap, subst, ◌∙◌, arith, List}
+use Rattle.std.proofs.lemmas.Bool.{ltb-false}
+use Rattle.std.proofs.lemmas.List.Elements.{All-nil}
 use Rattle.std.specs.Prelude.{Option, Some, None, IsSome, not, nat_le, nat_lt}
 use Rattle.std.specs.declared.cmp.Ordering.TheVariants.{Less}
 use Rattle.std.specs.Cmp.{nat_cmp_total}
 use Rattle.std.specs.FinMap.{nat_cmp-IsAntisymmetric}
-use Rattle.std.proofs.lemmas.Bool.{ltb-false}
-use Rattle.std.proofs.lemmas.List.Elements.{All-nil}
 use Rattle.cut_measure.specs.declared.ranges.TheConstants.{MOST_COUNT}
 use Rattle.cut_measure.specs.Names.{name_cmp}
 use Rattle.shop_records.specs.declared.records.Part.{Part}
@@ -15,14 +15,21 @@ use Rattle.shop_records.specs.declared.refusals.Refusal.TheVariants.{BadLine, To
 use Rattle.shop_records.specs.Messages.{Texts, pair_of}
 use Rattle.shop_records.specs.Content.{Content, material_at, demand_at, kept_at, changed}
 use Rattle.shop_records.specs.Elements.{IsIn}
-use Rattle.shop_records.specs.Soundness.{IsDemand, IsMovedDemand, Fits}
+use Rattle.shop_records.specs.Soundness.{IsDemand, IsMovedDemand, Fits, IsSound}
+use Rattle.shop_records.specs.declared.changes.Change.{Change}
+use Rattle.shop_records.specs.declared.messages.Command.TheVariants.{Amend}
+use Rattle.shop_records.specs.Readings.{Reading}
 use Rattle.shop_machine.specs.Amending.{amend_refusal, amended, amend_change}
-use Rattle.shop_machine.specs.Machine.{keeping}
+use Rattle.shop_machine.specs.Machine.{keeping, Deed, Amends, deeds}
+use Rattle.shop_machine.specs.History.{acts_of, ordered_lines}
 use Rattle.shop_records.proofs.Basics.{nat_cases, get_same, get_other}
 use Rattle.shop_records.proofs.Puts.{all_from, pairs_from, found_one, is_known}
 use Rattle.shop_machine.proofs.Agreeing.{NoFault, nothing, other}
 use Rattle.shop_machine.proofs.Allowed.{none_of}
 use Rattle.shop_machine.proofs.Grown.{IsStock, Grows, placed_more, job_more, demand_more, different_more, no_pairs}
+use Rattle.shop_machine.proofs.OrderedLines.{lines_amended, line_amended}
+use Rattle.shop_machine.proofs.Accounts.{Follows, row_later}
+use Rattle.shop_machine.proofs.Steps.{After, AfterAll}
 
 -- what is reserved and made is wanted
 pub amend_room : (found : Option Demand) (row : Demand) (wanted : ℕ) → found ≡ Some row → amend_refusal found wanted ≡ None → row.reserved + row.made ≤ wanted
@@ -118,3 +125,27 @@ module _ (m : Content) (stock : IsStock m) (number : ℕ) (row : Demand) (found 
     import = tt;
     kept = new;
   }
+
+-- ---- what is done to cells
+
+module _ (texts : Texts) (message : Message) (earlier : List Deed) (old : Content) (sound : IsSound texts old) (f : Follows earlier old) where
+  by_amendment : (row : Demand) (wanted : ℕ) → demand_at old row.number ≡ Some row
+      → After texts message earlier old sound f (Amends row.number wanted) (amend_change row wanted)
+  by_amendment row wanted found = record {
+    acts = (let e : old.last_act ≡ acts_of earlier = f.acts in omega arith);
+    numbers = f.numbers ∙ sym (lines_amended row.number wanted (ordered_lines earlier));
+    lines = line_amended (ordered_lines earlier) old.demands row wanted found f.lines;
+    rules = f.rules;
+    rows = λ n p k. row_later (Amends row.number wanted) earlier p (f.rows n p k);
+    jobs = f.jobs;
+    wholes = f.wholes;
+    cells = f.cells;
+  }
+
+  pub amends : (demand wanted : ℕ) (read : Reading) (change : Change) (row : Demand) → demand_at old demand ≡ Some row → change ≡ amend_change row wanted
+      → AfterAll texts message earlier old sound f (deeds (Amend demand wanted) read) change
+  amends demand wanted read change row found is =
+      let same : row.number ≡ demand = (sound.demands demand row found).numbered in
+      subst (λ n. AfterAll texts message earlier old sound f (deeds (Amend n wanted) read) change) same
+      (subst (AfterAll texts message earlier old sound f (deeds (Amend row.number wanted) read)) (sym is)
+      (by_amendment row wanted (ap (demand_at old) same ∙ found)))

@@ -20,7 +20,8 @@ use Rattle.shop_records.specs.Columns.{is_whole, is_there, is_piece, is_kerf, is
 use Rattle.shop_records.specs.Messages.{Texts}
 use Rattle.shop_records.specs.Content.{Content, cells_in}
 use Rattle.shop_records.specs.Soundness.{IsSound}
-use Rattle.shop_machine.specs.History.{Deed, Receives, acts_of, ReceivedUnit, units_in, units_of, Owner, owner_of, is_cut, standing_as, IsOwner, OneOwner, counts_cell, cells_of_column, TotalsAreCounts}
+use Rattle.shop_machine.specs.Machine.{Deed, Receives}
+use Rattle.shop_machine.specs.History.{acts_of, ReceivedUnit, units_in, units_of, Owner, owner_of, is_cut, standing_as, IsOwner, OneOwner, counts_cell, cells_of_column, TotalsAreCounts}
 use Rattle.shop_records.specs.Elements.{IsIn}
 use Rattle.shop_records.proofs.Basics.{name_cases, in_append, in_map}
 use Rattle.shop_machine.proofs.Accounts.{IsRow, IsWhole, Follows, unit_of, unit_acts}

@@ -28,7 +28,8 @@ use Rattle.shop_records.specs.Content.{Content, material_at, part_at, job_at, in
 use Rattle.shop_machine.specs.Ending.{release_change, row_part, ended_state, end_change, IsEnd, IsDone, IsBroken, IsRelease, end_refusal, IsWork}
 use Rattle.shop_machine.specs.Recounts.{AreRecounted, with_freed, with_laid, pieces_in}
 use Rattle.shop_records.specs.Soundness.{IsSound, IsWaiting}
-use Rattle.shop_machine.specs.History.{Deed, nothing, ReceivedUnit, acts_of, ordered_lines, material_rule, owner_by, owner_of, is_cut, standing_as, HasOwner, Ends, deeds, unit_material, Reservation, Owner, stands_as, owner_at, cut_owner, OneOwner}
+use Rattle.shop_machine.specs.Machine.{Deed, nothing, Ends, deeds}
+use Rattle.shop_machine.specs.History.{ReceivedUnit, acts_of, ordered_lines, material_rule, owner_by, owner_of, is_cut, standing_as, HasOwner, unit_material, Reservation, Owner, stands_as, owner_at, cut_owner, OneOwner}
 use Rattle.shop_records.specs.Elements.{IsIn}
 use Rattle.shop_records.specs.Readings.{Reading}
 use Rattle.shop_records.proofs.Basics.{name_cases, same_some}

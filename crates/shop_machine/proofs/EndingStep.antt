@@ -1,6 +1,6 @@
 -- Waiting jobs, and contents after their ends.
 use Rattle.std.proofs.Common.{◌≡◌, ℕ, ◌+◌, ◌*◌, ◌≤◌, ◌<◌, List, [], map, Bool, true, false, refl, sym, ap, subst, ◌∙◌, arith}
-use Rattle.std.specs.Prelude.{nat_eq, Some, None, MatchOption, sum_by, count_by, ◌&&◌, if◌then◌else◌, Option, nat_le, ◌==◌, not}
+use Rattle.std.specs.Prelude.{nat_eq, Some, None, sum_by, count_by, ◌&&◌, if◌then◌else◌, Option, nat_le, ◌==◌, not}
 use Rattle.std.proofs.lemmas.Bool.{ne_eqb, not-false, eq-eqb, le-leb}
 use Rattle.std.specs.declared.cmp.Ordering.TheVariants.{Less}
 use Rattle.std.specs.Ordering.{is_eq}
@@ -50,7 +50,7 @@ use Rattle.shop_machine.specs.Ending.{IsWork, fate, row_part, ended_state, ended
 use Rattle.shop_machine.specs.Moving.{cells_counted, tally, has_cells, moved_totals}
 use Rattle.shop_machine.specs.Machine.{keeping}
 use Rattle.shop_records.specs.Elements.{IsIn}
-use Rattle.shop_records.specs.Soundness.{IsPlaced, IsOnPart, IsWaiting, IsJob, IsCounted, IsMovedJob, Fits, reserved_in}
+use Rattle.shop_records.specs.Soundness.{IsPlaced, IsWaiting, IsJob, IsCounted, IsMovedJob, Fits, reserved_in}
 use Rattle.shop_records.proofs.Basics.{in_map, same_some, map_in, earlier_node}
 use Rattle.shop_machine.proofs.Inside.{row_inside}
 use Rattle.shop_records.proofs.Puts.{pairs_in, pairs_more, map_pairs, in_counted, sum_map, sum_as, sum_none, is_known, sum_over, some_known}

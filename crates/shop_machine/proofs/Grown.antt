@@ -1,9 +1,6 @@
 -- What stays true of parts, jobs and demands when a content grows.
 use Rattle.std.proofs.Common.{◌≡◌, ℕ, ◌≤◌, ◌<◌, List, true, refl, sym, ap, ◌∙◌, arith, []}
-use Rattle.std.specs.Prelude.{Option, Some, None, IsSome, AllPairs, ◌||◌}
-use Rattle.std.specs.FinSet as set
-use Rattle.std.specs.Ordering.{eq_by_cmp}
-use Rattle.std.proofs.Math.Bool.{or-true}
+use Rattle.std.specs.Prelude.{Some, None, IsSome, AllPairs}
 use Rattle.std.specs.declared.cmp.Ordering.TheVariants.{Less}
 use Rattle.std.specs.FinMap.{FinMap}
 use Rattle.std.proofs.lemmas.List.Elements.{All-nil}
@@ -16,14 +13,14 @@ use Rattle.shop_records.specs.declared.records.Part.{Part}
 use Rattle.shop_records.specs.declared.records.State.{State}
 use Rattle.shop_records.specs.declared.records.Job.{Job}
 use Rattle.shop_records.specs.declared.records.Demand.{Demand}
-use Rattle.shop_records.specs.Content.{Content, pair_cmp, material_at, part_at, job_at, has_order, demand_at, kept_at, in_state, with_order}
+use Rattle.shop_records.specs.Content.{Content, pair_cmp, material_at, part_at, job_at, has_order, demand_at, kept_at, in_state}
 use Rattle.shop_records.specs.Soundness.{IsInRange, IsKnown, IsPlaced, IsOnPart, IsWaiting, IsJob, IsDemand, IsCounted, AreDifferent, IsSound, Fits}
 use Rattle.shop_records.specs.declared.messages.Message.{Message}
 use Rattle.shop_records.specs.declared.messages.Reply.{Reply}
 use Rattle.shop_records.specs.Messages.{Texts, pair_of}
 use Rattle.shop_machine.specs.Decisions.{no_change}
 use Rattle.shop_machine.specs.Machine.{keeping}
-use Rattle.shop_records.proofs.Basics.{codes_total, codes_same, tied, same_some, none_at}
+use Rattle.shop_records.proofs.Basics.{same_some, none_at}
 use Rattle.shop_records.proofs.Puts.{some_known, is_known}
 
 -- a content with other kept messages and imports
@@ -145,14 +142,6 @@ different_more old new was different a b one other is is_too orders lines =
     let p = was a one is in
     let q = was b other is_too in
     different a b p.0 q.0 p.1 q.1 (sym p.2 ∙ orders ∙ q.2) (sym p.3 ∙ lines ∙ q.3)
-
--- an order that was there stays, and a new one is there
-pub order_kept : (m : Content) (change : Option (List ℕ)) (code : List ℕ) → has_order m code ≡ true → set.contains (with_order change m.orders) code ≡ true
-order_kept m None code is = is
-order_kept m (Some new) code is = set.contains-insert codes_total m.orders new code ∙ ap (λ b. eq_by_cmp code_cmp code new || b) is ∙ or-true (eq_by_cmp code_cmp code new)
-
-pub order_there : (m : Content) (code : List ℕ) → set.contains (set.insert m.orders code) code ≡ true
-order_there m code = set.contains-insert codes_total m.orders code code ∙ ap (λ b. b || set.contains m.orders code) (tied codes_total codes_same code code refl)
 
 pub no_pairs : {X : Type 0} (R : X → X → Type 0) → AllPairs R []
 no_pairs R i j d before within = absurd (omega arith)

@@ -11,10 +11,11 @@ use Rattle.shop_records.specs.Content.{Content, material_at, has_order, import_a
 use Rattle.shop_machine.specs.Decisions.{no_change}
 use Rattle.shop_machine.specs.Importing.{IsImportReading, import_refusal, ImportMakes}
 use Rattle.shop_records.specs.Soundness.{IsSound}
-use Rattle.shop_machine.specs.History.{Deed, nothing, Orders, Receives, import_deeds, acts_of}
+use Rattle.shop_machine.specs.Machine.{Deed, nothing, Orders, Receives, import_deeds}
+use Rattle.shop_machine.specs.History.{acts_of}
 use Rattle.shop_machine.proofs.Accounts.{Follows, row_later}
 use Rattle.shop_machine.proofs.Steps.{AfterAll}
-use Rattle.shop_machine.proofs.OrderingDeed.{by_order}
+use Rattle.shop_machine.proofs.OrderingStep.{by_order}
 use Rattle.shop_machine.proofs.ReceivingDeed.{by_receipt}
 use Rattle.shop_machine.proofs.ImportingStep.{IsAccepted, accepted, after_receipt}
 

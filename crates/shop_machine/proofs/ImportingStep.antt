@@ -1,32 +1,27 @@
 -- A content after an import.
-use Rattle.std.proofs.Common.{◌≡◌, ℕ, ◌+◌, ◌≤◌, List, [], ◌∷◌, length, Bool, true, false, refl, sym, ap, subst, ◌∙◌, arith, inl, inr}
+use Rattle.std.proofs.Common.{◌≡◌, ℕ, ◌+◌, List, [], ◌∷◌, Bool, true, false, refl, sym, subst, arith, inl, inr}
 use Rattle.std.specs.Prelude.{Option, Some, None, IfSome, MatchOption, IsTrue, ◌⊎◌, not}
-use Rattle.std.specs.Option.{option_or}
-use Rattle.std.specs.FinMap.{FinMap}
-use Rattle.std.specs.FinSet as set
-use Rattle.cut_measure.specs.Codes.{code_cmp, is_code}
+use Rattle.cut_measure.specs.Codes.{is_code}
 use Rattle.cut_measure.specs.Measures.{Extent, is_size}
 use Rattle.shop_files.specs.declared.orders.OrderLine.{OrderLine}
 use Rattle.shop_files.specs.declared.problems.Piece.{Piece}
 use Rattle.shop_records.specs.declared.records.Material.{Material}
-use Rattle.shop_records.specs.declared.texts.Kept.{Kept}
 use Rattle.shop_records.specs.declared.imports.Form.{Form}
 use Rattle.shop_records.specs.declared.imports.Form.TheVariants.{Csv, Cgcut}
 use Rattle.shop_records.specs.declared.imports.ImportRow.{ImportRow}
 use Rattle.shop_records.specs.declared.changes.Change.{Change}
 use Rattle.shop_records.specs.declared.messages.Message.{Message}
 use Rattle.shop_records.specs.declared.messages.Reply.{Reply}
-use Rattle.shop_records.specs.declared.refusals.Refusal.TheVariants.{OrderExists, StoreFault}
+use Rattle.shop_records.specs.declared.refusals.Refusal.TheVariants.{OrderExists}
 use Rattle.shop_records.specs.Messages.{Texts, IsMade, pair_of}
 use Rattle.shop_records.specs.Readings.{Reading, unread, Plan, Lines, Problem, Again}
-use Rattle.shop_records.specs.Content.{Content, pair_cmp, material_at, has_order, import_at, kept_at, totals_of, changed}
+use Rattle.shop_records.specs.Content.{Content, material_at, has_order, import_at, kept_at, totals_of, changed}
 use Rattle.shop_machine.specs.Decisions.{first_of, no_change}
 use Rattle.shop_machine.specs.Receiving.{receive_refusal, receive_change}
-use Rattle.shop_machine.specs.Ordering.{lines_refusal, order_refusal}
+use Rattle.shop_machine.specs.Ordering.{lines_refusal}
 use Rattle.shop_machine.specs.Importing.{IsRepeat, IsImportReading, problem_lines, unit_refusal, problem_refusal, import_refusal, unread_refusal, lines_change, problem_change, ImportMakes}
 use Rattle.shop_records.specs.Keeping.{Tells}
-use Rattle.shop_machine.specs.Machine.{keeping}
-use Rattle.shop_machine.specs.History.{Deed, nothing, Orders, Receives, import_deeds}
+use Rattle.shop_machine.specs.Machine.{keeping, nothing, Orders, Receives, import_deeds}
 use Rattle.shop_records.specs.Soundness.{Fits}
 use Rattle.shop_records.proofs.Basics.{none_at}
 use Rattle.shop_machine.proofs.Agreeing.{NoFault, either, other, nothing as none}

@@ -20,7 +20,6 @@ pub mod Accounts
 pub mod Steps
 -- adding a material
 pub mod AddingStep
-pub mod AddingDeed
 -- receiving units
 pub mod ReceivingDecision
 pub mod ReceivingStep
@@ -28,7 +27,6 @@ pub mod ReceivingDeed
 -- adding an order
 pub mod OrderingDecision
 pub mod OrderingStep
-pub mod OrderingDeed
 -- importing an order
 pub mod ImportingDecision
 pub mod ImportingStep
@@ -43,10 +41,8 @@ pub mod EndingStep
 pub mod EndingDeed
 -- a standing part as a whole gets another state
 pub mod RetiringStep
-pub mod RetiringDeed
 -- amending a demand
 pub mod AmendingStep
-pub mod AmendingDeed
 -- every command, every history and every run
 pub mod Sound
 pub mod Given

@@ -13,7 +13,8 @@ use Rattle.shop_records.specs.Content.{Content, demand_at, with_demands}
 use Rattle.shop_machine.specs.Recounts.{AreRecounted}
 use Rattle.shop_machine.specs.Ordering.{new_demand, new_demands}
 use Rattle.shop_machine.specs.Amending.{amended}
-use Rattle.shop_machine.specs.History.{Deed, OrderedLine, with_count, amended_behind, amended_lines, ordered_lines, nth_line, demand_of, DemandsAreLines}
+use Rattle.shop_machine.specs.Machine.{Deed}
+use Rattle.shop_machine.specs.History.{OrderedLine, with_count, amended_behind, amended_lines, ordered_lines, nth_line, demand_of, DemandsAreLines}
 use Rattle.shop_records.specs.Soundness.{IsDemand, reserved_in, made_in}
 use Rattle.shop_records.proofs.Basics.{nat_cases, get_same, get_other, demand_cases}
 use Rattle.shop_machine.proofs.Moved.{LeavesOthers, row_recount}

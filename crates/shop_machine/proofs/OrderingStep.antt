@@ -1,38 +1,42 @@
 -- A content after an order was added.
 use Rattle.std.proofs.Common.{◌≡◌, ℕ, zero, suc, ◌+◌, ◌≤◌, ◌<◌, ◌⊎◌, inl, inr, List, [], ◌∷◌, length, Bool, true, false, refl, sym, ap, subst, ◌∙◌, arith}
+use Rattle.std.proofs.lemmas.List.Elements.{All-nil}
+use Rattle.std.proofs.lemmas.Bool.{and_parts, not-false, leb-true, ltb-true, ltb-false}
 use Rattle.std.specs.Prelude.{Option, Some, None, IsSome, if◌then◌else◌, nat_le, nat_lt, ◌&&◌, not}
 use Rattle.std.specs.declared.cmp.Ordering.TheVariants.{Less}
 use Rattle.std.specs.Cmp.{nat_cmp_total}
 use Rattle.std.specs.FinMap.{FinMap, nat_cmp-IsAntisymmetric}
-use Rattle.std.proofs.lemmas.List.Elements.{All-nil}
-use Rattle.std.proofs.lemmas.Bool.{and_parts, not-false, leb-true, ltb-true, ltb-false}
 use Rattle.cut_measure.specs.Codes.{code_cmp}
 use Rattle.cut_measure.specs.Names.{name_cmp}
 use Rattle.cut_measure.specs.declared.ranges.TheConstants.{MOST_NUMBERS}
 use Rattle.cut_tree.specs.Tree.{count_of}
+use Rattle.shop_files.specs.declared.orders.OrderLine.{OrderLine}
+use Rattle.shop_files.specs.declared.limits.TheConstants.{MOST_LINES}
 use Rattle.shop_records.specs.declared.records.Part.{Part}
 use Rattle.shop_records.specs.declared.records.Job.{Job}
 use Rattle.shop_records.specs.declared.records.Demand.{Demand}
 use Rattle.shop_records.specs.declared.texts.Kept.{Kept}
 use Rattle.shop_records.specs.declared.imports.ImportRow.{ImportRow}
 use Rattle.shop_records.specs.declared.messages.Message.{Message}
-use Rattle.shop_files.specs.declared.orders.OrderLine.{OrderLine}
-use Rattle.shop_files.specs.declared.limits.TheConstants.{MOST_LINES}
 use Rattle.shop_records.specs.declared.records.Material.{Material}
 use Rattle.shop_records.specs.declared.refusals.Refusal.TheVariants.{NumbersSpent, OrderExists, BadLine}
 use Rattle.shop_records.specs.Messages.{Texts, pair_of}
 use Rattle.shop_records.specs.Columns.{is_piece_for, is_waiting}
 use Rattle.shop_records.specs.Content.{Content, pair_cmp, material_at, has_order, demand_at, kept_at, changed}
-use Rattle.shop_machine.specs.Ordering.{new_demand, new_demands, order_change, order_refusal, line_refusal, lines_refusal, is_good_line}
-use Rattle.shop_machine.specs.Machine.{keeping}
 use Rattle.shop_records.specs.Elements.{IsIn}
 use Rattle.shop_records.specs.Soundness.{IsDemand, IsNewDemand, AreDifferent, Fits, reserved_in, made_in}
+use Rattle.shop_machine.specs.Ordering.{new_demand, new_demands, order_change, order_refusal, line_refusal, lines_refusal, is_good_line}
+use Rattle.shop_machine.specs.Machine.{keeping, Deed, Orders}
 use Rattle.shop_machine.specs.Decisions.{first_of}
+use Rattle.shop_machine.specs.History.{acts_of, ordered_lines}
 use Rattle.shop_records.proofs.Basics.{names_total, names_same, same_some, none_at, pair_in, demand_cases}
+use Rattle.shop_records.proofs.LinesKept.{order_kept, order_there}
 use Rattle.shop_records.proofs.Puts.{Pairwise, all_from, pairs_from, not_both, is_known, some_known, sum_no_rows}
 use Rattle.shop_machine.proofs.Allowed.{none_of, or_none}
-use Rattle.shop_machine.proofs.Grown.{with_messages, IsStock, Grows, placed_more, job_more, demand_more, no_pairs, order_kept, order_there}
+use Rattle.shop_machine.proofs.Grown.{with_messages, IsStock, Grows, placed_more, job_more, demand_more, no_pairs}
 use Rattle.shop_machine.proofs.Agreeing.{NoFault, either, nothing, other}
+use Rattle.shop_machine.proofs.OrderedLines.{lines_put, lines_more}
+use Rattle.shop_machine.proofs.Accounts.{Follows, row_later}
 
 -- ---- what is known of an order that isn't refused
 
@@ -329,3 +333,19 @@ pub order_agrees : (used : Bool) (at : List ℕ → Option Material) (lines : Li
 order_agrees used at lines first =
     either _ _ (other used _ _ (λ e. cc) (other (not (nat_le 1 (length lines) && nat_le (length lines) MOST_LINES)) _ _ (λ e. cc) nothing))
     (either _ _ (lines_agree at 0 lines) (other (nat_lt (MOST_NUMBERS + 1) (first + length lines)) _ _ (λ e. cc) nothing))
+
+-- ---- what is done to cells
+
+module _ (earlier : List Deed) (old : Content) (f : Follows earlier old) (kept : FinMap pair_cmp Kept) (imports : FinMap code_cmp ImportRow) where
+  pub by_order : (order : List ℕ) (lines : List OrderLine)
+      → Follows (Orders order lines ∷ earlier) (with_messages kept imports (changed old (order_change order lines (old.last_demand + 1))))
+  by_order order lines = record {
+    acts = (let e : old.last_act ≡ acts_of earlier = f.acts in omega arith);
+    numbers = (let e = f.numbers in let more = lines_more order lines (ordered_lines earlier) in omega (arith, e, more));
+    lines = lines_put order lines (ordered_lines earlier) old.demands (old.last_demand + 1) (ap (λ n. n + 1) f.numbers) f.lines;
+    rules = f.rules;
+    rows = λ n p k. row_later (Orders order lines) earlier p (f.rows n p k);
+    jobs = f.jobs;
+    wholes = f.wholes;
+    cells = f.cells;
+  }

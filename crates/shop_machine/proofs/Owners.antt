@@ -4,7 +4,8 @@ use Rattle.shop_records.specs.declared.records.Part.{Part}
 use Rattle.shop_records.specs.Messages.{Texts}
 use Rattle.shop_records.specs.Content.{Content}
 use Rattle.shop_records.specs.Soundness.{IsSound}
-use Rattle.shop_machine.specs.History.{Entry, Deed, deeds_of, Gives, Holds, IsOwner, EachPartOwnsItsCells, IsAccountOf, owner_of}
+use Rattle.shop_machine.specs.Machine.{Deed}
+use Rattle.shop_machine.specs.History.{Entry, deeds_of, Gives, Holds, IsOwner, EachPartOwnsItsCells, IsAccountOf, owner_of}
 use Rattle.shop_machine.proofs.Sound.{gives_sound}
 use Rattle.shop_machine.proofs.Accounts.{Follows}
 use Rattle.shop_machine.proofs.OrderedLines.{demands_are_lines}

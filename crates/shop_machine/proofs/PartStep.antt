@@ -1,5 +1,5 @@
 -- A content after a part got another state, with new parts beside it, a job, and recounted demands.
-use Rattle.std.proofs.Common.{◌≡◌, ℕ, ◌+◌, ◌≤◌, ◌<◌, inl, inr, List, ◌∷◌, get_or, true, false, refl, sym, ap, subst, ◌∙◌, arith}
+use Rattle.std.proofs.Common.{◌≡◌, ℕ, ◌+◌, ◌≤◌, ◌<◌, inl, inr, List, true, false, refl, sym, ap, subst, ◌∙◌, arith}
 use Rattle.std.specs.Prelude.{Option, Some, None, IsSome, IfSome, MatchOption, sum_by, count_by}
 use Rattle.std.specs.declared.cmp.Ordering.TheVariants.{Less, Equal}
 use Rattle.std.specs.Cmp.{nat_cmp_total, tied_itself}
@@ -24,7 +24,7 @@ use Rattle.shop_machine.specs.Recounts.{AreRecounted}
 use Rattle.shop_machine.specs.Machine.{keeping}
 use Rattle.shop_records.specs.Elements.{IsIn}
 use Rattle.shop_records.specs.Soundness.{IsPlaced, IsWaiting, IsJob, IsDemand, IsCounted, IsNewPart, IsNewJob, IsMovedJob, IsMovedDemand, TotalsFit, with_totals, Fits}
-use Rattle.shop_records.proofs.Basics.{at_in, names_total, same_some}
+use Rattle.shop_records.proofs.Basics.{names_total, same_some}
 use Rattle.shop_records.proofs.Puts.{Pairwise, all_from, pairs_from, pairs_more, not_both, found_one}
 use Rattle.shop_machine.proofs.AddedUp.{cells_as, cells_left, is_uncut}
 use Rattle.shop_machine.proofs.Moved.{LeavesOthers, IsRecount, row_recount, recount_of, demand_there, found_moved, still_moved, other_moved, received_moved, adds_up_moved, made_moved}

@@ -13,7 +13,8 @@ use Rattle.shop_records.specs.declared.changes.Change.{Change}
 use Rattle.shop_records.specs.Content.{Content, pair_cmp, totals_of, changed}
 use Rattle.shop_machine.specs.Receiving.{receive_change, unit_part}
 use Rattle.shop_records.specs.Soundness.{IsInRange}
-use Rattle.shop_machine.specs.History.{Deed, Receives, ReceivedUnit, acts_of, units_of, owner_by, owner_of, HasOwner}
+use Rattle.shop_machine.specs.Machine.{Deed, Receives}
+use Rattle.shop_machine.specs.History.{ReceivedUnit, acts_of, units_of, owner_by, owner_of, HasOwner}
 use Rattle.shop_records.proofs.Basics.{in_append, in_first, in_map, map_in}
 use Rattle.shop_machine.proofs.Cells.{after_receipt, received_cases, found_unit, kept_before, still_owned, new_owned}
 use Rattle.shop_machine.proofs.Grown.{with_messages}

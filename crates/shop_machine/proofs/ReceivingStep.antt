@@ -25,7 +25,7 @@ use Rattle.shop_records.specs.declared.records.Totals.{Totals}
 use Rattle.shop_records.specs.declared.texts.Kept.{Kept}
 use Rattle.shop_records.specs.declared.imports.ImportRow.{ImportRow}
 use Rattle.shop_records.specs.declared.messages.Message.{Message}
-use Rattle.shop_records.specs.declared.refusals.Refusal.TheVariants.{BadSize, BadCount, TooMuch, NumbersSpent, StoreFault}
+use Rattle.shop_records.specs.declared.refusals.Refusal.TheVariants.{BadSize, BadCount, TooMuch, NumbersSpent}
 use Rattle.shop_records.specs.declared.messages.Command.TheVariants.{Receive}
 use Rattle.shop_records.specs.Messages.{Texts, pair_of}
 use Rattle.shop_records.specs.Same.{same_name}
@@ -42,7 +42,7 @@ use Rattle.shop_machine.proofs.Allowed.{none_of, IsSized, sized, flat}
 use Rattle.shop_machine.proofs.AddedUp.{cells_as, cells_left, adds_up, adds_up_so}
 use Rattle.shop_machine.proofs.Grown.{with_messages, IsStock, IsStill, Grows, placed_more, job_more, none_later, demand_more, no_pairs}
 use Rattle.shop_machine.proofs.Tallied.{own, same_totals, same_sums}
-use Rattle.shop_machine.proofs.Agreeing.{NoFault, nothing, other, no_such}
+use Rattle.shop_machine.proofs.Agreeing.{NoFault, other, no_such}
 
 -- ---- what is known of a receipt that isn't refused
 

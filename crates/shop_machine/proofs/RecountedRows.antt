@@ -1,5 +1,5 @@
 -- The demands of a plan's leaves, each once.
-use Rattle.std.proofs.Common.{◌≡◌, ◌≢◌, ℕ, suc, ◌+◌, ◌-◌, ◌<◌, ◌≤◌, List, [], ◌∷◌, ◌++◌, length, get_or, take, drop, Bool, true, false, refl, sym, ap, subst, ◌∙◌, arith, inl, inr}
+use Rattle.std.proofs.Common.{◌≡◌, ◌≢◌, ℕ, zero, suc, ◌+◌, ◌-◌, ◌<◌, ◌≤◌, List, [], ◌∷◌, ◌++◌, length, get_or, take, drop, Bool, true, false, refl, sym, ap, subst, ◌∙◌, arith, inl, inr}
 use Rattle.std.specs.Prelude.{Option, Some, All, Any, AllPairs, MatchOption, ◌||◌, ◌&&◌}
 use Rattle.std.specs.List.{list_any, list_all}
 use Rattle.std.proofs.lemmas.Bool.{cases_lt}
@@ -14,7 +14,7 @@ use Rattle.shop_records.specs.declared.records.Demand.{Demand}
 use Rattle.shop_machine.specs.declared.recounts.FoundLeaf.{FoundLeaf}
 use Rattle.shop_machine.specs.declared.recounts.Recount.{Recount}
 use Rattle.shop_machine.specs.declared.recounts.Recount.TheVariants.{Reserved, Laid, Freed}
-use Rattle.shop_machine.specs.Recounts.{AreRecounted, plan_leaves, AreDemandsFound, leaves_in, recount_by, HasRoom, HasRow, IsAddedOnce}
+use Rattle.shop_machine.specs.Recounts.{AreRecounted, plan_leaves, AreDemandsFound, leaves_in, recount_by, HasRoom, HasRow, IsAddedOnce, IsAlike, IsNumbered}
 use Rattle.shop_machine.specs.Reserving.{is_over}
 use Rattle.shop_machine.specs.Ending.{has_reserved}
 use Rattle.shop_records.specs.Elements.{IsIn}
@@ -47,6 +47,81 @@ reserved_more tree at (f ∷ fs) b d some found first e =
     e ∙ ap (λ ls. list_all (λ (leaf : Leaf). has_reserved (count_of tree leaf.demand) (at leaf.demand)) (leaves_in ls)) (all_behind f fs)
     ∙ ap (λ o. o && list_all (λ (leaf : Leaf). has_reserved (count_of tree leaf.demand) (at leaf.demand)) (leaves_in fs))
     (sym (ap (has_reserved (count_of tree f.leaf.demand)) (sym (found 0 d (omega arith))) ∙ first))
+
+-- ---- a first leaf that is judged with a later one
+
+some_passes : (test : ℕ → Bool) (leaves : List FoundLeaf) (k : ℕ) (d : FoundLeaf) → k < length leaves → test (get_or leaves k d).leaf.demand ≡ true
+    → list_any (λ (leaf : Leaf). test leaf.demand) (leaves_in leaves) ≡ true
+some_passes test [] k d within passes = absurd (omega arith)
+some_passes test (f ∷ fs) zero d within passes = ap (λ b. b || list_any (λ (leaf : Leaf). test leaf.demand) (leaves_in fs)) passes
+some_passes test (f ∷ fs) (suc k) d within passes = rw (some_passes test fs k d (omega (arith, within)) passes) (by (test f.leaf.demand))
+  where
+    by : (b : Bool) → (b || true) ≡ true
+    by true = refl
+    by false = refl
+
+some_fails : (test : ℕ → Bool) (leaves : List FoundLeaf) (k : ℕ) (d : FoundLeaf) → k < length leaves → test (get_or leaves k d).leaf.demand ≡ false
+    → list_all (λ (leaf : Leaf). test leaf.demand) (leaves_in leaves) ≡ false
+some_fails test [] k d within fails = absurd (omega arith)
+some_fails test (f ∷ fs) zero d within fails = ap (λ b. b && list_all (λ (leaf : Leaf). test leaf.demand) (leaves_in fs)) fails
+some_fails test (f ∷ fs) (suc k) d within fails = rw (some_fails test fs k d (omega (arith, within)) fails) (by (test f.leaf.demand))
+  where
+    by : (b : Bool) → (b && false) ≡ false
+    by true = refl
+    by false = refl
+
+-- one of the leaves is of the same demand
+same_number : (test : ℕ → Bool) (b : Bool) (f : FoundLeaf) (fs : List FoundLeaf) (again : Any (IsAlike f) fs) → test f.leaf.demand ≡ b → test (get_or fs again.0 again.1).leaf.demand ≡ b
+same_number test b f fs again is = ap (λ (g : FoundLeaf). test g.leaf.demand) again.3 ∙ ap test again.4.0 ∙ is
+
+pub again_any : (test : ℕ → Bool) (leaves : List FoundLeaf) (b : Bool) (d : FoundLeaf) → 1 ≤ length leaves → Any (IsAlike (get_or leaves 0 d)) (take (length leaves - 1) (drop 1 leaves))
+    → b ≡ list_any (λ (leaf : Leaf). test leaf.demand) (leaves_in (take (length leaves - 1) (drop 1 leaves)))
+    → b ≡ list_any (λ (leaf : Leaf). test leaf.demand) (leaves_in leaves)
+again_any test [] b d some again e = absurd (omega arith)
+again_any test (f ∷ fs) b d some again e =
+    e ∙ ap (λ ls. list_any (λ (leaf : Leaf). test leaf.demand) (leaves_in ls)) (all_behind f fs) ∙ by (test f.leaf.demand) refl
+  where
+    later : Any (IsAlike f) fs
+    later = subst (Any (IsAlike f)) (all_behind f fs) again
+
+    by : (p : Bool) → test f.leaf.demand ≡ p → list_any (λ (leaf : Leaf). test leaf.demand) (leaves_in fs) ≡ list_any (λ (leaf : Leaf). test leaf.demand) (leaves_in (f ∷ fs))
+    by true is =
+        some_passes test fs later.0 later.1 later.2 (same_number test true f fs later is) ∙ sym (ap (λ b. b || list_any (λ (leaf : Leaf). test leaf.demand) (leaves_in fs)) is)
+    by false is = sym (ap (λ b. b || list_any (λ (leaf : Leaf). test leaf.demand) (leaves_in fs)) is)
+
+pub again_all : (test : ℕ → Bool) (leaves : List FoundLeaf) (b : Bool) (d : FoundLeaf) → 1 ≤ length leaves → Any (IsAlike (get_or leaves 0 d)) (take (length leaves - 1) (drop 1 leaves))
+    → b ≡ list_all (λ (leaf : Leaf). test leaf.demand) (leaves_in (take (length leaves - 1) (drop 1 leaves)))
+    → b ≡ list_all (λ (leaf : Leaf). test leaf.demand) (leaves_in leaves)
+again_all test [] b d some again e = absurd (omega arith)
+again_all test (f ∷ fs) b d some again e =
+    e ∙ ap (λ ls. list_all (λ (leaf : Leaf). test leaf.demand) (leaves_in ls)) (all_behind f fs) ∙ by (test f.leaf.demand) refl
+  where
+    later : Any (IsAlike f) fs
+    later = subst (Any (IsAlike f)) (all_behind f fs) again
+
+    by : (p : Bool) → test f.leaf.demand ≡ p → list_all (λ (leaf : Leaf). test leaf.demand) (leaves_in fs) ≡ list_all (λ (leaf : Leaf). test leaf.demand) (leaves_in (f ∷ fs))
+    by true is = sym (ap (λ b. b && list_all (λ (leaf : Leaf). test leaf.demand) (leaves_in fs)) is)
+    by false is =
+        some_fails test fs later.0 later.1 later.2 (same_number test false f fs later is) ∙ sym (ap (λ b. b && list_all (λ (leaf : Leaf). test leaf.demand) (leaves_in fs)) is)
+
+-- what holds of each later leaf's demand and its row
+pub again_holds : (what : ℕ → Option Demand → Type 0) (leaves : List FoundLeaf) (d : FoundLeaf) → 1 ≤ length leaves
+    → Any (IsAlike (get_or leaves 0 d)) (take (length leaves - 1) (drop 1 leaves))
+    → All (λ (f : FoundLeaf). what f.leaf.demand f.demand) (take (length leaves - 1) (drop 1 leaves)) → All (λ (f : FoundLeaf). what f.leaf.demand f.demand) leaves
+again_holds what [] d some again all = absurd (omega arith)
+again_holds what (f ∷ fs) d some again all = by
+  where
+    later : Any (IsAlike f) fs
+    later = subst (Any (IsAlike f)) (all_behind f fs) again
+
+    behind : All (λ (f : FoundLeaf). what f.leaf.demand f.demand) fs
+    behind = subst (All (λ (f : FoundLeaf). what f.leaf.demand f.demand)) (all_behind f fs) all
+
+    by : (k : ℕ) (e : FoundLeaf) → k < length (f ∷ fs) → what (get_or (f ∷ fs) k e).leaf.demand (get_or (f ∷ fs) k e).demand
+    by zero e within =
+        subst (λ (o : Option Demand). what f.leaf.demand o) later.4.1
+        (subst (λ n. what n later.1.demand) later.4.0 (subst (λ (g : FoundLeaf). what g.leaf.demand g.demand) later.3 (behind later.0 later.1 later.2)))
+    by (suc k) e within = behind k e (omega (arith, within))
 
 -- ---- rows of the leaves that were taken
 
@@ -172,6 +247,14 @@ pub row_of : (room : ℕ → Demand → Type 0) (tree : Tree) (found : FoundLeaf
     → (demand.number ≡ found.leaf.demand) × room (count_of tree found.leaf.demand) demand
 row_of room tree found demand has is =
     subst (λ (o : Option Demand). MatchOption o ⊥ (λ (d : Demand). (d.number ≡ found.leaf.demand) × room (count_of tree found.leaf.demand) d)) is has
+
+pub behind_fewer : (leaves : List FoundLeaf) → 1 ≤ length leaves → length (take (length leaves - 1) (drop 1 leaves)) < length leaves
+behind_fewer [] some = absurd (omega arith)
+behind_fewer (f ∷ fs) some = omega (arith, ap length (all_behind f fs))
+
+pub numbered_behind : (leaves : List FoundLeaf) → All IsNumbered leaves → All IsNumbered (take (length leaves - 1) (drop 1 leaves))
+numbered_behind [] all = all
+numbered_behind (f ∷ fs) all = subst (All IsNumbered) (sym (all_behind f fs)) (λ k d within. all (suc k) d (omega (arith, within)))
 
 pub found_behind : (at : ℕ → Option Demand) (leaves : List FoundLeaf) → AreDemandsFound at leaves → AreDemandsFound at (take (length leaves - 1) (drop 1 leaves))
 found_behind at [] found = found

@@ -17,10 +17,10 @@ use Rattle.shop_records.specs.declared.messages.Command.TheVariants.{Reserve}
 use Rattle.shop_records.specs.Messages.{Texts}
 use Rattle.shop_records.specs.Content.{Content, part_at, demand_at}
 use Rattle.shop_machine.specs.Reserving.{reserve_change, IsReading, IsReservation}
-use Rattle.shop_machine.specs.Machine.{Reads}
+use Rattle.shop_machine.specs.Machine.{Reads, Deed, Reserves, deeds}
 use Rattle.shop_machine.specs.Recounts.{AreRecounted, with_reserved}
 use Rattle.shop_records.specs.Soundness.{IsSound}
-use Rattle.shop_machine.specs.History.{Deed, Reserves, acts_of, ordered_lines, job_of, owner_of, is_cut, standing_as, deeds}
+use Rattle.shop_machine.specs.History.{acts_of, ordered_lines, job_of, owner_of, is_cut, standing_as}
 use Rattle.shop_records.specs.Columns.{is_free}
 use Rattle.shop_records.specs.Readings.{Reading, Plan}
 use Rattle.shop_records.proofs.Basics.{nat_cases, same_some, get_same, get_other}

@@ -123,7 +123,3 @@ gives_after texts history old new (m ∷ ms) (r ∷ rs) are given run =
     let next = gives_step texts history old run.0 m given are.0 r run.1 in
     let after = gives_after texts next.history run.0 new ms rs are.1 next.given run.2 in
     record { history = after.history; same = after.same ∙ ap (λ h. history_after h ms rs) next.same; given = after.given }
-
-pub AreMessages-push : (messages : List Message) (message : Message) → AreMessages messages → IsMessage message → AreMessages (messages ++ message ∷ [])
-AreMessages-push [] message are is = (is, tt)
-AreMessages-push (m ∷ ms) message are is = (are.0, AreMessages-push ms message are.1 is)

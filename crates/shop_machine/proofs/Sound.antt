@@ -25,20 +25,27 @@ use Rattle.shop_records.specs.Messages.{Texts, IsMessage, IsMade, pair_of, IsNum
 use Rattle.shop_records.specs.Readings.{Reading, plan_in}
 use Rattle.shop_records.specs.Content.{Content, fresh, pair_cmp, material_at, totals_in, AddsUp, has_order, kept_at, import_at, with_order, with_import, changed, part_at, demand_at, material_of, totals_of, totals_for}
 use Rattle.shop_machine.specs.Adding.{material_change}
-use Rattle.shop_machine.specs.Machine.{Reads, refusal_of, Makes, keeping}
+use Rattle.shop_machine.specs.Machine.{Reads, refusal_of, Makes, keeping, Deed, deeds}
 use Rattle.shop_machine.specs.History.{Entry, Gives}
 use Rattle.shop_records.specs.Soundness.{IsSound, Fits, IsKept, IsImport}
 use Rattle.shop_records.proofs.Basics.{codes_total, codes_same}
 use Rattle.shop_machine.proofs.ImportingStep.{accepted, import_stock, import_fits, import_told, import_order, import_agrees}
+use Rattle.shop_records.proofs.LinesKept.{order_kept, order_there}
 use Rattle.shop_records.proofs.Puts.{not_both, found_one, still_there, pairs_total, pairs_exact}
-use Rattle.shop_machine.proofs.OrderingStep.{order_of, order_stock, order_fits, order_agrees}
+use Rattle.shop_machine.proofs.OrderingStep.{order_of, order_stock, order_fits, order_agrees, by_order}
 use Rattle.shop_machine.proofs.EndingStep.{job_waits, end_stock, end_fits, release_stock, release_fits, so_far, end_told, end_agrees}
 use Rattle.shop_machine.proofs.ReceivingStep.{receive_stock, receive_fits, receipt, receive_agrees}
 use Rattle.shop_machine.proofs.ReservingStep.{reserve_stock, reserve_fits, reading, fitting, reserve_agrees}
-use Rattle.shop_machine.proofs.RetiringStep.{scrap_stands, returned_stands, turn_stock, turn_fits, scrap_agrees, return_agrees, held_for}
-use Rattle.shop_machine.proofs.AmendingStep.{amend_room, amend_stock, amend_fits, amend_agrees}
-use Rattle.shop_machine.proofs.Grown.{IsStock, stock_of, order_kept, order_there}
-use Rattle.shop_machine.proofs.AddingStep.{material_stock, material_fits, material_agrees, made_material}
+use Rattle.shop_machine.proofs.RetiringStep.{scrap_stands, returned_stands, turn_stock, turn_fits, scrap_agrees, return_agrees, held_for, scraps, gives_back}
+use Rattle.shop_machine.proofs.AmendingStep.{amend_room, amend_stock, amend_fits, amend_agrees, amends}
+use Rattle.shop_machine.proofs.Accounts.{Follows}
+use Rattle.shop_machine.proofs.Steps.{AfterAll}
+use Rattle.shop_machine.proofs.ReceivingDeed.{by_receipt}
+use Rattle.shop_machine.proofs.ImportingDeed.{by_import}
+use Rattle.shop_machine.proofs.ReservingDeed.{reserves}
+use Rattle.shop_machine.proofs.EndingDeed.{ends, breaks, releases}
+use Rattle.shop_machine.proofs.Grown.{IsStock, stock_of}
+use Rattle.shop_machine.proofs.AddingStep.{material_stock, material_fits, material_agrees, made_material, by_material}
 
 -- ---- by cases on the command
 
@@ -193,6 +200,28 @@ agrees_by texts m sound stock (Scrap part) read reads = scrap_agrees (part_at m 
 agrees_by texts m sound stock (GiveBack part) read reads = return_agrees (part_at m part) (totals_for m (part_at m part)) (held_for m stock part)
 agrees_by texts m sound stock (Import order form text) read reads = import_agrees texts m order stock (λ row is. let i = sound.imports order row is in (i.answer, i.tells)) form text read reads
 agrees_by texts m sound stock (Amend demand wanted) read reads = amend_agrees (demand_at m demand) wanted
+
+-- what it does is an account of the content that it leaves
+module _ (texts : Texts) (message : Message) (earlier : List Deed) (old : Content) (sound : IsSound texts old) (f : Follows earlier old) where
+  abbrev Then : Command → Reading → Change → Type 0
+  Then command read change = AfterAll texts message earlier old sound f (deeds command read) change
+
+  pub by_message : (command : Command) (read : Reading) (change : Change) → Reads texts old command read → refusal_of old command read ≡ None → Makes old command read change → Then command read change
+  by_message (AddMaterial material kind kerf min_long min_short) read change reads allowed makes =
+      subst (Then (AddMaterial material kind kerf min_long min_short) read) (sym makes)
+      (by_material texts message earlier old sound f material kind kerf min_long min_short allowed)
+  by_message (Receive material batch w h count) read change reads allowed makes =
+      subst (Then (Receive material batch w h count) read) (sym makes) (by_receipt earlier old sound.in_range f _ _ material batch w h count)
+  by_message (AddOrder order lines) read change reads allowed makes =
+      subst (Then (AddOrder order lines) read) (sym makes) (by_order earlier old f _ _ order lines)
+  by_message (Reserve part text) read change reads allowed makes = reserves texts message earlier old sound f part text read change makes.0 makes.1 makes.2 makes.3 reads makes.4
+  by_message (Done done) read change reads allowed makes = ends texts message earlier old sound f done read change makes.0 makes.1 makes.2 allowed makes.3 makes.4
+  by_message (Break done halt) read change reads allowed makes = breaks texts message earlier old sound f done halt read change makes.0 makes.1 makes.2 allowed makes.3 makes.4
+  by_message (Release released) read change reads allowed makes = releases texts message earlier old sound f released read change makes.0 makes.1 makes.2 allowed makes.3 makes.4
+  by_message (Scrap part) read change reads allowed makes = scraps texts message earlier old sound f part read change makes.0 allowed makes.1 makes.2
+  by_message (GiveBack part) read change reads allowed makes = gives_back texts message earlier old sound f part read change makes.0 allowed makes.1 makes.2
+  by_message (Import order form text) read change reads allowed makes = by_import texts message earlier old sound f order form text read change reads allowed makes
+  by_message (Amend demand wanted) read change reads allowed makes = amends texts message earlier old sound f demand wanted read change makes.0 makes.1 makes.2
 
 -- ---- what is kept
 

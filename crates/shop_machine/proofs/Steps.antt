@@ -12,9 +12,9 @@ use Rattle.shop_records.specs.declared.changes.Change.{Change}
 use Rattle.shop_records.specs.declared.messages.Message.{Message}
 use Rattle.shop_records.specs.Messages.{Texts}
 use Rattle.shop_records.specs.Content.{Content, part_at, job_at, changed, in_state}
-use Rattle.shop_machine.specs.Machine.{keeping}
+use Rattle.shop_machine.specs.Machine.{keeping, Deed}
 use Rattle.shop_records.specs.Soundness.{IsSound}
-use Rattle.shop_machine.specs.History.{Deed, ReceivedUnit, job_of}
+use Rattle.shop_machine.specs.History.{ReceivedUnit, job_of}
 use Rattle.shop_records.proofs.Basics.{names_total, names_same, nat_cases, name_cases, same_some, get_same, get_other}
 use Rattle.shop_machine.proofs.Cells.{Named}
 use Rattle.shop_machine.proofs.Accounts.{IsRow, IsWhole, reservation, Follows, row_later, row_restated}

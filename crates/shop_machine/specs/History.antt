@@ -8,8 +8,7 @@ use Rattle.cut_measure.specs.Codes.{code_cmp}
 use Rattle.cut_measure.specs.Names.{Name, name_cmp}
 use Rattle.cut_measure.specs.Measures.{Extent, Rule, below, cells_of}
 use Rattle.cut_tree.specs.Tree.{Tree}
-use Rattle.cut_tree.specs.Cells.{Outcome, Spot, spot_of, all_made}
-use Rattle.cut_tree.specs.Stops.{outcome_after}
+use Rattle.cut_tree.specs.Cells.{Outcome, Spot, spot_of}
 use Rattle.shop_records.specs.declared.records.Part.{Part}
 use Rattle.shop_records.specs.declared.records.Demand.{Demand}
 use Rattle.shop_records.specs.declared.records.Column.{Column}
@@ -17,10 +16,6 @@ use Rattle.shop_records.specs.declared.records.Column.TheVariants.{Received, Sto
 use Rattle.shop_records.specs.declared.records.State.{State}
 use Rattle.shop_records.specs.declared.records.State.TheVariants as state
 use Rattle.shop_records.specs.declared.texts.Pair.{Pair}
-use Rattle.shop_records.specs.declared.messages.Command.{Command}
-use Rattle.shop_records.specs.declared.messages.Command.TheVariants.{AddMaterial, Receive, AddOrder, Reserve, Done, Break, Release, Scrap as ScrapPart, GiveBack, Import, Amend}
-use Rattle.shop_records.specs.declared.imports.Form.{Form}
-use Rattle.shop_records.specs.declared.imports.Form.TheVariants.{Cgcut}
 use Rattle.shop_records.specs.declared.messages.Message.{Message}
 use Rattle.shop_files.specs.declared.orders.OrderLine.{OrderLine}
 use Rattle.shop_records.specs.declared.messages.Reply.{Reply}
@@ -28,10 +23,9 @@ use Rattle.shop_records.specs.Same.{same_pair, same_name, same_code}
 use Rattle.shop_records.specs.Columns.{is_there, is_piece, is_kerf, is_scrap, is_returned, is_free}
 use Rattle.shop_records.specs.Elements.{IsIn}
 use Rattle.shop_records.specs.Messages.{Texts, IsMessage, is_accepted, pair_of}
-use Rattle.shop_records.specs.Readings.{Reading, Plan, Lines, Problem}
-use Rattle.shop_machine.specs.Importing.{problem_lines}
+use Rattle.shop_records.specs.Readings.{Reading}
 use Rattle.shop_records.specs.Content.{Content, fresh, part_at, demand_at, kept_at, totals_of, AddsUp}
-use Rattle.shop_machine.specs.Machine.{Accepts}
+use Rattle.shop_machine.specs.Machine.{Accepts, Deed, Rules, Receives, Orders, Reserves, Ends, Turns, Amends, deeds}
 use Rattle.shop_machine.specs.Ending.{fate}
 use Rattle.shop_records.specs.Soundness.{IsCounted, reserved_in, made_in}
 
@@ -70,48 +64,6 @@ pub record ReceivedUnit : Type 0 where
   pub material : List ℕ
   pub batch : List ℕ
   pub size : Extent
-
--- what a command does to units, to rules of cutting, to orders and to cells
-pub data Deed : Type 0 where
-  -- to none of them
-  nothing : Deed
-  -- a material is cut by this rule
-  Rules : (material : List ℕ) (rule : Rule) → Deed
-  -- an act: units of one size are received
-  Receives : (material batch : List ℕ) (size : Extent) (count : ℕ) → Deed
-  -- the lines of an order are asked for
-  Orders : (order : List ℕ) (lines : List OrderLine) → Deed
-  -- an act: a part is to be cut by this tree
-  Reserves : (part : Name) (tree : Tree) → Deed
-  -- the cuts of a job are made as its outcome says
-  Ends : (job : ℕ) (outcome : ℕ → Outcome) → Deed
-  -- a standing part as a whole is in this state from now on
-  Turns : (part : Name) (into : State) → Deed
-  -- so many pieces of a demand are wanted from now on
-  Amends : (demand wanted : ℕ) → Deed
-
--- what an import does, the newest first: the lines of an order file are asked for; a unit of a problem's rectangle is
--- received, and then its lines are asked for; and the same again does nothing
-abbrev pub import_deeds : List ℕ → Form → Reading → List Deed
-import_deeds order form (Lines lines) = Orders order lines ∷ []
-import_deeds order (Cgcut material) (Problem size pieces) = Orders order (problem_lines material pieces) ∷ Receives material order size 1 ∷ []
-import_deeds order form _ = nothing ∷ []
-
--- by cases on a command, and on what its text was read as, the newest first
-abbrev pub deeds : Command → Reading → List Deed
-deeds (AddMaterial material kind kerf min_long min_short) read =
-    Rules material (record { kerf = kerf; min_long = min_long; min_short = min_short }) ∷ []
-deeds (Receive material batch w h count) read = Receives material batch (record { w = w; h = h }) count ∷ []
-deeds (AddOrder order lines) read = Orders order lines ∷ []
-deeds (Reserve part text) (Plan plan) = Reserves part plan.tree ∷ []
-deeds (Reserve part text) _ = nothing ∷ []
-deeds (Done job) read = Ends job all_made ∷ []
-deeds (Break job halt) read = Ends job (outcome_after halt) ∷ []
-deeds (Release job) read = nothing ∷ []
-deeds (ScrapPart part) read = Turns part state.Scrap ∷ []
-deeds (GiveBack part) read = Turns part state.Returned ∷ []
-deeds (Import order form text) read = import_deeds order form read
-deeds (Amend demand wanted) read = Amends demand wanted ∷ []
 
 -- what was done, the newest first
 abbrev pub deeds_of : List Entry → List Deed

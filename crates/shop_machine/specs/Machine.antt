@@ -1,10 +1,17 @@
 -- The shop as a machine: what it answers to a message, and what it contains afterwards.
-use Rattle.std.specs.Prelude.{◌≡◌, ◌≢◌, ◌+◌, List, [], ◌∷◌, Option, Some, None, MatchOption}
+use Rattle.std.specs.Prelude.{◌≡◌, ◌≢◌, ◌+◌, ℕ, List, [], ◌∷◌, Option, Some, None, MatchOption}
 use Rattle.std.specs.Option.{option_map}
+use Rattle.cut_measure.specs.Names.{Name}
+use Rattle.cut_measure.specs.Measures.{Extent, Rule}
 use Rattle.cut_tree.specs.declared.halts.Stop.TheVariants as stop
+use Rattle.cut_tree.specs.Tree.{Tree}
+use Rattle.cut_tree.specs.Cells.{Outcome, all_made}
+use Rattle.cut_tree.specs.Stops.{outcome_after}
 use Rattle.cut_tree.specs.Patterns.{Pattern}
 use Rattle.shop_records.specs.declared.records.Material.{Material}
 use Rattle.shop_records.specs.declared.records.Part.{Part}
+use Rattle.shop_files.specs.declared.orders.OrderLine.{OrderLine}
+use Rattle.shop_records.specs.declared.records.State.{State}
 use Rattle.shop_records.specs.declared.records.State.TheVariants as state
 use Rattle.shop_records.specs.declared.records.Job.{Job}
 use Rattle.shop_records.specs.declared.records.Demand.{Demand}
@@ -12,6 +19,8 @@ use Rattle.shop_records.specs.declared.texts.Kept.{Kept}
 use Rattle.shop_records.specs.declared.changes.Change.{Change}
 use Rattle.shop_records.specs.declared.messages.Command.{Command}
 use Rattle.shop_records.specs.declared.messages.Command.TheVariants.{AddMaterial, Receive, AddOrder, Reserve, Done, Break, Release, Scrap, GiveBack, Import, Amend}
+use Rattle.shop_records.specs.declared.imports.Form.{Form}
+use Rattle.shop_records.specs.declared.imports.Form.TheVariants.{Cgcut}
 use Rattle.shop_records.specs.declared.imports.ImportRow.{ImportRow}
 use Rattle.shop_records.specs.declared.messages.Message.{Message}
 use Rattle.shop_records.specs.declared.refusals.Refusal.{Refusal}
@@ -19,13 +28,13 @@ use Rattle.shop_records.specs.declared.refusals.Refusal.TheVariants.{NumberReuse
 use Rattle.shop_records.specs.declared.messages.Reply.{Reply}
 use Rattle.shop_records.specs.declared.messages.Reply.TheVariants as reply
 use Rattle.shop_records.specs.Messages.{Texts, refusal_in, pair_of}
-use Rattle.shop_records.specs.Readings.{Reading, unread, Plan, plan_in}
+use Rattle.shop_records.specs.Readings.{Reading, unread, Plan, Lines, Problem, plan_in}
 use Rattle.shop_records.specs.Keeping.{KeepsReply}
 use Rattle.shop_records.specs.Content.{Content, material_at, part_at, job_at, has_order, demand_at, kept_at, import_at, totals_of, totals_for, changed, material_of}
 use Rattle.shop_machine.specs.Adding.{material_refusal, material_change}
 use Rattle.shop_machine.specs.Receiving.{receive_refusal, receive_change}
 use Rattle.shop_machine.specs.Ordering.{order_refusal, order_change}
-use Rattle.shop_machine.specs.Importing.{IsImportReading, import_refusal, ImportMakes}
+use Rattle.shop_machine.specs.Importing.{IsImportReading, import_refusal, ImportMakes, problem_lines}
 use Rattle.shop_machine.specs.Reserving.{IsReading, reserve_refusal, IsReservation}
 use Rattle.shop_machine.specs.Ending.{end_refusal, IsWork, IsDone, IsBroken, IsRelease}
 use Rattle.shop_machine.specs.Retiring.{scrap_refusal, return_refusal, turn_change}
@@ -95,6 +104,50 @@ Makes old (GiveBack part) read change =
 Makes old (Import order form text) read change =
     ImportMakes order form text (totals_of old) (old.last_act + 1) (old.last_demand + 1) read change
 Makes old (Amend demand wanted) read change = (row : Demand) × (demand_at old demand ≡ Some row) × (change ≡ amend_change row wanted)
+
+-- ---- what commands do to cells
+
+-- what a command does to units, to rules of cutting, to orders and to cells
+pub data Deed : Type 0 where
+  -- to none of them
+  nothing : Deed
+  -- a material is cut by this rule
+  Rules : (material : List ℕ) (rule : Rule) → Deed
+  -- an act: units of one size are received
+  Receives : (material batch : List ℕ) (size : Extent) (count : ℕ) → Deed
+  -- the lines of an order are asked for
+  Orders : (order : List ℕ) (lines : List OrderLine) → Deed
+  -- an act: a part is to be cut by this tree
+  Reserves : (part : Name) (tree : Tree) → Deed
+  -- the cuts of a job are made as its outcome says
+  Ends : (job : ℕ) (outcome : ℕ → Outcome) → Deed
+  -- a standing part as a whole is in this state from now on
+  Turns : (part : Name) (into : State) → Deed
+  -- so many pieces of a demand are wanted from now on
+  Amends : (demand wanted : ℕ) → Deed
+
+-- what an import does, the newest first: the lines of an order file are asked for; a unit of a problem's rectangle is
+-- received, and then its lines are asked for; and the same again does nothing
+abbrev pub import_deeds : List ℕ → Form → Reading → List Deed
+import_deeds order form (Lines lines) = Orders order lines ∷ []
+import_deeds order (Cgcut material) (Problem size pieces) = Orders order (problem_lines material pieces) ∷ Receives material order size 1 ∷ []
+import_deeds order form _ = nothing ∷ []
+
+-- by cases on a command, and on what its text was read as, the newest first
+abbrev pub deeds : Command → Reading → List Deed
+deeds (AddMaterial material kind kerf min_long min_short) read =
+    Rules material (record { kerf = kerf; min_long = min_long; min_short = min_short }) ∷ []
+deeds (Receive material batch w h count) read = Receives material batch (record { w = w; h = h }) count ∷ []
+deeds (AddOrder order lines) read = Orders order lines ∷ []
+deeds (Reserve part text) (Plan plan) = Reserves part plan.tree ∷ []
+deeds (Reserve part text) _ = nothing ∷ []
+deeds (Done job) read = Ends job all_made ∷ []
+deeds (Break job halt) read = Ends job (outcome_after halt) ∷ []
+deeds (Release job) read = nothing ∷ []
+deeds (Scrap part) read = Turns part state.Scrap ∷ []
+deeds (GiveBack part) read = Turns part state.Returned ∷ []
+deeds (Import order form text) read = import_deeds order form read
+deeds (Amend demand wanted) read = Amends demand wanted ∷ []
 
 -- ---- steps and runs
 

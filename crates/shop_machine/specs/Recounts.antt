@@ -72,6 +72,10 @@ HasRow room tree found =
 abbrev pub IsNumbered : FoundLeaf → Type 0
 IsNumbered found = IfSome found.demand (λ demand. demand.number ≡ found.leaf.demand)
 
+-- the leaves are of one demand, with one row
+abbrev pub IsAlike : FoundLeaf → FoundLeaf → Type 0
+IsAlike found other = (other.leaf.demand ≡ found.leaf.demand) × (other.demand ≡ found.demand)
+
 -- the row stands behind the others, unless one of its number is there
 abbrev pub IsAddedOnce : List Demand → Demand → List Demand → Type 0
 IsAddedOnce old row new =

@@ -20,7 +20,7 @@ ghost use Rattle.shop_records.specs.Content.{in_state};
 
 use crate::decisions::no_change;
 use crate::moving::{has_cells, moved_totals, tally};
-use crate::recounts::{FoundLeaf, Recount, recounted_rows, wide};
+use crate::recounts::{FoundLeaf, Recount, recounted_rows, stands_again, wide};
 use cut_measure::{Kind, Limits, MOST_HEIGHT, MOST_NUMBERS, MOST_WIDTH, PartName, Size};
 use cut_tree::{Halt, Owner, Plan, Row, Stop};
 use shop_records::{
@@ -101,6 +101,9 @@ fn are_reserved(plan: &Plan, leaves: &[FoundLeaf]) -> bool
     let [found, more @ ..] = leaves else {
         return true;
     };
+    if stands_again(found, more) {
+        return are_reserved(plan, more);
+    }
     match has_reserved(plan.count(found.leaf.demand), &found.demand) {
         true => are_reserved(plan, more),
         false => false,

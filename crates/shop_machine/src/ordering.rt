@@ -55,7 +55,7 @@ fn line_refusal(last: u32, found: &FoundLine) -> Option<Refusal>
 }
 
 /// Why lines are refused behind the line of this number, if they are.
-pub fn lines_refusal(last: u32, lines: &[FoundLine]) -> Option<Refusal>
+pub(crate) fn lines_refusal(last: u32, lines: &[FoundLine]) -> Option<Refusal>
     ensures refusal { (at : List ℕ → Option MaterialOf) → AreMaterialsFound at lines.now
         → result ≡ lines_refusal at last (lines_in lines.now) }
     ensures sized { IfNone result (All (λ f. IsTrue (is_size Sheet f.line.w f.line.h)) lines.now) }

@@ -4,7 +4,7 @@ ghost use Rattle.std.specs.Prelude.{◌≡◌, ◌≢◌, IfOk, IsTrue, ℕ, Opt
 ghost use Rattle.cut_tree.specs.Counting.{is_demand_piece};
 ghost use Rattle.cut_tree.specs.Tree.{count_of};
 ghost use Rattle.shop_records.specs.declared.records.Demand.{Demand as DemandOf};
-ghost use Rattle.shop_machine.specs.Recounts.{AreRecounted, plan_leaves, AreDemandsFound, leaves_in, recount_by, HasRoom, HasRow, IsAddedOnce, pieces_in};
+ghost use Rattle.shop_machine.specs.Recounts.{AreRecounted, plan_leaves, AreDemandsFound, leaves_in, recount_by, HasRoom, HasRow, IsAddedOnce, IsAlike, pieces_in};
 
 use cut_tree::{Leaf, Owner, Plan, Row};
 use shop_records::{Demand, DemandList};
@@ -15,6 +15,13 @@ use std::alloc::{AllocError, Global};
 pub struct FoundLeaf {
     pub leaf: Leaf,
     pub demand: Option<Demand>,
+}
+
+/// Whether a later leaf names the same demand, with the same row, so that a judgement of that one is one of both.
+pub fn stands_again(found: &FoundLeaf, later: &[FoundLeaf]) -> bool
+    ensures { IsTrue result → Any (IsAlike found.now) later.now }
+{
+    later.iter().any(|other| other.leaf.demand == found.leaf.demand && other.demand == found.demand)
 }
 
 /// How a plan counts for a demand.

@@ -11,7 +11,7 @@ ghost use Rattle.shop_machine.specs.Recounts.{plan_leaves, AreDemandsFound, leav
 ghost use Rattle.shop_machine.specs.Reserving.{IsReservation, fits_demand, is_over, leaf_refusal, leaves_refusal, plan_refusal, reserve_refusal};
 
 use crate::decisions::no_change;
-use crate::recounts::{FoundLeaf, Recount, recounted_rows, wide};
+use crate::recounts::{FoundLeaf, Recount, recounted_rows, stands_again, wide};
 use cut_measure::{Code, MOST_NUMBERS};
 use cut_tree::{Leaf, Plan};
 use shop_records::{Change, Demand, Job, JobState, Material, Part, Refusal, Reply, State};
@@ -86,6 +86,9 @@ fn is_too_many(plan: &Plan, leaves: &[FoundLeaf]) -> bool
     let [found, more @ ..] = leaves else {
         return false;
     };
+    if stands_again(found, more) {
+        return is_too_many(plan, more);
+    }
     match is_over(plan.count(found.leaf.demand), &found.demand) {
         true => true,
         false => is_too_many(plan, more),

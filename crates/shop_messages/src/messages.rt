@@ -1,52 +1,19 @@
 //! Messages and queries as JSON: how a value is read as one, and a message's canonical text.
 
-ghost use Rattle.std.specs.Prelude.{◌≡◌, ◌≢◌, ◌⊎◌, IfOk, IfErr, OnOk, Some, None, option_map};
+ghost use Rattle.std.specs.Prelude.{◌≡◌, ◌≢◌, ◌⊎◌, IfOk, IfErr, Some, None, option_map};
 ghost use Rattle.serde_json.specs.View.{view};
 ghost use Rattle.shop_records.specs.Messages.{IsMessage};
 ghost use Rattle.shop_records.specs.declared.refusals.Refusal.TheVariants.{BadMessage, NoMemory};
 ghost use Rattle.shop_forms.specs.Forms as form;
 ghost use Rattle.shop_forms.specs.Forms.{message_data, json_texts};
-ghost use Rattle.shop_forms.specs.Tokens.{AddsValue};
 
-use crate::adding::{material_command, write_material};
-use crate::amending::{amend_command, write_amend};
 use crate::asking::asked;
-use crate::ending::{done_command, release_command, write_end};
-use crate::halting::{break_command, has_few_cuts, write_break};
-use crate::importing::{import_command, write_import};
-use crate::ordering::{order_command, see_lines, write_order};
-use crate::receiving::{receive_command, write_receive};
-use crate::reserving::{reserve_command, write_reserve};
-use crate::retiring::{return_command, scrap_command, write_turned};
-use json::Writer;
+use crate::commands::{command, write_message};
+use crate::halting::has_few_cuts;
 use serde_json::Value;
-use shop_forms::{
-    CommandWord, command_word_of, new_writer, number_at, value_of, wide, word_at, written_text,
-};
-use shop_records::{Command, Message, Query, Refusal, Text};
+use shop_forms::{new_writer, number_at, value_of, word_at, written_text};
+use shop_records::{Message, Query, Refusal, Text};
 use std::alloc::{AllocError, Global};
-
-// The command that a value stands for, by the word of `do`.
-fn command(alloc: Global, value: &Value, word: &str) -> Result<Option<Command>, AllocError>
-    ensures { IfOk result (λ command. command ≡ form.command_of word.now (view value.now)) }
-{
-    let Some(command_word) = command_word_of(word) else {
-        return Ok(None);
-    };
-    match command_word {
-        CommandWord::Material => Ok(material_command(value)),
-        CommandWord::Receive => Ok(receive_command(value)),
-        CommandWord::Order => order_command(alloc, value),
-        CommandWord::Reserve => reserve_command(alloc, value),
-        CommandWord::Done => Ok(done_command(value)),
-        CommandWord::Break => break_command(alloc, value),
-        CommandWord::Release => Ok(release_command(value)),
-        CommandWord::Scrap => Ok(scrap_command(value)),
-        CommandWord::GiveBack => Ok(return_command(value)),
-        CommandWord::Import => import_command(alloc, value),
-        CommandWord::Amend => Ok(amend_command(value)),
-    }
-}
 
 // The word of `do`, the terminal and the number.
 fn head(value: &Value) -> Option<(&str, u32, u32)>
@@ -93,42 +60,6 @@ pub fn read_message(alloc: Global, value: &Value) -> Result<Message, Refusal>
         }
         Ok(None) => Err(Refusal::BadMessage),
         Err(_) => Err(Refusal::NoMemory),
-    }
-}
-
-// Writes a message.
-fn write_message(alloc: Global, writer: &mut Writer, message: &Message) -> Result<(), AllocError>
-    ensures value { OnOk result (AddsValue writer.old writer.new (message_data message.now)) }
-    ensures message { IsMessage message.now }
-{
-    let pair = (wide(message.terminal), wide(message.number));
-    match &message.command {
-        Command::AddMaterial {
-            material,
-            kind,
-            kerf,
-            min_long,
-            min_short,
-        } => write_material(writer, pair, material, *kind, *kerf, *min_long, *min_short),
-        Command::Receive {
-            material,
-            batch,
-            w,
-            h,
-            count,
-        } => write_receive(writer, pair, material, batch, *w, *h, *count),
-        Command::AddOrder { order, lines } => {
-            see_lines(lines.as_slice());
-            write_order(alloc, writer, pair, order.as_str(), lines.as_slice())
-        }
-        Command::Reserve { part, tree } => write_reserve(alloc, writer, pair, part, tree),
-        Command::Done { job } => write_end(writer, pair, "done", *job),
-        Command::Break { job, halt } => write_break(writer, pair, *job, halt),
-        Command::Release { job } => write_end(writer, pair, "release", *job),
-        Command::Scrap { part } => write_turned(alloc, writer, pair, "scrap", part),
-        Command::GiveBack { part } => write_turned(alloc, writer, pair, "return", part),
-        Command::Import { order, form, text } => write_import(writer, pair, order, form, text),
-        Command::Amend { demand, wanted } => write_amend(writer, pair, *demand, *wanted),
     }
 }
 

@@ -3,8 +3,7 @@
 ghost use Rattle.std.specs.Prelude.{OnOk, All};
 ghost use Rattle.shop_records.specs.declared.messages.Reply.TheVariants as answer;
 ghost use Rattle.shop_forms.specs.Forms as form;
-ghost use Rattle.shop_forms.specs.Forms.{reply_data};
-ghost use Rattle.shop_forms.specs.Told.{HasWideNumbers};
+ghost use Rattle.shop_forms.specs.Forms.{reply_data, HasWideNumbers};
 ghost use Rattle.shop_forms.specs.Tokens.{AddsValue};
 ghost use Rattle.shop_replies.specs.Variants.{TellsParts, TellsJob};
 

@@ -2,8 +2,6 @@ pub use Rattle.shop_forms.specs.Fields
 pub use Rattle.shop_forms.specs.Forms
 pub use Rattle.shop_forms.specs.Tokens
 pub use Rattle.shop_forms.specs.Members
-pub use Rattle.shop_forms.specs.CommandWords
-pub use Rattle.shop_forms.specs.Told
 pub use Rattle.cut_measure.specs.Codes
 pub use Rattle.cut_measure.specs.Measures
 pub use Rattle.cut_measure.specs.Names

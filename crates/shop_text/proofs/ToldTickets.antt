@@ -1,5 +1,5 @@
 -- On a sound content each job has its ticket.
-use Rattle.std.proofs.Common.{◌≡◌, ◌≢◌, ℕ, zero, suc, ◌+◌, ◌-◌, ◌≤◌, List, Option, Some, None, Ok, Err, refl, sym, ap, subst, arith}
+use Rattle.std.proofs.Common.{◌≡◌, ◌≢◌, ℕ, zero, suc, ◌+◌, ◌-◌, ◌≤◌, List, Option, Some, None, Err, refl, sym, ap, subst, arith}
 use Rattle.std.specs.Prelude.{Bool, IsSome, option_map, nat_lt, ◌==◌, if◌then◌else◌}
 use Rattle.std.proofs.lemmas.Bool.{cond_both, eq-eqb}
 use Rattle.cut_measure.specs.declared.sizes.Axis.TheVariants.{X, Y}

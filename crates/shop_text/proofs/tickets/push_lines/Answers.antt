@@ -1,5 +1,5 @@
-use Rattle.std.proofs.Common.{◌≡◌, ◌<◌, ◌++◌, List, ℕ, ◌∙◌, sym, ap, length, arith, subst}
-use Rattle.std.specs.Prelude.{Option, MatchOption, None, string_bytes}
+use Rattle.std.proofs.Common.{◌≡◌, ◌<◌, ◌++◌, List, ℕ, ◌∙◌, sym, subst}
+use Rattle.std.specs.Prelude.{Option, MatchOption, string_bytes}
 use Rattle.std.proofs.lemmas.Result.{err_from_is_err_and}
 use Rattle.cut_tree.specs.Tree.{node_count}
 use Rattle.shop_text.specs.Tickets.{line_of, lines_below}

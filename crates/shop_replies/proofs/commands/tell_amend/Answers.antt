@@ -1,4 +1,4 @@
-use Rattle.shop_messages.proofs.amending.write_amend.Goals as goal
+use Rattle.shop_replies.proofs.commands.tell_amend.Goals as goal
 
 pub returns-clause-value : goal.returns-clause-value
 returns-clause-value c =

@@ -1,4 +1,4 @@
-use Rattle.shop_replies.proofs.ordering.tell_order.Goals as goal
+use Rattle.shop_replies.proofs.commands.tell_order.Goals as goal
 
 pub returns-clause-value : goal.returns-clause-value
 returns-clause-value c =

@@ -1,4 +1,4 @@
-use Rattle.shop_replies.proofs.adding.tell_material.Goals as goal
+use Rattle.shop_replies.proofs.commands.tell_material.Goals as goal
 
 pub returns : goal.returns
 returns c =

@@ -1,0 +1,452 @@
+//! Replies to commands in JSON, each one by its word, read and written; and how each reply is written.
+
+ghost use Rattle.std.specs.Prelude.{◌≡◌, OnOk, Some};
+ghost use Rattle.serde_json.specs.View.{view};
+ghost use Rattle.shop_records.specs.Messages.{IsWide};
+ghost use Rattle.shop_records.specs.declared.messages.Reply.TheVariants as answer;
+ghost use Rattle.shop_forms.specs.Forms as form;
+ghost use Rattle.shop_forms.specs.Forms.{reply_data, HasWideNumbers};
+ghost use Rattle.shop_forms.specs.Tokens.{AddsValue};
+ghost use Rattle.shop_forms.specs.Fields.{row};
+ghost use Rattle.shop_replies.specs.Variants.{TellsOrder, TellsImport};
+
+use crate::asking::{tell_bound, tell_demand, tell_plan, tell_rack, tell_totals, tell_trace};
+use crate::listing::{
+    tell_behind, tell_job, tell_lines, tell_materials, tell_orders, tell_parts, tell_terminal,
+};
+use cut_measure::{Code, PartName};
+use json::Writer;
+use serde_json::Value;
+use shop_forms::{
+    Member, code_at, has_keys, number_at, part_in, text_at, wide, wide_at, write_object,
+};
+use shop_records::{Refusal, Reply, Text};
+use std::alloc::{AllocError, Global};
+
+// The reply of an accepted message that a value stands for, by the word of `ok`.
+pub(crate) fn made(value: &Value) -> Option<Reply>
+    ensures { result ≡ form.reply_of (view value.now) }
+{
+    let word = text_at(value, "ok")?;
+    if word == "material" {
+        material_made(value)
+    } else if word == "receive" {
+        receive_made(value)
+    } else if word == "order" {
+        order_made(value)
+    } else if word == "reserve" {
+        reserve_made(value)
+    } else if word == "done" {
+        done_made(value)
+    } else if word == "break" {
+        break_made(value)
+    } else if word == "release" {
+        release_made(value)
+    } else if word == "scrap" {
+        scrap_made(value)
+    } else if word == "return" {
+        return_made(value)
+    } else if word == "import" {
+        import_made(value)
+    } else if word == "amend" {
+        amend_made(value)
+    } else {
+        None
+    }
+}
+
+// Writes a reply.
+pub(crate) fn write_reply(
+    alloc: Global,
+    writer: &mut Writer,
+    reply: &Reply,
+) -> Result<(), AllocError>
+    ensures value { OnOk result (AddsValue writer.old writer.new (reply_data reply.now)) }
+    ensures wide { OnOk result (HasWideNumbers reply.now) }
+{
+    match reply {
+        Reply::AddMaterial { material } => tell_material(writer, material),
+        Reply::Receive { act, count } => tell_receive(writer, *act, *count),
+        Reply::AddOrder { .. } => tell_order(writer, reply),
+        Reply::Reserve { cuts, job } => tell_reserve(writer, *cuts, *job),
+        Reply::Done {
+            job,
+            kerf,
+            pieces,
+            rack,
+            scrap,
+        } => tell_ended(writer, "done", *job, *kerf, *pieces, *rack, *scrap),
+        Reply::Break {
+            job,
+            kerf,
+            pieces,
+            rack,
+            scrap,
+        } => tell_ended(writer, "break", *job, *kerf, *pieces, *rack, *scrap),
+        Reply::Release { job } => tell_release(writer, *job),
+        Reply::Scrap { part } => tell_turned(alloc, writer, "scrap", part),
+        Reply::GiveBack { part } => tell_turned(alloc, writer, "return", part),
+        Reply::Import { .. } => tell_import(writer, reply),
+        Reply::Amend { demand, wanted } => tell_amend(writer, *demand, *wanted),
+        Reply::Totals { .. } => tell_totals(writer, reply),
+        Reply::Rack { material, parts } => tell_rack(alloc, writer, material, parts.as_slice()),
+        Reply::Trace { .. } => tell_trace(alloc, writer, reply),
+        Reply::Demand { .. } => tell_demand(writer, reply),
+        Reply::Plan { .. } => tell_plan(writer, reply),
+        Reply::Bound { best, units } => tell_bound(writer, *best, *units),
+        Reply::Materials { materials } => tell_materials(alloc, writer, materials.as_slice()),
+        Reply::Parts { .. } => tell_parts(alloc, writer, reply),
+        Reply::Demands { demands, more } => {
+            tell_behind(alloc, writer, "demands", demands.as_slice(), *more)
+        }
+        Reply::Jobs { jobs, more } => tell_behind(alloc, writer, "jobs", jobs.as_slice(), *more),
+        Reply::Job { .. } => tell_job(alloc, writer, reply),
+        Reply::Terminal { last, terminal } => tell_terminal(writer, *last, *terminal),
+        Reply::Orders { more, orders } => tell_orders(alloc, writer, *more, orders.as_slice()),
+        Reply::Lines { lines, order } => tell_lines(alloc, writer, lines.as_slice(), order),
+        Reply::Refused(refusal) => tell_refusal(writer, *refusal),
+    }
+}
+
+// Writes the reply of a refused message or query.
+fn tell_refusal(writer: &mut Writer, refusal: Refusal) -> Result<(), AllocError>
+    ensures value { OnOk result
+        (AddsValue writer.old writer.new (reply_data (answer.Refused refusal))) }
+    ensures wide { OnOk result (HasWideNumbers (answer.Refused refusal)) }
+{
+    write_object(
+        writer,
+        &[
+            Member::Text("name", refusal.name()),
+            Member::Number("refused", wide(refusal.number())),
+        ],
+    )
+}
+
+// The reply about a material that was added.
+fn material_made(value: &Value) -> Option<Reply>
+    ensures { result ≡ row 2 form.material_made (view value.now) }
+{
+    if !has_keys(value, 2) {
+        return None;
+    }
+    let material = code_at(value, "material")?;
+    Some(Reply::AddMaterial { material })
+}
+
+// Writes the reply about a material that was added.
+fn tell_material(writer: &mut Writer, material: &Code) -> Result<(), AllocError>
+    ensures { OnOk result (AddsValue writer.old writer.new
+        (reply_data (answer.AddMaterial material.now))) }
+{
+    write_object(
+        writer,
+        &[
+            Member::Text("material", material.as_str()),
+            Member::Text("ok", "material"),
+        ],
+    )
+}
+
+// The reply about units that were received.
+fn receive_made(value: &Value) -> Option<Reply>
+    ensures { result ≡ row 3 form.receive_made (view value.now) }
+{
+    if !has_keys(value, 3) {
+        return None;
+    }
+    let act = number_at(value, "act")?;
+    let count = number_at(value, "count")?;
+    Some(Reply::Receive { act, count })
+}
+
+// Writes the reply about units that were received.
+fn tell_receive(writer: &mut Writer, act: u32, count: u32) -> Result<(), AllocError>
+    ensures value { OnOk result
+        (AddsValue writer.old writer.new (reply_data (answer.Receive act count))) }
+    ensures wide { OnOk result (HasWideNumbers (answer.Receive act count)) }
+{
+    write_object(
+        writer,
+        &[
+            Member::Number("act", wide(act)),
+            Member::Number("count", wide(count)),
+            Member::Text("ok", "receive"),
+        ],
+    )
+}
+
+// The reply about an order that was added.
+fn order_made(value: &Value) -> Option<Reply>
+    ensures { result ≡ row 4 form.order_made (view value.now) }
+{
+    if !has_keys(value, 4) {
+        return None;
+    }
+    let count = number_at(value, "count")?;
+    let first = number_at(value, "first")?;
+    let order = code_at(value, "order")?;
+    Some(Reply::AddOrder {
+        count,
+        first,
+        order,
+    })
+}
+
+// Writes the reply about an order that was added.
+fn tell_order(writer: &mut Writer, reply: &Reply) -> Result<(), AllocError>
+    requires { TellsOrder reply.now }
+    ensures value { OnOk result (AddsValue writer.old writer.new (reply_data reply.now)) }
+    ensures wide { OnOk result (HasWideNumbers reply.now) }
+{
+    let Reply::AddOrder {
+        count,
+        first,
+        order,
+    } = reply
+    else {
+        unreachable!()
+    };
+    write_object(
+        writer,
+        &[
+            Member::Number("count", wide(*count)),
+            Member::Number("first", wide(*first)),
+            Member::Text("ok", "order"),
+            Member::Text("order", order.as_str()),
+        ],
+    )
+}
+
+// The reply about a part that was reserved.
+fn reserve_made(value: &Value) -> Option<Reply>
+    ensures { result ≡ row 3 form.reserve_made (view value.now) }
+{
+    if !has_keys(value, 3) {
+        return None;
+    }
+    let cuts = number_at(value, "cuts")?;
+    let job = number_at(value, "job")?;
+    Some(Reply::Reserve { cuts, job })
+}
+
+// Writes the reply about a part that was reserved.
+fn tell_reserve(writer: &mut Writer, cuts: u32, job: u32) -> Result<(), AllocError>
+    ensures value { OnOk result
+        (AddsValue writer.old writer.new (reply_data (answer.Reserve cuts job))) }
+    ensures wide { OnOk result (HasWideNumbers (answer.Reserve cuts job)) }
+{
+    write_object(
+        writer,
+        &[
+            Member::Number("cuts", wide(cuts)),
+            Member::Number("job", wide(job)),
+            Member::Text("ok", "reserve"),
+        ],
+    )
+}
+
+// What is told of a job that ended: its number, and the cells of kerf, pieces, rack and scrap.
+fn ended_cells(value: &Value) -> Option<(u32, u64, u64, u64, u64)>
+    ensures { result ≡ form.ended_cells (view value.now) }
+{
+    let job = number_at(value, "job")?;
+    let kerf = wide_at(value, "kerf")?;
+    let pieces = wide_at(value, "pieces")?;
+    let rack = wide_at(value, "rack")?;
+    let scrap = wide_at(value, "scrap")?;
+    Some((job, kerf, pieces, rack, scrap))
+}
+
+// The reply about a job that is done.
+fn done_made(value: &Value) -> Option<Reply>
+    ensures { result ≡ row 6 form.done_made (view value.now) }
+{
+    if !has_keys(value, 6) {
+        return None;
+    }
+    let (job, kerf, pieces, rack, scrap) = ended_cells(value)?;
+    Some(Reply::Done {
+        job,
+        kerf,
+        pieces,
+        rack,
+        scrap,
+    })
+}
+
+// Writes the reply about a job that ended, by its word.
+fn tell_ended(
+    writer: &mut Writer,
+    word: &str,
+    job: u32,
+    kerf: u64,
+    pieces: u64,
+    rack: u64,
+    scrap: u64,
+) -> Result<(), AllocError>
+    ensures value { OnOk result
+        (AddsValue writer.old writer.new (form.ended_told word.now job kerf pieces rack scrap)) }
+    ensures wide { OnOk result
+        (IsWide job × IsWide kerf × IsWide pieces × IsWide rack × IsWide scrap) }
+{
+    write_object(
+        writer,
+        &[
+            Member::Number("job", wide(job)),
+            Member::Number("kerf", kerf),
+            Member::Text("ok", word),
+            Member::Number("pieces", pieces),
+            Member::Number("rack", rack),
+            Member::Number("scrap", scrap),
+        ],
+    )
+}
+
+// The reply about a part that was released.
+fn release_made(value: &Value) -> Option<Reply>
+    ensures { result ≡ row 2 form.release_made (view value.now) }
+{
+    if !has_keys(value, 2) {
+        return None;
+    }
+    let job = number_at(value, "job")?;
+    Some(Reply::Release { job })
+}
+
+// Writes the reply about a part that was released.
+fn tell_release(writer: &mut Writer, job: u32) -> Result<(), AllocError>
+    ensures value { OnOk result (AddsValue writer.old writer.new (reply_data (answer.Release job))) }
+    ensures wide { OnOk result (HasWideNumbers (answer.Release job)) }
+{
+    write_object(
+        writer,
+        &[
+            Member::Number("job", wide(job)),
+            Member::Text("ok", "release"),
+        ],
+    )
+}
+
+// The reply about a job that broke off.
+fn break_made(value: &Value) -> Option<Reply>
+    ensures { result ≡ row 6 form.break_made (view value.now) }
+{
+    if !has_keys(value, 6) {
+        return None;
+    }
+    let (job, kerf, pieces, rack, scrap) = ended_cells(value)?;
+    Some(Reply::Break {
+        job,
+        kerf,
+        pieces,
+        rack,
+        scrap,
+    })
+}
+
+// The reply about a part that was made scrap.
+fn scrap_made(value: &Value) -> Option<Reply>
+    ensures { result ≡ row 2 form.scrap_made (view value.now) }
+{
+    let part = part_in(value, 2)?;
+    Some(Reply::Scrap { part })
+}
+
+// The reply about a unit that was returned.
+fn return_made(value: &Value) -> Option<Reply>
+    ensures { result ≡ row 2 form.return_made (view value.now) }
+{
+    let part = part_in(value, 2)?;
+    Some(Reply::GiveBack { part })
+}
+
+// Writes the reply about a part that was turned, by its word.
+fn tell_turned<'a>(
+    alloc: Global,
+    writer: &mut Writer,
+    word: &'a str,
+    part: &'a PartName,
+) -> Result<(), AllocError>
+    ensures { OnOk result
+        (AddsValue writer.old writer.new (form.turned_told word.now part.now)) }
+{
+    write_object(
+        writer,
+        &[Member::Text("ok", word), Member::Name("part", part, alloc)],
+    )
+}
+
+// The reply about an order that was imported.
+fn import_made(value: &Value) -> Option<Reply>
+    ensures { result ≡ row 5 form.import_made (view value.now) }
+{
+    if !has_keys(value, 5) {
+        return None;
+    }
+    let act = number_at(value, "act")?;
+    let count = number_at(value, "count")?;
+    let first = number_at(value, "first")?;
+    let order = code_at(value, "order")?;
+    Some(Reply::Import {
+        act,
+        count,
+        first,
+        order,
+    })
+}
+
+// Writes the reply about an order that was imported.
+fn tell_import(writer: &mut Writer, reply: &Reply) -> Result<(), AllocError>
+    requires { TellsImport reply.now }
+    ensures value { OnOk result (AddsValue writer.old writer.new (reply_data reply.now)) }
+    ensures wide { OnOk result (HasWideNumbers reply.now) }
+{
+    let Reply::Import {
+        act,
+        count,
+        first,
+        order,
+    } = reply
+    else {
+        unreachable!()
+    };
+    write_object(
+        writer,
+        &[
+            Member::Number("act", wide(*act)),
+            Member::Number("count", wide(*count)),
+            Member::Number("first", wide(*first)),
+            Member::Text("ok", "import"),
+            Member::Text("order", order.as_str()),
+        ],
+    )
+}
+
+// The reply about a demand that was amended.
+fn amend_made(value: &Value) -> Option<Reply>
+    ensures { result ≡ row 3 form.amend_made (view value.now) }
+{
+    if !has_keys(value, 3) {
+        return None;
+    }
+    let demand = number_at(value, "demand")?;
+    let wanted = number_at(value, "wanted")?;
+    Some(Reply::Amend { demand, wanted })
+}
+
+// Writes the reply about a demand that was amended.
+fn tell_amend(writer: &mut Writer, demand: u32, wanted: u32) -> Result<(), AllocError>
+    ensures value { OnOk result
+        (AddsValue writer.old writer.new (reply_data (answer.Amend demand wanted))) }
+    ensures wide { OnOk result (HasWideNumbers (answer.Amend demand wanted)) }
+{
+    write_object(
+        writer,
+        &[
+            Member::Number("demand", wide(demand)),
+            Member::Text("ok", "amend"),
+            Member::Number("wanted", wide(wanted)),
+        ],
+    )
+}
