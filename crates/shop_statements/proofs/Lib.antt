@@ -17,5 +17,7 @@ pub mod KeyedRows
 pub mod Putting
 pub mod Setting
 pub mod Steps
+pub mod Beside
 pub mod Versions
 pub mod UnderKeys
+pub mod CutLetters

@@ -72,6 +72,11 @@ pub read_as : {X : Type 0} (Is : X → Type 0) (columns : X → Row) (o : Option
 read_as Is columns None row x h reads = absurd (let e = h.shown in cc)
 read_as Is columns (Some y) row x h reads = ap Some (reads y (h.known y refl) (let e = h.shown in cc))
 
+-- the entry of the row
+pub of_row : {X : Type 0} (Is : X → Type 0) (columns : X → Row) (o : Option X) (row : Row) → IsRowOf Is columns o (Some row) → (y : X) × (o ≡ Some y) × Is y × (row ≡ columns y)
+of_row Is columns None row h = absurd (let e = h.shown in cc)
+of_row Is columns (Some y) row h = (y, refl, h.known y refl, (let e = h.shown in cc))
+
 pub none_as : {X : Type 0} (Is : X → Type 0) (columns : X → Row) (o : Option X) → IsRowOf Is columns o None → None ≡ o
 none_as Is columns None h = refl
 none_as Is columns (Some y) h = absurd (let e = h.shown in cc)

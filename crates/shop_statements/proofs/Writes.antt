@@ -1,5 +1,6 @@
 -- What an INSERT, an UPDATE and a DELETE make of the trees, for any table with no count and no default that reads the time.
-use Rattle.std.proofs.Common.{◌≡◌, ◌≢◌, ◌⊎◌, inl, inr, ℕ, ◌/◌, List, [], length, append-nil, slice_get, true, false, Option, Some, None, Ok, Err, Result, ap, subst, ◌∙◌}
+use Rattle.std.proofs.Common.{◌≡◌, ◌≢◌, ◌⊎◌, inl, inr, ℕ, ◌/◌, List, [], length, append-nil, slice_get, true, false, Option, Some, None, Ok, Err, Result, sym, ap, subst, ◌∙◌}
+use Rattle.std.specs.List.{AllByRecursion}
 use Rattle.sqlite_value.specs.Order.{Row}
 use Rattle.sqlite.specs.Tree.{Trees}
 use Rattle.sqlite.specs.Term.{Term}
@@ -36,6 +37,7 @@ pub record IsEdited (db after : Database) (edit : Edit) : Type 0 where
   pub schema_is : after.schema ≡ db.schema
   pub rows : after.trees edit.table.tree ≡ edited db.trees edit
   pub fresh : are_fresh (left_by db.trees edit) edit.news ≡ true
+  pub tables : AllByRecursion (λ t. t.tree ≢ edit.table.tree → after.trees t.tree ≡ db.trees t.tree) db.schema.tables
   pub others : (t : ℕ) → t ≢ edit.table.tree → IsNoIndex db.schema t → after.trees t ≡ db.trees t
 
 module _ (limit : Option ℕ) (mode : Mode) (params : Row) (db after : Database) (tally : Tally) (at : ℕ) (base : Table)
@@ -59,7 +61,7 @@ module _ (limit : Option ℕ) (mode : Mode) (params : Row) (db after : Database)
   applied edit next none wrote is =
       let a = one_step db.schema mode.keys db.trees next edit none wrote in
       let trees : after.trees ≡ next = ap (λ (d : Database). d.trees) is in
-      record { schema_is = ap (λ (d : Database). d.schema) is; rows = ap (λ (t : Trees). t edit.table.tree) trees ∙ a.rows; fresh = a.fresh; others = λ t far bare. ap (λ (u : Trees). u t) trees ∙ a.others t far bare }
+      record { schema_is = ap (λ (d : Database). d.schema) is; rows = ap (λ (t : Trees). t edit.table.tree) trees ∙ a.rows; fresh = a.fresh; tables = subst (λ (u : Trees). AllByRecursion (λ t. t.tree ≢ edit.table.tree → u t.tree ≡ db.trees t.tree) db.schema.tables) (sym trees) a.tables; others = λ t far bare. ap (λ (u : Trees). u t) trees ∙ a.others t far bare }
 
   -- the rows that VALUES gives
   abbrev pub new_rows : List Term → ℕ → List Row

@@ -12,17 +12,13 @@ use Rattle.sqlite.specs.State.{State, HasCleanDisk}
 use Rattle.cut_measure.specs.Codes.{code_cmp}
 use Rattle.shop_records.specs.Content.{Content}
 use Rattle.shop_records.specs.declared.records.Totals.{Totals}
-use Rattle.shop_statements.specs.Layout.{created_all, no_schema, meta_table, materials_table, parts_table, jobs_table, orders_table, demands_table, kept_table, imports_table, totals_table}
+use Rattle.shop_statements.specs.Layout.{laid}
 use Rattle.shop_statements.specs.Rows.{AreRows, AreOrders, IsKeyed, meta_row, material_row, part_row, job_row, demand_row, kept_row, import_row}
 use Rattle.shop_statements.specs.Shown.{Books}
 
 -- Version 1 has these nine tables and nothing else.
 abbrev pub earlier_schema : Schema
-earlier_schema =
-    created_all
-    (meta_table ∷ materials_table ∷ parts_table ∷ jobs_table ∷ orders_table ∷ demands_table ∷ kept_table ∷ imports_table
-    ∷ totals_table ∷ [])
-    no_schema
+earlier_schema = laid 9
 
 abbrev pub earlier_entries : Content → List (List ℕ × ℕ)
 earlier_entries m = (codes "version", 1) ∷ (codes "act", m.last_act) ∷ (codes "demand", m.last_demand) ∷ []

@@ -1,5 +1,5 @@
 -- The tables, as their texts define them, and the schemas that have them in front.
-use Rattle.std.specs.Prelude.{◌≡◌, ℕ, true, false, List, [], ◌∷◌, ◌++◌, codes, Some, None, Option}
+use Rattle.std.specs.Prelude.{◌≡◌, ℕ, true, false, List, [], ◌∷◌, ◌++◌, take, codes, Some, None, Option}
 use Rattle.std.specs.List.{AllByRecursion}
 use Rattle.sqlite.specs.Collation.TheVariants.{Binary}
 use Rattle.sqlite.specs.declared.types.Value.TheVariants.{Null}
@@ -132,12 +132,18 @@ abbrev pub created_all : List Table → Schema → Schema
 created_all [] schema = schema
 created_all (t ∷ more) schema = created_all more (created schema t)
 
+-- ours, in the order in which they are made
+abbrev pub our_tables : List Table
+our_tables =
+    meta_table ∷ materials_table ∷ parts_table ∷ jobs_table ∷ orders_table ∷ demands_table ∷ kept_table ∷ imports_table ∷ totals_table
+    ∷ totals2_table ∷ []
+
+-- the first so many of them, and nothing else
+abbrev pub laid : ℕ → Schema
+laid count = created_all (take count our_tables) no_schema
+
 abbrev pub shop_schema : Schema
-shop_schema =
-    created_all
-    (meta_table ∷ materials_table ∷ parts_table ∷ jobs_table ∷ orders_table ∷ demands_table ∷ kept_table ∷ imports_table
-    ∷ totals_table ∷ totals2_table ∷ [])
-    no_schema
+shop_schema = laid 10
 
 -- ---- a schema in which ours are the first tables
 

@@ -4,6 +4,7 @@ pub mod Rows
 pub mod Found
 pub mod Selecting
 pub mod Shown
+pub mod Beside
 pub mod Faults
 pub mod Changes
 pub mod Earlier

@@ -5,6 +5,7 @@ ghost use Rattle.sqlite.specs.Held.{state};
 ghost use Rattle.sqlite_value.specs.Order.{Row as Values};
 ghost use Rattle.shop_records.specs.Content.{demand_at};
 ghost use Rattle.shop_records.specs.declared.records.Demand.{Demand as DemandRecord};
+ghost use Rattle.shop_statements.specs.Beside.{Spares};
 ghost use Rattle.shop_statements.specs.Rows.{demand_columns};
 ghost use Rattle.shop_statements.specs.Shown.{Leaves, OnBooks, IsRowOf};
 ghost use Rattle.std.specs.Prelude.{Some, None, OnOk};
@@ -12,7 +13,7 @@ ghost use Rattle.shop_statements.specs.Changes.{with_demand};
 ghost use Rattle.shop_statements.specs.Shown.{Books, Makes, Ran, Within};
 ghost use Rattle.sqlite.specs.State.{HasCleanDisk};
 ghost use Rattle.shop_statements.specs.Found.{IsUnder, columns_of};
-ghost use Rattle.shop_statements.specs.Layout.{IsShop};
+ghost use Rattle.shop_statements.specs.Layout.{IsShop, demands_table};
 ghost use Rattle.sqlite_value.specs.declared.value.Value.TheVariants.{Int};
 ghost use Rattle.std.specs.Prelude.{[], ◌∷◌, option_map, pos};
 
@@ -91,6 +92,8 @@ pub fn put_demand<S: Alter>(tx: &mut Transaction<'_, S>, demand: &Demand) -> Res
     ensures put { (b : Books) → demand_at b.content demand.now.number ≡ None
         → OnOk result (Makes (state S.Store tx.old.conn.now) (state S.Store tx.new.conn.now) b
         (with_demand demand.now b)) }
+    ensures others { OnOk result (Spares (demands_table.tree ∷ [])
+        (state S.Store tx.old.conn.now) (state S.Store tx.new.conn.now)) }
     ensures within { Within (state S.Store tx.old.conn.now) (state S.Store tx.new.conn.now) }
 {
     run(
@@ -125,6 +128,8 @@ pub fn count_demand<S: Alter>(
         → demand.now ≡ record was { wanted = demand.now.wanted; reserved = demand.now.reserved; made = demand.now.made }
         → OnOk result (Makes (state S.Store tx.old.conn.now) (state S.Store tx.new.conn.now) b
         (with_demand demand.now b)) }
+    ensures others { OnOk result (Spares (demands_table.tree ∷ [])
+        (state S.Store tx.old.conn.now) (state S.Store tx.new.conn.now)) }
     ensures within { Within (state S.Store tx.old.conn.now) (state S.Store tx.new.conn.now) }
 {
     run(

@@ -1,9 +1,10 @@
 //! The table of jobs, whose plans are kept as texts: read, put and moved.
 
-ghost use Rattle.std.specs.Prelude.{◌≡◌, ◌≤◌, ℕ, List, [], ◌∷◌, pos, false, Some, IfOk};
+ghost use Rattle.std.specs.Prelude.{◌≡◌, ◌≤◌, ℕ, List, [], ◌∷◌, pos, false, Some, IfOk, IfSome, count_by};
 ghost use Rattle.sqlite.specs.State.{HasCleanDisk};
-ghost use Rattle.shop_statements.specs.Found.{AreJobColumns, IsJobUnder, IsUnder, columns_of};
-ghost use Rattle.shop_statements.specs.Layout.{IsShop};
+ghost use Rattle.shop_statements.specs.Beside.{Spares};
+ghost use Rattle.shop_statements.specs.Found.{AreJobColumns, IsHead, IsJobUnder, IsStocked, IsUnder, columns_of, is_axis, job_in};
+ghost use Rattle.shop_statements.specs.Layout.{IsShop, jobs_table};
 ghost use Rattle.sqlite.specs.Held.{state};
 ghost use Rattle.sqlite_value.specs.declared.value.Value.TheVariants.{Int, Text as Word};
 ghost use Rattle.sqlite_value.specs.Order.{column};
@@ -11,6 +12,7 @@ ghost use Rattle.cut_measure.specs.declared.ranges.TheConstants.{MOST_KERF};
 ghost use Rattle.cut_measure.specs.Measures.{Extent};
 ghost use Rattle.cut_tree.specs.Patterns.{Pattern, IsPlan};
 ghost use Rattle.cut_tree.specs.Spelling.{IsSpelling, text_of};
+ghost use Rattle.cut_tree.specs.Tree.{cut_count};
 ghost use Rattle.shop_records.specs.Content.{job_at, part_at, material_at};
 ghost use Rattle.shop_records.specs.declared.records.Job.{Job as JobRecord};
 ghost use Rattle.shop_records.specs.declared.records.Part.{Part as PartRecord};
@@ -29,7 +31,7 @@ use crate::rows::row_by_number;
 use crate::running::run;
 use cut_measure::{MOST_KERF, PartName, Size};
 use cut_tree::{Cause, Plan};
-use shop_records::Job;
+use shop_records::{Job, Material, Part};
 use sqlite::{Alter, Connection, Error, Row, Transaction, params};
 use std::alloc::{AllocError, Global};
 
@@ -50,14 +52,16 @@ fn job_row<S: Alter>(conn: &mut Connection<S>, number: u32) -> Result<Option<Row
     )
 }
 
-// A part's size, and the kerf of its material.
-fn cut_of<S: Alter>(conn: &mut Connection<S>, name: PartName) -> Result<(Size, u32), TableFault>
-    ensures sides { OnBooks (state S.Store conn.old) (state S.Store conn.new)
+// A part, and its material.
+fn stock_of<S: Alter>(
+    conn: &mut Connection<S>,
+    name: PartName,
+) -> Result<(Part, Material), TableFault>
+    ensures rows { OnBooks (state S.Store conn.old) (state S.Store conn.new)
         (λ books. (part : PartRecord) (material : MaterialRecord)
         → part_at books.content name ≡ Some part
         → material_at books.content part.material ≡ Some material
-        → IfOk result (λ cut. (cut.0 ≡ part.size) × (cut.1 ≡ material.limits.kerf))) }
-    ensures narrow { IfOk result (λ cut. cut.1 ≤ MOST_KERF) }
+        → IfOk result (λ stock. (stock.0 ≡ part) × (stock.1 ≡ material))) }
     ensures leaves { Leaves (state S.Store conn.old) (state S.Store conn.new) }
     ensures mode { conn.old.in_transaction ≡ false → conn.new.in_transaction ≡ false }
 {
@@ -67,7 +71,7 @@ fn cut_of<S: Alter>(conn: &mut Connection<S>, name: PartName) -> Result<(Size, u
     let Some(material) = find_material(conn, part.material)? else {
         return Err(TableFault::Store);
     };
-    Ok((part.size, material.limits.kerf()))
+    Ok((part, material))
 }
 
 // The plan of a tree's text.
@@ -114,23 +118,64 @@ fn read_job(
     })
 }
 
+/// A job with its part and that one's material.
+#[derive(Drop)]
+pub struct StockedJob {
+    pub job: Job,
+    pub part: Part,
+    pub material: Material,
+}
+
 // The job of the row under its number, on a part that is there.
 fn job_of_row<S: Alter>(
     alloc: Global,
     conn: &mut Connection<S>,
     number: u32,
     row: &Row,
-) -> Result<Job, TableFault>
-    ensures exact { IfOk result (AreJobColumns (columns_of 4 0 row.now)) }
+) -> Result<StockedJob, TableFault>
+    ensures exact { IfOk result (λ found. AreJobColumns (columns_of 4 0 row.now) found.job) }
     ensures read { OnBooks (state S.Store conn.old) (state S.Store conn.new)
         (λ books. (job : JobRecord) → IsOwnJob books.content number job → row.now ≡ job_columns job
-        → IfOk result (λ read. read ≡ job)) }
+        → IfOk result (λ found. (found.job ≡ job) × IsStocked books.content found)) }
     ensures leaves { Leaves (state S.Store conn.old) (state S.Store conn.new) }
     ensures mode { conn.old.in_transaction ≡ false → conn.new.in_transaction ≡ false }
 {
-    let part = name_in(row, 0)?;
-    let cut = cut_of(conn, part)?;
-    read_job(alloc, number, row, part, cut)
+    let name = name_in(row, 0)?;
+    let (part, material) = stock_of(conn, name)?;
+    let job = read_job(
+        alloc,
+        number,
+        row,
+        name,
+        (part.size, material.limits.kerf()),
+    )?;
+    Ok(StockedJob {
+        job,
+        part,
+        material,
+    })
+}
+
+/// The job under the number of the reservation's act, with its part and that one's material, whose kerf is the job's.
+pub fn find_stocked_job<S: Alter>(
+    alloc: Global,
+    conn: &mut Connection<S>,
+    number: u32,
+) -> Result<Option<StockedJob>, TableFault>
+    ensures row { OnBooks (state S.Store conn.old) (state S.Store conn.new)
+        (λ books. IfOk result (λ found. (job_in found ≡ job_at books.content number)
+        × IfSome found (IsStocked books.content))) }
+    ensures stands { HasCleanDisk (state S.Store conn.new) → IsShop conn.old.schema
+        → IfOk result (λ found. IsJobUnder ((state S.Store conn.old).now.trees 6) number
+        (job_in found)) }
+    ensures leaves { Leaves (state S.Store conn.old) (state S.Store conn.new) }
+    ensures mode { conn.old.in_transaction ≡ false → conn.new.in_transaction ≡ false }
+{
+    let Some(row) = job_row(conn, number)? else {
+        return Ok(None);
+    };
+    let found = job_of_row(alloc, conn, number, &row)?;
+    Ok(Some(found))
 }
 
 /// The job under the number of the reservation's act. Its kerf is that of its part's material.
@@ -146,11 +191,56 @@ pub fn find_job<S: Alter>(
     ensures leaves { Leaves (state S.Store conn.old) (state S.Store conn.new) }
     ensures mode { conn.old.in_transaction ≡ false → conn.new.in_transaction ≡ false }
 {
+    match find_stocked_job(alloc, conn, number)? {
+        Some(found) => Ok(Some(found.job)),
+        None => Ok(None),
+    }
+}
+
+fn is_axis(letter: u8) -> bool
+    ensures { result ≡ is_axis letter }
+{
+    letter == b'x' || letter == b'y'
+}
+
+// How many cuts a tree's text has: one with each letter of an axis.
+fn cuts_in(text: &str) -> Result<u32, TableFault>
+    ensures { IfOk result (λ cuts. cuts ≡ count_by is_axis text.now) }
+{
+    let letters = text
+        .as_bytes()
+        .iter()
+        .filter(|letter| is_axis(**letter))
+        .count();
+    u32::try_from(letters).map_err(|_| TableFault::Store)
+}
+
+// A job's part, and how many cuts its plan has, by the job's row.
+fn read_head(row: &Row) -> Result<(PartName, u32), TableFault>
+    ensures { (job : JobRecord) → IsPlan job.plan → row.now ≡ job_columns job
+        → IfOk result (λ head. head ≡ (job.part, cut_count job.plan.tree)) }
+{
+    let part = name_in(row, 0)?;
+    let text = word_in(row, 2)?;
+    let cuts = cuts_in(text)?;
+    Ok((part, cuts))
+}
+
+/// The part of the job under a number, and how many cuts its plan has: the plan itself isn't read.
+pub fn find_job_head<S: Alter>(
+    conn: &mut Connection<S>,
+    number: u32,
+) -> Result<Option<(PartName, u32)>, TableFault>
+    ensures row { OnBooks (state S.Store conn.old) (state S.Store conn.new)
+        (λ books. IfOk result (IsHead books.content number)) }
+    ensures leaves { Leaves (state S.Store conn.old) (state S.Store conn.new) }
+    ensures mode { conn.old.in_transaction ≡ false → conn.new.in_transaction ≡ false }
+{
     let Some(row) = job_row(conn, number)? else {
         return Ok(None);
     };
-    let job = job_of_row(alloc, conn, number, &row)?;
-    Ok(Some(job))
+    let head = read_head(&row)?;
+    Ok(Some(head))
 }
 
 fn tree_text(alloc: Global, job: &Job) -> Result<String, AllocError>
@@ -174,6 +264,8 @@ pub fn put_job<S: Alter>(
         → IsOwnJob b.content job.now.act job.now
         → OnOk result (Makes (state S.Store tx.old.conn.now) (state S.Store tx.new.conn.now) b
         (with_job job.now b)) }
+    ensures others { OnOk result (Spares (jobs_table.tree ∷ [])
+        (state S.Store tx.old.conn.now) (state S.Store tx.new.conn.now)) }
     ensures within { Within (state S.Store tx.old.conn.now) (state S.Store tx.new.conn.now) }
 {
     let tree = tree_text(alloc, job)?;
@@ -199,6 +291,8 @@ pub fn move_job<S: Alter>(tx: &mut Transaction<'_, S>, job: &Job) -> Result<(), 
         → job.now ≡ record was { state = job.now.state }
         → OnOk result (Makes (state S.Store tx.old.conn.now) (state S.Store tx.new.conn.now) b
         (with_job job.now b)) }
+    ensures others { OnOk result (Spares (jobs_table.tree ∷ [])
+        (state S.Store tx.old.conn.now) (state S.Store tx.new.conn.now)) }
     ensures within { Within (state S.Store tx.old.conn.now) (state S.Store tx.new.conn.now) }
 {
     run(

@@ -19,7 +19,7 @@ pub use columns::{code_in, name_in, number_in, size_in, state_in};
 pub use demands::{count_demand, find_demand, put_demand, read_demand};
 pub use faults::TableFault;
 pub use imports::{find_import, put_import};
-pub use jobs::{find_job, move_job, put_job};
+pub use jobs::{StockedJob, find_job, find_job_head, find_stocked_job, move_job, put_job};
 pub use kept_messages::{find_kept, put_kept};
 pub use materials::{find_material, put_material, read_material};
 pub use numbers::{find_last_act, find_last_demand, number_row, set_last_act, set_last_demand};

@@ -6,9 +6,10 @@ ghost use Rattle.std.specs.Ordering.{eq_by_cmp};
 ghost use Rattle.sqlite.specs.Held.{state};
 ghost use Rattle.cut_measure.specs.Codes.{code_cmp};
 ghost use Rattle.sqlite.specs.State.{HasCleanDisk};
+ghost use Rattle.shop_statements.specs.Beside.{Spares};
 ghost use Rattle.shop_statements.specs.Found.{IsNumberRow};
 ghost use Rattle.shop_statements.specs.Earlier.{OnBooksEarlier, earlier_entries, earlier_schema};
-ghost use Rattle.shop_statements.specs.Layout.{IsShop};
+ghost use Rattle.shop_statements.specs.Layout.{IsShop, meta_table};
 ghost use Rattle.shop_statements.specs.Rows.{meta_entries};
 ghost use Rattle.shop_statements.specs.Shown.{Leaves, OnBooks, GivesNumber};
 ghost use Rattle.std.specs.Prelude.{OnOk};
@@ -90,6 +91,8 @@ pub fn set_last_act<S: Alter>(tx: &mut Transaction<'_, S>, act: u32) -> Result<(
     ensures put { (b : Books)
         → OnOk result (Makes (state S.Store tx.old.conn.now) (state S.Store tx.new.conn.now) b
         (with_last_act act b)) }
+    ensures others { OnOk result (Spares (meta_table.tree ∷ [])
+        (state S.Store tx.old.conn.now) (state S.Store tx.new.conn.now)) }
     ensures within { Within (state S.Store tx.old.conn.now) (state S.Store tx.new.conn.now) }
 {
     run(
@@ -107,6 +110,8 @@ pub fn set_last_demand<S: Alter>(tx: &mut Transaction<'_, S>, demand: u32) -> Re
     ensures put { (b : Books)
         → OnOk result (Makes (state S.Store tx.old.conn.now) (state S.Store tx.new.conn.now) b
         (with_last_demand demand b)) }
+    ensures others { OnOk result (Spares (meta_table.tree ∷ [])
+        (state S.Store tx.old.conn.now) (state S.Store tx.new.conn.now)) }
     ensures within { Within (state S.Store tx.old.conn.now) (state S.Store tx.new.conn.now) }
 {
     run(

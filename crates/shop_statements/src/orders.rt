@@ -1,8 +1,14 @@
 //! The table of the codes of orders: looked up and put.
 
-ghost use Rattle.std.specs.Prelude.{◌≡◌, false, is_some, IfOk};
+ghost use Rattle.std.specs.Prelude.{◌≡◌, [], ◌∷◌, false, is_some, IfOk};
+ghost use Rattle.std.specs.List.{list_any};
+ghost use Rattle.sqlite.specs.State.{HasCleanDisk};
 ghost use Rattle.sqlite.specs.Held.{state};
+ghost use Rattle.sqlite_value.specs.declared.value.Value.TheVariants.{Text as Word};
 ghost use Rattle.shop_records.specs.Content.{has_order};
+ghost use Rattle.shop_statements.specs.Beside.{Spares};
+ghost use Rattle.shop_statements.specs.Found.{has_key};
+ghost use Rattle.shop_statements.specs.Layout.{IsShop, orders_table};
 ghost use Rattle.shop_statements.specs.Shown.{Leaves, OnBooks};
 ghost use Rattle.std.specs.Prelude.{OnOk};
 ghost use Rattle.shop_statements.specs.Changes.{with_order};
@@ -17,6 +23,9 @@ use sqlite::{Alter, Connection, Error, Row, Transaction, params};
 fn found_row<S: Alter>(conn: &mut Connection<S>, code: Code) -> Result<Option<Row>, Error>
     ensures there { OnBooks (state S.Store conn.old) (state S.Store conn.new)
         (λ books. IfOk result (λ row. is_some row ≡ has_order books.content code)) }
+    ensures stands { HasCleanDisk (state S.Store conn.new) → IsShop conn.old.schema
+        → IfOk result (λ row. is_some row ≡ list_any (has_key (Word code ∷ []) 1)
+        ((state S.Store conn.old).now.trees 7)) }
     ensures leaves { Leaves (state S.Store conn.old) (state S.Store conn.new) }
     ensures mode { conn.old.in_transaction ≡ false → conn.new.in_transaction ≡ false }
 {
@@ -27,6 +36,9 @@ fn found_row<S: Alter>(conn: &mut Connection<S>, code: Code) -> Result<Option<Ro
 pub fn find_order<S: Alter>(conn: &mut Connection<S>, code: Code) -> Result<bool, TableFault>
     ensures there { OnBooks (state S.Store conn.old) (state S.Store conn.new)
         (λ books. IfOk result (λ there. there ≡ has_order books.content code)) }
+    ensures stands { HasCleanDisk (state S.Store conn.new) → IsShop conn.old.schema
+        → IfOk result (λ there. there ≡ list_any (has_key (Word code ∷ []) 1)
+        ((state S.Store conn.old).now.trees 7)) }
     ensures leaves { Leaves (state S.Store conn.old) (state S.Store conn.new) }
     ensures mode { conn.old.in_transaction ≡ false → conn.new.in_transaction ≡ false }
 {
@@ -41,6 +53,8 @@ pub fn put_order<S: Alter>(tx: &mut Transaction<'_, S>, code: Code) -> Result<()
     ensures put { (b : Books) → has_order b.content code ≡ false
         → OnOk result (Makes (state S.Store tx.old.conn.now) (state S.Store tx.new.conn.now) b
         (with_order code b)) }
+    ensures others { OnOk result (Spares (orders_table.tree ∷ [])
+        (state S.Store tx.old.conn.now) (state S.Store tx.new.conn.now)) }
     ensures within { Within (state S.Store tx.old.conn.now) (state S.Store tx.new.conn.now) }
 {
     run(

@@ -4,6 +4,7 @@ ghost use Rattle.std.specs.Prelude.{◌≡◌, false, IfOk};
 ghost use Rattle.sqlite.specs.Held.{state};
 ghost use Rattle.shop_records.specs.Content.{part_at};
 ghost use Rattle.shop_records.specs.declared.records.Part.{Part as PartRecord};
+ghost use Rattle.shop_statements.specs.Beside.{Spares};
 ghost use Rattle.shop_statements.specs.Rows.{part_columns};
 ghost use Rattle.shop_statements.specs.Shown.{Leaves, OnBooks, IsRowOf};
 ghost use Rattle.std.specs.Prelude.{Some, None, OnOk};
@@ -13,7 +14,7 @@ ghost use Rattle.shop_statements.specs.Shown.{Books, Makes, Ran, Within};
 ghost use Rattle.shop_statements.specs.Values.{IsPartValue};
 ghost use Rattle.sqlite.specs.State.{HasCleanDisk};
 ghost use Rattle.shop_statements.specs.Found.{IsUnder, columns_of};
-ghost use Rattle.shop_statements.specs.Layout.{IsShop};
+ghost use Rattle.shop_statements.specs.Layout.{IsShop, parts_table};
 ghost use Rattle.sqlite_value.specs.declared.value.Value.TheVariants.{Int};
 ghost use Rattle.std.specs.Prelude.{[], ◌∷◌, option_map, pos};
 
@@ -97,6 +98,8 @@ pub fn put_part<S: Alter>(tx: &mut Transaction<'_, S>, part: &Part) -> Result<()
     ensures put { (b : Books) → part_at b.content part.now.name ≡ None
         → OnOk result (Makes (state S.Store tx.old.conn.now) (state S.Store tx.new.conn.now) b
         (with_part part.now b)) }
+    ensures others { OnOk result (Spares (parts_table.tree ∷ [])
+        (state S.Store tx.old.conn.now) (state S.Store tx.new.conn.now)) }
     ensures within { Within (state S.Store tx.old.conn.now) (state S.Store tx.new.conn.now) }
 {
     in_ranges(*part);
@@ -129,6 +132,8 @@ pub fn move_part<S: Alter>(tx: &mut Transaction<'_, S>, part: &Part) -> Result<(
         → part.now ≡ in_state part.now.state was
         → OnOk result (Makes (state S.Store tx.old.conn.now) (state S.Store tx.new.conn.now) b
         (with_part part.now b)) }
+    ensures others { OnOk result (Spares (parts_table.tree ∷ [])
+        (state S.Store tx.old.conn.now) (state S.Store tx.new.conn.now)) }
     ensures within { Within (state S.Store tx.old.conn.now) (state S.Store tx.new.conn.now) }
 {
     run(

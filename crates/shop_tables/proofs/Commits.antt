@@ -1,5 +1,5 @@
 -- The end of a transaction in which a change was written.
-use Rattle.std.proofs.Common.{◌≡◌, inl, inr, true, false, true≢false, IsTrue, refl, sym, subst, ◌∙◌, arith}
+use Rattle.std.proofs.Common.{◌≡◌, inl, inr, true, false, true≢false, IsTrue, refl, sym, ap, subst, ◌∙◌, arith}
 use Rattle.sqlite_trees.specs.declared.store.Store.{Ghosts}
 use Rattle.sqlite_trees.specs.Tree.{Trees}
 use Rattle.sqlite.specs.Effect.{Database, IsDatabase}
@@ -13,11 +13,13 @@ use Rattle.sqlite.proofs.Callers.{survives_begin}
 use Rattle.shop_records.specs.Content.{Content, changed}
 use Rattle.shop_records.specs.Soundness.{Fits}
 use Rattle.shop_records.specs.declared.changes.Change.{Change}
-use Rattle.shop_statements.specs.Layout.{IsShop}
+use Rattle.shop_statements.specs.Beside.{IsSameBeside, SparesRows, Spares}
+use Rattle.shop_statements.specs.Layout.{IsShop, our_trees}
 use Rattle.shop_statements.specs.Rows.{Stands}
 use Rattle.shop_statements.specs.Shown.{Books, Shows, Holds, Ran, Makes, Within, StandsIn}
 use Rattle.shop_tables.specs.Changing.{HasSums, with_change}
-use Rattle.shop_tables.specs.Held.{books, HoldsContent, StandsFor}
+use Rattle.shop_tables.specs.Held.{books, HoldsContent, StandsFor, LeavesOthers}
+use Rattle.shop_statements.proofs.Beside.{beside_itself}
 use Rattle.shop_records.proofs.LinesKept.{lines_kept}
 use Rattle.shop_tables.proofs.Fitting.{sums_kept}
 
@@ -110,3 +112,43 @@ module _ {S : Type 0} (g : Ghosts S) (h : Held S) where
   pub dropped : (done last : State) (P : Trees → Type 0) → Within begun done → Survives done last (λ _. ⊥) → Survives old last P
   dropped done last P within end = survives_begin g h last P
       (survives_then begun done last (λ _. ⊥) (λ _. ⊥) P (λ _ db none. absurd none) (λ _ db none. absurd none) within.survives end)
+
+  -- ---- what is no table of ours
+
+  abbrev pub SparesOld : Trees → Type 0
+  SparesOld = SparesRows our_trees old.now.schema old.now.trees
+
+  module _ (only : (db : Trees) → IsTrue old.is_open → old.may_leave db → db ≡ old.committed.trees) (done last : State) (late : HasCleanDisk last → HasCleanDisk done)
+      (within : Within begun done) where
+    left_spares : Survives old last SparesOld → HasCleanDisk last → IsTrue old.is_open → old.now ≡ old.committed → (db : Trees) → last.may_leave db → SparesOld db
+    left_spares s clean up settled db left = elim (s.crash clean db left) [
+      | inl before ↦ subst SparesOld (ap (λ (d : Database). d.trees) settled ∙ sym (only db up before)) (beside_itself our_trees old.now).rows
+      | inr spared ↦ spared
+    ]
+
+    undone_spares : (HasCleanDisk last → IsRolledBack done last) → HasCleanDisk last → IsTrue last.is_open → old.now ≡ old.committed → IsSameBeside our_trees old.now last.now
+    undone_spares back clean up settled =
+        let it = goes_back done last late within back clean up in
+        subst (IsSameBeside our_trees old.now) (settled ∙ it.seen) (beside_itself our_trees old.now)
+
+    pub dropped_others : (HasCleanDisk last → IsRolledBack done last) → Survives done last (λ _. ⊥) → LeavesOthers old last
+    dropped_others back end = record { seen = undone_spares back; crash = left_spares (dropped done last SparesOld within end) }
+
+    module _ (is : IsShop old.now.schema) (spares : Spares our_trees begun done) (end : Survives done last (λ db. db ≡ done.now.trees)) where
+      crash_others : HasCleanDisk last → IsTrue old.is_open → old.now ≡ old.committed → (db : Trees) → last.may_leave db → SparesOld db
+      crash_others = left_spares (survives_begin g h last SparesOld
+          (survives_then begun done last (λ _. ⊥) (λ db. db ≡ done.now.trees) SparesOld (λ _ db none. absurd none)
+          (λ clean db same. subst SparesOld (sym same) (spares (late clean) refl is).rows) within.survives end))
+
+      pub failed_others : (HasCleanDisk last → IsRolledBack done last) → LeavesOthers old last
+      failed_others back = record { seen = undone_spares back; crash = crash_others }
+
+      pub committed_others : (HasCleanDisk last → sql.Shows done last done.now done.now false) → LeavesOthers old last
+      committed_others ends = record { seen = λ clean up settled. subst (IsSameBeside our_trees old.now) (sym (ends clean).now_is) (spares (late clean) refl is); crash = crash_others }
+
+  -- nothing was done
+  pub same_others : ((db : Trees) → IsTrue old.is_open → old.may_leave db → db ≡ old.committed.trees) → LeavesOthers old old
+  same_others only = record {
+    seen = λ clean up settled. beside_itself our_trees old.now;
+    crash = λ clean up settled db left. subst SparesOld (ap (λ (d : Database). d.trees) settled ∙ sym (only db up left)) (beside_itself our_trees old.now).rows;
+  }

@@ -18,7 +18,7 @@ use Rattle.shop_statements.proofs.Terms.{from_table}
 use Rattle.shop_statements.proofs.Texts.{shop, shop_is}
 use Rattle.shop_tables.specs.Lending.{AreReadOf, HandsOut, IsHeldAt, IsLent}
 use Rattle.shop_tables.specs.ListedRows.{listed_part}
-use Rattle.shop_tables.specs.RowsShown.{ArePartRows, SeesCommit}
+use Rattle.shop_tables.specs.RowsShown.{ArePartRows, SeesCommit, by_columns}
 use Rattle.shop_tables.specs.declared.lending.Lent.{Lent}
 use Rattle.shop_tables.specs.declared.lending.Lent.TheVariants as lent
 use Rattle.shop_tables.proofs.ListTexts.{parts_of_is, parts_of_order, parts_of_terms, parts_of_tests, parts_of_text}
@@ -40,7 +40,7 @@ none_stops looks (p ∷ parts) old new read seen = absurd read
 
 module _ (code : List ℕ) (s : State) (h : IsShop s.now.schema) where
   answered : (rows : List Row) → IsProgramAnswer [] (from_table 4 parts_of_tests parts_of_terms parts_of_order) s.now.trees (Text code ∷ []) rows → ArePartRows code None None (s.now.trees 4) rows
-  answered = shown_whole 4 parts_of_tests parts_of_terms parts_of_order s.now.trees (Text code ∷ []) refl _ (1 ∷ 2 ∷ []) _ (λ r. listed_tests code (column r 3) (column r 11)) (λ a b. refl) (λ r. refl)
+  answered = shown_whole 4 parts_of_tests parts_of_terms parts_of_order s.now.trees (Text code ∷ []) refl _ (by_columns (1 ∷ 2 ∷ [])) _ (λ r. listed_tests code (column r 3) (column r 11)) (λ a b. refl) (λ r. refl)
 
   -- the rows of the parts that were read begin what is shown
   begins : (given tail : List Row) (parts : List Part) → AreReadOf given parts → ArePartRows code None None (s.now.trees 4) (given ++ tail) → ArePartRows code None None (s.now.trees 4) (map listed_part parts ++ map (columns_of 12 0) tail)

@@ -1,36 +1,44 @@
 -- Writings, one after another.
-use Rattle.std.proofs.Common.{◌≡◌, ◌≤◌, ◌-◌, List, [], ◌∷◌, Option, length, take, drop, get_or, sym, Some, None, Ok, Result, OnOk, ◌∙◌, subst, arith}
+use Rattle.std.proofs.Common.{◌≡◌, ◌≢◌, ℕ, ◌≤◌, ◌-◌, List, [], ◌∷◌, Option, length, take, drop, get_or, sym, Some, None, Ok, Result, OnOk, ◌∙◌, subst, arith}
 use Rattle.std.specs.Result.{IsErr}
 use Rattle.std.proofs.lemmas.List.{take_all}
 use Rattle.std.proofs.lemmas.Result.{IfOk-from_err}
 use Rattle.sqlite.specs.State.{State}
 use Rattle.shop_statements.specs.declared.faults.TableFault.{TableFault}
+use Rattle.shop_statements.specs.Beside.{IsNone, Spares}
+use Rattle.shop_statements.specs.Layout.{our_trees}
 use Rattle.shop_statements.specs.Shown.{Books, Makes, Ran, Shows, Within}
+use Rattle.shop_statements.proofs.Beside.{spares_itself, spares_more, spares_then}
 use Rattle.shop_statements.proofs.Steps.{on_ok_then, on_ok_both, went_as, went_nowhere, went_then, makes_then, within_itself, within_then}
 use Rattle.shop_tables.specs.Changing.{AreInTurn, Writes, with_all, with_some}
 
+-- one of our trees is among them all
+pub of_ours : (a b : State) (r : Result (Unit {0}) TableFault) (own : ℕ) → ((t : ℕ) → IsNone our_trees t → own ≢ t) → OnOk r (Spares (own ∷ []) a b) → OnOk r (Spares our_trees a b)
+of_ours a b r own far = spares_more r (own ∷ []) our_trees a b (λ t none. (far t none, tt))
+
 module _ {a b : State} {r : Result (Unit {0}) TableFault} {Needs : Books → Type 0} {makes : Books → Books} where
   -- a statement
-  pub ran_writes : OnOk r (Ran a b) → ((x : Books) → Needs x → OnOk r (Makes a b x (makes x))) → Within a b → Writes a b r Needs makes
-  ran_writes ran put within = record { went = on_ok_then r (went_as a b) ran; put = put; within = within }
+  pub ran_writes : OnOk r (Ran a b) → ((x : Books) → Needs x → OnOk r (Makes a b x (makes x))) → OnOk r (Spares our_trees a b) → Within a b → Writes a b r Needs makes
+  ran_writes ran put others within = record { went = on_ok_then r (went_as a b) ran; put = put; others = others; within = within }
 
   -- less is needed, or the books are said in other words
   pub writes_so : {Others : Books → Type 0} {others : Books → Books} → ((x : Books) → Others x → Needs x) → ((x : Books) → makes x ≡ others x) → Writes a b r Needs makes → Writes a b r Others others
-  writes_so needs same w = record { went = w.went; put = λ x has. subst (λ y. OnOk r (Makes a b x y)) (same x) (w.put x (needs x has)); within = w.within }
+  writes_so needs same w = record { went = w.went; put = λ x has. subst (λ y. OnOk r (Makes a b x y)) (same x) (w.put x (needs x has)); others = w.others; within = w.within }
 
   -- it fails
   pub stops : IsErr r → Within a b → Writes a b r Needs makes
-  stops failed within = record { went = IfOk-from_err r _ failed; put = λ x needs. IfOk-from_err r _ failed; within = within }
+  stops failed within = record { went = IfOk-from_err r _ failed; put = λ x needs. IfOk-from_err r _ failed; others = IfOk-from_err r _ failed; within = within }
 
 -- no statement
 pub writes_nothing : {a : State} {Needs : Books → Type 0} {makes : Books → Books} → ((x : Books) → makes x ≡ x) → Writes a a (Ok tt) Needs makes
-writes_nothing {a} same = record { went = went_nowhere a; put = λ x needs clean inside has. subst (Shows a) (sym (same x)) has; within = within_itself a }
+writes_nothing {a} same = record { went = went_nowhere a; put = λ x needs clean inside has. subst (Shows a) (sym (same x)) has; others = spares_itself our_trees a; within = within_itself a }
 
 -- two writings
 pub writes_then : {a b c : State} {r : Result (Unit {0}) TableFault} {N M : Books → Type 0} {m n : Books → Books} → Writes a b (Ok tt) N m → Writes b c r M n → Writes a c r (λ x. N x × M (m x)) (λ x. n (m x))
 writes_then {a} {b} {c} {r} {N} {M} {m} {n} one two = record {
   went = on_ok_then r (went_then a b c one.went) two.went;
   put = λ x needs. on_ok_both r two.went (two.put (m x) needs.1) (λ more makes. makes_then a b c x (m x) (n (m x)) one.went more (one.put x needs.0) makes);
+  others = on_ok_both r two.went two.others (λ more spares. spares_then our_trees a b c one.went more one.others spares);
   within = within_then a b c one.within two.within;
 }
 

@@ -1,5 +1,5 @@
--- The tables of an empty database, which one batch makes.
-use Rattle.std.proofs.Common.{◌≡◌, ℕ, pos, true, List, [], ◌∷◌, length, drop, map, codes, slice_get, is_some, Some, Ok, Result, OnOk, IsTrue, refl, sym, ap, subst, ◌∙◌}
+-- The tables of an empty database, each of which one statement makes.
+use Rattle.std.proofs.Common.{◌≡◌, ℕ, pos, List, [], ◌∷◌, length, drop, map, codes, slice_get, is_some, Some, Result, OnOk, refl, sym, ap, subst, ◌∙◌}
 use Rattle.std.proofs.lemmas.List.Sorted.{IsPermutation-refl}
 use Rattle.std.specs.FinMap.{entries, empty, get, get-empty, len-entries, len-empty}
 use Rattle.std.specs.FinSet as set
@@ -12,17 +12,17 @@ use Rattle.sqlite_trees.specs.declared.store.Store.{Ghosts}
 use Rattle.sqlite.specs.Table.{Table}
 use Rattle.sqlite.specs.Schema.{Schema}
 use Rattle.sqlite.specs.Term.{Term, lit}
-use Rattle.sqlite.specs.Command.TheVariants.{Insert, CreateTable}
+use Rattle.sqlite.specs.Command.TheVariants.{Insert}
+use Rattle.sqlite.specs.Edit.{IsNoIndex}
 use Rattle.sqlite.specs.Source.TheVariants.{Values}
 use Rattle.sqlite.specs.Listing.{understood}
 use Rattle.sqlite.specs.Rowids.TheVariants.{Chosen}
 use Rattle.sqlite_rules.specs.Edit.{numbered, put_all}
 use Rattle.sqlite.specs.Cast.{cast_row}
-use Rattle.sqlite.specs.State.{HasCleanDisk, ExecutesIn, mode_of}
+use Rattle.sqlite.specs.State.{State, HasCleanDisk, mode_of}
 use Rattle.sqlite.specs.declared.error.Error.{Error}
 use Rattle.sqlite.specs.Held.{Held, state}
-use Rattle.sqlite.specs.Batch.{ExecutesAllInside}
-use Rattle.sqlite.proofs.Callers.{statement_of}
+use Rattle.sqlite.proofs.Callers.{runs_as, statement_of}
 use Rattle.sqlite_tied.specs.Compute.{everything}
 use Rattle.cut_measure.specs.Codes.{code_cmp}
 use Rattle.cut_measure.specs.Names.{name_cmp}
@@ -34,25 +34,17 @@ use Rattle.shop_records.specs.declared.records.Demand.{Demand}
 use Rattle.shop_records.specs.declared.records.Totals.{Totals}
 use Rattle.shop_records.specs.declared.imports.ImportRow.{ImportRow}
 use Rattle.shop_records.specs.declared.texts.Kept.{Kept}
-use Rattle.shop_statements.specs.Earlier.{earlier_schema}
-use Rattle.shop_statements.specs.Layout.{Loose, no_schema, shop_schema, IsShop, meta_table, materials_table, parts_table, jobs_table, orders_table, demands_table, kept_table, imports_table, totals_table, totals2_table}
+use Rattle.shop_statements.specs.Layout.{Loose, no_schema, laid, shop_schema, IsShop, meta_table, materials_table, parts_table, jobs_table, orders_table, demands_table, kept_table, imports_table, totals_table, totals2_table}
 use Rattle.shop_statements.specs.Rows.{AreRows, IsKeyed, meta_row, meta_entries, material_row, part_row, job_row, order_row, demand_row, kept_row, import_row, totals_row}
 use Rattle.shop_tables.specs.Adopting.{MakesTables}
+use Rattle.shop_tables.specs.Laying.{Adds, AreRun, Does, IsRun, IsWritten, PutsFirstNumbers}
+use Rattle.shop_tables.specs.declared.laying.TheConstants.{META, MATERIALS, PARTS, JOBS, ORDERS, DEMANDS, KEPT, IMPORTS, TOTALS, TOTALS2, FIRST_NUMBERS}
 use Rattle.shop_statements.specs.Shown.{Shows, fresh_books}
 use Rattle.shop_statements.proofs.Keys.{cast-Int, cast-Null}
-use Rattle.shop_tables.proofs.Making.{AreFirst, AreMade, Blank, IsMade, MakesAs, all_created, joined, made_in_turn, made_when, next, runs_in, texts_of}
+use Rattle.shop_tables.proofs.Making.{AreMade, Blank, IsMade, MakesAs, all_created, made_in_turn, made_when, makes, texts_of}
 use Rattle.shop_statements.proofs.Terms.{Writes}
 use Rattle.shop_statements.proofs.Writes.{inserted}
 use Rattle.shop_statements.proofs.Works.{no_works, unlike}
-
-abbrev meta_text : List ℕ
-meta_text = codes "CREATE TABLE meta (name TEXT NOT NULL PRIMARY KEY, value INTEGER NOT NULL) STRICT;"
-
-abbrev pub totals2_text : List ℕ
-totals2_text = codes "CREATE TABLE totals2 (material TEXT NOT NULL PRIMARY KEY REFERENCES materials (code), received INTEGER NOT NULL, stock INTEGER NOT NULL, rack INTEGER NOT NULL, pieces INTEGER NOT NULL, kerf INTEGER NOT NULL, scrap INTEGER NOT NULL, returned INTEGER NOT NULL) STRICT;"
-
-abbrev rows_text : List ℕ
-rows_text = codes "INSERT INTO meta (name, value) VALUES ('version', 2), ('act', 0), ('demand', 0)"
 
 abbrev unplaced : Table → Table
 unplaced t = record t { tree = 0 }
@@ -60,16 +52,16 @@ unplaced t = record t { tree = 0 }
 -- the tables, under the texts that make them
 abbrev steps : List (List ℕ × Table)
 steps =
-    (meta_text, unplaced meta_table)
-    ∷ (codes "CREATE TABLE materials (code TEXT NOT NULL PRIMARY KEY, kind INTEGER NOT NULL, kerf INTEGER NOT NULL, min_long INTEGER NOT NULL, min_short INTEGER NOT NULL) STRICT;", unplaced materials_table)
-    ∷ (codes "CREATE TABLE parts (act INTEGER NOT NULL, node INTEGER NOT NULL, material TEXT NOT NULL REFERENCES materials (code), batch TEXT NOT NULL, root_act INTEGER NOT NULL, root_node INTEGER NOT NULL, x INTEGER NOT NULL, y INTEGER NOT NULL, w INTEGER NOT NULL, h INTEGER NOT NULL, state INTEGER NOT NULL, detail INTEGER NOT NULL, PRIMARY KEY (act, node)) STRICT;", unplaced parts_table)
-    ∷ (codes "CREATE TABLE jobs (job INTEGER NOT NULL PRIMARY KEY, part_act INTEGER NOT NULL, part_node INTEGER NOT NULL, tree TEXT NOT NULL, state INTEGER NOT NULL, FOREIGN KEY (part_act, part_node) REFERENCES parts (act, node)) STRICT;", unplaced jobs_table)
-    ∷ (codes "CREATE TABLE orders (ord TEXT NOT NULL PRIMARY KEY) STRICT;", unplaced orders_table)
-    ∷ (codes "CREATE TABLE demands (number INTEGER NOT NULL PRIMARY KEY, ord TEXT NOT NULL REFERENCES orders (ord), line INTEGER NOT NULL, material TEXT NOT NULL REFERENCES materials (code), w INTEGER NOT NULL, h INTEGER NOT NULL, turn INTEGER NOT NULL, worth INTEGER NOT NULL, wanted INTEGER NOT NULL, reserved INTEGER NOT NULL, made INTEGER NOT NULL, UNIQUE (ord, line), CHECK (reserved + made <= wanted)) STRICT;", unplaced demands_table)
-    ∷ (codes "CREATE TABLE kept (terminal INTEGER NOT NULL, number INTEGER NOT NULL, command TEXT NOT NULL, reply TEXT NOT NULL, PRIMARY KEY (terminal, number)) STRICT;", unplaced kept_table)
-    ∷ (codes "CREATE TABLE imports (ord TEXT NOT NULL PRIMARY KEY REFERENCES orders (ord), form INTEGER NOT NULL, material TEXT NOT NULL, body TEXT NOT NULL, reply TEXT NOT NULL) STRICT;", unplaced imports_table)
-    ∷ (codes "CREATE TABLE totals (material TEXT NOT NULL PRIMARY KEY REFERENCES materials (code), received INTEGER NOT NULL, stock INTEGER NOT NULL, rack INTEGER NOT NULL, pieces INTEGER NOT NULL, kerf INTEGER NOT NULL, scrap INTEGER NOT NULL) STRICT;", unplaced totals_table)
-    ∷ (totals2_text, unplaced totals2_table)
+    (META.now, unplaced meta_table)
+    ∷ (MATERIALS.now, unplaced materials_table)
+    ∷ (PARTS.now, unplaced parts_table)
+    ∷ (JOBS.now, unplaced jobs_table)
+    ∷ (ORDERS.now, unplaced orders_table)
+    ∷ (DEMANDS.now, unplaced demands_table)
+    ∷ (KEPT.now, unplaced kept_table)
+    ∷ (IMPORTS.now, unplaced imports_table)
+    ∷ (TOTALS.now, unplaced totals_table)
+    ∷ (TOTALS2.now, unplaced totals2_table)
     ∷ []
 
 all_made : AreMade no_schema steps
@@ -106,29 +98,15 @@ all_made = (
   ),
 )
 
-pub totals2_made : MakesAs earlier_schema totals2_text (record totals2_table { tree = 0 })
-totals2_made = all_made.1.1.1.1.1.1.1.1.1.0
-
 same_schema : all_created no_schema steps ≡ shop_schema
 same_schema = refl
-
--- all texts
-abbrev texts : List (List ℕ)
-texts = texts_of steps (rows_text ∷ [])
-
-abbrev pub tables_text : List ℕ
-tables_text = joined texts
-
-firsts : AreFirst texts
-unfolding everything
-firsts = (tt, refl, (tt, refl, (tt, refl, (tt, refl, (tt, refl, (tt, refl, (tt, refl, (tt, refl, (tt, refl, (tt, refl, (tt, refl, tt)))))))))))
 
 abbrev meta_terms : List Term
 meta_terms =
     lit Null ∷ lit (Text (codes "version")) ∷ lit (Int (pos 2)) ∷ lit Null ∷ lit (Text (codes "act")) ∷ lit (Int (pos 0)) ∷ lit Null ∷ lit (Text (codes "demand"))
     ∷ lit (Int (pos 0)) ∷ []
 
-fill_is : Writes shop_schema rows_text (Insert 0 (Values meta_terms 3))
+fill_is : Writes shop_schema FIRST_NUMBERS.now (Insert 0 (Values meta_terms 3))
 unfolding understood everything
 fill_is = record { command = refl; plain = (refl, refl) }
 
@@ -195,50 +173,93 @@ fresh_keyed = record {
   values = λ name x h. no_key name_cmp name x _ h;
 }
 
+puts_numbers : (old new : State) → old.now.schema ≡ shop_schema → IsRun FIRST_NUMBERS.now old new → PutsFirstNumbers old.now new.now
+puts_numbers old new has ran free =
+    let w = runs_as FIRST_NUMBERS.now [] old new shop_schema has (Insert 0 (Values meta_terms 3)) fill_is.command fill_is.plain ran.count ran.executes in
+    let it : IsShop old.now.schema = subst IsShop (sym has) shop_is_shop in
+    let e = inserted old.step_limit (mode_of old) [] old.now new.now w.tally 0 meta_table (ap (λ (c : Schema). slice_get c.tables 0) has) (statement_of FIRST_NUMBERS.now (understood shop_schema FIRST_NUMBERS.now)) meta_terms 3
+    (no_works old.now.schema it 0) w.changed in (
+      record { schema_is = e.schema_is ∙ has; sound = w.sound; others = λ t far bare. e.others t (unlike t 0 far) (subst (λ s. IsNoIndex s t) (sym has) bare) },
+      subst (AreRows 1 (map meta_row (meta_entries fresh))) (sym (e.rows ∙ filled (old.now.trees 0) free)) first_meta,
+    )
+
+-- with these numbers they are the tables of a new shop
+shows_fresh : (old new : State) → Blank shop_schema old → IsWritten 0 old.now new.now → AreRows 1 (map meta_row (meta_entries fresh)) (new.now.trees 0) → Shows new fresh_books
+shows_fresh old new blank e numbers =
+    let far = shop_is_shop.bare in
+    let no = blank.none in
+    record {
+      schema = subst IsShop (sym e.schema_is) shop_is_shop;
+      sound = e.sound;
+      stands = record {
+        meta = numbers;
+        materials = none 1 material_row (entries empty) (new.now.trees 2) (no_entries code_cmp Material) (e.others 2 refl far.1.0 ∙ no.1.0);
+        parts = none 1 part_row (entries empty) (new.now.trees 4) (no_entries name_cmp Part) (e.others 4 refl far.1.1.0 ∙ no.1.1.0);
+        jobs = none 0 job_row (entries empty) (new.now.trees 6) (no_entries nat_cmp Job) (e.others 6 refl far.1.1.1.0 ∙ no.1.1.1.0);
+        orders = record { codes = empty; there = λ code. set.contains-empty code_cmp code ∙ sym (ap is_some (get-empty code_cmp code)); rows = none 1 order_row (entries empty) (new.now.trees 7) (no_entries code_cmp (Unit {0})) (e.others 7 refl far.1.1.1.1.0 ∙ no.1.1.1.1.0) };
+        demands = none 0 demand_row (entries empty) (new.now.trees 9) (no_entries nat_cmp Demand) (e.others 9 refl far.1.1.1.1.1.0 ∙ no.1.1.1.1.1.0);
+        kept = none 1 kept_row (entries empty) (new.now.trees 11) (no_entries pair_cmp Kept) (e.others 11 refl far.1.1.1.1.1.1.0 ∙ no.1.1.1.1.1.1.0);
+        imports = none 1 import_row (entries empty) (new.now.trees 13) (no_entries code_cmp ImportRow) (e.others 13 refl far.1.1.1.1.1.1.1.0 ∙ no.1.1.1.1.1.1.1.0);
+        totals = e.others 15 refl far.1.1.1.1.1.1.1.1.0 ∙ no.1.1.1.1.1.1.1.1.0;
+        totals2 = none 1 totals_row (entries empty) (new.now.trees 17) (no_entries code_cmp Totals) (e.others 17 refl far.1.1.1.1.1.1.1.1.1.0 ∙ no.1.1.1.1.1.1.1.1.1.0);
+      };
+      keyed = fresh_keyed;
+    }
+
 module _ {S : Type 0} (g : Ghosts S) where
-  fills : (old new : Held S) (count : ℕ) → Blank shop_schema (state g old) → ExecutesIn true rows_text [] (state g old) (state g new) (Ok count) → Shows (state g new) fresh_books × IsTrue (state g new).is_open × ((state g new).now.schema ≡ shop_schema)
-  fills old new count blank h =
-      let s = state g old in
-      let t = state g new in
-      let w = runs_in true rows_text [] s t shop_schema blank.schema_is (Insert 0 (Values meta_terms 3)) fill_is.command fill_is.plain count h in
-      let it : IsShop s.now.schema = subst IsShop (sym blank.schema_is) shop_is_shop in
-      let e = inserted s.step_limit (mode_of s) [] s.now t.now w.tally 0 meta_table (ap (λ (c : Schema). slice_get c.tables 0) blank.schema_is) (statement_of rows_text (understood shop_schema rows_text)) meta_terms 3
-      (no_works s.now.schema it 0) w.changed in
-      let far = it.bare in
-      let no = blank.none in
-      let rest = no.1 in (
-        record {
-          schema = subst IsShop (sym e.schema_is) it;
-          sound = w.sound;
-          stands = record {
-            meta = subst (AreRows 1 _) (sym (e.rows ∙ filled (s.now.trees 0) no.0)) first_meta;
-            materials = none 1 material_row (entries empty) (t.now.trees 2) (no_entries code_cmp Material) (e.others 2 (unlike 2 0 refl) far.1.0 ∙ no.1.0);
-            parts = none 1 part_row (entries empty) (t.now.trees 4) (no_entries name_cmp Part) (e.others 4 (unlike 4 0 refl) far.1.1.0 ∙ no.1.1.0);
-            jobs = none 0 job_row (entries empty) (t.now.trees 6) (no_entries nat_cmp Job) (e.others 6 (unlike 6 0 refl) far.1.1.1.0 ∙ no.1.1.1.0);
-            orders = record { codes = empty; there = λ code. set.contains-empty code_cmp code ∙ sym (ap is_some (get-empty code_cmp code)); rows = none 1 order_row (entries empty) (t.now.trees 7) (no_entries code_cmp (Unit {0})) (e.others 7 (unlike 7 0 refl) far.1.1.1.1.0 ∙ no.1.1.1.1.0) };
-            demands = none 0 demand_row (entries empty) (t.now.trees 9) (no_entries nat_cmp Demand) (e.others 9 (unlike 9 0 refl) far.1.1.1.1.1.0 ∙ no.1.1.1.1.1.0);
-            kept = none 1 kept_row (entries empty) (t.now.trees 11) (no_entries pair_cmp Kept) (e.others 11 (unlike 11 0 refl) far.1.1.1.1.1.1.0 ∙ no.1.1.1.1.1.1.0);
-            imports = none 1 import_row (entries empty) (t.now.trees 13) (no_entries code_cmp ImportRow) (e.others 13 (unlike 13 0 refl) far.1.1.1.1.1.1.1.0 ∙ no.1.1.1.1.1.1.1.0);
-            totals = e.others 15 (unlike 15 0 refl) far.1.1.1.1.1.1.1.1.0 ∙ no.1.1.1.1.1.1.1.1.0;
-            totals2 = none 1 totals_row (entries empty) (t.now.trees 17) (no_entries code_cmp Totals) (e.others 17 (unlike 17 0 refl) far.1.1.1.1.1.1.1.1.1.0 ∙ no.1.1.1.1.1.1.1.1.1.0);
-          };
-          keyed = fresh_keyed;
-        },
-        w.shown.is_open,
-        e.schema_is ∙ blank.schema_is,
-      )
+  -- ---- what each statement does
 
-  lays : (old new : Held S) → old.schema ≡ no_schema → ExecutesAllInside g 0 tables_text old new (Ok tt) → IsMade g old new fresh_books
-  unfolding ExecutesAllInside
-  lays old new has h =
-      let s0 : Blank no_schema (state g old) = record { schema_is = has; none = tt } in
-      let one = next g (length tables_text) meta_text (texts_of (drop 1 steps) (rows_text ∷ [])) old new firsts h in
-      let w = runs_in true meta_text [] (state g old) (state g one.mid) no_schema has CreateTable all_made.0.command all_made.0.plain one.count one.runs in
-      let made = made_in_turn g steps (rows_text ∷ []) no_schema (length tables_text) old new all_made firsts s0 h in
-      let last = next g made.most rows_text [] made.mid new made.firsts made.later in
-      let shown = fills made.mid last.mid last.count (subst (λ s. Blank s (state g made.mid)) same_schema made.blank) last.runs in
-      subst (λ (x : Held S). IsMade g old x fresh_books) (sym last.later.1) (record { was_open = w.shown.was_open; is_open = shown.1; inside = last.inside; shows = shown.0; schema = shown.2 })
+  added : (place : ℕ) (text : List ℕ) (table : Table) → MakesAs (laid place) text (unplaced table) → Adds g text place table
+  added place text table facts old new has ran =
+      let it = makes (laid place) text (unplaced table) (state g old) (state g new) facts has ran in record { schema_is = it.schema_is; empty = it.empty; others = it.others }
 
-  pub lays_when : (old new : Held S) (r : Result (Unit {0}) Error) → old.schema ≡ no_schema → (HasCleanDisk (state g new) → HasCleanDisk (state g old)) → (HasCleanDisk (state g new) → ExecutesAllInside g 0 tables_text old new r)
+  pub meta_added : Adds g META.now 0 meta_table
+  meta_added = added 0 META.now meta_table all_made.0
+
+  pub materials_added : Adds g MATERIALS.now 1 materials_table
+  materials_added = added 1 MATERIALS.now materials_table all_made.1.0
+
+  pub parts_added : Adds g PARTS.now 2 parts_table
+  parts_added = added 2 PARTS.now parts_table all_made.1.1.0
+
+  pub jobs_added : Adds g JOBS.now 3 jobs_table
+  jobs_added = added 3 JOBS.now jobs_table all_made.1.1.1.0
+
+  pub orders_added : Adds g ORDERS.now 4 orders_table
+  orders_added = added 4 ORDERS.now orders_table all_made.1.1.1.1.0
+
+  pub demands_added : Adds g DEMANDS.now 5 demands_table
+  demands_added = added 5 DEMANDS.now demands_table all_made.1.1.1.1.1.0
+
+  pub kept_added : Adds g KEPT.now 6 kept_table
+  kept_added = added 6 KEPT.now kept_table all_made.1.1.1.1.1.1.0
+
+  pub imports_added : Adds g IMPORTS.now 7 imports_table
+  imports_added = added 7 IMPORTS.now imports_table all_made.1.1.1.1.1.1.1.0
+
+  pub totals_added : Adds g TOTALS.now 8 totals_table
+  totals_added = added 8 TOTALS.now totals_table all_made.1.1.1.1.1.1.1.1.0
+
+  pub totals2_added : Adds g TOTALS2.now 9 totals2_table
+  totals2_added = added 9 TOTALS2.now totals2_table all_made.1.1.1.1.1.1.1.1.1.0
+
+  pub numbers_put : Does g FIRST_NUMBERS.now shop_schema PutsFirstNumbers
+  numbers_put old new = puts_numbers (state g old) (state g new)
+
+  -- ---- all of them
+
+  abbrev texts : List (List ℕ)
+  texts = texts_of steps (FIRST_NUMBERS.now ∷ [])
+
+  lays : (old new : Held S) → old.schema ≡ no_schema → AreRun g texts old new → IsMade g old new fresh_books
+  lays old new has ran =
+      let made = made_in_turn g steps (FIRST_NUMBERS.now ∷ []) no_schema old new all_made (record { schema_is = has; none = tt }) ran in
+      let blank = subst (λ s. Blank s (state g made.mid)) same_schema made.blank in
+      let last = made.later in
+      let wrote = numbers_put made.mid last.0 blank.schema_is last.1 blank.none.0 in
+      let shows = shows_fresh (state g made.mid) (state g last.0) blank wrote.0 wrote.1 in
+      subst (λ (x : Held S). IsMade g old x fresh_books) (sym last.2) (record { was_open = ran.1.was_open; is_open = last.1.is_open; inside = last.1.inside; shows = shows; schema = wrote.0.schema_is })
+
+  pub lays_when : (old new : Held S) (r : Result (Unit {0}) Error) → old.schema ≡ no_schema → (HasCleanDisk (state g new) → HasCleanDisk (state g old)) → (HasCleanDisk (state g new) → OnOk r (AreRun g texts old new))
       → OnOk r (MakesTables (state g old) (state g new) fresh_books)
-  lays_when old new r has earlier ran = made_when g tables_text old new fresh_books r earlier ran (λ clean. lays old new has)
+  lays_when old new r has earlier ran = made_when g texts old new fresh_books r earlier ran (λ clean. lays old new has)

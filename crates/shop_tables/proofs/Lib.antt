@@ -12,7 +12,6 @@ pub mod Ordered
 pub mod AllTotals
 pub mod EarlierRows
 pub mod EarlierParts
-pub mod Opened
 pub mod RenewedTables
 pub mod Taken
 pub mod LaidTables

@@ -1,6 +1,7 @@
 -- What the queries that list rows show, whatever rows are in the tables.
 use Rattle.std.proofs.Common.{◌≡◌, ◌+◌, ◌<◌, ℕ, pos, Bool, true, false, ◌&&◌, ◌||◌, if◌then◌else◌, List, [], ◌∷◌, ◌++◌, length, map, filter, take, get_or, Option, Some, None, Ok, Err, Result, Vec, IfOk, IsErr, refl, sym, ap, subst, ◌∙◌, arith, IsPermutation, IsSorted}
 use Rattle.std.specs.List.{list_all}
+use Rattle.std.specs.Option.{option_to_list}
 use Rattle.std.specs.declared.cmp.Ordering.{Ordering}
 use Rattle.std.proofs.lemmas.List.{get_or-map, length-map, map-append, take-map, take_more}
 use Rattle.sqlite_value.specs.declared.keys.Collation.TheVariants.{Binary}
@@ -14,7 +15,7 @@ use Rattle.sqlite_sql.specs.declared.ops.CompareOp.TheVariants.{Eq, Gt}
 use Rattle.sqlite_sql.specs.Ops.{binary, from_truth, is_true, or3, truth}
 use Rattle.sqlite_trees.proofs.ListLemmas.{pull_back}
 use Rattle.sqlite.specs.Tree.{Trees}
-use Rattle.sqlite.specs.Term.{Term, col, eval, holds}
+use Rattle.sqlite.specs.Term.{Term, col, eval, holds, lit}
 use Rattle.sqlite.specs.Query.{Query, Output, as_count, limited, output, output_cmp}
 use Rattle.sqlite.specs.Program.{overlay, IsProgramAnswer}
 use Rattle.sqlite.specs.Schema.{Schema}
@@ -23,7 +24,7 @@ use Rattle.std.proofs.lemmas.Result.{IfOk-from_err, IfOk-weaker}
 use Rattle.sqlite.specs.declared.rows.Row.{Row as Answered}
 use Rattle.sqlite.specs.State.{State, HasCleanDisk, Shown}
 use Rattle.shop_statements.specs.Selecting.{is_select}
-use Rattle.shop_statements.specs.Shown.{Books, Leaves, Shows}
+use Rattle.shop_statements.specs.Shown.{Books, GivesRow, Leaves, Shows}
 use Rattle.shop_statements.proofs.Kept.{shown_open}
 use Rattle.sqlite.proofs.Callers.{reads_as}
 use Rattle.cut_measure.specs.Names.{Name}
@@ -38,11 +39,11 @@ use Rattle.shop_statements.proofs.Lists.{map-map}
 use Rattle.shop_statements.proofs.Selects.{selects}
 use Rattle.shop_statements.proofs.Terms.{from_table}
 use Rattle.shop_statements.proofs.Texts.{shop, shop_is}
-use Rattle.shop_tables.specs.ListedRows.{listed_demand, listed_material}
-use Rattle.shop_tables.specs.RowsShown.{AreDemandRows, AreJobRows, AreLineRows, AreMaterialRows, AreOrderRows, ArePartRows, AreShown, GivesRows, by_columns, is_above, is_at_least, is_below}
+use Rattle.shop_tables.specs.ListedRows.{listed_demand, listed_material, number_row}
+use Rattle.shop_tables.specs.RowsShown.{AreDemandRows, AreJobRows, AreLastRows, AreLineRows, AreMaterialRows, AreOrderRows, ArePartRows, AreShown, GivesRows, by_columns, is_above, is_at_least, is_below}
 use Rattle.shop_tables.proofs.Firsts.{first_answer}
 use Rattle.shop_tables.proofs.FirstRows.{and_and, held_given}
-use Rattle.shop_tables.proofs.ListTexts.{all_codes_terms, all_materials_is, all_materials_terms, all_materials_text, by_code, by_line, by_rowid, first_of, first_orders_is, first_orders_text, first_parts_is, first_parts_text, lines_is, lines_tests, lines_text, open_demands_is, open_demands_of_is, open_demands_of_tests, open_demands_of_text, open_demands_terms, open_demands_tests, open_demands_text, orders_behind_is, orders_behind_tests, orders_behind_text, parts_behind_is, parts_behind_tests, parts_behind_text, parts_of_order, parts_of_terms, parts_of_tests, waiting_jobs_is, waiting_jobs_terms, waiting_jobs_tests, waiting_jobs_text}
+use Rattle.shop_tables.proofs.ListTexts.{all_codes_terms, all_materials_is, all_materials_terms, all_materials_text, by_code, by_line, by_rowid, falling, first_of, first_orders_is, first_orders_text, first_parts_is, first_parts_text, last_number_is, last_number_terms, last_number_tests, last_number_text, lines_is, lines_tests, lines_text, open_demands_is, open_demands_of_is, open_demands_of_tests, open_demands_of_text, open_demands_terms, open_demands_tests, open_demands_text, orders_behind_is, orders_behind_tests, orders_behind_text, parts_behind_is, parts_behind_tests, parts_behind_text, parts_of_order, parts_of_terms, parts_of_tests, waiting_jobs_is, waiting_jobs_terms, waiting_jobs_tests, waiting_jobs_text}
 
 -- ---- a query on one table
 
@@ -56,24 +57,24 @@ module _ (tree : ℕ) (tests terms : List Term) (order : List (Term × Key)) (db
   abbrev out : Row → Output
   out r = output asked (params ∷ r ∷ [])
 
-  module _ (shown : Row → Row) (keys : List ℕ) (passes : Row → Bool) (tested : (r : Row) → list_all (holds (params ∷ r ∷ [])) tests ≡ passes r)
-      (ordered : (a b : Row) → output_cmp asked (out a) (out b) ≡ by_columns keys a b) (shows : (r : Row) → (out r).1 ≡ shown r) where
-    pub shown_whole : (rows : List Row) → IsProgramAnswer [] asked db params rows → AreShown shown keys None passes (db tree) rows
+  module _ (shown : Row → Row) (by : Row → Row → Ordering) (passes : Row → Bool) (tested : (r : Row) → list_all (holds (params ∷ r ∷ [])) tests ≡ passes r)
+      (ordered : (a b : Row) → output_cmp asked (out a) (out b) ≡ by a b) (shows : (r : Row) → (out r).1 ≡ shown r) where
+    pub shown_whole : (rows : List Row) → IsProgramAnswer [] asked db params rows → AreShown shown by None passes (db tree) rows
     shown_whole rows a =
         let s = selects tree tests terms order db params low rows a in
         let back = pull_back out _ s.ordered s.same (filter (λ r. list_all (holds (params ∷ r ∷ [])) tests) (db tree)) refl in
         record {
           rows = back.0;
           same = subst (λ (p : Row → Bool). IsPermutation (filter p (db tree)) back.0) (λ i r. tested r i) back.1;
-          rising = subst (λ (cmp : Row → Row → Ordering). IsSorted cmp back.0) (λ i x y. ordered x y i) (sorted_from (output_cmp asked) out back.0 (subst (IsSorted (output_cmp asked)) back.2 s.sorted));
+          sorted = subst (λ (cmp : Row → Row → Ordering). IsSorted cmp back.0) (λ i x y. ordered x y i) (sorted_from (output_cmp asked) out back.0 (subst (IsSorted (output_cmp asked)) back.2 s.sorted));
           are = s.shown ∙ ap (map (λ (o : Output). o.1)) back.2 ∙ map-map (λ (o : Output). o.1) out back.0 ∙ (λ i. map (λ r. shows r i) back.0);
         }
 
-    pub shown_first : (most : Term) (n : ℕ) → as_count (eval most (params ∷ [])) ≡ Some n → (rows : List Row) → IsProgramAnswer [] (first_of most asked) db params rows → AreShown shown keys (Some n) passes (db tree) rows
+    pub shown_first : (most : Term) (n : ℕ) → as_count (eval most (params ∷ [])) ≡ Some n → (rows : List Row) → IsProgramAnswer [] (first_of most asked) db params rows → AreShown shown by (Some n) passes (db tree) rows
     shown_first most n counts rows a =
         let first = first_answer tree tests terms order most db params rows a in
         let all = shown_whole first.0 first.1 in
-        record { rows = all.rows; same = all.same; rising = all.rising; are = first.2 ∙ (λ i. limited (counts i) (all.are i)) ∙ take-map shown n all.rows }
+        record { rows = all.rows; same = all.same; sorted = all.sorted; are = first.2 ∙ (λ i. limited (counts i) (all.are i)) ∙ take-map shown n all.rows }
 
 -- ---- tests
 
@@ -105,6 +106,11 @@ part_tests a b c d code name = (λ i. are_equal c (Text code) && (either Eq Eq d
 pub listed_tests : (code : List ℕ) (c d : Value) → (are_equal c (Text code) && (is_true (binary Or (compared Eq d (Int (pos 0))) (compared Eq d (Int (pos 1)))) && true)) ≡ ((are_equal c (Text code) && (are_equal d (Int (pos 0)) || are_equal d (Int (pos 1)))) && true)
 listed_tests code c d = (λ i. are_equal c (Text code) && (and_true _ ∙ either Eq Eq d (Int (pos 0)) d (Int (pos 1))) i) ∙ sym (and_true _)
 
+-- of one row at most
+first_row : (shown : Row → Row) (rows : List Row) → (o : Option Row) × (map shown (limited (Some 1) rows) ≡ option_to_list o)
+first_row shown [] = (None, refl)
+first_row shown (row ∷ rows) = (Some (shown row), refl)
+
 -- ---- what each list shows
 
 module _ (old new : State) (h : IsShop old.now.schema) where
@@ -114,61 +120,75 @@ module _ (old new : State) (h : IsShop old.now.schema) where
   pub materials_shown : (rows : List Row) → Shown all_materials_text [] old new rows → AreMaterialRows (old.now.trees 2) rows
   materials_shown rows shown =
       let is = all_materials_is old.now.schema h in
-      shown_whole 2 [] all_materials_terms by_code old.now.trees [] refl _ (1 ∷ []) (λ _. true) (λ r. refl) (λ a b. refl) (λ r. refl) rows
+      shown_whole 2 [] all_materials_terms by_code old.now.trees [] refl _ (by_columns (1 ∷ [])) (λ _. true) (λ r. refl) (λ a b. refl) (λ r. refl) rows
       (reads_as all_materials_text [] old new over (shop_is old.now.schema h) _ is.command is.plain is.listing rows shown).answer
 
   pub first_parts_shown : (code : List ℕ) (most : ℕ) (rows : List Row) → Shown first_parts_text (Text code ∷ Int (pos most) ∷ []) old new rows → ArePartRows code None (Some most) (old.now.trees 4) rows
   first_parts_shown code most rows shown =
       let is = first_parts_is old.now.schema h in
       let params = Text code ∷ Int (pos most) ∷ [] in
-      shown_first 4 parts_of_tests parts_of_terms parts_of_order old.now.trees params refl _ (1 ∷ 2 ∷ []) _ (λ r. listed_tests code (column r 3) (column r 11)) (λ a b. refl) (λ r. refl) (col 0 1) most refl rows
+      shown_first 4 parts_of_tests parts_of_terms parts_of_order old.now.trees params refl _ (by_columns (1 ∷ 2 ∷ [])) _ (λ r. listed_tests code (column r 3) (column r 11)) (λ a b. refl) (λ r. refl) (col 0 1) most refl rows
       (reads_as first_parts_text params old new over (shop_is old.now.schema h) _ is.command is.plain is.listing rows shown).answer
 
   pub parts_behind_shown : (code : List ℕ) (after : Name) (most : ℕ) (rows : List Row) → Shown parts_behind_text (Text code ∷ Int (pos after.act) ∷ Int (pos after.node) ∷ Int (pos most) ∷ []) old new rows → ArePartRows code (Some after) (Some most) (old.now.trees 4) rows
   parts_behind_shown code after most rows shown =
       let is = parts_behind_is old.now.schema h in
       let params = Text code ∷ Int (pos after.act) ∷ Int (pos after.node) ∷ Int (pos most) ∷ [] in
-      shown_first 4 parts_behind_tests parts_of_terms parts_of_order old.now.trees params refl _ (1 ∷ 2 ∷ []) _ (λ r. part_tests (column r 1) (column r 2) (column r 3) (column r 11) code after) (λ a b. refl) (λ r. refl) (col 0 3) most refl rows
+      shown_first 4 parts_behind_tests parts_of_terms parts_of_order old.now.trees params refl _ (by_columns (1 ∷ 2 ∷ [])) _ (λ r. part_tests (column r 1) (column r 2) (column r 3) (column r 11) code after) (λ a b. refl) (λ r. refl) (col 0 3) most refl rows
       (reads_as parts_behind_text params old new over (shop_is old.now.schema h) _ is.command is.plain is.listing rows shown).answer
 
   pub open_demands_shown : (after most : ℕ) (rows : List Row) → Shown open_demands_text (Int (pos after) ∷ Int (pos most) ∷ []) old new rows → AreDemandRows after None most (old.now.trees 9) rows
   open_demands_shown after most rows shown =
       let is = open_demands_is old.now.schema h in
       let params = Int (pos after) ∷ Int (pos most) ∷ [] in
-      shown_first 9 open_demands_tests open_demands_terms by_rowid old.now.trees params refl _ (0 ∷ []) _ (λ r i. is_above (column r 0) (Int (pos after)) && and_true (is_below (column r 11) (column r 9)) i) (λ a b. refl) (λ r. refl) (col 0 1) most refl rows
+      shown_first 9 open_demands_tests open_demands_terms by_rowid old.now.trees params refl _ (by_columns (0 ∷ [])) _ (λ r i. is_above (column r 0) (Int (pos after)) && and_true (is_below (column r 11) (column r 9)) i) (λ a b. refl) (λ r. refl) (col 0 1) most refl rows
       (reads_as open_demands_text params old new over (shop_is old.now.schema h) _ is.command is.plain is.listing rows shown).answer
 
   pub open_demands_of_shown : (after most : ℕ) (code : List ℕ) (rows : List Row) → Shown open_demands_of_text (Int (pos after) ∷ Int (pos most) ∷ Text code ∷ []) old new rows → AreDemandRows after (Some code) most (old.now.trees 9) rows
   open_demands_of_shown after most code rows shown =
       let is = open_demands_of_is old.now.schema h in
       let params = Int (pos after) ∷ Int (pos most) ∷ Text code ∷ [] in
-      shown_first 9 open_demands_of_tests open_demands_terms by_rowid old.now.trees params refl _ (0 ∷ []) _ (λ r i. is_above (column r 0) (Int (pos after)) && (are_equal (column r 4) (Text code) && and_true (is_below (column r 11) (column r 9)) i)) (λ a b. refl) (λ r. refl) (col 0 1) most refl rows
+      shown_first 9 open_demands_of_tests open_demands_terms by_rowid old.now.trees params refl _ (by_columns (0 ∷ [])) _ (λ r i. is_above (column r 0) (Int (pos after)) && (are_equal (column r 4) (Text code) && and_true (is_below (column r 11) (column r 9)) i)) (λ a b. refl) (λ r. refl) (col 0 1) most refl rows
       (reads_as open_demands_of_text params old new over (shop_is old.now.schema h) _ is.command is.plain is.listing rows shown).answer
 
   pub lines_shown : (order : List ℕ) (rows : List Row) → Shown lines_text (Text order ∷ []) old new rows → AreLineRows order (old.now.trees 9) rows
   lines_shown order rows shown =
       let is = lines_is old.now.schema h in
-      shown_whole 9 lines_tests open_demands_terms by_line old.now.trees (Text order ∷ []) refl _ (3 ∷ []) _ (λ r. and_true (are_equal (column r 2) (Text order))) (λ a b. refl) (λ r. refl) rows
+      shown_whole 9 lines_tests open_demands_terms by_line old.now.trees (Text order ∷ []) refl _ (by_columns (3 ∷ [])) _ (λ r. and_true (are_equal (column r 2) (Text order))) (λ a b. refl) (λ r. refl) rows
       (reads_as lines_text (Text order ∷ []) old new over (shop_is old.now.schema h) _ is.command is.plain is.listing rows shown).answer
 
   pub first_orders_shown : (most : ℕ) (rows : List Row) → Shown first_orders_text (Int (pos most) ∷ []) old new rows → AreOrderRows None most (old.now.trees 7) rows
   first_orders_shown most rows shown =
       let is = first_orders_is old.now.schema h in
-      shown_first 7 [] all_codes_terms by_code old.now.trees (Int (pos most) ∷ []) refl _ (1 ∷ []) _ (λ r. refl) (λ a b. refl) (λ r. refl) (col 0 0) most refl rows
+      shown_first 7 [] all_codes_terms by_code old.now.trees (Int (pos most) ∷ []) refl _ (by_columns (1 ∷ [])) _ (λ r. refl) (λ a b. refl) (λ r. refl) (col 0 0) most refl rows
       (reads_as first_orders_text (Int (pos most) ∷ []) old new over (shop_is old.now.schema h) _ is.command is.plain is.listing rows shown).answer
 
   pub orders_behind_shown : (code : List ℕ) (most : ℕ) (rows : List Row) → Shown orders_behind_text (Text code ∷ Int (pos most) ∷ []) old new rows → AreOrderRows (Some code) most (old.now.trees 7) rows
   orders_behind_shown code most rows shown =
       let is = orders_behind_is old.now.schema h in
-      shown_first 7 orders_behind_tests all_codes_terms by_code old.now.trees (Text code ∷ Int (pos most) ∷ []) refl _ (1 ∷ []) _ (λ r. and_true (is_above (column r 1) (Text code))) (λ a b. refl) (λ r. refl) (col 0 1) most refl rows
+      shown_first 7 orders_behind_tests all_codes_terms by_code old.now.trees (Text code ∷ Int (pos most) ∷ []) refl _ (by_columns (1 ∷ [])) _ (λ r. and_true (is_above (column r 1) (Text code))) (λ a b. refl) (λ r. refl) (col 0 1) most refl rows
       (reads_as orders_behind_text (Text code ∷ Int (pos most) ∷ []) old new over (shop_is old.now.schema h) _ is.command is.plain is.listing rows shown).answer
 
   pub waiting_jobs_shown : (after most : ℕ) (rows : List Row) → Shown waiting_jobs_text (Int (pos after) ∷ Int (pos most) ∷ []) old new rows → AreJobRows after most (old.now.trees 6) rows
   waiting_jobs_shown after most rows shown =
       let is = waiting_jobs_is old.now.schema h in
       let params = Int (pos after) ∷ Int (pos most) ∷ [] in
-      shown_first 6 waiting_jobs_tests waiting_jobs_terms by_rowid old.now.trees params refl _ (0 ∷ []) _ (λ r i. is_above (column r 0) (Int (pos after)) && and_true (are_equal (column r 5) (Int (pos 0))) i) (λ a b. refl) (λ r. refl) (col 0 1) most refl rows
+      shown_first 6 waiting_jobs_tests waiting_jobs_terms by_rowid old.now.trees params refl _ (by_columns (0 ∷ [])) _ (λ r i. is_above (column r 0) (Int (pos after)) && and_true (are_equal (column r 5) (Int (pos 0))) i) (λ a b. refl) (λ r. refl) (col 0 1) most refl rows
       (reads_as waiting_jobs_text params old new over (shop_is old.now.schema h) _ is.command is.plain is.listing rows shown).answer
+
+  last_numbers_shown : (terminal : ℕ) (rows : List Row) → Shown last_number_text (Int (pos terminal) ∷ []) old new rows → AreLastRows terminal (old.now.trees 11) rows
+  last_numbers_shown terminal rows shown =
+      let is = last_number_is old.now.schema h in
+      let params = Int (pos terminal) ∷ [] in
+      shown_first 11 last_number_tests last_number_terms (falling 2) old.now.trees params refl _ (λ a b. by_columns (2 ∷ []) b a) _ (λ r. and_true (are_equal (column r 1) (Int (pos terminal)))) (λ a b. refl) (λ r. refl) (lit (Int (pos 1))) 1 refl rows
+      (reads_as last_number_text params old new over (shop_is old.now.schema h) _ is.command is.plain is.listing rows shown).answer
+
+  -- the row that the query gave
+  pub last_row_shown : (terminal : ℕ) (row : Option Row) → GivesRow last_number_text (Int (pos terminal) ∷ []) old new row → AreLastRows terminal (old.now.trees 11) (option_to_list row)
+  last_row_shown terminal row given =
+      let are = last_numbers_shown terminal given.rows given.shown in
+      let one = first_row (columns_of 1 2) are.rows in
+      subst (AreLastRows terminal (old.now.trees 11)) (are.are ∙ one.1 ∙ sym (ap option_to_list (given.only one.0 (are.are ∙ one.1)))) are
 
 -- ---- a query of rows
 
@@ -195,10 +215,10 @@ gives_none r old new of_books of_tables none left = record {
 -- ---- from rows to values
 
 -- what was shown, read whole, was shown
-pub shown_read : (cut shown : Row → Row) → ((r : Row) → cut (shown r) ≡ shown r) → (keys : List ℕ) (most : Option ℕ) (passes : Row → Bool) (stored rows read : List Row) → AreShown shown keys most passes stored rows → map cut rows ≡ read
-    → AreShown shown keys most passes stored read
-shown_read cut shown whole keys most passes stored rows read s is =
-    subst (AreShown shown keys most passes stored) (s.are ∙ (λ i. map (λ r. sym (whole r) i) (limited most s.rows)) ∙ sym (map-map cut shown (limited most s.rows)) ∙ ap (map cut) (sym s.are) ∙ is) s
+pub shown_read : (cut shown : Row → Row) → ((r : Row) → cut (shown r) ≡ shown r) → (by : Row → Row → Ordering) (most : Option ℕ) (passes : Row → Bool) (stored rows read : List Row) → AreShown shown by most passes stored rows → map cut rows ≡ read
+    → AreShown shown by most passes stored read
+shown_read cut shown whole by most passes stored rows read s is =
+    subst (AreShown shown by most passes stored) (s.are ∙ (λ i. map (λ r. sym (whole r) i) (limited most s.rows)) ∙ sym (map-map cut shown (limited most s.rows)) ∙ ap (map cut) (sym s.are) ∙ is) s
 
 -- one more row was read
 pub read_more : {X : Type 0} (row_of : X → Row) (cut : Row → Row) (rows : List Row) (xs : List X) (i : ℕ) → map cut (take i rows) ≡ map row_of xs → i < length rows → (row : Row) → row ≡ get_or rows i row → (read : X) → cut row ≡ row_of read
@@ -224,6 +244,10 @@ pub demand_read : (r : Result Demand TableFault) (row : Row) (number : ℕ) → 
     → IfOk r (λ read. columns_of 11 0 row ≡ listed_demand read)
 demand_read (Ok read) row number own exact last = λ i. exact i ++ (last ∙ ap (λ n. Int (pos n)) (sym own)) i ∷ []
 demand_read (Err e) row number own exact last = tt
+
+-- a number that is read of its row is that of the row
+pub last_read : (terminal : ℕ) (stored : List Row) (row : Row) (number : ℕ) → AreLastRows terminal stored (row ∷ []) → column row 0 ≡ Int (pos number) → AreLastRows terminal stored (number_row number ∷ [])
+last_read terminal stored row number are is = shown_read (columns_of 1 0) (columns_of 1 2) (λ r. refl) _ _ _ stored (row ∷ []) (number_row number ∷ []) are (λ i. (is i ∷ []) ∷ [])
 
 -- what stands is said of an answer too
 pub always : {X E P : Type 0} (r : Result X E) → P → IfOk r (λ _. P)

@@ -18,7 +18,9 @@ use Rattle.shop_records.specs.declared.records.Part.{Part}
 use Rattle.shop_records.specs.declared.records.Totals.{Totals}
 use Rattle.shop_tables.specs.Listing.{HaveTotals}
 use Rattle.shop_statements.specs.declared.faults.TableFault.{TableFault}
+use Rattle.shop_statements.specs.Beside.{Spares}
 use Rattle.shop_statements.specs.Changes.{with_demand}
+use Rattle.shop_statements.specs.Layout.{our_trees}
 use Rattle.shop_statements.specs.Shown.{Books, Makes, Went, Within}
 
 -- The rows of totals are those of the known materials, and a code's totals are the sums of its parts.
@@ -37,10 +39,12 @@ with_change change b = record { content = changed b.content change; totals = wit
 
 -- ---- a writing
 
--- Steps inside a transaction. Of books with what they need they make these, and they commit nothing.
+-- Steps inside a transaction. Of books with what they need they make these, they leave alone what isn't the shop's, and they
+-- commit nothing.
 pub record Writes (old new : State) (result : Result (Unit {0}) TableFault) (Needs : Books → Type 0) (makes : Books → Books) : Type 0 where
   pub went : OnOk result (Went old new)
   pub put : (b : Books) → Needs b → OnOk result (Makes old new b (makes b))
+  pub others : OnOk result (Spares our_trees old new)
   pub within : Within old new
 
 -- the books with a row, if there is one

@@ -1,4 +1,5 @@
 -- When a connection, or what a crash left of it, stands for a content.
+use Rattle.std.specs.Prelude.{◌≡◌, IsTrue}
 use Rattle.std.specs.FinMap.{FinMap}
 use Rattle.sqlite_trees.specs.Tree.{Trees}
 use Rattle.sqlite.specs.State.{State, HasCleanDisk}
@@ -6,6 +7,8 @@ use Rattle.cut_measure.specs.Codes.{code_cmp}
 use Rattle.shop_records.specs.Content.{Content}
 use Rattle.shop_records.specs.Soundness.{HasLines}
 use Rattle.shop_records.specs.declared.records.Totals.{Totals}
+use Rattle.shop_statements.specs.Beside.{IsSameBeside, SparesRows}
+use Rattle.shop_statements.specs.Layout.{our_trees}
 use Rattle.shop_statements.specs.Shown.{Books, IsSettled, Holds, StandsIn}
 use Rattle.shop_tables.specs.Changing.{HasSums}
 
@@ -38,3 +41,8 @@ pub record StandsFor (db : Trees) (m : Content) : Type 0 where
 -- an open after a crash finds the content
 abbrev pub LeavesOnly : State → Content → Type 0
 LeavesOnly s m = HasCleanDisk s → (db : Trees) → s.may_leave db → StandsFor db m
+
+-- Where the connection saw its last commit, it sees the same but for the rows of our tables, and so does an open after a crash.
+pub record LeavesOthers (old new : State) : Type 0 where
+  pub seen : HasCleanDisk new → IsTrue new.is_open → old.now ≡ old.committed → IsSameBeside our_trees old.now new.now
+  pub crash : HasCleanDisk new → IsTrue old.is_open → old.now ≡ old.committed → (db : Trees) → new.may_leave db → SparesRows our_trees old.now.schema old.now.trees db

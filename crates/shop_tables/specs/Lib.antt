@@ -7,3 +7,4 @@ pub mod Listing
 pub mod Adopting
 pub mod ListedRows
 pub mod RowsShown
+pub mod Laying

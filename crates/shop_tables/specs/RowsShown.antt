@@ -1,5 +1,5 @@
 -- What a list shows, of tables that may stand for no books.
-use Rattle.std.specs.Prelude.{◌≡◌, ◌&&◌, ◌||◌, ℕ, pos, Bool, true, List, [], ◌∷◌, ◌++◌, map, filter, Option, Some, None, Result, Vec, IfOk, IsTrue, IsPermutation, IsSorted}
+use Rattle.std.specs.Prelude.{◌≡◌, ◌⊎◌, ◌&&◌, ◌||◌, ℕ, pos, Bool, true, List, [], ◌∷◌, ◌++◌, map, filter, Option, Some, None, Result, Vec, IfOk, IsTrue, IsPermutation, IsSorted}
 use Rattle.std.specs.Ordering.{ordering_then}
 use Rattle.std.specs.declared.cmp.Ordering.{Ordering}
 use Rattle.std.specs.declared.cmp.Ordering.TheVariants.{Equal}
@@ -19,18 +19,19 @@ use Rattle.cut_measure.specs.Names.{Name}
 use Rattle.shop_statements.specs.Found.{are_equal, columns_of}
 use Rattle.shop_statements.specs.Layout.{IsShop}
 use Rattle.shop_statements.specs.Shown.{Books, Leaves, OnBooks}
+use Rattle.shop_tables.specs.ListedRows.{number_row}
 
 -- by the values of these columns, one after another
 abbrev pub by_columns : List ℕ → Row → Row → Ordering
 by_columns [] a b = Equal
 by_columns (at ∷ more) a b = ordering_then (value_cmp (column a at) (column b at)) (by_columns more a b)
 
--- What is given is shown of the rows of a table that pass, in the order of these columns: of the first so many, or of all. So
--- no row among them is left out.
-pub record AreShown (shown : Row → Row) (keys : List ℕ) (most : Option ℕ) (passes : Row → Bool) (stored given : List Row) : Type 0 where
+-- What is given is shown of the rows of a table that pass, in this order: of the first so many, or of all. So no row among
+-- them is left out.
+pub record AreShown (shown : Row → Row) (order : Row → Row → Ordering) (most : Option ℕ) (passes : Row → Bool) (stored given : List Row) : Type 0 where
   pub rows : List Row
   pub same : IsPermutation (filter passes stored) rows
-  pub rising : IsSorted (by_columns keys) rows
+  pub sorted : IsSorted order rows
   pub are : given ≡ map shown (limited most rows)
 
 -- What a query of rows says of held books, and of whatever rows are in the tables, and what it leaves.
@@ -58,7 +59,7 @@ is_at_least a b = is_true (binary (Compare Ge Binary) a b)
 -- ---- materials: every row of the table, by its code
 
 abbrev pub AreMaterialRows : List Row → List Row → Type 0
-AreMaterialRows = AreShown (λ row. columns_of 4 2 row ++ columns_of 1 1 row) (1 ∷ []) None (λ _. true)
+AreMaterialRows = AreShown (λ row. columns_of 4 2 row ++ columns_of 1 1 row) (by_columns (1 ∷ [])) None (λ _. true)
 
 -- ---- parts of a material that stand or are reserved, behind a name if one is given, by their names
 
@@ -71,7 +72,7 @@ is_past (Some name) row =
     is_at_least (column row 1) (Int (pos name.act)) && (is_above (column row 1) (Int (pos name.act)) || is_above (column row 2) (Int (pos name.node)))
 
 abbrev pub ArePartRows : List ℕ → Option Name → Option ℕ → List Row → List Row → Type 0
-ArePartRows material after most = AreShown (columns_of 12 1) (1 ∷ 2 ∷ []) most (λ row. stands_in material row && is_past after row)
+ArePartRows material after most = AreShown (columns_of 12 1) (by_columns (1 ∷ 2 ∷ [])) most (λ row. stands_in material row && is_past after row)
 
 -- ---- demands with greater numbers of which fewer are made than are wanted, of one material or of all, by their numbers
 
@@ -81,13 +82,13 @@ is_for (Some material) row = are_equal (column row 4) (Text material)
 
 abbrev pub AreDemandRows : ℕ → Option (List ℕ) → ℕ → List Row → List Row → Type 0
 AreDemandRows after material most =
-    AreShown (λ row. columns_of 10 2 row ++ columns_of 1 0 row) (0 ∷ []) (Some most)
+    AreShown (λ row. columns_of 10 2 row ++ columns_of 1 0 row) (by_columns (0 ∷ [])) (Some most)
     (λ row. is_above (column row 0) (Int (pos after)) && (is_for material row && is_below (column row 11) (column row 9)))
 
 -- ---- demands of an order, by their lines
 
 abbrev pub AreLineRows : List ℕ → List Row → List Row → Type 0
-AreLineRows order = AreShown (λ row. columns_of 10 2 row ++ columns_of 1 0 row) (3 ∷ []) None (λ row. are_equal (column row 2) (Text order))
+AreLineRows order = AreShown (λ row. columns_of 10 2 row ++ columns_of 1 0 row) (by_columns (3 ∷ [])) None (λ row. are_equal (column row 2) (Text order))
 
 -- ---- orders behind a code if one is given, by their codes
 
@@ -96,10 +97,20 @@ is_code_past None row = true
 is_code_past (Some code) row = is_above (column row 1) (Text code)
 
 abbrev pub AreOrderRows : Option (List ℕ) → ℕ → List Row → List Row → Type 0
-AreOrderRows after most = AreShown (columns_of 1 1) (1 ∷ []) (Some most) (is_code_past after)
+AreOrderRows after most = AreShown (columns_of 1 1) (by_columns (1 ∷ [])) (Some most) (is_code_past after)
 
 -- ---- jobs with greater numbers whose state is that of a waiting one, by their numbers
 
 abbrev pub AreJobRows : ℕ → ℕ → List Row → List Row → Type 0
 AreJobRows after most =
-    AreShown (columns_of 1 0) (0 ∷ []) (Some most) (λ row. is_above (column row 0) (Int (pos after)) && are_equal (column row 5) (Int (pos 0)))
+    AreShown (columns_of 1 0) (by_columns (0 ∷ [])) (Some most) (λ row. is_above (column row 0) (Int (pos after)) && are_equal (column row 5) (Int (pos 0)))
+
+-- ---- the number of a terminal's kept message with the greatest one; nothing where none is kept
+
+abbrev pub AreLastRows : ℕ → List Row → List Row → Type 0
+AreLastRows terminal =
+    AreShown (columns_of 1 2) (λ a b. by_columns (2 ∷ []) b a) (Some 1) (λ row. are_equal (column row 1) (Int (pos terminal)))
+
+-- that number, or 0 where none is kept
+abbrev pub IsLastIn : ℕ → List Row → ℕ → Type 0
+IsLastIn terminal stored last = AreLastRows terminal stored (number_row last ∷ []) ⊎ (AreLastRows terminal stored [] × (last ≡ 0))

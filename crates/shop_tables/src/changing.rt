@@ -6,6 +6,8 @@ ghost use Rattle.std.specs.FinMap.{get};
 ghost use Rattle.sqlite.specs.Held.{state};
 ghost use Rattle.shop_records.specs.Content.{kept_at};
 ghost use Rattle.shop_records.specs.Soundness.{Fits, IsMovedJob, IsNewJob};
+ghost use Rattle.shop_statements.specs.Beside.{Spares};
+ghost use Rattle.shop_statements.specs.Layout.{our_trees};
 ghost use Rattle.shop_statements.specs.Shown.{Books, Makes, Ran, Within};
 ghost use Rattle.shop_tables.specs.Changing.{HasSums, AreDemandsFit, HasStockOf, HasWorkOf, Writes, with_change, with_jobs, with_demands, with_messages, with_sums, with_stock, with_work, with_numbers};
 
@@ -27,6 +29,8 @@ fn keep<S: Alter>(
     ensures put { (b : Books) → IfSome message.now (λ row. kept_at b.content row.pair ≡ None)
         → OnOk result (Makes (state S.Store tx.old.conn.now) (state S.Store tx.new.conn.now) b
         (with_messages message.now b)) }
+    ensures others { OnOk result
+        (Spares our_trees (state S.Store tx.old.conn.now) (state S.Store tx.new.conn.now)) }
     ensures within { Within (state S.Store tx.old.conn.now) (state S.Store tx.new.conn.now) }
 {
     match message {

@@ -5,7 +5,8 @@ ghost use Rattle.sqlite.specs.State.{HasCleanDisk, Survives};
 ghost use Rattle.sqlite.specs.Held.{state};
 ghost use Rattle.shop_records.specs.Content.{Content, changed};
 ghost use Rattle.shop_records.specs.Soundness.{Fits};
-ghost use Rattle.shop_tables.specs.Held.{HoldsContent, StandsFor, LeavesOnly};
+ghost use Rattle.shop_statements.specs.Layout.{IsShop};
+ghost use Rattle.shop_tables.specs.Held.{HoldsContent, StandsFor, LeavesOnly, LeavesOthers};
 
 use crate::changing::write_change;
 use shop_records::Change;
@@ -14,7 +15,7 @@ use sqlite::{Alter, Connection};
 use std::alloc::Global;
 
 /// Makes a change that fits the content in one transaction: as a whole, or not at all. After an `Err` the content is what
-/// it was, whatever the change.
+/// it was, whatever the change. Tables of others stay as they were, whatever the content and the change.
 pub fn commit_change<S: Alter>(
     alloc: Global,
     conn: &mut Connection<S>,
@@ -31,6 +32,8 @@ pub fn commit_change<S: Alter>(
         (λ db. StandsFor db (changed m change.now)) }
     ensures lasts { (m : Content) → HoldsContent (state S.Store conn.old) m → Fits m change.now
         → OnOk result (LeavesOnly (state S.Store conn.new) (changed m change.now)) }
+    ensures others { IsShop conn.old.schema
+        → LeavesOthers (state S.Store conn.old) (state S.Store conn.new) }
     ensures earlier { HasCleanDisk (state S.Store conn.new)
         → HasCleanDisk (state S.Store conn.old) }
 {

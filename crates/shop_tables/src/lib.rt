@@ -6,6 +6,7 @@ mod changing;
 mod committing;
 mod first_parts;
 mod last_numbers;
+mod laws;
 mod laying;
 mod lending;
 mod listed_rows;
@@ -24,13 +25,15 @@ pub use adopting::{AdoptFault, Adopted, adopt_tables};
 pub use committing::commit_change;
 pub use first_parts::list_first_parts;
 pub use last_numbers::find_last_number;
+pub use laws::lending_limits;
+pub use laying::statements_make_tables;
 pub use lending::{Lent, lend_all_parts, lend_parts};
 pub use listing::list_totals;
 pub use material_lists::list_materials;
 pub use open_demands::list_open_demands;
 pub use order_lines::list_lines;
 pub use order_lists::list_orders;
-pub use renewing::{list_earlier_totals, renew_shop};
+pub use renewing::{list_earlier_totals, renew_shop, steps_renew_tables};
 pub use reopening::left_contents_are_found;
 pub use shop_statements::{
     TableFault, find_demand, find_import, find_job, find_kept, find_last_act, find_last_demand,

@@ -5,10 +5,15 @@ ghost use Rattle.std.specs.FinMap.{entries};
 ghost use Rattle.sqlite.specs.State.{HasCleanDisk, Survives};
 ghost use Rattle.sqlite.specs.Held.{state};
 ghost use Rattle.shop_tables.specs.Adopting.{LeavesBooks, MakesTables};
+ghost use Rattle.shop_tables.specs.Laying.{Adds, ClearsTotals, CopiesTotals, Does, SetsVersion};
+ghost use Rattle.shop_tables.specs.declared.laying.TheConstants.{TOTALS2};
+ghost use Rattle.shop_tables.specs.declared.renewing.TheConstants.{COPY_TOTALS, CLEAR_TOTALS, SET_VERSION};
+ghost use Rattle.shop_statements.specs.Layout.{shop_schema, totals2_table};
 ghost use Rattle.shop_statements.specs.Earlier.{HoldsEarlier, OnBooksEarlier, ShowsEarlier};
 ghost use Rattle.shop_tables.specs.Listing.{AreAllTotals, listed_row};
 ghost use Rattle.shop_statements.specs.Shown.{Books, HasShopSchema, Holds, Leaves, StandsIn, Within};
 
+use crate::laying::{TOTALS2, run_all};
 use crate::listing::{material_rows, read_all};
 use shop_records::MaterialTotals;
 use shop_statements::{TableFault, all_rows};
@@ -44,6 +49,25 @@ pub fn list_earlier_totals<S: Alter>(
     read_all(alloc, &materials, &totals)
 }
 
+// The totals of version 1, as those of version 2: 0 of each material was returned.
+const COPY_TOTALS: &str =
+    "INSERT INTO totals2 (material, received, stock, rack, pieces, kerf, scrap, returned) SELECT material, received, stock, rack, pieces, kerf, scrap, 0 FROM totals";
+
+const CLEAR_TOTALS: &str = "DELETE FROM totals";
+
+const SET_VERSION: &str = "UPDATE meta SET value = 2 WHERE name = 'version'";
+
+// The steps from version 1 to version 2, in the order in which they run.
+const STEPS: [&str; 4] = [TOTALS2, COPY_TOTALS, CLEAR_TOTALS, SET_VERSION];
+
+/// What each step from version 1 to version 2 does.
+pub fn steps_renew_tables<S: Alter>()
+    ensures totals2 { Adds S.Store TOTALS2.now 9 totals2_table }
+    ensures copy { Does S.Store COPY_TOTALS.now shop_schema CopiesTotals }
+    ensures clear { Does S.Store CLEAR_TOTALS.now shop_schema ClearsTotals }
+    ensures version { Does S.Store SET_VERSION.now shop_schema SetsVersion }
+{}
+
 /// Brings tables of version 1 to version 2: the totals move to a table of their own, where 0 of each material was returned.
 pub(crate) fn renew_tables<S: Alter>(tx: &mut Transaction<'_, S>) -> Result<(), Error>
     ensures same_reference { tx.new.conn.ghost_name ≡ tx.old.conn.ghost_name }
@@ -55,9 +79,7 @@ pub(crate) fn renew_tables<S: Alter>(tx: &mut Transaction<'_, S>) -> Result<(), 
         (MakesTables (state S.Store tx.old.conn.now) (state S.Store tx.new.conn.now) b) }
     ensures within { Within (state S.Store tx.old.conn.now) (state S.Store tx.new.conn.now) }
 {
-    tx.execute_batch(
-        "CREATE TABLE totals2 (material TEXT NOT NULL PRIMARY KEY REFERENCES materials (code), received INTEGER NOT NULL, stock INTEGER NOT NULL, rack INTEGER NOT NULL, pieces INTEGER NOT NULL, kerf INTEGER NOT NULL, scrap INTEGER NOT NULL, returned INTEGER NOT NULL) STRICT;INSERT INTO totals2 (material, received, stock, rack, pieces, kerf, scrap, returned) SELECT material, received, stock, rack, pieces, kerf, scrap, 0 FROM totals;DELETE FROM totals;UPDATE meta SET value = 2 WHERE name = 'version'",
-    )
+    run_all(tx, &STEPS)
 }
 
 /// Brings tables of version 1 to version 2 in one transaction: as a whole, or not at all.

@@ -3,6 +3,8 @@
 ghost use Rattle.std.specs.Prelude.{◌≡◌, ⊤, false, None, IfSome, OnOk};
 ghost use Rattle.sqlite.specs.Held.{state};
 ghost use Rattle.shop_records.specs.Content.{material_at, part_at, has_order, demand_at, import_at, in_state};
+ghost use Rattle.shop_statements.specs.Beside.{Spares};
+ghost use Rattle.shop_statements.specs.Layout.{our_trees};
 ghost use Rattle.shop_statements.specs.Changes.{with_material, with_part, with_order, with_demand, with_import, with_last_act, with_last_demand};
 ghost use Rattle.shop_statements.specs.Shown.{Books, Makes, Ran, Within};
 ghost use Rattle.shop_tables.specs.Changing.{AreInTurn, IsOver, Writes, recounted, with_all, with_some};
@@ -31,6 +33,8 @@ pub(crate) trait Writing<Row> {
         ensures put { (b : Books) → needs row.now b
             → OnOk result (Makes (state S.Store tx.old.conn.now) (state S.Store tx.new.conn.now) b
             (makes row.now b)) }
+        ensures others { OnOk result
+            (Spares our_trees (state S.Store tx.old.conn.now) (state S.Store tx.new.conn.now)) }
         ensures within { Within (state S.Store tx.old.conn.now) (state S.Store tx.new.conn.now) };
 }
 

@@ -1,12 +1,13 @@
-use Rattle.std.proofs.Common.{[], ◌∷◌, option_map, is_some, sym, ap, ◌∙◌, arith}
+use Rattle.std.proofs.Common.{[], ◌∷◌, option_map, is_some, refl, sym, ap, ◌∙◌, arith}
 use Rattle.std.specs.FinMap.{get}
 use Rattle.std.proofs.lemmas.Result.{IfOk-weaker}
 use Rattle.sqlite.specs.State.{HasCleanDisk}
 use Rattle.sqlite.specs.Held.{state}
 use Rattle.sqlite_value.specs.declared.value.Value.TheVariants.{Text}
 use Rattle.shop_statements.specs.Rows.{order_row}
-use Rattle.shop_statements.proofs.Texts.{get_order_text, get_order_selects}
-use Rattle.shop_statements.proofs.Reading.{held_shows, is_there}
+use Rattle.shop_statements.proofs.Texts.{by_one, get_order_is, get_order_selects, get_order_terms, get_order_text}
+use Rattle.shop_statements.proofs.Reading.{asked, held_shows, is_there}
+use Rattle.shop_statements.proofs.UnderKeys.{is_under, under}
 use Rattle.shop_statements.proofs.Finding.{finds_order}
 use Rattle.shop_statements.proofs.orders.found_row.Goals as goal
 
@@ -25,3 +26,12 @@ returns-clause-there g c clean b was =
 
 pub returns-clause-leaves : goal.returns-clause-leaves
 returns-clause-leaves g c = c.row_by_text.ensures.leaves get_order_selects
+
+pub returns-clause-stands : goal.returns-clause-stands
+returns-clause-stands g c clean h =
+    let old = state g.S.Store c.args.conn.now in
+    let new = state g.S.Store c.row_by_text.new.conn in
+    let params = Text c.args.code ∷ [] in
+    IfOk-weaker c.row_by_text.result _ _
+    (λ row given. is_under (old.now.trees 7) 1 params 1 1 row (under (old.now.trees 7) 1 params 1 1 given.rows (asked old new h get_order_text params 7 by_one get_order_terms _ (get_order_is old.now.schema h) refl given.rows given.shown) row given.among given.none))
+    (rw c.as_str.ensures.value at (c.row_by_text.ensures.row clean))

@@ -1,9 +1,12 @@
+use Rattle.std.proofs.Common.{refl}
 use Rattle.sqlite.specs.Held.{state}
 use Rattle.shop_statements.specs.Rows.{totals_row}
 use Rattle.shop_statements.specs.Changes.{with_totals}
-use Rattle.shop_statements.proofs.Texts.{put_totals_text}
+use Rattle.shop_statements.proofs.Texts.{put_totals_text, put_totals_is, put_totals_terms}
 use Rattle.shop_statements.proofs.Writing.{makes}
 use Rattle.shop_statements.proofs.Putting.{puts_totals}
+use Rattle.shop_statements.specs.Layout.{totals2_table}
+use Rattle.shop_statements.proofs.Beside.{puts_beside}
 use Rattle.shop_statements.proofs.sums.put_totals.Goals as goal
 
 pub returns-clause-put : goal.returns-clause-put
@@ -12,3 +15,8 @@ returns-clause-put g c b fresh =
     let new = state g.S.Store c.run_totals.new.tx.conn.now in
     makes put_totals_text (totals_row (c.args.material, c.args.totals.now)) old new b (with_totals c.args.material c.args.totals.now b) c.run_totals.result c.run_totals.ensures.has_run
     (λ count has ran. puts_totals old new count b has c.args.material c.args.totals.now fresh ran)
+
+pub returns-clause-others : goal.returns-clause-others
+returns-clause-others g c =
+    let old = state g.S.Store c.args.tx.now.conn.now in
+    puts_beside put_totals_text _ old (state g.S.Store c.run_totals.new.tx.conn.now) c.run_totals.result 9 totals2_table (λ h. h.totals2) (λ h. refl) put_totals_terms 9 (put_totals_is old.now.schema) c.run_totals.ensures.has_run

@@ -21,4 +21,4 @@ returns-clause-writes g c =
       ),
       tt,
     )) (λ b. refl)
-    (writes_then (writes_then (writes_then (writes_then (ran_writes c.in_ok-keep.ensures.ran c.in_ok-keep.ensures.put c.keep.ensures.within) c.in_ok-write_job.ensures.writes) c.in_ok-write_stock.ensures.writes) c.in_ok-write_work.ensures.writes) c.write_numbers.ensures.writes)
+    (writes_then (writes_then (writes_then (writes_then (ran_writes c.in_ok-keep.ensures.ran c.in_ok-keep.ensures.put c.in_ok-keep.ensures.others c.keep.ensures.within) c.in_ok-write_job.ensures.writes) c.in_ok-write_stock.ensures.writes) c.in_ok-write_work.ensures.writes) c.write_numbers.ensures.writes)

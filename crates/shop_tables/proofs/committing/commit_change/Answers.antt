@@ -4,11 +4,13 @@ use Rattle.sqlite.specs.Held.{state}
 use Rattle.sqlite.specs.Effect.{Database}
 use Rattle.shop_records.specs.Content.{Content, changed}
 use Rattle.shop_records.specs.Soundness.{Fits}
+use Rattle.shop_statements.specs.Beside.{Spares}
+use Rattle.shop_statements.specs.Layout.{our_trees}
 use Rattle.shop_statements.specs.Shown.{Ran, Makes, Within}
 use Rattle.shop_tables.specs.Changing.{with_change}
-use Rattle.shop_tables.specs.Held.{books, HoldsContent, StandsFor, LeavesOnly}
+use Rattle.shop_tables.specs.Held.{books, HoldsContent, StandsFor, LeavesOnly, LeavesOthers}
 use Rattle.shop_statements.proofs.Steps.{on_err}
-use Rattle.shop_tables.proofs.Commits.{begun, undone, failed, committed, survived, stands_end}
+use Rattle.shop_tables.proofs.Commits.{begun, undone, failed, committed, survived, stands_end, dropped_others, failed_others, committed_others}
 use Rattle.shop_tables.proofs.committing.commit_change.Goals as goal
 use Rattle.shop_tables.proofs.committing.commit_change.Goals.{After-commit}
 
@@ -39,6 +41,9 @@ module _ (g : _) (c : After-commit g) where
   made : (m : Content) (was : HoldsContent (state g.S.Store c.args.conn.now) m) → Fits m c.args.change.now
       → Makes (begun g.S.Store c.args.conn.now) done (books m was.totals) (with_change c.args.change.now (books m was.totals))
   made m was fits = subst (λ h. Makes (state g.S.Store h) done (books m was.totals) (with_change c.args.change.now (books m was.totals))) c.transaction-tx.ensures.begun (c.in_ok-write_change.ensures.writes.put (books m was.totals) (was.sums, fits))
+
+  spares : Spares our_trees (begun g.S.Store c.args.conn.now) done
+  spares = subst (λ h. Spares our_trees (state g.S.Store h) done) c.transaction-tx.ensures.begun c.in_ok-write_change.ensures.writes.others
 
   late : HasCleanDisk last → HasCleanDisk done
   late clean = let s = c.commit.ensures.survives.clean in omega (arith, s, clean)
@@ -83,3 +88,30 @@ returns-clause-lasts g c m was fits =
     let only : db ≡ (last g a).committed.trees = g.met.S.Store.settled (c.commit.new.self.0).store db e.is_open left in
     let now : db ≡ (done g a).now.trees = only ∙ ap (λ (d : Database). d.trees) e.committed_is in
     subst (λ t. StandsFor t (changed m c.args.change.now)) (sym now) (stands_end g.S.Store c.args.conn.now (done g a) (last g a) (late g a) (ran g a) m c.args.change.now was fits (made g a m was fits) (late g a clean)))
+
+pub returns-in_err-write_change-clause-others : goal.returns-in_err-write_change-clause-others
+returns-in_err-write_change-clause-others g c is =
+    let ends : c.drop-tx.new.self.0 ≡ c.conn-1.given.0 = sym (c.conn-1.given.1 (sym (c.write_change.ensures.same_reference ∙ c.transaction-tx.ensures.same_reference))) in
+    let old = c.args.conn.now in
+    let done = state g.S.Store c.write_change.new.tx.conn.now in
+    let last = state g.S.Store c.drop-tx.new.self.0 in
+    let within = subst (λ h. Within (state g.S.Store h) done) c.transaction-tx.ensures.begun c.write_change.ensures.writes.within in
+    let late : HasCleanDisk last → HasCleanDisk done = λ clean. let s = c.drop-tx.ensures.survives.clean in omega (arith, s, clean) in
+    subst (λ h. LeavesOthers (state g.S.Store old) (state g.S.Store h)) ends
+    (dropped_others g.S.Store old (λ db. g.met.S.Store.settled old.store db) done last late within c.drop-tx.ensures.undone c.drop-tx.ensures.survives)
+
+pub returns-in_err-commit-clause-others : goal.returns-in_err-commit-clause-others
+returns-in_err-commit-clause-others g c is =
+    let a = (goal.at.returns-in_err-commit-clause-others g c).After-commit in
+    let ends : c.commit.new.self.0 ≡ c.conn-2-1.given.0 = sym (c.conn-2-1.given.1 (sym (c.write_change.ensures.same_reference ∙ c.transaction-tx.ensures.same_reference))) in
+    let old = c.args.conn.now in
+    subst (λ h. LeavesOthers (state g.S.Store old) (state g.S.Store h)) ends
+    (failed_others g.S.Store old (λ db. g.met.S.Store.settled old.store db) (done g a) (last g a) (late g a) (within g a) is (spares g a) c.commit.ensures.survives (failed g.S.Store old (done g a) (last g a) (late g a) (ran g a) _ c.in_err-commit.ensures.err))
+
+pub returns-clause-others : goal.returns-clause-others
+returns-clause-others g c is =
+    let a = (goal.at.returns-clause-others g c).After-commit in
+    let ends : c.commit.new.self.0 ≡ c.conn-2-1.given.0 = sym (c.conn-2-1.given.1 (sym (c.write_change.ensures.same_reference ∙ c.transaction-tx.ensures.same_reference))) in
+    let old = c.args.conn.now in
+    subst (λ h. LeavesOthers (state g.S.Store old) (state g.S.Store h)) ends
+    (committed_others g.S.Store old (λ db. g.met.S.Store.settled old.store db) (done g a) (last g a) (late g a) (within g a) is (spares g a) c.commit.ensures.survives (λ clean. (c.in_ok-commit.ensures.ok clean).1))

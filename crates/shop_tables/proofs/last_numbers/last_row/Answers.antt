@@ -6,6 +6,7 @@ use Rattle.sqlite_value.specs.declared.value.Value.TheVariants.{Int}
 use Rattle.shop_statements.proofs.Kept.{shown_open}
 use Rattle.shop_tables.proofs.LastNumbers.{finds_last}
 use Rattle.shop_tables.proofs.ListTexts.{last_number_text, last_number_selects}
+use Rattle.shop_tables.proofs.RowsAsShown.{last_row_shown}
 use Rattle.shop_tables.proofs.last_numbers.last_row.Goals as goal
 
 pub returns-clause-row : goal.returns-clause-row
@@ -21,3 +22,7 @@ returns-clause-row g c clean b was =
 
 pub returns-clause-leaves : goal.returns-clause-leaves
 returns-clause-leaves g c = c.row_by_number.ensures.leaves last_number_selects
+
+pub returns-clause-stands : goal.returns-clause-stands
+returns-clause-stands g c clean h =
+    IfOk-weaker c.row_by_number.result _ _ (λ row given. last_row_shown (state g.S.Store c.args.conn.now) (state g.S.Store c.row_by_number.new.conn) h c.args.terminal row given) (c.row_by_number.ensures.row clean)

@@ -3,4 +3,4 @@ use Rattle.shop_tables.proofs.Renewed.{renews_when}
 use Rattle.shop_tables.proofs.renewing.renew_tables.Goals as goal
 
 pub returns-clause-renewed : goal.returns-clause-renewed
-returns-clause-renewed g c b has = renews_when g.S.Store c.args.tx.now.conn.now c.execute_batch.new.self.conn.now b c.execute_batch.result has (λ clean. omega (arith, c.execute_batch.ensures.survives.clean)) c.execute_batch.ensures.ran
+returns-clause-renewed g c b has = renews_when g.S.Store c.args.tx.now.conn.now c.run_all.new.tx.conn.now b c.run_all.result has (λ clean. omega (arith, c.run_all.ensures.within.survives.clean)) c.run_all.ensures.run

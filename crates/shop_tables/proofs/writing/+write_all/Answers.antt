@@ -8,4 +8,4 @@ returns-in_default-clause-writes g t c = rw (none_below c.args.rows.now c.in_def
 
 pub returns-clause-writes : goal.returns-clause-writes
 returns-clause-writes g t c =
-    first_then g.W.Writing.needs g.W.Writing.makes c.args.rows.now c.first-item.result c.in-len1-up.len_at_least c.first-item.is (ran_writes c.in_ok-write.ensures.ran c.in_ok-write.ensures.put c.write.ensures.within) c.write_all.ensures.writes
+    first_then g.W.Writing.needs g.W.Writing.makes c.args.rows.now c.first-item.result c.in-len1-up.len_at_least c.first-item.is (ran_writes c.in_ok-write.ensures.ran c.in_ok-write.ensures.put c.in_ok-write.ensures.others c.write.ensures.within) c.write_all.ensures.writes
