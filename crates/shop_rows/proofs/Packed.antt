@@ -241,3 +241,31 @@ alike part other test is so = (part_decides part other).0 (by_test (same_part pa
     by_test : (b : Bool) → false ≡ not b → b ≡ true
     by_test true e = refl
     by_test false e = absurd (true≢false (sym e))
+
+-- ---- where parts would rise together
+
+-- a row of a part, whatever its origin
+abbrev pub bare : Part → PartRow
+bare part = record { origin = 0; name = part.name; root = part.root; x = part.x; y = part.y; size = part.size; state = part.state }
+
+abbrev self : Name → Name
+self name = name
+
+keys_bare : (added : List Part) → map row_key (map bare added) ≡ map part_key added
+keys_bare added = keys-map part_key row_key name_cmp bare (λ p. refl) added
+
+-- their rows are a run
+pub run_bare : (from to : Name) (added : List Part) → IsRun part_key name_cmp from to added → IsRun row_key name_cmp from to (map bare added)
+run_bare from to added run = record {
+  rising = rise-map part_key row_key name_cmp bare (λ p. refl) added ∙ run.rising;
+  begins = ap (λ ks. slice_get ks 0) (keys_bare added) ∙ run.begins;
+  ends = (λ j. slice_get (keys_bare added j) (length-map added bare j - 1)) ∙ run.ends;
+}
+
+-- and rise among the others where the parts do
+pub rise_bare : (parts : PartRows) (added : List Part) (i : ℕ) → rise row_key name_cmp (insert_slice parts.rows.items i (map bare added)) ≡ rise part_key name_cmp (insert_slice (parts_in parts) i added)
+rise_bare parts added i =
+    let keys : map row_key parts.rows.items ≡ map part_key (parts_in parts) = sym (keys-map row_key part_key name_cmp (part_of parts.origins.items) (λ r. refl) parts.rows.items) in
+    sym (rise-map row_key self name_cmp row_key (λ r. refl) (insert_slice parts.rows.items i (map bare added)))
+    ∙ ap (rise self name_cmp) (inserted-map row_key parts.rows.items (map bare added) i ∙ (λ j. insert_slice (keys j) i (keys_bare added j)) ∙ sym (inserted-map part_key (parts_in parts) added i))
+    ∙ rise-map part_key self name_cmp part_key (λ p. refl) (insert_slice (parts_in parts) i added)

@@ -1,6 +1,6 @@
 -- Where a row stands among rows that rise by their keys, and what it is to put one there.
-use Rattle.std.proofs.Common.{◌≡◌, inl, inr, ℕ, zero, suc, ◌-◌, ◌<◌, ◌≤◌, Bool, true, false, List, [], ◌∷◌, ◌++◌, length, map, take, drop, get_or, refl, sym, ap, subst, ◌∙◌, arith}
-use Rattle.std.specs.Prelude.{All, Option, Some, None, T, cond, not, is_some, ◌&&◌}
+use Rattle.std.proofs.Common.{◌≡◌, inl, inr, ℕ, zero, suc, ◌+◌, ◌-◌, ◌<◌, ◌≤◌, Bool, true, false, List, [], ◌∷◌, ◌++◌, length, map, take, drop, get_or, refl, sym, ap, subst, ◌∙◌, arith}
+use Rattle.std.specs.Prelude.{All, IfNone, Option, Some, None, T, cond, not, is_some, ◌&&◌}
 use Rattle.std.specs.declared.cmp.Ordering.{Ordering}
 use Rattle.std.specs.declared.cmp.Ordering.TheVariants.{Less, Equal, Greater}
 use Rattle.std.specs.Ordering.{eq_by_cmp, is_eq, is_lt, ordering_index, ordering_reverse}
@@ -15,7 +15,7 @@ use Rattle.std.proofs.lemmas.Bool.{cases_lt}
 use Rattle.std.specs.Option.{option_map}
 use Rattle.std.proofs.lemmas.Option.{get_or_from_slice_get, slice_get-map}
 use Rattle.std.proofs.lemmas.List.Elements.{filter-append}
-use Rattle.std.proofs.lemmas.List.{append_assoc, get_or_default, set_split, map-append, take-append-drop}
+use Rattle.std.proofs.lemmas.List.{append_assoc, get_or_default, get_or-drop, get_or-take, length-drop, length-take-le, set_split, map-append, take-append-drop}
 use Rattle.shop_records.proofs.Sums.{first, second, less}
 use Rattle.shop_rows.specs.Rows.{entry_of, entries_of, rise, row_at, put_each, IsPut, IsRun, IsSettled, IsTaken, ArePut}
 
@@ -298,7 +298,7 @@ module _ {X K : Type 0} (key_of : X → K) (cmp : K → K → Ordering) (o : IsT
           (ap (row_at key_of cmp (key_of r)) (sym (take-append-drop i xs)) ∙ find_past (key_of r) (take i xs) (drop i xs) under.0 ∙ find_before (key_of r) (drop i xs) over.0, each rows under.1 over.1)
 
   -- a key at an end of a run is that of a row
-  run_end : (rows : List X) (k : ℕ) (key : K) → slice_get (map key_of rows) k ≡ Some key → (row : X) × (slice_get rows k ≡ Some row) × (key_of row ≡ key)
+  pub run_end : (rows : List X) (k : ℕ) (key : K) → slice_get (map key_of rows) k ≡ Some key → (row : X) × (slice_get rows k ≡ Some row) × (key_of row ≡ key)
   run_end rows k key at = by_found (slice_get rows k) refl (sym (slice_get-map key_of rows k) ∙ at)
     where
       by_found : (found : Option X) → slice_get rows k ≡ found → option_map key_of found ≡ Some key → (row : X) × (slice_get rows k ≡ Some row) × (key_of row ≡ key)
@@ -345,6 +345,107 @@ module _ {X K : Type 0} (key_of : X → K) (cmp : K → K → Ordering) (o : IsT
       let rest : T (rise key_of cmp (y ∷ ys)) = rise_by_steps (y ∷ ys) (λ k d lt. h (suc k) d (omega arith)) in
       let step : cmp (key_of x) (key_of y) ≡ Less = h 0 x (omega arith) in
       pair_of _ _ (pair_of _ _ (lesser _ step) (far_below (key_of x) (key_of y) ys step (first _ _ rest))) rest
+
+  -- ---- rows that would rise together
+
+  behind_all : (x : X) (ys : List X) → T (below_all cmp (key_of x) (entries_of key_of cmp ys)) → all (λ y. cmp (key_of x) (key_of y) ≡ Less) ys
+  behind_all x [] h = tt
+  behind_all x (y ∷ ys) h = (less _ (first _ _ h), behind_all x ys (second _ _ h))
+
+  all_front : (P : X → Type 0) (xs ys : List X) → all P (xs ++ ys) → all P xs
+  all_front P [] ys h = tt
+  all_front P (x ∷ xs) ys h = (h.0, all_front P xs ys h.1)
+
+  all_later : (P : X → Type 0) (xs ys : List X) → all P (xs ++ ys) → all P ys
+  all_later P [] ys h = h
+  all_later P (x ∷ xs) ys h = all_later P xs ys h.1
+
+  -- each of the first is before each of the others
+  apart : (front rest : List X) → T (rise key_of cmp (front ++ rest)) → all (λ x. all (λ y. cmp (key_of x) (key_of y) ≡ Less) rest) front
+  apart [] rest h = tt
+  apart (x ∷ front) rest h = (all_later (λ y. cmp (key_of x) (key_of y) ≡ Less) front rest (behind_all x (front ++ rest) (first _ _ h)), apart front rest (second _ _ h))
+
+  rise_later : (front rest : List X) → T (rise key_of cmp (front ++ rest)) → T (rise key_of cmp rest)
+  rise_later [] rest h = h
+  rise_later (x ∷ front) rest h = rise_later front rest (second _ _ h)
+
+  below_front : (x : X) (front rest : List X) → T (below_all cmp (key_of x) (entries_of key_of cmp (front ++ rest))) → T (below_all cmp (key_of x) (entries_of key_of cmp front))
+  below_front x [] rest h = tt
+  below_front x (y ∷ front) rest h = pair_of _ _ (first _ _ h) (below_front x front rest (second _ _ h))
+
+  rise_front : (front rest : List X) → T (rise key_of cmp (front ++ rest)) → T (rise key_of cmp front)
+  rise_front [] rest h = tt
+  rise_front (x ∷ front) rest h = pair_of _ _ (below_front x front rest (first _ _ h)) (rise_front front rest (second _ _ h))
+
+  at_some : (P : X → Type 0) (ys : List X) (k : ℕ) (y : X) → slice_get ys k ≡ Some y → all P ys → P y
+  at_some P [] zero y e h = absurd (cc)
+  at_some P [] (suc k) y e h = absurd (cc)
+  at_some P (z ∷ ys) zero y e h = let same : z ≡ y = cc in subst P same h.0
+  at_some P (z ∷ ys) (suc k) y e h = at_some P ys k y e h.1
+
+  -- rows that rise with others among them
+  module _ (xs added : List X) (i : ℕ) (together : T (rise key_of cmp (insert_slice xs i added))) where
+    joined : T (rise key_of cmp (take i xs ++ (added ++ drop i xs)))
+    joined = subst (λ ys. T (rise key_of cmp ys)) (append_assoc (take i xs) added (drop i xs)) together
+
+    pub rise_inside : T (rise key_of cmp added)
+    rise_inside = rise_front added (drop i xs) (rise_later (take i xs) (added ++ drop i xs) joined)
+
+    module _ (from to : K) (within : i ≤ length xs) (run : IsRun key_of cmp from to added) where
+      under : (k : ℕ) (d : X) → k < i → cmp (key_of (get_or xs k d)) from ≡ Less
+      under k d lt =
+          let x = run_end added 0 from run.begins in
+          let long : length (take i xs) ≡ i = length-take-le i xs within in
+          let here : all (λ z. cmp (key_of (get_or (take i xs) k d)) (key_of z) ≡ Less) (added ++ drop i xs) =
+          all_at (λ y. all (λ z. cmp (key_of y) (key_of z) ≡ Less) (added ++ drop i xs)) (take i xs) (apart (take i xs) (added ++ drop i xs) joined) k d (omega (arith, long)) in
+          let before : cmp (key_of (get_or (take i xs) k d)) (key_of x.0) ≡ Less =
+          at_some (λ z. cmp (key_of (get_or (take i xs) k d)) (key_of z) ≡ Less) added 0 x.0 x.1 (all_front (λ z. cmp (key_of (get_or (take i xs) k d)) (key_of z) ≡ Less) added (drop i xs) here) in
+          subst (λ y. cmp (key_of y) from ≡ Less) (get_or-take i xs k d lt) (subst (λ q. cmp (key_of (get_or (take i xs) k d)) q ≡ Less) x.2 before)
+
+      over : (n : ℕ) (key : K) → slice_get (map key_of added) n ≡ Some key → (k : ℕ) (d : X) → i ≤ k → k < length xs → cmp (key_of (get_or xs k d)) key ≡ Greater
+      over n key at k d le lt =
+          let x = run_end added n key at in
+          let later : all (λ z. cmp (key_of x.0) (key_of z) ≡ Less) (drop i xs) =
+          at_some (λ y. all (λ z. cmp (key_of y) (key_of z) ≡ Less) (drop i xs)) added n x.0 x.1 (apart added (drop i xs) (rise_later (take i xs) (added ++ drop i xs) joined)) in
+          let long : length (drop i xs) ≡ length xs - i = length-drop i xs in
+          let here : cmp (key_of x.0) (key_of (get_or (drop i xs) (k - i) d)) ≡ Less = all_at (λ z. cmp (key_of x.0) (key_of z) ≡ Less) (drop i xs) later (k - i) d (omega (arith, long)) in
+          let place : i + (k - i) ≡ k = omega arith in
+          let same : get_or (drop i xs) (k - i) d ≡ get_or xs k d = get_or-drop i xs (k - i) d ∙ ap (λ m. get_or xs m d) place in
+          flipped key (key_of (get_or xs k d)) Less (subst (λ y. cmp key (key_of y) ≡ Less) same (subst (λ q. cmp q (key_of (get_or (drop i xs) (k - i) d)) ≡ Less) x.2 here))
+
+      -- none of them has the first key
+      pub first_is_new : (j : ℕ) (d : X) → j < length xs → cmp (key_of (get_or xs j d)) from ≡ Equal → ⊥
+      first_is_new j d lt is =
+          elim (cases_lt j i) [
+            | inl before ↦ let two : Less ≡ Equal = sym (under j d before) ∙ is in cc
+            | inr ge ↦ let two : Greater ≡ Equal = sym (over 0 from run.begins j d (omega arith) lt) ∙ is in cc
+          ]
+
+      -- and the last is before the row that the first is before
+      pub last_is_before : T (rise key_of cmp xs) → (j : ℕ) (d : X) → j < length xs
+          → (IsNonDecreasingBy (λ z. ordering_index (cmp (key_of z) from)) xs → IsPartitionPoint (λ z. cmp (key_of z) from ≡ Less) (λ z. cmp (key_of z) from ≡ Greater) xs j)
+          → cmp (key_of (get_or xs j d)) to ≡ Greater
+      last_is_before up j d lt point =
+          elim (cases_lt j i) [
+            | inl before ↦
+                let greater : cmp (key_of (get_or xs j d)) from ≡ Greater = (point (searchable xs up from)).1 j d (omega arith) lt in
+                let two : Less ≡ Greater = sym (under j d before) ∙ greater in
+                absurd (cc)
+            | inr ge ↦ over (length added - 1) to run.ends j d (omega arith) lt
+          ]
+
+  -- rows of which one isn't before a later one don't rise
+  pub no_rise : (xs : List X) (i j : ℕ) (d : X) → i < j → j < length xs → (cmp (key_of (get_or xs i d)) (key_of (get_or xs j d)) ≡ Less → ⊥) → rise key_of cmp xs ≡ false
+  no_rise xs i j d lt within apart = by_case (rise key_of cmp xs) refl
+    where
+      by_case : (b : Bool) → rise key_of cmp xs ≡ b → rise key_of cmp xs ≡ false
+      by_case true up = absurd (apart (rising_at xs (subst T (sym up) tt) i j d lt within))
+      by_case false flat = flat
+
+-- what is said of no answer holds of any where it holds
+pub of_none : {X P : Type 0} (found : Option X) → P → IfNone found P
+of_none None p = p
+of_none (Some x) p = tt
 
 -- ---- behind the last row
 

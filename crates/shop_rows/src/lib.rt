@@ -2,6 +2,7 @@
 #![tactic(auto)]
 
 mod keys;
+mod laws;
 mod lines;
 mod names;
 mod open;
@@ -9,6 +10,7 @@ mod part_rows;
 mod rows;
 mod sums;
 
+pub use laws::origin_limits;
 pub use lines::{Span, between, by_line};
 pub use names::{
     NameList, OpenPart, list_all, list_in_place, list_part, make_room, names_behind, reserve_names,

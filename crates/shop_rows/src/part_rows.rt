@@ -190,7 +190,7 @@ impl PartRows {
 }
 
 impl PartRows {
-    ghost use Rattle.std.specs.Prelude.{◌≡◌, [], ◌∷◌, ◌+◌, ℕ, All, IsTrue, None, OnOk, false, length};
+    ghost use Rattle.std.specs.Prelude.{◌≡◌, [], ◌∷◌, ◌+◌, ◌≤◌, ℕ, All, IsTrue, None, OnOk, false, length};
     ghost use Rattle.std.specs.List.{insert_slice};
     ghost use Rattle.cut_measure.specs.Names.{name_cmp};
     ghost use Rattle.shop_rows.specs.Keys.{part_key};
@@ -309,6 +309,9 @@ impl PartRows {
         ensures rising { IsTrue result → IsTrue (rise part_key name_cmp (parts_in self.new)) }
         ensures known { AreKnown self.new }
         ensures same { result ≡ false → self.new ≡ self.old }
+        ensures apart { result ≡ false → (i : ℕ) → i ≤ length (parts_in self.old)
+            → IsTrue (rise part_key name_cmp (insert_slice (parts_in self.old) i added.now))
+            → added.now ≡ [] }
     {
         let Some((first, last)) = ends(added) else {
             return false;

@@ -2,7 +2,7 @@
 
 ghost use Rattle.std.specs.declared.cmp.Ordering.{Ordering};
 ghost use Rattle.std.specs.declared.cmp.Ordering.TheVariants.{Equal, Greater};
-ghost use Rattle.std.specs.Prelude.{◌≡◌, ◌+◌, ◌++◌, ◌<◌, ◌≤◌, ℕ, All, List, IfOk, IfSome, IsSome, IsTrue, None, Err, false, length, take, option_copied, vec_len, vec_capacity};
+ghost use Rattle.std.specs.Prelude.{◌≡◌, ◌+◌, ◌++◌, ◌<◌, ◌≤◌, ℕ, All, List, IfNone, IfOk, IfSome, IsSome, IsTrue, None, Err, [], false, length, take, option_copied, vec_len, vec_capacity};
 ghost use Rattle.std.specs.List.{HoldsAt, insert_slice};
 ghost use Rattle.std.specs.List.Sorted.{IsBinarySearchResult, IsSearchInRange};
 ghost use Rattle.std.specs.Option.{option_to_list};
@@ -97,7 +97,7 @@ fn place<R: Row>(rows: &[R], key: R::Key) -> Result<usize, usize>
 
 /// Whether rows rise by their keys.
 pub fn rises<R: Row>(rows: &[R]) -> bool
-    ensures { IsTrue result → IsTrue (rise R.key_of R.Key.cmp rows.now) }
+    ensures { result ≡ rise R.key_of R.Key.cmp rows.now }
 {
     for i in 1..rows.len() {
         if !matches!(rows[i - 1].compare(rows[i].key()), Ordering::Less) {
@@ -109,8 +109,10 @@ pub fn rises<R: Row>(rows: &[R]) -> bool
 
 // Whether a key comes before the row at a place, or there is none.
 fn is_before<R: Row>(rows: &[R], i: usize, key: R::Key) -> bool
-    ensures { IsTrue result → i < length rows.now
+    ensures yes { IsTrue result → i < length rows.now
         → HoldsAt (λ row. R.Key.cmp (R.key_of row) key ≡ Greater) rows.now i }
+    ensures no { result ≡ false → i < length rows.now
+        × HoldsAt (λ row. R.Key.cmp (R.key_of row) key ≡ Greater → ⊥) rows.now i }
 {
     match rows.get(i) {
         Some(row) => matches!(row.compare(key), Ordering::Greater),
@@ -120,7 +122,8 @@ fn is_before<R: Row>(rows: &[R], i: usize, key: R::Key) -> bool
 
 /// The keys of the first and the last of rows that rise.
 pub(crate) fn ends<R: Row>(rows: &[R]) -> Option<(R::Key, R::Key)>
-    ensures { IfSome result (λ keys. IsRun R.key_of R.Key.cmp keys.0 keys.1 rows.now) }
+    ensures run { IfSome result (λ keys. IsRun R.key_of R.Key.cmp keys.0 keys.1 rows.now) }
+    ensures none { IfNone result (IsTrue (rise R.key_of R.Key.cmp rows.now) → rows.now ≡ []) }
 {
     if !rises(rows) {
         return None;
@@ -138,6 +141,10 @@ pub(crate) fn gap<R: Row>(rows: &[R], first: R::Key, last: R::Key) -> Option<usi
     ensures new { IfSome result
         (λ i. (added : List R) → IsRun R.key_of R.Key.cmp first last added
         → All (λ row. row_at R.key_of R.Key.cmp (R.key_of row) rows.now ≡ None) added) }
+    ensures none { IfNone result
+        ((added : List R) (i : ℕ) → IsRun R.key_of R.Key.cmp first last added
+        → i ≤ length rows.now
+        → IsTrue (rise R.key_of R.Key.cmp (insert_slice rows.now i added)) → ⊥) }
 {
     let Err(i) = place(rows, first) else {
         return None;
@@ -158,6 +165,10 @@ fn run_place<R: Row>(rows: &[R], added: &[R]) -> Option<usize>
         (λ i. All (λ row. row_at R.key_of R.Key.cmp (R.key_of row) rows.now ≡ None) added.now) }
     ensures rising { IfSome result
         (λ i. IsTrue (rise R.key_of R.Key.cmp (insert_slice rows.now i added.now))) }
+    ensures none { IfNone result
+        ((i : ℕ) → i ≤ length rows.now
+        → IsTrue (rise R.key_of R.Key.cmp (insert_slice rows.now i added.now))
+        → added.now ≡ []) }
 {
     let (first, last) = ends(added)?;
     let i = gap(rows, first, last)?;
@@ -292,6 +303,9 @@ pub fn put_run<R: Row + Copy>(rows: &mut Vec<R>, added: &[R]) -> bool
         × (rows.new.items ≡ insert_slice rows.old.items i added.now) }
     ensures rising { IsTrue result → IsTrue (rise R.key_of R.Key.cmp rows.new.items) }
     ensures same { result ≡ false → rows.new ≡ rows.old }
+    ensures apart { result ≡ false → (i : ℕ) → i ≤ length rows.old.items
+        → IsTrue (rise R.key_of R.Key.cmp (insert_slice rows.old.items i added.now))
+        → added.now ≡ [] }
 {
     let Some(i) = run_place(rows, added) else {
         return false;

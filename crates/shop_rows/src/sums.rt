@@ -116,6 +116,7 @@ pub fn with_all(sums: Sums, parts: &[Part]) -> Option<Sums>
         → is_eq (code_cmp sums.code code) ≡ false → cells_in column code parts.now ≡ 0 }
     ensures small { IsSome result → IsTrue (all_small parts.now) }
     ensures own { IsSome result → All (λ part. part.material ≡ sums.code) parts.now }
+    ensures none { IfNone result (All (λ part. part.material ≡ sums.code) parts.now → ⊥) }
 {
     let mut more = sums;
     for part in parts {
