@@ -1,6 +1,7 @@
 -- what a book promises
 pub mod Failures
 pub mod Books
+pub mod FoundJobs
 pub mod Kept
 -- a book in memory
 pub mod Orders

@@ -1,12 +1,13 @@
 //! What is promised of a book, which keeps the shop's content: what its calls answer, and what a crash may leave.
 
-ghost use Rattle.std.specs.Prelude.{◌≡◌, ◌+◌, ◌≤◌, ◌⊎◌, ℕ, IfOk, IfSome, OnOk, OnErr, map, take};
+ghost use Rattle.std.specs.Prelude.{◌≡◌, ◌+◌, ◌≤◌, ◌⊎◌, ℕ, IfOk, IfSome, OnOk, OnErr, map, option_map, take};
 ghost use Rattle.shop_records.specs.Content.{Content, material_at, part_at, job_at, has_order, demand_at, kept_at, import_at, totals_of, parts_of as listed_parts, changed};
 ghost use Rattle.shop_records.specs.Lists.{AreLines, IsLastNumber, materials_of, orders_behind, parts_behind, open_demands, waiting_jobs};
 ghost use Rattle.shop_records.specs.Soundness.{Fits};
 ghost use Rattle.shop_records.specs.declared.records.Job.{Job as JobOf};
 ghost use Rattle.shop_book.specs.Failures.{CountsFailure};
 ghost use Rattle.shop_book.specs.Books.{Keeps};
+ghost use Rattle.shop_book.specs.FoundJobs.{IsFoundJob, head_of};
 ghost use Rattle.shop_records.specs.Visits.{IsVisit};
 
 use cut_measure::{Code, PartName};
@@ -75,6 +76,22 @@ impl From<AllocError> for BookFault {
     }
 }
 
+/// A job with its part and that one's material, as far as they are there.
+#[derive(Drop)]
+pub struct FoundJob {
+    pub job: Option<Job>,
+    pub part: Option<Part>,
+    pub material: Option<Material>,
+}
+
+/// A job as lists tell it: its number, its part, and how many cuts its plan has.
+#[derive(Clone, Copy, Debug)]
+pub struct JobHead {
+    pub act: u32,
+    pub part: PartName,
+    pub cuts: u32,
+}
+
 /// What the shop contains, wherever it is kept.
 ///
 /// A reading answers the content's row and changes nothing. `commit` makes a change as a whole, or not at all. What is
@@ -117,6 +134,20 @@ pub trait Book {
     fn job(&mut self, alloc: Global, number: u32) -> Result<Option<Job>, BookFault>
         ensures row { is_honest self.new → (m : Content) → holds self.old m
             → IfOk result (λ row. row ≡ job_at m number) }
+        ensures keeps { Keeps is_honest holds may_leave failed
+            (CountsFailure result) self.old self.new };
+
+    /// The job under the number of the reservation's act, with its part and that one's material.
+    fn found_job(&mut self, alloc: Global, number: u32) -> Result<FoundJob, BookFault>
+        ensures rows { is_honest self.new → (m : Content) → holds self.old m
+            → IfOk result (IsFoundJob m number) }
+        ensures keeps { Keeps is_honest holds may_leave failed
+            (CountsFailure result) self.old self.new };
+
+    /// The job under the number of the reservation's act, as lists tell it.
+    fn job_head(&mut self, number: u32) -> Result<Option<JobHead>, BookFault>
+        ensures row { is_honest self.new → (m : Content) → holds self.old m
+            → IfOk result (λ head. head ≡ option_map head_of (job_at m number)) }
         ensures keeps { Keeps is_honest holds may_leave failed
             (CountsFailure result) self.old self.new };
 

@@ -8,5 +8,5 @@ mod memory_lists;
 mod memory_parts;
 mod order_codes;
 
-pub use books::{Book, BookFault, MOST_FAILURES};
+pub use books::{Book, BookFault, FoundJob, JobHead, MOST_FAILURES};
 pub use memory::MemBook;

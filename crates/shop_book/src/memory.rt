@@ -1,17 +1,19 @@
 //! The book in memory: rows in the order of their keys, running sums, and lists of what is open.
 
-ghost use Rattle.std.specs.Prelude.{◌≡◌, ◌+◌, ◌<◌, ◌^◌, ⊤, IfOk, IfErr, IfSome, IsOk, OnOk, OnErr, ◌-◌, map, take};
+ghost use Rattle.std.specs.Prelude.{◌≡◌, ◌+◌, ◌<◌, ◌^◌, ⊤, IfOk, IfErr, IfSome, IsOk, OnOk, OnErr, ◌-◌, map, option_map, take};
 ghost use Rattle.shop_records.specs.Content.{Content, material_at, part_at, job_at, has_order, demand_at, kept_at, import_at, totals_of, parts_of as listed_parts, changed};
 ghost use Rattle.shop_records.specs.Lists.{AreLines, IsLastNumber, materials_of, open_demands, orders_behind, parts_behind, waiting_jobs};
 ghost use Rattle.shop_records.specs.declared.records.Job.{Job as JobOf};
 ghost use Rattle.shop_records.specs.Soundness.{AreDifferent, IsInRange};
 ghost use Rattle.shop_records.specs.Visits.{IsVisit};
+ghost use Rattle.shop_book.specs.FoundJobs.{IsFoundJob, head_of};
 ghost use Rattle.shop_book.specs.declared.books.BookFault.{BookFault as Fault};
 
-use crate::books::{Book, BookFault};
+use crate::books::{Book, BookFault, FoundJob, JobHead};
 use crate::keeping::{KeptText, copy_kept, find_kept, last_kept};
 use crate::memory_lists::{
-    copy_imports, copy_jobs, find_import, find_job, first_asked, put_demands, put_job, reserve_both,
+    copy_imports, copy_jobs, find_head, find_import, find_job, first_asked, put_demands, put_job,
+    reserve_both,
 };
 use crate::memory_parts::{listed, put_stock, reserve_parts, visit};
 use crate::order_codes::{
@@ -121,6 +123,31 @@ impl MemBook {
             failures: self.failures,
             lists,
         })
+    }
+}
+
+impl MemBook {
+    ghost use Rattle.std.specs.Prelude.{◌≡◌};
+    ghost use Rattle.shop_records.specs.Content.{material_of, part_of_job};
+
+    // The part of a job that was found.
+    fn part_of(&self, job: &Option<Job>) -> Option<Part>
+        ensures { result ≡ part_of_job self.now.content job.now }
+    {
+        match job {
+            Some(job) => self.parts.find(job.part),
+            None => None,
+        }
+    }
+
+    // The material of a part that was found.
+    fn material_of(&self, part: &Option<Part>) -> Option<Material>
+        ensures { result ≡ material_of self.now.content part.now }
+    {
+        match part {
+            Some(part) => find(&self.materials, part.material),
+            None => None,
+        }
     }
 }
 
@@ -259,6 +286,28 @@ impl Book for MemBook {
     {
         let row = find_job(alloc, &self.jobs, number)?;
         Ok(row)
+    }
+
+    fn found_job(&mut self, alloc: Global, number: u32) -> Result<FoundJob, BookFault>
+        ensures rows { IfOk result (IsFoundJob self.old.content number) }
+        ensures memory { IfErr result (λ fault. fault ≡ NoMemory) }
+        ensures same { self.new ≡ self.old }
+    {
+        let job = find_job(alloc, &self.jobs, number)?;
+        let part = self.part_of(&job);
+        let material = self.material_of(&part);
+        Ok(FoundJob {
+            job,
+            part,
+            material,
+        })
+    }
+
+    fn job_head(&mut self, number: u32) -> Result<Option<JobHead>, BookFault>
+        ensures row { result ≡ Ok (option_map head_of (job_at self.old.content number)) }
+        ensures same { self.new ≡ self.old }
+    {
+        Ok(find_head(&self.jobs, number))
     }
 
     fn order(&mut self, code: Code) -> Result<bool, BookFault>

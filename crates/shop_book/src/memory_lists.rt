@@ -1,6 +1,6 @@
 //! The jobs, demands and imports of a book in memory, and the numbers of what is open.
 
-ghost use Rattle.std.specs.Prelude.{◌≡◌, ◌+◌, ◌++◌, ◌<◌, ◌≤◌, IfOk, IsTrue, OnOk, filter, length, take, vec_len, vec_capacity};
+ghost use Rattle.std.specs.Prelude.{◌≡◌, ◌+◌, ◌++◌, ◌<◌, ◌≤◌, IfOk, IsTrue, OnOk, filter, length, option_map, take, vec_len, vec_capacity};
 ghost use Rattle.std.specs.Option.{option_to_list};
 ghost use Rattle.std.specs.Ordering.{nat_cmp};
 ghost use Rattle.cut_measure.specs.Codes.{code_cmp};
@@ -8,7 +8,9 @@ ghost use Rattle.shop_records.specs.Lists.{is_asked_for, is_open};
 ghost use Rattle.shop_rows.specs.Keys.{job_key, demand_key, import_key};
 ghost use Rattle.shop_rows.specs.Open.{own_key, demands_named, waits, ListsNumbers};
 ghost use Rattle.shop_rows.specs.Rows.{rise, row_at, ArePut};
+ghost use Rattle.shop_book.specs.FoundJobs.{head_of};
 
+use crate::books::JobHead;
 use cut_measure::Code;
 use shop_records::{Demand, DemandList, ImportRow, Job, RowList};
 use shop_rows::{at, find, list_demands, list_job, put, put_all};
@@ -110,6 +112,19 @@ pub(crate) fn find_job(alloc: Global, jobs: &[Job], number: u32) -> Result<Optio
             Ok(Some(copy))
         }
     }
+}
+
+/// The job of a number, as lists tell it.
+pub(crate) fn find_head(jobs: &[Job], number: u32) -> Option<JobHead>
+    requires { IsTrue (rise job_key nat_cmp jobs.now) }
+    ensures { result ≡ option_map head_of (row_at job_key nat_cmp number jobs.now) }
+{
+    let job = at(jobs, number)?;
+    Some(JobHead {
+        act: job.act,
+        part: job.part,
+        cuts: job.plan.cuts(),
+    })
 }
 
 /// A copy of what is kept of the import of an order.

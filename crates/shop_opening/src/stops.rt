@@ -25,8 +25,9 @@ use sqlite_disk::Disk;
 /// - `only`: a connection that leaves a content alone, as one of a book that was just opened: the files show that content.
 /// - `held`: so of one that holds a content, as long as no fault of the disk has shut it.
 /// - `refused`: so where the tables of opened files weren't taken over.
-/// - `behind`: a book that left a content alone had messages handled, whatever came of its disk (`Leads`, of `run`): the files
-///   show the content behind the last answer, or one step further, by a message that was refused.
+/// - `behind`: a book that left a content alone had messages handled, whatever came of its disk (`Leads`, of `run`, of `replay`
+///   and of what is served): the files show the content behind the last answer, or one step further, by a message that was
+///   refused.
 /// - `again`: files that show a content were opened as a book, be it in another run of the program: it holds that content.
 pub fn stopped_stores_are_found<D: Disk>()
     ensures only { (last : Held (StoreOf D D.Disk)) (m : Content) → HasCleanDisk (file_state last)

@@ -12,6 +12,7 @@ pub mod Commits
 pub mod Weights
 pub mod Whole
 pub mod Noted
+pub mod Hinted
 -- jobs and demands that are listed
 pub mod PassingRows
 pub mod Work

@@ -3,6 +3,8 @@
 
 mod adders;
 mod checking;
+mod found_jobs;
+mod laws;
 mod listed_work;
 mod named_parts;
 mod names;
@@ -12,7 +14,8 @@ mod reopening;
 mod sql;
 mod takers;
 
+pub use laws::work_limits;
 pub use reopening::{left_commits_are_found, left_renewals_are_found, reopen_book};
-pub use shop_book::{Book, BookFault, MOST_FAILURES, MemBook};
+pub use shop_book::{Book, BookFault, FoundJob, JobHead, MOST_FAILURES, MemBook};
 pub use shop_records::PartVisitor;
 pub use sql::SqlBook;

@@ -1,6 +1,6 @@
 //! The names of the parts that stand, kept beside the tables.
 
-ghost use Rattle.std.specs.Prelude.{◌≡◌, ◌+◌, ◌++◌, ◌≤◌, List, ℕ, false, length, OnOk, OnErr, Option};
+ghost use Rattle.std.specs.Prelude.{◌≡◌, ◌+◌, ◌++◌, ◌≤◌, List, ℕ, false, length, OnOk, OnErr, Option, Some};
 ghost use Rattle.std.specs.Option.{option_to_list};
 ghost use Rattle.cut_measure.specs.Names.{Name, name_cmp};
 ghost use Rattle.sqlite.specs.State.{HasCleanDisk, Survives};
@@ -9,8 +9,10 @@ ghost use Rattle.shop_records.specs.Content.{Content, changed, part_at};
 ghost use Rattle.shop_records.specs.declared.records.Part.{Part as PartOf};
 ghost use Rattle.shop_records.specs.Soundness.{Fits};
 ghost use Rattle.shop_rows.specs.Keys.{part_key};
+ghost use Rattle.shop_store.specs.NamedParts.{ListsOnly};
 ghost use Rattle.shop_rows.specs.Open.{names_of, room_of, finds_with_all, AreInOrder, HaveRoom, KeepMaterials, ListsParts};
-ghost use Rattle.shop_tables.specs.Held.{HoldsContent, LeavesOnly, StandsFor};
+ghost use Rattle.shop_statements.specs.Layout.{IsShop};
+ghost use Rattle.shop_tables.specs.Held.{HoldsContent, LeavesOnly, LeavesOthers, StandsFor};
 
 use cut_measure::{Code, PartName};
 use shop_records::{Change, Part};
@@ -57,7 +59,9 @@ impl PartNames {
 // Lists a part that is there, where it stands and there is memory for it.
 fn list_found(lists: &mut Vec<NameList>, part: &Part)
     requires { AreInOrder lists.old.items }
-    ensures { AreInOrder lists.new.items }
+    ensures order { AreInOrder lists.new.items }
+    ensures only { (find : Name → Option PartOf) → ListsOnly find lists.old.items
+        → find part.now.name ≡ Some part.now → ListsOnly find lists.new.items }
 {
     if !part.is_listed(&part.material) {
         return;
@@ -68,8 +72,11 @@ fn list_found(lists: &mut Vec<NameList>, part: &Part)
     let _ = list_in_place(lists, near, part);
 }
 
-/// Notes a part that is there.
-pub fn note_part(names: &mut PartNames, part: &Part) {
+/// Notes a part that is there. Where those that are listed stand, they do still; it may be listed or not, as memory has it.
+pub fn note_part(names: &mut PartNames, part: &Part)
+    ensures { (find : Name → Option PartOf) → ListsOnly find names.old.lists.items
+        → find part.now.name ≡ Some part.now → ListsOnly find names.new.lists.items }
+{
     names.rows = names.rows.saturating_add(1);
     list_found(&mut names.lists, part);
 }
@@ -125,11 +132,16 @@ pub fn commit_listed<S: Alter>(
         (λ db. StandsFor db (changed m change.now)) }
     ensures lasts { (m : Content) → HoldsContent (state S.Store conn.old) m → Fits m change.now
         → OnOk result (LeavesOnly (state S.Store conn.new) (changed m change.now)) }
+    ensures others { IsShop conn.old.schema
+        → LeavesOthers (state S.Store conn.old) (state S.Store conn.new) }
     ensures earlier { HasCleanDisk (state S.Store conn.new)
         → HasCleanDisk (state S.Store conn.old) }
     ensures listed { (m : Content) → Fits m change.now
         → ListsParts (part_at m) names.old.lists.items
         → OnOk result (ListsParts (part_at (changed m change.now)) names.new.lists.items) }
+    ensures only { (m : Content) → Fits m change.now
+        → ListsOnly (part_at m) names.old.lists.items
+        → OnOk result (ListsOnly (part_at (changed m change.now)) names.new.lists.items) }
     ensures unlisted { OnErr result
         ((code : List ℕ) → names_of code names.new.lists.items
         ≡ names_of code names.old.lists.items) }

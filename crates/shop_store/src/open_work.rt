@@ -13,7 +13,7 @@ ghost use Rattle.shop_records.specs.declared.records.Job.{Job as JobOf};
 ghost use Rattle.shop_rows.specs.Keys.{demand_key, job_key};
 ghost use Rattle.shop_rows.specs.Open.{own_key, finds_with, finds_with_all, waits, ListsNumbers};
 ghost use Rattle.shop_rows.specs.Rows.{rise};
-ghost use Rattle.shop_tables.specs.Held.{HoldsContent, LeavesOnly, StandsFor};
+ghost use Rattle.shop_tables.specs.Held.{HoldsContent, LeavesOnly, LeavesOthers, StandsFor};
 ghost use Rattle.shop_statements.specs.Layout.{IsShop};
 ghost use Rattle.shop_statements.specs.Shown.{Leaves, OnBooks};
 ghost use Rattle.shop_tables.specs.ListedRows.{listed_demand, number_row};
@@ -324,6 +324,8 @@ pub fn commit_open<S: Alter>(
         (λ db. StandsFor db (changed m change.now)) }
     ensures lasts { (m : Content) → HoldsContent (state S.Store conn.old) m → Fits m change.now
         → OnOk result (LeavesOnly (state S.Store conn.new) (changed m change.now)) }
+    ensures others { IsShop conn.old.schema
+        → LeavesOthers (state S.Store conn.old) (state S.Store conn.new) }
     ensures earlier { HasCleanDisk (state S.Store conn.new)
         → HasCleanDisk (state S.Store conn.old) }
     ensures work { (m : Content) → KnowsWork work.old m

@@ -14,6 +14,7 @@ ghost use Rattle.sqlite_wal.specs.Recovery.{Image};
 ghost use Rattle.shop_records.specs.Content.{Content};
 ghost use Rattle.shop_store.specs.Crashes.{IsFoundAfter};
 ghost use Rattle.shop_store.specs.EarlierBooks.{IsSettledEarlierAt, IsSettledEitherAt};
+ghost use Rattle.shop_store.specs.OpenWork.{HoldsListed};
 ghost use Rattle.shop_tables.specs.Held.{HoldsContent, IsSettledAt, LeavesOnly, StandsFor};
 
 use crate::SqlBook;
@@ -37,14 +38,14 @@ fn close<D: Disk + Drop>(conn: Connection<FileStore<D>>) -> Option<Files<D>>
 }
 
 /// Takes the connection back, closes its files, opens them and adopts them again. The book holds the content that it held,
-/// kept replies included. None where one of these failed.
+/// kept replies included, as `holds` of `Book` has it. None where one of these failed.
 pub fn reopen_book<D: Disk + Drop>(
     alloc: Global,
     book: SqlBook<FileStore<D>>,
     options: Options,
 ) -> Option<SqlBook<FileStore<D>>>
     ensures { IfSome result (λ again. (m : Content) → HoldsContent (file_state book.conn) m
-        → HoldsContent (file_state again.conn) m) }
+        → HoldsListed (file_state again.conn) again.work m) }
 {
     let files = close(book.into_connection())?;
     let Ok(conn) = Connection::open_files(alloc, files, options) else {

@@ -18,12 +18,13 @@ ghost use Rattle.shop_store.specs.SqlBooks.{adopt_fault, book_fault, told as as_
 ghost use Rattle.shop_book.specs.declared.books.BookFault.TheVariants.{WrongVersion};
 
 use crate::checking::{have_earlier_sums, have_sums};
+use crate::found_jobs::{found_job, job_head};
 use crate::listed_work::OpenWork;
 use crate::named_parts::{first_listed, listed_parts, visit_listed};
 use crate::names::PartNames;
 use crate::open_work::{commit_open, first_open, first_waiting};
 use cut_measure::{Code, PartName};
-use shop_book::{Book, BookFault};
+use shop_book::{Book, BookFault, FoundJob, JobHead};
 use shop_records::{
     Change, CodeList, Demand, DemandList, ImportRow, Job, Kept, Material, MaterialList, NumberList,
     Pair, Part, PartList, PartVisitor, Totals, no_totals,
@@ -406,6 +407,16 @@ impl<S: Alter> Book for SqlBook<S> {
 
     fn job(&mut self, alloc: Global, number: u32) -> Result<Option<Job>, BookFault> {
         let answer = find_job(alloc, &mut self.conn, number);
+        self.count_fault(answer)
+    }
+
+    fn found_job(&mut self, alloc: Global, number: u32) -> Result<FoundJob, BookFault> {
+        let answer = found_job(alloc, &mut self.conn, number);
+        self.count_fault(answer)
+    }
+
+    fn job_head(&mut self, number: u32) -> Result<Option<JobHead>, BookFault> {
+        let answer = job_head(&mut self.conn, number);
         self.count_fault(answer)
     }
 

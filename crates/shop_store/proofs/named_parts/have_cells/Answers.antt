@@ -1,4 +1,4 @@
-use Rattle.std.proofs.Common.{List, ℕ, ap, arith}
+use Rattle.std.proofs.Common.{List, ℕ, ap, sym, ◌∙◌, arith}
 use Rattle.shop_records.specs.Content.{cells_in}
 use Rattle.shop_records.specs.declared.records.Column.TheVariants.{Stock, Rack}
 use Rattle.shop_store.proofs.named_parts.have_cells.Goals as goal
@@ -7,7 +7,7 @@ pub returns : goal.returns
 returns c = λ is.
     let own = c.no_sums.ensures.code in
     record {
-      rising = c.rises.ensures c.if-not-rises.false;
+      rising = sym c.rises.ensures ∙ c.if-not-rises.false;
       stock =
           let more = c.in-Some.ensures.sums Stock in
           let none = c.no_sums.ensures.none Stock in
