@@ -1,6 +1,6 @@
 -- What is answered from rows that were found is what is answered over the content.
 use Rattle.std.proofs.Common.{◌≡◌, ℕ, List, [], ◌∷◌, Bool, true, false, refl, sym, ap, subst, ◌∙◌}
-use Rattle.std.specs.Prelude.{Option, Some, None, Result, Ok, Err, All, filter_map, if◌then◌else◌, not, MatchOption}
+use Rattle.std.specs.Prelude.{Option, Some, None, Result, Ok, Err, filter_map, if◌then◌else◌, not, MatchOption}
 use Rattle.std.specs.List.{AllByRecursion, cons_option}
 use Rattle.std.specs.Option.{option_or}
 use Rattle.std.proofs.lemmas.List.Elements.{recursion_from_All}
@@ -12,12 +12,12 @@ use Rattle.shop_records.specs.declared.records.Part.{Part}
 use Rattle.shop_records.specs.declared.records.Demand.{Demand}
 use Rattle.shop_answers.specs.declared.planning.FoundDemand.{FoundDemand}
 use Rattle.shop_records.specs.declared.refusals.Refusal.{Refusal}
-use Rattle.shop_records.specs.declared.refusals.Refusal.TheVariants.{NoMaterial, NotStanding, BadSize, BadWant, NoMemory}
+use Rattle.shop_records.specs.declared.refusals.Refusal.TheVariants.{NoMaterial, NotStanding, BadSize, BadWant}
 use Rattle.shop_records.specs.declared.messages.Reply.{Reply}
 use Rattle.shop_records.specs.declared.messages.Reply.TheVariants.{Refused}
 use Rattle.shop_records.specs.Columns.{is_free}
 use Rattle.shop_machine.specs.Decisions.{first_of}
-use Rattle.shop_answers.specs.Planning.{are_bad_numbers, demands_refusal, numbers_refusal, want_of, wants_of, planned_size, planning_refusal, bound_refusal, IsPlanned, IsBounded, IsPlanAnswer, IsBoundAnswer, numbers_in, AreFound, AreAsked, Tells}
+use Rattle.shop_answers.specs.Planning.{demands_refusal, numbers_refusal, want_of, wants_of, planned_size, planning_refusal, bound_refusal, IsPlanned, IsBounded, IsPlanAnswer, IsBoundAnswer, numbers_in, AreFound, AreAsked, Tells}
 
 -- ---- the demands of a query
 

@@ -1,6 +1,6 @@
 -- A plan that is told for a part can be reserved on it.
-use Rattle.std.proofs.Common.{◌≡◌, ◌≢◌, ℕ, zero, suc, ◌+◌, ◌-◌, ◌≤◌, ◌<◌, ◌⊎◌, inl, inr, List, [], ◌∷◌, length, nat_eq, nat_lt, slice_index_or, Bool, true, false, refl, sym, ap, subst, ◌∙◌, arith}
-use Rattle.std.specs.Prelude.{Option, Some, None, All, Contains, IsTrue, ◌&&◌, ◌==◌, not, is_some, MatchOption, if◌then◌else◌, option_and_then, filter_map}
+use Rattle.std.proofs.Common.{◌≡◌, ◌≢◌, ℕ, zero, suc, ◌+◌, ◌-◌, ◌≤◌, ◌<◌, ◌⊎◌, inl, inr, List, [], ◌∷◌, length, nat_lt, slice_index_or, Bool, true, false, refl, sym, ap, subst, ◌∙◌, arith}
+use Rattle.std.specs.Prelude.{Option, Some, None, ◌&&◌, ◌==◌, not, MatchOption, if◌then◌else◌}
 use Rattle.std.specs.List.{list_any, cons_option}
 use Rattle.std.specs.Option.{option_or}
 use Rattle.std.specs.Cmp.Derive.{both_true}
@@ -38,13 +38,13 @@ use Rattle.shop_records.specs.declared.messages.Reply.TheVariants as reply
 use Rattle.shop_records.specs.Same.{same_code}
 use Rattle.shop_records.specs.Columns.{is_free}
 use Rattle.shop_records.specs.Messages.{Texts, pair_of}
-use Rattle.shop_records.specs.Readings.{Reading, unread, Plan, plan_in, Lines, Problem, Again}
+use Rattle.shop_records.specs.Readings.{Reading, unread, Plan, Lines, Problem, Again}
 use Rattle.shop_records.specs.Content.{Content, material_at, part_at, demand_at, kept_at, material_of}
 use Rattle.shop_machine.specs.Decisions.{first_of}
 use Rattle.shop_machine.specs.Recounts.{plan_leaves}
 use Rattle.shop_machine.specs.Reserving.{IsReading, HasNoPiece, fits_demand, leaf_refusal, leaves_refusal, is_over, is_too_many, plan_refusal, reserve_refusal}
 use Rattle.shop_answers.specs.Planning.{are_bad_numbers, is_demand_number, demand_refusal, demands_refusal, numbers_refusal, left_of, want_of, wants_of, planned_size, planning_refusal, IsProposed, HasManyCuts, IsPlanned, IsPlanAnswer, planner_refusal}
-use Rattle.shop_machine.specs.Machine.{Reads, refusal_of, Refuses, Accepts, Step, StepNew, StepAgain}
+use Rattle.shop_machine.specs.Machine.{Reads, refusal_of, Refuses, Step, StepNew}
 use Rattle.shop_answers.specs.Queries.{Answers}
 use Rattle.shop_records.specs.Soundness.{IsSound}
 use Rattle.shop_records.specs.Elements.{IsIn}

@@ -1,6 +1,7 @@
 -- What is told of a content by lists, which are cut after so many rows; of a job with its plan; of an order with its lines;
 -- and of a terminal.
 use Rattle.std.specs.Prelude.{◌≡◌, ℕ, ◌+◌, ◌^◌, ◌<◌, ◌≤◌, List, [], ◌∷◌, length, take, filter_map, Bool, true, false, nat_lt, Option, Some, None, is_some, option_map, option_and_then}
+use Rattle.cut_measure.specs.Names.{Name}
 use Rattle.cut_tree.specs.Tree.{cut_count}
 use Rattle.cut_tree.specs.Spelling.{text_of}
 use Rattle.shop_answers.specs.declared.listing.TheConstants.{MOST_TOLD}
@@ -43,10 +44,12 @@ abbrev pub job_with_part : Content → ℕ → Option (Job × Part)
 job_with_part content number =
     option_and_then (λ (job : Job). option_map (λ (part : Part). (job, part)) (part_at content job.part)) (job_at content number)
 
--- how a waiting job is told in a list
+-- how a waiting job is told in a list, of which this is known
+abbrev pub row_of : (job : ℕ) (name : Name) (cuts : ℕ) → Part → JobRow
+row_of job name cuts part = record { cuts = cuts; h = part.size.h; job = job; material = part.material; part = name; w = part.size.w }
+
 abbrev pub job_row : Job → Part → JobRow
-job_row job part =
-    record { cuts = cut_count job.plan.tree; h = part.size.h; job = job.act; material = part.material; part = job.part; w = part.size.w }
+job_row job part = row_of job.act job.part (cut_count job.plan.tree) part
 
 abbrev pub job_row_at : Content → ℕ → Option JobRow
 job_row_at content number = option_map (λ (found : Job × Part). job_row found.0 found.1) (job_with_part content number)

@@ -11,7 +11,7 @@ ghost use Rattle.shop_answers.specs.Listing as listing;
 ghost use Rattle.shop_records.specs.Lists as lists;
 
 use crate::planning::tree_text;
-use cut_measure::{Code, RowList};
+use cut_measure::{Code, PartName, RowList};
 use shop_records::{Demand, Job, JobRow, OrderList, OrderRow, Part, Refusal, Reply};
 use std::alloc::{AllocError, Global};
 
@@ -78,16 +78,16 @@ pub fn answer_demands(alloc: Global, rows: &[Demand]) -> Reply
     }
 }
 
-/// How a waiting job is told in a list, from its row and its part's.
-pub fn job_row(job: &Job, part: &Part) -> JobRow
-    ensures { result ≡ listing.job_row job.now part.now }
+/// How a waiting job is told in a list: its number, the name of its part, how many cuts its plan has, and the part's row.
+pub fn job_row(job: u32, name: PartName, cuts: u32, part: &Part) -> JobRow
+    ensures { result ≡ listing.row_of job name cuts part.now }
 {
     JobRow {
-        cuts: job.plan.cuts(),
+        cuts,
         h: part.size.h(),
-        job: job.act,
+        job,
         material: part.material,
-        part: job.part,
+        part: name,
         w: part.size.w(),
     }
 }

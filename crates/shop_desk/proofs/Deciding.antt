@@ -8,11 +8,10 @@ use Rattle.shop_records.specs.declared.records.Material.{Material}
 use Rattle.shop_records.specs.declared.records.Part.{Part}
 use Rattle.shop_machine.specs.declared.recounts.FoundLeaf.{FoundLeaf}
 use Rattle.shop_records.specs.declared.records.Job.{Job}
-use Rattle.shop_records.specs.declared.records.Demand.{Demand}
 use Rattle.shop_records.specs.declared.records.Totals.{Totals}
 use Rattle.shop_files.specs.declared.orders.OrderLine.{OrderLine}
 use Rattle.shop_records.specs.declared.messages.Command.{Command}
-use Rattle.shop_records.specs.declared.messages.Command.TheVariants.{AddOrder, Reserve, Import, Amend}
+use Rattle.shop_records.specs.declared.messages.Command.TheVariants.{AddOrder, Reserve, Import}
 use Rattle.shop_records.specs.declared.changes.Change.{Change}
 use Rattle.shop_records.specs.declared.refusals.Refusal.{Refusal}
 use Rattle.shop_records.specs.declared.refusals.Refusal.TheVariants.{NoMemory, StoreFault}
@@ -27,7 +26,6 @@ use Rattle.shop_records.specs.declared.imports.ImportRow.{ImportRow}
 use Rattle.shop_machine.specs.Importing.{IsRepeat, IsImportReading, problem_lines, unread_refusal, again_refusal, problem_refusal, lines_change, problem_change}
 use Rattle.shop_records.specs.Keeping.{Tells}
 use Rattle.shop_machine.specs.Decisions.{Decides, no_change}
-use Rattle.shop_machine.specs.Amending.{amend_refusal, amend_change}
 use Rattle.shop_machine.specs.Machine.{Reads, refusal_of, Makes}
 use Rattle.shop_machine.specs.Ending.{IsWork, job_refusal, end_refusal}
 use Rattle.shop_machine.specs.Reserving.{IsReservation, reserve_refusal}
@@ -104,21 +102,6 @@ module _ (m : Content) (part : Name) (text : List ℕ) (row : Option Part) (mate
       by None o a b it = absurd it
       by (Some r) None a b it = absurd it
       by (Some r) (Some p) a b it = (r, p, sym a, b, subst (λ n. IsReservation r p (demand_at m) n change) is_act it)
-
--- the row of a demand that is amended
-module _ (m : Content) (demand wanted : ℕ) (row : Option Demand) (is_row : row ≡ demand_at m demand) where
-  pub same_amend : refusal_of m (Amend demand wanted) unread ≡ amend_refusal row wanted
-  same_amend = ap (λ r. amend_refusal r wanted) (sym is_row)
-
-  abbrev pub Amended : Change → Type 0
-  Amended change = MatchOption row ⊥ (λ r. change ≡ amend_change r wanted)
-
-  pub amend_by : (change : Change) → Amended change → Makes m (Amend demand wanted) unread change
-  amend_by change it = by row is_row it
-    where
-      by : (row : Option Demand) → row ≡ demand_at m demand → MatchOption row ⊥ (λ r. change ≡ amend_change r wanted) → Makes m (Amend demand wanted) unread change
-      by None a it = absurd it
-      by (Some r) a it = (r, sym a, it)
 
 -- the row of a part that as a whole gets another state
 module _ (m : Content) (part : Name) (row : Option Part) (totals : Totals) (is_row : row ≡ part_at m part) (is_totals : totals ≡ totals_for m row) where

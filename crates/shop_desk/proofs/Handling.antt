@@ -10,7 +10,7 @@ use Rattle.shop_machine.proofs.Runs.{AreMessages, gives_after}
 use Rattle.shop_machine.proofs.Owners.{account_of}
 use Rattle.shop_book.specs.declared.books.Book.{Ghosts}
 use Rattle.shop_desk.specs.Faults.{CountsUp}
-use Rattle.shop_desk.specs.Handled.{LeftBy, HandlesMessage, AreHandled, HasAccount, HasRun}
+use Rattle.shop_desk.specs.Handled.{LeftBy, HandlesMessage, OneByOne, AreHandled, HasAccount, HasRun}
 use Rattle.shop_desk.proofs.Blame.{up_same, up_answer, up_more, tell_more, tell_one}
 use Rattle.shop_desk.proofs.Steps.{leads_grow}
 
@@ -19,16 +19,21 @@ account_after texts old new messages answers are run history given =
     let after = gives_after texts history old new messages answers are given run in
     (after.history, after.same, account_of texts after.history new after.given)
 
+-- what was asked, and then more of it
+pub one_by_one : {B X A : Type 0} (leads : B → B → X → A → Type 0) (before mid after : B) (asked more : List X) (answers later : List A)
+    → OneByOne leads before asked answers mid → OneByOne leads mid more later after → OneByOne leads before (asked ++ more) (answers ++ later) after
+one_by_one leads before mid after [] more [] later same next = subst (λ b. OneByOne leads b more later after) same next
+one_by_one leads before mid after [] more (a ∷ rest) later so_far next = absurd so_far
+one_by_one leads before mid after (x ∷ xs) more [] later so_far next = absurd so_far
+one_by_one leads before mid after (x ∷ xs) more (a ∷ rest) later so_far next = (so_far.0, so_far.1, one_by_one leads so_far.0 mid after xs more rest later so_far.2 next)
+
 module _ {B : Type 0} (texts : Texts) (book : Ghosts B) where
   -- one message more
   pub handled_more : (before mid after : B) (messages : List Message) (answers : List Reply) (message : Message) (answer : Reply)
       → AreHandled texts book before messages answers mid → HandlesMessage texts book mid after message answer
       → AreHandled texts book before (messages ++ message ∷ []) (answers ++ answer ∷ []) after
-  handled_more before mid after [] [] message answer same handled = (after, subst (λ b. HandlesMessage texts book b after message answer) same handled, refl)
-  handled_more before mid after [] (r ∷ rs) message answer so_far handled = absurd so_far
-  handled_more before mid after (m ∷ ms) [] message answer so_far handled = absurd so_far
-  handled_more before mid after (m ∷ ms) (r ∷ rs) message answer so_far handled =
-      (so_far.0, so_far.1, handled_more so_far.0 mid after ms rs message answer so_far.2 handled)
+  handled_more before mid after messages answers message answer so_far handled =
+      one_by_one (HandlesMessage texts book) before mid after messages (message ∷ []) answers (answer ∷ []) so_far (after, handled, refl)
 
   -- a book that is honest in the end was so all along
   pub handled_honest : (before after : B) (messages : List Message) (answers : List Reply) → AreHandled texts book before messages answers after → book.is_honest after → book.is_honest before

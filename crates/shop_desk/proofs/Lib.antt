@@ -8,3 +8,4 @@ pub mod TakenJobs
 pub mod TakenOrders
 pub mod Refusals
 pub mod Handling
+pub mod TakenLeaves

@@ -1,5 +1,5 @@
 -- Steps of a book, and runs of them.
-use Rattle.std.proofs.Common.{◌≡◌, ◌≢◌, ℕ, List, [], ◌∷◌, ◌++◌, Option, Some, None, Ok, Err, inl, inr, refl, sym, ap, ◌∙◌, subst, arith}
+use Rattle.std.proofs.Common.{◌≡◌, ◌≢◌, ℕ, List, [], ◌∷◌, Option, Some, None, Ok, Err, inl, inr, refl, sym, ap, ◌∙◌, subst, arith}
 use Rattle.std.specs.Prelude.{◌⊎◌, ◌+◌, Bool, true, false, nat_lt, if◌then◌else◌, MatchOption, is_some, not}
 use Rattle.std.specs.Option.{option_map}
 use Rattle.shop_book.specs.declared.books.TheConstants.{MOST_FAILURES}
@@ -13,7 +13,7 @@ use Rattle.shop_records.specs.declared.messages.Message.{Message}
 use Rattle.shop_records.specs.declared.refusals.Refusal.{Refusal}
 use Rattle.shop_records.specs.declared.refusals.Refusal.TheVariants.{NoMemory, StoreFault, NumberReused}
 use Rattle.shop_records.specs.declared.messages.Reply.{Reply}
-use Rattle.shop_records.specs.declared.messages.Reply.TheVariants.{AddMaterial, Receive, AddOrder, Reserve, Done, Break, Release, Scrap, GiveBack, Import, Amend, Totals, Rack, Trace, Demand, Plan, Bound, Materials, Parts, Demands, Jobs, Job, Terminal, Orders, Lines, Refused}
+use Rattle.shop_records.specs.declared.messages.Reply.TheVariants.{Refused}
 use Rattle.shop_records.specs.Messages.{Texts, IsMessage, IsMade, refusal_in, is_accepted, pair_of}
 use Rattle.shop_records.specs.Readings.{Reading}
 use Rattle.shop_records.specs.Content.{Content, kept_at, changed}
@@ -72,32 +72,8 @@ blamed texts m message before after refusal sound blames is = by (blames (same r
 module _ (texts : Texts) where
   -- a reply that an accepted message can get tells of no refusal
   pub none_made : (answer : Reply) → IsMade answer → refusal_in answer ≡ None
-  none_made (AddMaterial material) made = refl
-  none_made (Receive act count) made = refl
-  none_made (AddOrder count first order) made = refl
-  none_made (Reserve cuts job) made = refl
-  none_made (Done job kerf pieces rack scrap) made = refl
-  none_made (Break job kerf pieces rack scrap) made = refl
-  none_made (Release job) made = refl
-  none_made (Scrap part) made = refl
-  none_made (GiveBack part) made = refl
-  none_made (Import act count first order) made = refl
-  none_made (Amend demand wanted) made = refl
-  none_made (Totals material received stock rack pieces kerf scrap returned) made = absurd made
-  none_made (Rack material parts) made = absurd made
-  none_made (Trace batch h of part root state w x y) made = absurd made
-  none_made (Demand demand line made' material order reserved wanted) made = absurd made
-  none_made (Plan ceiling dropped tree worth) made = absurd made
-  none_made (Bound best units) made = absurd made
-  none_made (Materials materials) made' = absurd made'
-  none_made (Parts material more parts) made' = absurd made'
-  none_made (Demands demands more) made' = absurd made'
-  none_made (Jobs jobs more) made' = absurd made'
-  none_made (Job cuts h job kerf material part state tree w) made' = absurd made'
-  none_made (Terminal last terminal) made' = absurd made'
-  none_made (Orders more orders) made' = absurd made'
-  none_made (Lines lines order) made' = absurd made'
   none_made (Refused refusal) made = absurd made
+  none_made _ made = refl
 
   -- the kept reply to the kept message
   pub again_kept : (row : Kept) (message : Message) (answer : Reply) → IsMade answer → row.command ≡ texts.of_message message → row.reply ≡ texts.of_reply answer
@@ -288,20 +264,6 @@ module _ (texts : Texts) where
               | inr new ↦ inr (made.reply, next, made_step, subst (stands left) row new)
             ]);
           }
-
-    -- one more message
-    pub leads_more : (before mid after : Left → Type 0) (old at new : Content) (messages : List Message) (answers : List Reply) (message : Message) (answer : Reply)
-        → Leads texts stands before old messages answers at mid → Step texts at message answer new → ((left : Left) → after left → LeftBy texts stands mid at message answer new left)
-        → Leads texts stands before old (messages ++ message ∷ []) (answers ++ answer ∷ []) new after
-    leads_more before mid after old at new [] [] message answer leads step crash = (
-      new,
-      subst (λ (c : Content). Step texts c message answer new) leads.0 step,
-      (refl, λ left it. subst (λ (c : Content). LeftBy texts stands before c message answer new left) leads.0 (left_more before mid leads.1 at message answer new left (crash left it))),
-    )
-    leads_more before mid after old at new [] (r ∷ rs) message answer leads step crash = absurd leads
-    leads_more before mid after old at new (m ∷ ms) [] message answer leads step crash = absurd leads
-    leads_more before mid after old at new (m ∷ ms) (r ∷ rs) message answer leads step crash =
-        (leads.0, leads.1, leads_more (LeftBy texts stands before old m r leads.0) mid after leads.0 at new ms rs message answer leads.2 step crash)
 
     -- what may be left in the end grows with what could be left before
     pub leads_grow : (before mid after : Left → Type 0) → ((left : Left) → mid left → before left)

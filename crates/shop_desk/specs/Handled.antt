@@ -67,13 +67,16 @@ pub record HandlesMessage {B : Type 0} (texts : Texts) (book : Ghosts B) (before
   pub failures : CountsOrContradicts answer (book.failed before) (book.failed after)
   pub store_fault : BlamesStore texts book before after answer
 
+-- one by one, what was asked leads from one book to the next, with what was answered to it
+abbrev pub OneByOne : {B X A : Type 0} → (B → B → X → A → Type 0) → B → List X → List A → B → Type 0
+OneByOne leads before [] [] after = after ≡ before
+OneByOne {B} leads before (x ∷ asked) (answer ∷ answers) after = (mid : B) × leads before mid x answer × OneByOne leads mid asked answers after
+OneByOne leads before [] (answer ∷ answers) after = ⊥
+OneByOne leads before (x ∷ asked) [] after = ⊥
+
 -- messages and their replies in turn lead from one book to the next, and each step is the handling of its message
 abbrev pub AreHandled : {B : Type 0} → Texts → Ghosts B → B → List Message → List Reply → B → Type 0
-AreHandled texts book before [] [] after = after ≡ before
-AreHandled {B} texts book before (message ∷ messages) (answer ∷ answers) after =
-    (mid : B) × HandlesMessage texts book before mid message answer × AreHandled texts book mid messages answers after
-AreHandled texts book before [] (answer ∷ answers) after = ⊥
-AreHandled texts book before (message ∷ messages) [] after = ⊥
+AreHandled texts book before messages answers after = OneByOne (HandlesMessage texts book) before messages answers after
 
 -- Where a history gives old, one whose messages are those of that history with each new message once gives next, and this is
 -- its account.

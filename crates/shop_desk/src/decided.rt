@@ -14,15 +14,22 @@ ghost use Rattle.shop_records.specs.declared.refusals.Refusal.TheVariants.{BadMe
 ghost use Rattle.shop_forms.specs.Forms.{json_texts};
 ghost use Rattle.shop_desk.specs.Decided.{Judges, CountsOrDisagrees, AreJobRows};
 
-use crate::found::{found_leaves, found_lines, material_for, part_for, plan_for, totals_for};
+use crate::found::{found_leaves, found_lines, material_for, plan_for, totals_for};
 use crate::importing::import_order;
 use cut_measure::{Kind, PartName};
 use cut_tree::{Halt, Plan};
-use shop_book::{Book, BookFault};
+use shop_book::{Book, BookFault, FoundJob};
+use shop_machine::FoundLeaf;
+use shop_machine::adding::decide_material;
+use shop_machine::amending::decide_amend;
+use shop_machine::ending::{decide_break, decide_done, decide_release};
+use shop_machine::ordering::decide_order;
+use shop_machine::receiving::decide_receive;
+use shop_machine::reserving::decide_reserve;
+use shop_machine::retiring::{decide_give_back, decide_scrap};
 use shop_rules::{
-    Change, Code, Command, FoundLeaf, ImportRow, Job, KeptMessage, LineList, Material, Part,
-    Refusal, Reply, Text, Totals, decide_amend, decide_break, decide_done, decide_give_back,
-    decide_material, decide_order, decide_receive, decide_release, decide_reserve, decide_scrap,
+    Change, Code, Command, ImportRow, Job, KeptMessage, LineList, Material, Part, Refusal, Reply,
+    Text, Totals,
 };
 use std::alloc::{AllocError, Global};
 
@@ -161,9 +168,11 @@ fn job_rows<B: Book>(alloc: Global, book: &mut B, number: u32) -> Result<JobRows
     ensures numbered { IfOk result (λ rows. All IsNumbered rows.leaves.items) }
     ensures keeps { Unchanged B.Book (CountsFailure result) book.old book.new }
 {
-    let job = book.job(alloc, number)?;
-    let part = part_for(book, &job)?;
-    let material = material_for(book, &part)?;
+    let FoundJob {
+        job,
+        part,
+        material,
+    } = book.found_job(alloc, number)?;
     let totals = totals_for(book, &part)?;
     let leaves = job_leaves(alloc, book, &job)?;
     Ok(JobRows {

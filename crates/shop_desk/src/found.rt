@@ -6,7 +6,7 @@ ghost use Rattle.cut_tree.specs.Spelling.{IsSpelling};
 ghost use Rattle.cut_measure.specs.Names.{Name};
 ghost use Rattle.shop_records.specs.declared.messages.Command.TheVariants.{Reserve};
 ghost use Rattle.shop_records.specs.Readings.{reading_of};
-ghost use Rattle.shop_records.specs.Content.{Content, material_at, part_at, demand_at, material_of, part_of_job, totals_for};
+ghost use Rattle.shop_records.specs.Content.{Content, material_at, part_at, demand_at, material_of, totals_for};
 ghost use Rattle.shop_machine.specs.Machine.{Reads};
 ghost use Rattle.shop_machine.specs.Recounts.{plan_leaves, AreDemandsFound, IsNumbered, leaves_in};
 ghost use Rattle.shop_machine.specs.Ordering.{AreMaterialsFound, lines_in};
@@ -17,9 +17,11 @@ ghost use Rattle.shop_book.specs.Kept.{Unchanged, OnContent};
 
 use cut_tree::{Cause, Leaf, Plan};
 use shop_book::{Book, BookFault};
+use shop_machine::FoundLeaf;
+use shop_machine::ordering::FoundLine;
 use shop_rules::{
-    Demand, FoundDemand, FoundLeaf, FoundLine, FoundList, Job, Material, OrderLine, Part, Totals,
-    can_be_planned, no_totals,
+    Code, Demand, FoundDemand, FoundList, Material, OrderLine, Part, Totals, can_be_planned,
+    no_totals,
 };
 use std::alloc::{AllocError, Global};
 
@@ -47,18 +49,6 @@ pub fn totals_for<B: Book>(book: &mut B, part: &Option<Part>) -> Result<Totals, 
     match part {
         Some(part) => book.totals(part.material),
         None => Ok(no_totals()),
-    }
-}
-
-/// The part of a job that was found.
-pub fn part_for<B: Book>(book: &mut B, job: &Option<Job>) -> Result<Option<Part>, BookFault>
-    ensures row { OnContent B.Book book.old book.new
-        (λ m. IfOk result (λ row. row ≡ part_of_job m job.now)) }
-    ensures keeps { Unchanged B.Book (CountsFailure result) book.old book.new }
-{
-    match job {
-        Some(job) => book.part(job.part),
-        None => Ok(None),
     }
 }
 
@@ -135,7 +125,25 @@ fn push_line(
     Ok(())
 }
 
-/// The piece leaves of a plan, with the rows of their demands.
+// The row of a leaf's demand, behind leaves with theirs: that of the first of them which names it, or else the book's.
+fn demand_for<B: Book>(
+    book: &mut B,
+    found: &[FoundLeaf],
+    number: u32,
+) -> Result<Option<Demand>, BookFault>
+    requires { All IsNumbered found.now }
+    ensures row { OnContent B.Book book.old book.new
+        (λ m. AreDemandsFound (demand_at m) found.now → IfOk result (λ row. row ≡ demand_at m number)) }
+    ensures key { IfOk result (λ row. IfSome row (λ demand. demand.number ≡ number)) }
+    ensures keeps { Unchanged B.Book (CountsFailure result) book.old book.new }
+{
+    match found.iter().find(|earlier| earlier.leaf.demand == number) {
+        Some(earlier) => Ok(earlier.demand),
+        None => book.demand(number),
+    }
+}
+
+/// The piece leaves of a plan, with the rows of their demands, each of which is read once.
 pub fn found_leaves<B: Book>(
     alloc: Global,
     book: &mut B,
@@ -150,7 +158,7 @@ pub fn found_leaves<B: Book>(
     let leaves = plan.leaves(alloc)?;
     let mut found = Vec::new(alloc);
     for leaf in &leaves {
-        let demand = book.demand(leaf.demand)?;
+        let demand = demand_for(book, &found, leaf.demand)?;
         push_leaf(&mut found, *leaf, demand)?;
     }
     Ok(found)
@@ -199,7 +207,24 @@ pub fn demands_for<B: Book>(
     Ok(Some(found))
 }
 
-/// The lines of an order, with the rows of their materials.
+// The row of a line's material, behind lines with theirs: that of the first of them which names it, or else the book's.
+fn material_of_line<B: Book>(
+    book: &mut B,
+    found: &[FoundLine],
+    code: Code,
+) -> Result<Option<Material>, BookFault>
+    ensures row { OnContent B.Book book.old book.new
+        (λ m. AreMaterialsFound (material_at m) found.now
+        → IfOk result (λ row. row ≡ material_at m code)) }
+    ensures keeps { Unchanged B.Book (CountsFailure result) book.old book.new }
+{
+    match found.iter().find(|earlier| earlier.line.material == code) {
+        Some(earlier) => Ok(earlier.material),
+        None => book.material(code),
+    }
+}
+
+/// The lines of an order, with the rows of their materials, each of which is read once.
 pub fn found_lines<B: Book>(
     alloc: Global,
     book: &mut B,
@@ -212,7 +237,7 @@ pub fn found_lines<B: Book>(
 {
     let mut found = Vec::new(alloc);
     for line in lines {
-        let material = book.material(line.material)?;
+        let material = material_of_line(book, &found, line.material)?;
         push_line(&mut found, *line, material)?;
     }
     Ok(found)

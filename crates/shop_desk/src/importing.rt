@@ -24,9 +24,11 @@ use crate::found::found_lines;
 use cut_measure::Code;
 use shop_book::{Book, BookFault};
 use shop_files::{OrdersFault, Problem, TextCause, read_cgcut, read_orders};
+use shop_machine::importing::{
+    decide_again, decide_lines, decide_problem, problem_lines, repeats, unread_refusal,
+};
 use shop_rules::{
-    Change, Form, ImportRow, LineList, Material, Refusal, Reply, Text, Totals, decide_again,
-    decide_lines, decide_problem, kept_reply, problem_lines, repeats, unread_refusal,
+    Change, Form, ImportRow, LineList, Material, Refusal, Reply, Text, Totals, kept_reply,
 };
 use std::alloc::{AllocError, Global};
 

@@ -11,10 +11,10 @@ ghost use Rattle.shop_records.specs.Lists.{job_numbers, open_demands, orders_beh
 ghost use Rattle.shop_book.specs.Failures.{CountsFailure};
 ghost use Rattle.shop_book.specs.Kept.{Unchanged, OnContent};
 ghost use Rattle.shop_desk.specs.Faults.{CountsReply};
-ghost use Rattle.shop_desk.specs.ListedJobs.{told_row};
+ghost use Rattle.shop_desk.specs.ListedJobs.{both, head_with_part, told_row};
 
 use cut_measure::PartName;
-use shop_book::{Book, BookFault};
+use shop_book::{Book, BookFault, JobHead};
 use shop_rules::{
     Code, CodeList, Job, JobList, MOST_TOLD, OrderList, OrderRow, Part, Refusal, Reply,
     answer_demands, answer_job, answer_orders, answer_parts, are_more, first_told, job_row,
@@ -108,6 +108,16 @@ pub fn demands<B: Book>(alloc: Global, book: &mut B, after: u32, material: Optio
     }
 }
 
+// Both, where both are there.
+fn both(job: Option<Job>, part: Option<Part>) -> Option<(Job, Part)>
+    ensures { result ≡ both job part }
+{
+    let (Some(job), Some(part)) = (job, part) else {
+        return None;
+    };
+    Some((job, part))
+}
+
 // A job and its part, where both are there.
 fn job_with_part<B: Book>(
     alloc: Global,
@@ -118,21 +128,31 @@ fn job_with_part<B: Book>(
         (λ m. IfOk result (λ found. found ≡ job_with_part m number)) }
     ensures keeps { Unchanged B.Book (CountsFailure result) book.old book.new }
 {
-    let Some(job) = book.job(alloc, number)? else {
+    let found = book.found_job(alloc, number)?;
+    Ok(both(found.job, found.part))
+}
+
+// A job as lists tell it, and its part, where both are there.
+fn head_with_part<B: Book>(book: &mut B, number: u32) -> Result<Option<(JobHead, Part)>, BookFault>
+    ensures found { OnContent B.Book book.old book.new
+        (λ m. IfOk result (λ found. found ≡ head_with_part m number)) }
+    ensures keeps { Unchanged B.Book (CountsFailure result) book.old book.new }
+{
+    let Some(head) = book.job_head(number)? else {
         return Ok(None);
     };
-    match book.part(job.part)? {
-        Some(part) => Ok(Some((job, part))),
+    match book.part(head.part)? {
+        Some(part) => Ok(Some((head, part))),
         None => Ok(None),
     }
 }
 
 // Puts a job's row behind others, where the job is there with its part.
-fn push_job(rows: &mut JobList, found: Option<(Job, Part)>) -> Result<(), AllocError>
+fn push_job(rows: &mut JobList, found: Option<(JobHead, Part)>) -> Result<(), AllocError>
     ensures { OnOk result (rows.new ≡ rows.old ++ filter_map told_row (found ∷ [])) }
 {
     match found {
-        Some((job, part)) => rows.push(job_row(&job, &part)),
+        Some((head, part)) => rows.push(job_row(head.act, head.part, head.cuts, &part)),
         None => Ok(()),
     }
 }
@@ -145,7 +165,7 @@ fn job_rows<B: Book>(alloc: Global, book: &mut B, numbers: &[u32]) -> Result<Job
 {
     let mut rows = JobList::new(alloc);
     for number in numbers {
-        let found = job_with_part(alloc, book, *number)?;
+        let found = head_with_part(book, *number)?;
         push_job(&mut rows, found)?;
     }
     Ok(rows)
