@@ -1,6 +1,6 @@
 -- What stands behind a head.
 use Rattle.std.proofs.Common.{◌≡◌, Bool, true, false, ℕ, zero, suc, ◌-◌, ◌<◌, ◌≤◌, List, [], ◌∷◌, ◌++◌, length, take, drop, Option, Some, None, Result, Ok, Err, inl, inr, refl, sym, ap, subst, ◌∙◌, arith, append_assoc, append-nil, length-append, length-drop}
-use Rattle.std.specs.Prelude.{IfSome, if◌then◌else◌}
+use Rattle.std.specs.Prelude.{◌⊎◌, IfSome, if◌then◌else◌}
 use Rattle.std.proofs.Math.Seq.{take-length}
 use Rattle.std.proofs.lemmas.Bool.{lt-ltb, le-ltb}
 use Rattle.std.proofs.lemmas.List.{length-take, length-map, take-append-le}
@@ -13,13 +13,10 @@ use Rattle.httparse.specs.Spans.{IsRequestWithin, IsRequestAt, header_bytes, nam
 use Rattle.shop_request.specs.declared.faults.Fault.{Fault}
 use Rattle.shop_request.specs.declared.faults.Fault.TheVariants.{BadRequest}
 use Rattle.shop_request.specs.Heads.{front, Plea, judged, BeginsWith, HasHead}
-use Rattle.shop_request.specs.Reading.{IsHeadRead, IsParsed, IsReadOn, pleas}
-use Rattle.shop_request.specs.declared.heads.HeadRead.{HeadRead}
-use Rattle.shop_request.specs.declared.heads.HeadRead.TheVariants as heads
-use Rattle.shop_request.specs.declared.heads.Parsed.TheVariants as parsed
-use Rattle.shop_request.specs.declared.judging.Pleaded.{Pleaded}
+use Rattle.shop_request.specs.Reading.{IsAsked, IsReadOn, pleas}
+use Rattle.shop_request.specs.declared.judging.Asked.{Asked}
 use Rattle.shop_request.specs.Requests.{Sense, faulty, asking, silent, HasSense, on_plea, with_body}
-use Rattle.shop_request.specs.Routes.{takes_body}
+use Rattle.shop_request.specs.Routes.{path_of, takes_body}
 use Rattle.shop_request.proofs.Front.{begins}
 
 -- ---- more bytes
@@ -46,6 +43,13 @@ pub silence : (old : Option (List ℕ)) → IsAtEnd old → IfSome old (λ input
 silence None end = tt
 silence (Some xs) end = inl (end, refl)
 
+-- bytes that came, and all that there was
+pub gathered : (old new : Option (List ℕ)) (came : List ℕ) (s : Sense) (A : Type 0) → Consumes old new came → HasSense came s → (A → (more : List ℕ) → HasSense (came ++ more) s) → A ⊎ IsAtEnd new → IfSome old (λ input. HasSense input s)
+gathered None new came s A taken here settled why = tt
+gathered (Some xs) None came s A taken here settled why = absurd taken
+gathered (Some xs) (Some ys) came s A taken here settled (inl enough) = subst (λ l. HasSense l s) (sym taken) (settled enough ys)
+gathered (Some xs) (Some ys) came s A taken here settled (inr end) = subst (λ l. HasSense l s) (sym (taken ∙ ap (λ l. came ++ l) end ∙ append-nil came)) here
+
 pub bad_head : (old : Option (List ℕ)) (f : Fault) → IfSome old (λ input. (0 < length input) × HasHead input (Err f)) → IfSome old (λ input. HasSense input (faulty f))
 bad_head None f h = tt
 bad_head (Some xs) f h = inr (h.0, Err f, h.1, refl)
@@ -61,26 +65,10 @@ pub record IsJudged (came : List ℕ) (headers : List HeaderSpan) (spans : Reque
   pub at : IsRequestAt (front came) headers spans head
   pub said : judged head ≡ answer
 
--- it was found in a text that is the front of what came
-pub is_judged : (came text : List ℕ) (headers : List HeaderSpan) (spans : RequestSpans) (result : Result Pleaded Fault) → text ≡ front came → 0 < length came → length headers ≡ 64
-    → IsParsed text headers (parsed.Whole spans) → ((h : RequestHead) → IsRequestAt text headers spans h → pleas result ≡ judged h) → IsJudged came headers spans (pleas result)
-is_judged came text headers spans result same some room is judges =
-    record {
-      some = some;
-      room = room;
-      within = subst (λ b. IsRequestWithin b headers spans) same is.0;
-      head = is.1.0;
-      at = subst (λ b. IsRequestAt b headers spans is.1.0) same is.1.1;
-      said = sym (judges is.1.0 is.1.1);
-    }
-
--- it is the head that was read
-pub judged_read : (old mid : Option (List ℕ)) (came text : List ℕ) (headers : List HeaderSpan) (read : HeadRead) (spans : RequestSpans) (result : Result Pleaded Fault) → IsHeadRead old mid came headers read
-    → read ≡ heads.Whole spans → text ≡ front came → length headers ≡ 64 → ((h : RequestHead) → IsRequestAt text headers spans h → pleas result ≡ judged h)
-    → IsJudged came headers spans (pleas result) × Consumes old mid came
-judged_read old mid came text headers read spans result is whole same room judges =
-    let r = subst (IsHeadRead old mid came headers) whole is in
-    (is_judged came text headers spans result same r.0 room (subst (λ b. IsParsed b headers (parsed.Whole spans)) (sym same) (r.1, r.2)) judges, r.3)
+-- it was found so
+pub found_judged : (came : List ℕ) (headers : List HeaderSpan) (spans : RequestSpans) (asks : Result Asked Fault) → 0 < length came → length headers ≡ 64 → (is : IsAsked (front came) headers spans asks)
+    → IsJudged came headers spans (pleas (path_of is.1.0.target) asks)
+found_judged came headers spans asks some room is = record { some = some; room = room; within = is.0; head = is.1.0; at = is.1.1; said = sym is.1.2 }
 
 module _ {came : List ℕ} {headers : List HeaderSpan} {spans : RequestSpans} {answer : Result Plea Fault} (j : IsJudged came headers spans answer) where
   pub few : length j.head.fields ≤ 64

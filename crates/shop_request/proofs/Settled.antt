@@ -1,6 +1,7 @@
 -- Bytes whose sense is settled, whatever follows.
-use Rattle.std.proofs.Common.{◌≡◌, ◌∙◌, ℕ, ◌+◌, ◌<◌, ◌≤◌, List, [], ◌++◌, length, take, drop, Some, Result, Ok, true, inl, inr, refl, sym, subst, arith, append_assoc, append-nil, length-append}
+use Rattle.std.proofs.Common.{◌≡◌, ◌∙◌, Bool, false, nat_eq, nat_le, ◌∷◌, ℕ, ◌+◌, ◌<◌, ◌≤◌, List, [], ◌++◌, length, take, drop, Some, Result, Ok, Err, true, inl, inr, refl, sym, subst, arith, append_assoc, append-nil, length-append}
 use Rattle.std.specs.Prelude.{◌⊎◌, replicate}
+use Rattle.std.proofs.lemmas.Bool.{eqb-true, leb-true, leb-false}
 use Rattle.std.proofs.lemmas.List.{length-replicate, length-take}
 use Rattle.httparse.specs.Grammar.{HasNoRequest, MayBecomeRequest}
 use Rattle.httparse.specs.declared.spans.HeaderSpan.{HeaderSpan}
@@ -9,12 +10,12 @@ use Rattle.shop_request.specs.declared.faults.Fault.{Fault}
 use Rattle.shop_request.specs.declared.faults.Fault.TheVariants.{BadRequest, LargeHead}
 use Rattle.shop_request.specs.declared.routes.Route.{Route}
 use Rattle.shop_request.specs.Heads.{front, Plea}
-use Rattle.shop_request.specs.Reading.{IsRefused}
-use Rattle.shop_request.specs.Requests.{Sense, faulty, asking, HasSense}
+use Rattle.shop_request.specs.Reading.{IsAsked, IsRefused}
+use Rattle.shop_request.specs.Requests.{Sense, silent, faulty, asking, HasSense}
 use Rattle.shop_request.specs.Routes.{takes_body}
 use Rattle.shop_request.specs.Senses.{IsHeadFault, IsSettled, MayBeEither}
-use Rattle.shop_request.proofs.Front.{front_is_full, refused}
-use Rattle.shop_request.proofs.Behind.{IsJudged, bad_head, sense_of_body, sense_of_short}
+use Rattle.shop_request.proofs.Front.{ends_early, front_is_full, refused}
+use Rattle.shop_request.proofs.Behind.{IsJudged, bad_head, found_judged, sense_of_fault, sense_of_body, sense_of_short}
 use Rattle.shop_request.proofs.Uniqueness.{one_sense}
 
 pub refused_settled : (came : List ℕ) → 0 < length came → (fault : Fault) → IsRefused (front came) fault → IsSettled came
@@ -23,6 +24,45 @@ refused_settled came some fault is = (faulty fault, λ more. bad_head (Some (cam
 pub full_settled : (came : List ℕ) → 8192 ≤ length came → HasNoRequest (front came) → MayBecomeRequest (front came) → IsSettled came
 full_settled came long none may =
     (faulty LargeHead, λ more. bad_head (Some (came ++ more)) LargeHead (front_is_full (Some (came ++ more)) (Some more) came long refl none may))
+
+-- ---- what stands for a fault, or for nothing
+
+empty : (came : List ℕ) → length came ≡ 0 → came ≡ []
+empty [] none = refl
+empty (b ∷ came) none = absurd (omega (arith, none))
+
+-- nothing came
+pub silence_of : (came : List ℕ) (b : Bool) → b ≡ nat_eq (length came) 0 → b ≡ true → HasSense came silent
+silence_of came b is e = inl (empty came (eqb-true (length came) 0 (sym is ∙ e)), refl)
+
+-- what has one sense, whatever follows, has it
+pub as_it_is : (came : List ℕ) (s : Sense) → ((more : List ℕ) → HasSense (came ++ more) s) → HasSense came s
+as_it_is came s later = subst (λ l. HasSense l s) (append-nil came) (later [])
+
+-- a fault of a front, whatever follows
+pub refused_later : (came : List ℕ) → 0 < length came → (fault : Fault) → IsRefused (front came) fault → (more : List ℕ) → HasSense (came ++ more) (faulty fault)
+refused_later came some fault is more = bad_head (Some (came ++ more)) fault (refused (Some (came ++ more)) (Some more) came some refl fault is)
+
+-- a fault in a whole head, whatever follows
+pub fault_later : (came : List ℕ) (headers : List HeaderSpan) (spans : RequestSpans) (fault : Fault) → 0 < length came → length headers ≡ 64 → IsAsked (front came) headers spans (Err fault)
+    → (more : List ℕ) → HasSense (came ++ more) (faulty fault)
+fault_later came headers spans fault some room is more = sense_of_fault (found_judged came headers spans (Err fault) some room is) (Some (came ++ more)) (Some more) refl fault refl
+
+module _ (came : List ℕ) (fault : Fault) (long : 8192 ≤ length came → fault ≡ LargeHead) (short : length came < 8192 → fault ≡ BadRequest) (none : HasNoRequest (front came)) (may : MayBecomeRequest (front came)) where
+  -- a full front with a part of a head
+  pub full_later : 8192 ≤ length came → (more : List ℕ) → HasSense (came ++ more) (faulty fault)
+  full_later full more =
+      subst (λ f. HasSense (came ++ more) (faulty f)) (sym (long full)) (bad_head (Some (came ++ more)) LargeHead (front_is_full (Some (came ++ more)) (Some more) came full refl none may))
+
+  -- a part of a head, and no more
+  part_by : (b : Bool) → nat_le 8192 (length came) ≡ b → 0 < length came → HasSense came (faulty fault)
+  part_by true full some = as_it_is came (faulty fault) (full_later (leb-true 8192 (length came) full))
+  part_by false part some =
+      let few : length came < 8192 = leb-false 8192 (length came) part in
+      subst (λ f. HasSense came (faulty f)) (sym (short few)) (bad_head (Some came) BadRequest (ends_early (Some came) (Some []) came few some (sym (append-nil came)) refl none))
+
+  pub part_sense : 0 < length came → HasSense came (faulty fault)
+  part_sense = part_by (nat_le 8192 (length came)) refl
 
 -- ---- what isn't settled
 

@@ -1,12 +1,13 @@
 -- What the parts of reading a request answer.
-use Rattle.std.specs.Prelude.{◌≡◌, ◌≢◌, ◌⊎◌, ℕ, ◌<◌, ◌≤◌, List, [], ◌∷◌, length, ◌++◌, Option, Some, None, Result, Ok, Err, IfSome}
-use Rattle.std.specs.Io.KnownBytes.{Consumes, IsAtEnd}
+use Rattle.std.specs.Prelude.{◌≡◌, ◌≢◌, ◌⊎◌, ℕ, ◌+◌, ◌<◌, ◌≤◌, List, [], ◌∷◌, length, ◌++◌, true, Option, Some, None, Result, Ok, Err, ⊤}
+use Rattle.std.specs.Io.KnownBytes.{Consumes}
 use Rattle.httparse.specs.declared.spans.HeaderSpan.{HeaderSpan}
+use Rattle.httparse.specs.declared.spans.RequestSpans.{RequestSpans}
 use Rattle.httparse.specs.declared.Error.{Error}
 use Rattle.httparse.specs.declared.Error.TheVariants.{TooManyHeaders}
 use Rattle.shop_request.specs.declared.faults.Fault.TheVariants.{BadRequest, LargeHead}
-use Rattle.httparse.specs.Spans.{IsRequestWithin, IsRequestOf, RequestExceeds, RequestOverflows}
-use Rattle.httparse.specs.Grammar.{HasNoRequest, NeverHasRequest, MayBecomeRequest}
+use Rattle.httparse.specs.Spans.{IsRequestAt, IsRequestWithin, IsRequestOf, RequestExceeds, RequestOverflows}
+use Rattle.httparse.specs.Grammar.{RequestHead, HasNoRequest, NeverHasRequest, MayBecomeRequest}
 use Rattle.shop_request.specs.declared.heads.Parsed.{Parsed}
 use Rattle.shop_request.specs.declared.heads.Parsed.TheVariants as parsed
 use Rattle.shop_request.specs.declared.faults.Fault.{Fault}
@@ -14,10 +15,12 @@ use Rattle.shop_request.specs.declared.fields.Values.{Values}
 use Rattle.shop_request.specs.declared.fields.Values.TheVariants as values
 use Rattle.shop_request.specs.declared.fields.Said.{Said}
 use Rattle.shop_request.specs.declared.fields.Said.TheVariants.{Nothing, Length, Large}
-use Rattle.shop_request.specs.declared.heads.HeadRead.{HeadRead}
-use Rattle.shop_request.specs.declared.heads.HeadRead.TheVariants.{Silence, Faulty, Whole}
-use Rattle.shop_request.specs.Heads.{HasHead, front, most_fields, most_body, Plea}
-use Rattle.shop_request.specs.declared.judging.Pleaded.{Pleaded}
+use Rattle.shop_request.specs.declared.heads.Found.{Found}
+use Rattle.shop_request.specs.declared.heads.Found.TheVariants as found
+use Rattle.shop_request.specs.declared.heads.Head.{Head}
+use Rattle.shop_request.specs.Heads.{front, judged, most_fields, most_head, most_body, Plea}
+use Rattle.shop_request.specs.Routes.{path_of, part_of, takes_body}
+use Rattle.shop_request.specs.declared.judging.Asked.{Asked}
 
 -- no value, one, or more
 abbrev pub AreValues : Values → List (List ℕ) → Type 0
@@ -47,20 +50,36 @@ IsParsed front headers (parsed.Whole spans) = IsRequestWithin front headers span
 IsParsed front headers parsed.Unfinished = HasNoRequest front × MayBecomeRequest front
 IsParsed front headers (parsed.Refused fault) = IsRefused front fault
 
--- nothing came; or what came stands for that fault; or a whole head came, with these spans
-abbrev pub IsHeadRead : Option (List ℕ) → Option (List ℕ) → List ℕ → List HeaderSpan → HeadRead → Type 0
-IsHeadRead old new came headers Silence = IsAtEnd old
-IsHeadRead old new came headers (Faulty f) = IfSome old (λ input. (0 < length input) × HasHead input (Err f))
-IsHeadRead old new came headers (Whole spans) =
-    (0 < length came) × IsRequestWithin (front came) headers spans × IsRequestOf (front came) headers spans × Consumes old new came
+-- what is pleaded for, by a path
+abbrev pub plea_at : List ℕ → Asked → Plea
+plea_at path a = record { route = a.route; part = part_of a.route path; length = a.length }
 
--- what a plea's parts are
-abbrev pub plea_of : Pleaded → Plea
-plea_of p = record { route = p.route; part = p.part.now; length = p.length }
+abbrev pub pleas : List ℕ → Result Asked Fault → Result Plea Fault
+pleas path (Ok a) = Ok (plea_at path a)
+pleas path (Err f) = Err f
 
-abbrev pub pleas : Result Pleaded Fault → Result Plea Fault
-pleas (Ok p) = Ok (plea_of p)
-pleas (Err f) = Err f
+-- a whole head in these spans, and what it asks for, or the first fault in it
+abbrev pub IsAsked : List ℕ → List HeaderSpan → RequestSpans → Result Asked Fault → Type 0
+IsAsked front headers spans asks = IsRequestWithin front headers spans × ((h : RequestHead) × IsRequestAt front headers spans h × (pleas (path_of h.target) asks ≡ judged h))
+
+-- what stands in a front: such a head, a part of one, or none
+abbrev pub IsFound : List ℕ → List HeaderSpan → Found → Type 0
+IsFound front headers (found.Asks spans a) = IsAsked front headers spans (Ok a)
+IsFound front headers (found.Faulty spans f) = IsAsked front headers spans (Err f)
+IsFound front headers found.Unfinished = HasNoRequest front × MayBecomeRequest front
+IsFound front headers (found.Refused fault) = IsRefused front fault
+
+-- what was read of the head of these bytes
+pub record IsHeadIn (came : List ℕ) (head : Head) : Type 0 where
+  pub room : length head.headers ≡ 64
+  pub found : IsFound (front came) head.headers head.found
+
+-- so many bytes are enough for what was found: no more make another request of it
+abbrev pub HasEnough : ℕ → Found → Type 0
+HasEnough n (found.Asks spans a) = takes_body a.route ≡ true → spans.len + a.length ≤ n
+HasEnough n (found.Faulty spans f) = ⊤
+HasEnough n found.Unfinished = most_head ≤ n
+HasEnough n (found.Refused fault) = ⊤
 
 -- more bytes came
 abbrev pub IsReadOn : Option (List ℕ) → Option (List ℕ) → List ℕ → List ℕ → Type 0

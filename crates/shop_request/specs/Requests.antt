@@ -43,4 +43,4 @@ most_request_reads = most_head + most_body
 abbrev pub sense_of : Inbound → Sense
 sense_of Silence = silent
 sense_of (Faulty f) = faulty f
-sense_of (Asks route text) = asking route text.items
+sense_of (Asks route text) = asking route text.now

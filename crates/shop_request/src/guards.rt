@@ -2,14 +2,15 @@
 
 ghost use Rattle.std.specs.Prelude.{◌≡◌, length, map, All, IfOk, string_bytes};
 ghost use Rattle.std.specs.List.{list_any};
-ghost use Rattle.httparse.specs.Spans.{IsHeaderWithin, header_bytes};
+ghost use Rattle.httparse.specs.Spans.{IsHeaderWithin, IsRequestOf, IsRequestWithin, header_bytes};
 ghost use Rattle.shop_request.specs.Guards.{HasRuling, local_name, local_number, has_good_fields, is_strange, is_strange_as, mark_name, of_page, origin_of, ruled_parts};
-ghost use Rattle.shop_request.specs.Heads.{values_of};
+ghost use Rattle.shop_request.specs.Heads.{front, values_of};
+ghost use Rattle.shop_request.specs.Reading.{IsHeadIn};
 
 use crate::fields::{has_hosts, is_name, is_there, said_length, values_named};
-use crate::heads::{MOST_FIELDS, Parsed, front_of, parse_front};
+use crate::heads::{Found, Head, front_of};
 use crate::judging::{path_in, target_text};
-use httparse::spans::{EMPTY_HEADER_SPAN, HeaderSpan};
+use httparse::spans::{HeaderSpan, RequestSpans};
 use std::alloc::{AllocError, Global};
 
 /// What is done with a request, by its head alone.
@@ -160,24 +161,34 @@ impl Guard {
         Ruling::Routed
     }
 
-    /// What is done with the request that these bytes begin with, by its head alone.
-    pub fn rule(&self, came: &[u8]) -> Ruling
+    // What is done by a whole head.
+    fn rule_whole(&self, headers: &[HeaderSpan], spans: &RequestSpans, came: &[u8]) -> Ruling
+        requires room { length headers.now ≡ 64 }
+        requires within { IsRequestWithin (front came.now) headers.now spans.now }
+        requires head { IsRequestOf (front came.now) headers.now spans.now }
         ensures { HasRuling self.now.port self.now.has_page self.now.has_backups came.now result }
     {
-        let mut headers = [EMPTY_HEADER_SPAN; MOST_FIELDS];
-        let head = front_of(came);
-        let spans = match parse_front(head, &mut headers) {
-            Parsed::Whole(spans) => spans,
-            Parsed::Unfinished => return Ruling::Routed,
-            Parsed::Refused(_) => return Ruling::Routed,
-        };
+        let front = front_of(came);
         self.rule_parts(
-            head,
+            front,
             &headers[..spans.headers],
-            spans.method.of(head),
-            target_text(spans.path.of(head)),
+            spans.method.of(front),
+            target_text(spans.path.of(front)),
             spans.version,
         )
+    }
+
+    /// What is done with the request that these bytes begin with, by its head alone.
+    pub fn rule(&self, head: &Head, came: &[u8]) -> Ruling
+        requires { IsHeadIn came.now head.now }
+        ensures { HasRuling self.now.port self.now.has_page self.now.has_backups came.now result }
+    {
+        match head.found {
+            Found::Asks(spans, _) => self.rule_whole(&head.headers, &spans, came),
+            Found::Faulty(spans, _) => self.rule_whole(&head.headers, &spans, came),
+            Found::Unfinished => Ruling::Routed,
+            Found::Refused(_) => Ruling::Routed,
+        }
     }
 }
 

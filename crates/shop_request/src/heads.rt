@@ -1,35 +1,42 @@
-//! The head of a request: read from a source, and parsed into its method, its target and its fields.
+//! The head of a request: where its method, its target and its fields stand, and what it asks for.
 
-ghost use Rattle.std.specs.Prelude.{◌≡◌, ◌⊎◌, ◌+◌, ◌≤◌, ℕ, List, length, Err, IfOk, IfErr, OnOk, []};
-ghost use Rattle.shop_streams.specs.Streams.{HasFailed};
-ghost use Rattle.shop_request.specs.Heads.{front, most_head};
-ghost use Rattle.shop_request.specs.Reading.{IsFaultOf, IsHeadRead, IsParsed};
-ghost use Rattle.shop_request.specs.declared.faults.StreamFault.TheVariants.{Read, NoMemory};
+ghost use Rattle.std.specs.Prelude.{◌≡◌, length};
+ghost use Rattle.shop_request.specs.Heads.{front};
+ghost use Rattle.shop_request.specs.Reading.{IsFaultOf, IsFound, IsHeadIn, IsParsed};
 
-use crate::faults::{Fault, StreamFault};
-use crate::pieces::read_piece;
-use httparse::spans::{HeaderSpan, RequestSpans, parse_request};
+use crate::faults::Fault;
+use crate::judging::{Asked, judge};
+use crate::routes::Routes;
+use httparse::spans::{EMPTY_HEADER_SPAN, HeaderSpan, RequestSpans, parse_request};
 use httparse::{Error, Status};
-use shop_streams::Source;
 
 pub(crate) const LONGEST_HEAD: usize = 8192;
 
 pub(crate) const MOST_FIELDS: usize = 64;
 
-/// What was found of the head of a request.
-#[derive(Clone, Copy)]
-pub(crate) enum HeadRead {
-    Silence,
-    Faulty(Fault),
-    Whole(RequestSpans),
-}
-
-/// What stands where a head may stand.
+// How a front was read.
 #[derive(Clone, Copy)]
 pub(crate) enum Parsed {
     Whole(RequestSpans),
     Unfinished,
     Refused(Fault),
+}
+
+/// What stands where a head may stand: a whole one, with what it asks for, or with the first fault in it; a part of one; or none.
+#[derive(Clone, Copy)]
+pub(crate) enum Found {
+    Asks(RequestSpans, Asked),
+    Faulty(RequestSpans, Fault),
+    Unfinished,
+    Refused(Fault),
+}
+
+/// The head that some bytes begin with, or the first part of one, or what is wrong: read once, for the guard, the route and the
+/// body.
+#[derive(Clone, Copy)]
+pub struct Head {
+    pub(crate) headers: [HeaderSpan; 64],
+    pub(crate) found: Found,
 }
 
 /// Where a head may stand.
@@ -64,35 +71,38 @@ pub(crate) fn parse_front(front: &[u8], headers: &mut [HeaderSpan]) -> Parsed
     }
 }
 
-/// Reads the head of a request, and what comes with it of the body.
-pub(crate) fn read_head<S: Source>(
-    source: &mut S,
-    came: &mut Vec<u8>,
-    headers: &mut [HeaderSpan; 64],
-) -> Result<HeadRead, StreamFault>
-    requires { came.old.items ≡ [] }
-    ensures read { IfOk result
-        (λ read. IsHeadRead (S.left source.old)
-        (S.left source.new) came.new.items headers.new read) }
-    ensures fault { IfErr result
-        (λ fault. (fault ≡ NoMemory) ⊎ (fault ≡ Read)
-        × HasFailed (S.failed source.old) (S.failed source.new)) }
-    ensures memory { result ≡ Err NoMemory → S.failed source.new ≡ S.failed source.old }
-    ensures worked { OnOk result (S.failed source.new ≡ S.failed source.old) }
-    ensures reads { S.reads source.new ≤ S.reads source.old + most_head }
+// What was found, by how the front was read.
+fn found_in(routes: &Routes, front: &[u8], headers: &[HeaderSpan], parsed: Parsed) -> Found
+    requires { IsParsed front.now headers.now parsed }
+    ensures { IsFound front.now headers.now result }
 {
-    while came.len() < LONGEST_HEAD {
-        if !read_piece(source, came)? {
-            if came.is_empty() {
-                return Ok(HeadRead::Silence);
-            }
-            return Ok(HeadRead::Faulty(Fault::BadRequest));
-        }
-        match parse_front(front_of(came), headers) {
-            Parsed::Whole(spans) => return Ok(HeadRead::Whole(spans)),
-            Parsed::Unfinished => (),
-            Parsed::Refused(fault) => return Ok(HeadRead::Faulty(fault)),
+    match parsed {
+        Parsed::Whole(spans) => match judge(routes, front, headers, &spans) {
+            Ok(asked) => Found::Asks(spans, asked),
+            Err(fault) => Found::Faulty(spans, fault),
+        },
+        Parsed::Unfinished => Found::Unfinished,
+        Parsed::Refused(fault) => Found::Refused(fault),
+    }
+}
+
+impl Head {
+    /// Nothing was read yet.
+    pub fn new() -> Head {
+        Head {
+            headers: [EMPTY_HEADER_SPAN; MOST_FIELDS],
+            found: Found::Unfinished,
         }
     }
-    Ok(HeadRead::Faulty(Fault::LargeHead))
+
+    /// The head of the bytes that came.
+    pub fn read(routes: &Routes, came: &[u8]) -> Head
+        ensures { IsHeadIn came.now result }
+    {
+        let mut headers = [EMPTY_HEADER_SPAN; MOST_FIELDS];
+        let front = front_of(came);
+        let parsed = parse_front(front, &mut headers);
+        let found = found_in(routes, front, &headers, parsed);
+        Head { headers, found }
+    }
 }

@@ -1,6 +1,6 @@
-//! What a head asks for, its route and its part of the path, or the first fault in it.
+//! What a head asks for, or the first fault in it; and what its path says beside the route.
 
-ghost use Rattle.std.specs.Prelude.{◌≡◌, ◌≤◌, ℕ, List, Option, Result, length, map, take, All, option_map, Ok};
+ghost use Rattle.std.specs.Prelude.{◌≡◌, ℕ, List, Option, length, map, All, Ok};
 ghost use Rattle.std.specs.Str.{IsUtf8};
 ghost use Rattle.httparse.specs.Grammar.{RequestHead};
 ghost use Rattle.httparse.specs.Spans.{IsHeaderWithin, IsRequestAt, IsRequestWithin, header_bytes, IsRequestOf};
@@ -14,11 +14,10 @@ use crate::routes::{Route, Routes};
 use httparse::spans::{HeaderSpan, RequestSpans};
 use std::str;
 
-/// What a head asks for.
+/// What a head asks for: its route, and how many bytes of a body belong to it.
 #[derive(Clone, Copy)]
-pub(crate) struct Pleaded<'b> {
+pub(crate) struct Asked {
     pub(crate) route: Route,
-    pub(crate) part: &'b [u8],
     pub(crate) length: usize,
 }
 
@@ -40,24 +39,16 @@ fn part_in(route: Route, path: &str) -> &[u8]
 }
 
 // What is asked for by a method at a route.
-fn at_route<'b>(
-    route: Route,
-    part: &'b [u8],
-    method: &[u8],
-    said: Said,
-) -> Result<Pleaded<'b>, Fault>
-    ensures { (length : Option ℕ) → IsSaid (Ok said) (Ok length)
-        → pleas result ≡ by_method (takes_body route) route part.now method.now length }
+fn at_route(route: Route, method: &[u8], said: Said) -> Result<Asked, Fault>
+    ensures { (path : List ℕ) (length : Option ℕ) → IsSaid (Ok said) (Ok length)
+        → pleas path result ≡ by_method (takes_body route) route (part_of route path) method.now
+        length }
 {
     if !route.takes_body() {
         if method != b"GET".as_slice() {
             return Err(Fault::OnlyGet);
         }
-        return Ok(Pleaded {
-            route,
-            part,
-            length: 0,
-        });
+        return Ok(Asked { route, length: 0 });
     }
     if method != b"POST".as_slice() {
         return Err(Fault::OnlyPost);
@@ -65,41 +56,32 @@ fn at_route<'b>(
     match said {
         Said::Nothing => Err(Fault::NoLength),
         Said::Large => Err(Fault::LargeBody),
-        Said::Length(length) => Ok(Pleaded {
-            route,
-            part,
-            length,
-        }),
+        Said::Length(length) => Ok(Asked { route, length }),
     }
 }
 
 // What is asked for by a method and a path.
-fn at_path<'b>(
-    routes: &Routes,
-    method: &[u8],
-    path: &'b str,
-    said: Said,
-) -> Result<Pleaded<'b>, Fault>
+fn at_path(routes: &Routes, method: &[u8], path: &str, said: Said) -> Result<Asked, Fault>
     ensures { (length : Option ℕ) → IsSaid (Ok said) (Ok length)
-        → pleas result ≡ on_route method.now path.now length (route_of path.now) }
+        → pleas path.now result ≡ on_route method.now path.now length (route_of path.now) }
 {
     match routes.find(path) {
-        Some(route) => at_route(route, part_in(route, path), method, said),
+        Some(route) => at_route(route, method, said),
         None => Err(Fault::NotFound),
     }
 }
 
 // What is asked for by the parts of a head.
-fn judge_parts<'b>(
+fn judge_parts(
     routes: &Routes,
     buf: &[u8],
     headers: &[HeaderSpan],
     method: &[u8],
-    target: &'b str,
+    target: &str,
     minor: u8,
-) -> Result<Pleaded<'b>, Fault>
+) -> Result<Asked, Fault>
     requires { All (IsHeaderWithin (length buf.now)) headers.now }
-    ensures { pleas result ≡ judged_parts method.now target.now minor
+    ensures { pleas (path_of target.now) result ≡ judged_parts method.now target.now minor
         (map (header_bytes buf.now) headers.now) }
 {
     if !has_hosts(minor, values_named(buf, headers, b"host")) {
@@ -124,16 +106,16 @@ pub(crate) fn target_text(target: &[u8]) -> &str
 }
 
 /// What a head asks for, or the first fault in it.
-pub(crate) fn judge<'b>(
+pub(crate) fn judge(
     routes: &Routes,
-    buf: &'b [u8],
+    buf: &[u8],
     headers: &[HeaderSpan],
     spans: &RequestSpans,
-) -> Result<Pleaded<'b>, Fault>
+) -> Result<Asked, Fault>
     requires within { IsRequestWithin buf.now headers.now spans.now }
     requires head { IsRequestOf buf.now headers.now spans.now }
     ensures { (h : RequestHead) → IsRequestAt buf.now headers.now spans.now h
-        → pleas result ≡ judged h }
+        → pleas (path_of h.target) result ≡ judged h }
 {
     let method = spans.method.of(buf);
     let target = target_text(spans.path.of(buf));
@@ -145,4 +127,19 @@ pub(crate) fn judge<'b>(
         target,
         spans.version,
     )
+}
+
+/// What the path of a head says beside its route.
+pub(crate) fn part_at<'b>(
+    route: Route,
+    buf: &'b [u8],
+    headers: &[HeaderSpan],
+    spans: &RequestSpans,
+) -> &'b [u8]
+    requires within { IsRequestWithin buf.now headers.now spans.now }
+    requires head { IsRequestOf buf.now headers.now spans.now }
+    ensures { (h : RequestHead) → IsRequestAt buf.now headers.now spans.now h
+        → result.now ≡ part_of route (path_of h.target) }
+{
+    part_in(route, path_in(target_text(spans.path.of(buf))))
 }

@@ -14,7 +14,8 @@ mod wholes;
 
 pub use faults::{Fault, StreamFault};
 pub use guards::{Guard, Ruling};
+pub use heads::Head;
 pub use laws::{one_ruling, one_sense, unfinished_is_open};
-pub use requests::{Inbound, read_request};
+pub use requests::{Inbound, inbound_of, read_request};
 pub use routes::{Route, Routes};
 pub use wholes::{is_whole, least_bytes};

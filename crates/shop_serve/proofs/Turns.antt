@@ -28,7 +28,7 @@ use Rattle.shop_serve.specs.declared.answers.Made.TheVariants.{Answer, Thought}
 use Rattle.shop_serve.specs.Making.{IsMade, IsMadeMeanwhile}
 use Rattle.shop_serve.specs.declared.sites.Site.{Site}
 use Rattle.shop_serve.specs.Sites.{is_routed, own_bytes}
-use Rattle.shop_serve.specs.Serving.{Turn, routed, ruled, begun, copied, InTurn, asks_backup, is_backup, IsAnswered, IsAnsweredThen, IsBackupAnswer, exchange_of, exchanges, TellsFailure, TellOfFailures, HasServed, Advances}
+use Rattle.shop_serve.specs.Serving.{Turn, Handling, HandlingStep, IsServedOnce, routed, ruled, begun, copied, InTurn, asks_backup, is_backup, IsAnswered, IsAnsweredThen, IsBackupAnswer, exchange_of, exchanges, TellsFailure, TellOfFailures, HasServed, Advances}
 
 -- what goes to its route, and what doesn't
 pub is_route : (r : Ruling) → is_routed r ≡ true → r ≡ Routed
@@ -71,9 +71,12 @@ backup_asked came silent e has = absurd (cc e)
 backup_asked came (faulty f) e has = absurd (cc e)
 backup_asked came (asking route text) e has = (text, subst (λ r. HasSense came (asking r text)) (is_for_backup route e) has)
 
-turns-append : (site : Site) (old mid new : Content) (ss ts : List Turn) → InTurn site old ss mid → InTurn site mid ts new → InTurn site old (ss ++ ts) new
-turns-append site old mid new [] ts run more = subst (λ (c : Content). InTurn site c ts new) run more
-turns-append site old mid new (s ∷ ss) ts run more = (run.0, run.1, run.2, turns-append site run.0 mid new ss ts run.3 more)
+turns-append : (site : Site) {B : Type 0} (book : Ghosts B) (before mid after : B) (old m new : Content) (ss ts : List Turn)
+    → InTurn site book before old ss mid m → InTurn site book mid m ts after new → InTurn site book before old (ss ++ ts) after new
+turns-append site book before mid after old m new [] ts run more =
+    subst (λ b. InTurn site book b old ts after new) run.0 (subst (λ (c : Content). InTurn site book mid c ts after new) run.1 more)
+turns-append site book before mid after old m new (s ∷ ss) ts run more =
+    (run.0, run.1, run.2, run.3, turns-append site book run.0 mid after run.1 m new ss ts run.4 more)
 
 -- turns, and then more of them
 blame-append : (a b c : ℕ) (ss ts : List Turn) → CountsUp a b → CountsUp b c → TellOfFailures ss a b → TellOfFailures ts b c → TellOfFailures (ss ++ ts) a c
@@ -85,11 +88,24 @@ module _ (site : Site) {B : Type 0} (book : Ghosts B) where
   -- none
   pub none_served : (here : B) (count : ℕ) → HasServed site book here here count
   none_served here count honest m held sound =
-      record { served = []; few = omega arith; next = m; run = refl; held = held; sound = sound; crash = (refl, λ left it. it); failures = inl refl; blame = λ t i. absurd i; account = account_same json_texts m m refl }
+      record { served = []; few = omega arith; next = m; run = (refl, refl); held = held; sound = sound; crash = (refl, λ left it. it); failures = inl refl; blame = λ t i. absurd i; account = account_same json_texts m m refl }
 
   -- nothing was done
   pub none_done : (before after : B) (count : ℕ) → after ≡ before → HasServed site book before after count
   none_done before after count same = subst (λ b. HasServed site book before b count) (sym same) (none_served before count)
+
+  -- one that does nothing and tells of no failure
+  once_same : (here : B) (m : Content) (handling : Handling) → HandlingStep m handling m → book.is_honest here → book.holds here m → exchange_of handling ≡ [] → (TellsFailure handling → ⊥)
+      → IsServedOnce book here here m handling m
+  once_same here m handling step honest held none untold =
+      record {
+        step = step;
+        honest = honest;
+        held = held;
+        crash = subst (λ es. ExchangesLead book here here m es m) (sym none) (refl, λ left it. it);
+        failures = inl refl;
+        blame = λ tells. absurd (untold tells);
+      }
 
   -- by its head an input goes to its route
   abbrev GoesToRoute : List ℕ → Type 0
@@ -102,11 +118,13 @@ module _ (site : Site) {B : Type 0} (book : Ghosts B) where
       let telling = s.2.telling in
       let done = s.2.run honest m held sound in
       let turn : Turn = record { input = input; handling = routed s.0 telling; answer = s.2.bytes } in
+      let once : IsServedOnce book before after m (routed s.0 telling) done.next =
+      record { step = done.step; honest = honest; held = done.held; crash = done.crash; failures = up; blame = done.blame } in
       record {
         served = turn ∷ [];
         few = omega arith;
         next = done.next;
-        run = (done.next, (some, (goes, s.1, (unwritten, s.2.told))), done.step, refl);
+        run = (after, done.next, (some, (goes, s.1, (unwritten, s.2.told))), once, (refl, refl));
         held = done.held;
         sound = done.sound;
         crash = subst (λ es. ExchangesLead book before after m es done.next) (sym (append-nil (exchanged s.0 telling))) done.crash;
@@ -132,11 +150,13 @@ module _ (site : Site) {B : Type 0} (book : Ghosts B) where
   begun_once before after input posed some goes up b honest m held sound =
       let done = b.run honest m held sound in
       let turn : Turn = record { input = input; handling = begun b.body b.query posed; answer = [] } in
+      let once : IsServedOnce book before after m (begun b.body b.query posed) m =
+      record { step = (refl, done.1); honest = honest; held = done.0; crash = (refl, b.keeps.crash honest m held); failures = up; blame = λ none. absurd none } in
       record {
         served = turn ∷ [];
         few = omega arith;
         next = m;
-        run = (m, (some, (goes, b.sense, b.asks, refl)), (refl, done.1), refl);
+        run = (after, m, (some, (goes, b.sense, b.asks, refl)), once, (refl, refl));
         held = done.0;
         sound = sound;
         crash = (refl, b.keeps.crash honest m held);
@@ -157,7 +177,7 @@ module _ (site : Site) {B : Type 0} (book : Ghosts B) where
         served = turn ∷ [];
         few = omega arith;
         next = m;
-        run = (m, (some, (is.0.0, is.0.1.1, is.1)), refl, refl);
+        run = (here, m, (some, (is.0.0, is.0.1.1, is.1)), once_same here m turn.handling refl honest held refl (λ none. none), (refl, refl));
         held = held;
         sound = sound;
         crash = (refl, λ left it. it);
@@ -189,7 +209,7 @@ module _ (site : Site) {B : Type 0} (book : Ghosts B) where
         served = turn ∷ [];
         few = omega arith;
         next = m;
-        run = (m, (some, (rules, other, refl)), refl, refl);
+        run = (here, m, (some, (rules, other, refl)), once_same here m turn.handling refl honest held refl (λ none. none), (refl, refl));
         held = held;
         sound = sound;
         crash = (refl, λ left it. it);
@@ -207,7 +227,7 @@ module _ (site : Site) {B : Type 0} (book : Ghosts B) where
         served = first.served ++ second.served;
         few = omega (arith, length-append first.served second.served, first.few, second.few);
         next = second.next;
-        run = turns-append site m first.next second.next first.served second.served first.run second.run;
+        run = turns-append site book before mid after m first.next second.next first.served second.served first.run second.run;
         held = second.held;
         sound = second.sound;
         crash = subst (λ es. ExchangesLead book before after m es second.next) (sym (flat_map-append (λ (t : Turn). exchange_of t.handling) first.served second.served))

@@ -84,11 +84,6 @@ HandlingStep old (ruled r) new = new ≡ old
 HandlingStep old (begun body query posed) new = (new ≡ old) × IsPosed old query posed
 HandlingStep old (copied body outcome) new = new ≡ old
 
--- one after another
-abbrev pub InTurn : Site → Content → List Turn → Content → Type 0
-InTurn site old [] new = new ≡ old
-InTurn site old (t ∷ ts) new = (mid : Content) × IsTurn site t × HandlingStep old t.handling mid × InTurn site mid ts new
-
 -- the message that was read, with its reply
 abbrev pub exchange_of : Handling → List (Message × Reply)
 exchange_of (routed sense telling) = exchanged sense telling
@@ -107,18 +102,34 @@ TellsFailure (ruled r) = ⊥
 TellsFailure (begun body query posed) = ⊥
 TellsFailure (copied body outcome) = ⊥
 
+-- One that was served leads from one book, which held old, to the next, which holds new. A crash leaves what it may leave after the
+-- message, if there was one. A failed store is told of only where it failed at this very one.
+pub record IsServedOnce {B : Type 0} (book : Ghosts B) (before after : B) (old : Content) (handling : Handling) (new : Content) : Type 0 where
+  pub step : HandlingStep old handling new
+  pub honest : book.is_honest after
+  pub held : book.holds after new
+  pub crash : ExchangesLead book before after old (exchange_of handling) new
+  pub failures : CountsUp (book.failed before) (book.failed after)
+  pub blame : TellsFailure handling → StoreFailed (book.failed before) (book.failed after)
+
+-- one after another, each of which came as some bytes, over the book that the one before it left
+abbrev pub InTurn : Site → {B : Type 0} → Ghosts B → B → Content → List Turn → B → Content → Type 0
+InTurn site book before old [] after new = (after ≡ before) × (new ≡ old)
+InTurn site {B} book before old (t ∷ ts) after new =
+    (mid : B) × (m : Content) × IsTurn site t × IsServedOnce book before mid old t.handling m × InTurn site book mid m ts after new
+
 -- a failed store is told of only where it failed meanwhile
 abbrev pub TellOfFailures : List Turn → ℕ → ℕ → Type 0
 TellOfFailures served before after = (t : Turn) → IsIn t served → TellsFailure t.handling → StoreFailed before after
 
--- The book held old and holds next, and at most so many requests led from one to the other, each of which came as some bytes.
--- A crash leaves what it may leave after the messages among them. A failed store was told of only where it failed. Where a
--- history gives old, one with each message that was accepted, once, gives next, and this is its account.
+-- The book held old and holds next, and at most so many requests led from one to the other, over a chain of books. A crash leaves
+-- what it may leave after the messages among them. A failed store was told of only where it failed. Where a history gives old, one
+-- with each message that was accepted, once, gives next, and this is its account.
 pub record HasServedTurns (site : Site) {B : Type 0} (book : Ghosts B) (before after : B) (old : Content) (count : ℕ) : Type 0 where
   pub served : List Turn
   pub few : length served ≤ count
   pub next : Content
-  pub run : InTurn site old served next
+  pub run : InTurn site book before old served after next
   pub held : book.holds after next
   pub sound : IsSound json_texts next
   pub crash : ExchangesLead book before after old (exchanges served) next

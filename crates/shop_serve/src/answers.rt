@@ -7,7 +7,8 @@ ghost use Rattle.shop_request.specs.Guards.{HasRuling};
 ghost use Rattle.shop_request.specs.declared.guards.Ruling.TheVariants as ruling;
 ghost use Rattle.shop_request.specs.declared.faults.Fault.TheVariants as faults;
 ghost use Rattle.shop_wire.specs.AnswerBytes.{answer_bytes, backup_answer, fault_answer};
-ghost use Rattle.shop_request.specs.Requests.{HasSense, sense_of};
+ghost use Rattle.shop_request.specs.Reading.{IsHeadIn};
+ghost use Rattle.shop_request.specs.Requests.{sense_of};
 ghost use Rattle.shop_serve.specs.Making.{IsMadeMeanwhile, IsNext};
 ghost use Rattle.shop_serve.specs.Serving.{HasServed, asks_backup};
 ghost use Rattle.shop_serve.specs.Times.{Copies};
@@ -17,9 +18,9 @@ use crate::sites::Site;
 use crate::watches::Watch;
 use shop_book::Book;
 use shop_planning::Thought;
-use shop_request::{Inbound, Route, Ruling, read_request};
+use shop_request::{Head, Inbound, Route, Ruling, inbound_of};
 use shop_rules::Refusal;
-use shop_text::{Counted, Failed, Sink};
+use shop_text::{Failed, Sink};
 use shop_wire::{backup_answer, begin_inbound};
 use std::alloc::{AllocError, Global};
 
@@ -91,27 +92,23 @@ fn asks_backup(inbound: &Inbound) -> bool
     }
 }
 
-// What the bytes that came stand for.
-fn inbound_of(alloc: Global, site: &Site, came: &[u8]) -> Option<Inbound>
-    ensures { IfSome result (λ inbound. HasSense came.now (sense_of inbound)) }
-{
-    let mut source = Counted::new(came);
-    match read_request(alloc, &site.routes, &mut source) {
-        Ok(inbound) => Some(inbound),
-        Err(_) => None,
-    }
-}
-
 // Serves the bytes that came at their route, and gives the whole answer, or begins their question. A backup that they ask for
 // is still to be made.
-fn routed_answer<B: Book>(alloc: Global, site: &Site, came: &[u8], book: &mut B) -> Option<Next>
+fn routed_answer<B: Book>(
+    alloc: Global,
+    site: &Site,
+    head: &Head,
+    came: &[u8],
+    book: &mut B,
+) -> Option<Next>
     requires some { 0 < length came.now }
+    requires head { IsHeadIn came.now head.now }
     requires goes { HasRuling site.now.guard.port site.now.guard.has_page site.now.guard.has_backups came.now ruling.Routed }
     ensures made { IfSome result (IsNext site.now B.Book book.old book.new came.now) }
     ensures step { HasServed site.now B.Book book.old book.new 1 }
     ensures honest { B.is_honest book.new → B.is_honest book.old }
 {
-    let inbound = inbound_of(alloc, site, came)?;
+    let inbound = inbound_of(head, came);
     if asks_backup(&inbound) {
         return Some(Next::Backup);
     }
@@ -166,15 +163,22 @@ fn own_answer(alloc: Global, site: &Site, ruling: Ruling) -> Result<Vec<u8>, All
 
 // Serves the bytes that came, and gives the whole answer, or begins their question. A backup that they ask for is still to be
 // made. Where memory is wanting there is nothing, though what was asked for may be done.
-fn answer_of<B: Book>(alloc: Global, site: &Site, came: &[u8], book: &mut B) -> Option<Next>
-    requires { 0 < length came.now }
+fn answer_of<B: Book>(
+    alloc: Global,
+    site: &Site,
+    head: &Head,
+    came: &[u8],
+    book: &mut B,
+) -> Option<Next>
+    requires some { 0 < length came.now }
+    requires head { IsHeadIn came.now head.now }
     ensures made { IfSome result (IsNext site.now B.Book book.old book.new came.now) }
     ensures step { HasServed site.now B.Book book.old book.new 1 }
     ensures honest { B.is_honest book.new → B.is_honest book.old }
 {
-    let ruling = site.guard.rule(came);
+    let ruling = site.guard.rule(head, came);
     if is_routed(ruling) {
-        return routed_answer(alloc, site, came, book);
+        return routed_answer(alloc, site, head, came, book);
     }
     match own_answer(alloc, site, ruling) {
         Ok(answer) => Some(Next::Made(Made::Answer(answer))),
@@ -212,22 +216,24 @@ fn copied_answer<K: Watch>(alloc: Global, watch: &mut K) -> Option<Vec<u8>>
     }
 }
 
-/// Serves the bytes that came, and gives the whole answer, or begins their question. A backup that they ask for is made. Where
-/// memory is wanting there is nothing, though what was asked for may be done.
+/// Serves the bytes that came, by their head, and gives the whole answer, or begins their question. A backup that they ask for
+/// is made. Where memory is wanting there is nothing, though what was asked for may be done.
 pub(crate) fn made_of<K: Watch, B: Book>(
     alloc: Global,
     site: &Site,
+    head: &Head,
     came: &[u8],
     watch: &mut K,
     book: &mut B,
 ) -> Option<Made>
-    requires { 0 < length came.now }
+    requires some { 0 < length came.now }
+    requires head { IsHeadIn came.now head.now }
     ensures made { IfSome result (IsMadeMeanwhile site.now B.Book book.old book.new
         (K.times watch.old) (K.times watch.new) came.now) }
     ensures step { HasServed site.now B.Book book.old book.new 1 }
     ensures honest { B.is_honest book.new → B.is_honest book.old }
 {
-    match answer_of(alloc, site, came, book)? {
+    match answer_of(alloc, site, head, came, book)? {
         Next::Made(made) => {
             note_made(watch, &made);
             Some(made)

@@ -24,6 +24,7 @@ use crate::transfers::{Given, Rest, Taken, drop_rest, hand_over, take_bytes};
 use crate::watches::Watch;
 use shop_book::Book;
 use shop_planning::Thought;
+use shop_request::Head;
 use slab::Slab;
 use std::alloc::Global;
 use std::time::{Duration, Instant};
@@ -163,11 +164,13 @@ fn ask<C: Connection, K: Watch, B: Book>(
     ensures one { HasServed site.now B.Book book.old book.new 1 }
     ensures honest { B.is_honest book.new → B.is_honest book.old }
 {
+    let mut head = Head::new();
     match take_bytes(
         &site.routes,
         &mut line.stream,
         &mut line.came,
         &mut line.needed,
+        &mut head,
     ) {
         Taken::NoMemory => return Taken::NoMemory,
         Taken::Over => return Taken::Over,
@@ -175,7 +178,7 @@ fn ask<C: Connection, K: Watch, B: Book>(
         Taken::Whole => (),
     }
     watch.stop();
-    let Some(made) = made_of(alloc, site, &line.came, watch, book) else {
+    let Some(made) = made_of(alloc, site, &head, &line.came, watch, book) else {
         return Taken::NoMemory;
     };
     put_made(line, made, watch.now());

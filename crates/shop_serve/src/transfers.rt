@@ -3,7 +3,7 @@
 ghost use Rattle.std.specs.Prelude.{◌≡◌, ◌≢◌, ◌⊎◌, ◌<◌, ◌≤◌, ◌++◌, ℕ, List, Option, [], length, take};
 ghost use Rattle.shop_serve.specs.Lines.{AwaitsMore, IsMute, StopsAt};
 ghost use Rattle.std.specs.Io.KnownBytes.{Appends, Consumes, IsAtEnd};
-ghost use Rattle.shop_request.specs.Reading.{IsReadOn};
+ghost use Rattle.shop_request.specs.Reading.{IsHeadIn, IsReadOn};
 ghost use Rattle.shop_request.specs.Senses.{IsSettled};
 ghost use Rattle.shop_serve.specs.declared.transfers.Piece.TheVariants as piece;
 ghost use Rattle.shop_serve.specs.declared.transfers.Given.TheVariants as given;
@@ -11,7 +11,7 @@ ghost use Rattle.shop_serve.specs.declared.transfers.Rest.TheVariants as rest;
 ghost use Rattle.shop_serve.specs.declared.transfers.Taken.TheVariants as taken;
 
 use crate::connections::{Connection, Halt};
-use shop_request::{Routes, is_whole, least_bytes};
+use shop_request::{Head, Routes, is_whole, least_bytes};
 
 const ROOM: usize = 8192;
 
@@ -81,17 +81,19 @@ fn at_end(came: &[u8]) -> Taken
     Taken::Whole
 }
 
-/// Takes the bytes that have come, until they make a whole request or a fault, or end. `needed` is how many that takes at
-/// least, as far as it is known: with fewer the head isn't read again.
+/// Takes the bytes that have come, until they make a whole request or a fault, or end; and gives what was read of their head.
+/// `needed` is how many that takes at least, as far as it is known: with fewer the head isn't read again.
 pub(crate) fn take_bytes<C: Connection>(
     routes: &Routes,
     stream: &mut C,
     came: &mut Vec<u8>,
     needed: &mut usize,
+    head: &mut Head,
 ) -> Taken
     ensures bytes { result ≢ taken.Over → result ≢ taken.NoMemory
         → IsReadOn (C.remaining stream.old) (C.remaining stream.new) came.old.items came.new.items }
     ensures some { result ≡ taken.Whole → 0 < length came.new.items }
+    ensures head { result ≡ taken.Whole → IsHeadIn came.new.items head.new }
     ensures whole { result ≡ taken.Whole → IsSettled came.new.items
         ⊎ IsAtEnd (C.remaining stream.new) }
     ensures waits { result ≡ taken.Waits → AwaitsMore came.old.items needed.old
@@ -106,16 +108,20 @@ pub(crate) fn take_bytes<C: Connection>(
             Piece::NoMemory => return Taken::NoMemory,
             Piece::Lost => return Taken::Over,
             Piece::Waits => return Taken::Waits,
-            Piece::End => return at_end(came),
+            Piece::End => {
+                *head = Head::read(routes, came);
+                return at_end(came);
+            }
             Piece::More => (),
         }
         if came.len() < *needed {
             continue;
         }
-        if is_whole(routes, came) {
+        *head = Head::read(routes, came);
+        if is_whole(head, came) {
             return Taken::Whole;
         }
-        *needed = least_bytes(routes, came);
+        *needed = least_bytes(head, came);
     }
     Taken::Over
 }

@@ -15,7 +15,7 @@ module _ {B : Type 0} (book : Ghosts B) (before after : B) (honest : book.is_hon
   pub from_fresh : (held_old held_new : Option (List ℕ)) (lines : List (List ℕ)) (unwritten : List ℕ)
       → IsReplayed book before after held_old held_new lines unwritten → IsReplayedFresh held_old held_new lines unwritten
   from_fresh held_old held_new lines unwritten r =
-      let one = r.run honest fresh held (gives_sound json_texts [] fresh refl) in
+      let one = r.run.in_turn honest fresh held (gives_sound json_texts [] fresh refl) in
       let later = one.account [] refl in
       record {
         tellings = r.tellings;

@@ -17,26 +17,19 @@ use Rattle.shop_records.specs.Soundness.{IsSound}
 use Rattle.shop_forms.specs.Forms.{message_of, json_texts}
 use Rattle.shop_wire.specs.Lines.{lines_of, AreLines, GivesLine, kept_of}
 use Rattle.shop_book.specs.declared.books.Book.{Ghosts}
-use Rattle.shop_book.specs.Kept.{OnContent}
 use Rattle.shop_desk.specs.Faults.{CountsUp, TellOfFailures}
-use Rattle.shop_desk.specs.Handled.{HasAccount}
+use Rattle.shop_desk.specs.Handled.{HasAccount, OneByOne}
 use Rattle.shop_desk.proofs.Blame.{tell_more}
 use Rattle.shop_desk.proofs.Accounts.{account_same, account_more}
+use Rattle.shop_desk.proofs.Handling.{one_by_one as chained}
 use Rattle.shop_wire.specs.AnswerBytes.{Telling}
-use Rattle.shop_wire.specs.Replays.{ExchangesLead, InTurn, exchanges, HasAnswered, LineStep, line_message, IsReplayed, replies_in, reply_in, telling_line, telling_lines, with_reply}
+use Rattle.shop_wire.specs.Replays.{ExchangesLead, InTurn, exchanges, HasAnswered, AnswersOne, LineStep, line_message, IsReplayed, replies_in, reply_in, telling_line, telling_lines, with_reply}
 use Rattle.shop_wire.proofs.Answered.{AccountOne, LeadsOne, whole_line, data_of-kept_of}
 use Rattle.shop_wire.proofs.Crashes.{leads_join}
 
 -- ---- what was answered
 
 module _ {X B : Type 0} (step : Content → X → Telling → Content → Type 0) (message_in : X → Option Message) (book : Ghosts B) where
-  InTurn-append : (old mid new : Content) (xs more : List X) (tellings later : List Telling)
-      → InTurn step message_in old xs tellings mid → InTurn step message_in mid more later new → InTurn step message_in old (xs ++ more) (tellings ++ later) new
-  InTurn-append old mid new [] more [] later run rest = subst (λ c. InTurn step message_in c more later new) run rest
-  InTurn-append old mid new [] more (t ∷ ts) later run rest = absurd run
-  InTurn-append old mid new (x ∷ xs) more [] later run rest = absurd run
-  InTurn-append old mid new (x ∷ xs) more (t ∷ ts) later run rest = (run.0, run.1, InTurn-append run.0 mid new xs more ts later run.2 rest)
-
   zip-append : (old mid : Content) (xs more : List X) (tellings later : List Telling) → InTurn step message_in old xs tellings mid
       → zip (xs ++ more) (tellings ++ later) ≡ zip xs tellings ++ zip more later
   zip-append old mid [] more [] later run = refl
@@ -59,7 +52,7 @@ module _ {X B : Type 0} (step : Content → X → Telling → Content → Type 0
   more_answered a b c m xs more tellings later up next one two =
       record {
         next = two.next;
-        run = InTurn-append m one.next two.next xs more tellings later one.run two.run;
+        run = chained (λ from to x telling. step from x telling to) m one.next two.next xs more tellings later one.run two.run;
         held = two.held;
         sound = two.sound;
         crash = subst (λ es. ExchangesLead book a c m es two.next) (sym (exchanges-append m one.next xs more tellings later one.run))
@@ -82,22 +75,22 @@ module _ {B : Type 0} (book : Ghosts B) where
         bytes = [];
         told = refl;
         written = Appends-nil held;
-        run = λ h m held sound. none_answered LineStep line_message book at m held sound;
+        run = record { one_by_one = refl; in_turn = λ h m held sound. none_answered LineStep line_message book at m held sound };
       }
 
   -- a line that was answered, and of which what it is told was written but for some last bytes
   pub one_replayed : (before after : B) (held_old held_new : Option (List ℕ)) (line : List ℕ) (telling : Telling) (bytes unwritten : List ℕ)
       → bytes ++ unwritten ≡ telling_line telling → Appends held_old held_new bytes
-      → OnContent book before after (λ m. IsSound json_texts m → HasAnswered LineStep line_message book before after m (line ∷ []) (telling ∷ []))
+      → AnswersOne LineStep line_message book before after line telling
       → IsReplayed book before after held_old held_new (line ∷ []) unwritten
-  one_replayed before after held_old held_new line telling bytes unwritten told written answered =
+  one_replayed before after held_old held_new line telling bytes unwritten told written one =
       record {
         tellings = telling ∷ [];
         each = refl;
         bytes = bytes;
         told = told ∙ sym (append-nil (telling_line telling));
         written = written;
-        run = answered;
+        run = record { one_by_one = (after, one, refl); in_turn = one.answered };
       }
 
   joined : (bytes held more lost next : List ℕ) (tellings later : List Telling) → bytes ++ held ≡ telling_lines tellings → more ++ lost ≡ telling_lines later → next ≡ held ++ more
@@ -117,9 +110,12 @@ module _ {B : Type 0} (book : Ghosts B) where
         bytes = first.bytes;
         told = joined first.bytes held second.bytes lost next first.tellings second.tellings first.told second.told second.written;
         written = first.written;
-        run = λ h m held sound.
-            let one = first.run (back h) m held sound in
-            more_answered LineStep line_message book before mid after m lines more first.tellings second.tellings up later one (second.run h one.next one.held one.sound);
+        run = record {
+          one_by_one = chained (AnswersOne LineStep line_message book) before mid after lines more first.tellings second.tellings first.run.one_by_one second.run.one_by_one;
+          in_turn = λ h m held sound.
+              let one = first.run.in_turn (back h) m held sound in
+              more_answered LineStep line_message book before mid after m lines more first.tellings second.tellings up later one (second.run.in_turn h one.next one.held one.sound);
+        };
       }
 
   -- some of what is held is written
@@ -150,6 +146,17 @@ module _ {B : Type 0} (book : Ghosts B) where
       }
   answered_whole before after m whole (t ∷ s ∷ ts) one = absurd one.run.2
 
+  one_whole : (before after : B) (whole : List ℕ) (telling : Telling) → AnswersOne LineStep line_message book before after (kept_of whole) telling
+      → AnswersOne LineStep line_message book before after whole telling
+  one_whole before after whole telling one =
+      record { answered = λ h m held sound. answered_whole before after m whole (telling ∷ []) (one.answered h m held sound); honest = one.honest; failures = one.failures }
+
+  each_whole : (before after : B) (whole : List ℕ) (tellings : List Telling) → OneByOne (AnswersOne LineStep line_message book) before (kept_of whole ∷ []) tellings after
+      → OneByOne (AnswersOne LineStep line_message book) before (whole ∷ []) tellings after
+  each_whole before after whole [] one = one
+  each_whole before after whole (t ∷ []) one = (one.0, one_whole before one.0 whole t one.1, one.2)
+  each_whole before after whole (t ∷ s ∷ ts) one = absurd one.2
+
   -- what is kept of a line was answered as the line
   pub whole_replayed : (before after : B) (a b : Option (List ℕ)) (whole unwritten : List ℕ)
       → IsReplayed book before after a b (kept_of whole ∷ []) unwritten → IsReplayed book before after a b (whole ∷ []) unwritten
@@ -160,7 +167,10 @@ module _ {B : Type 0} (book : Ghosts B) where
         bytes = r.bytes;
         told = r.told;
         written = r.written;
-        run = λ h m held sound. answered_whole before after m whole r.tellings (r.run h m held sound);
+        run = record {
+          one_by_one = each_whole before after whole r.tellings r.run.one_by_one;
+          in_turn = λ h m held sound. answered_whole before after m whole r.tellings (r.run.in_turn h m held sound);
+        };
       }
 
   -- none or all of one line

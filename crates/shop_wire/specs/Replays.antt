@@ -22,8 +22,8 @@ use Rattle.shop_plans.specs.Questions.{plans_query_of}
 use Rattle.shop_planning.specs.Questions.{AnswersPlans}
 use Rattle.shop_book.specs.declared.books.Book.{Ghosts}
 use Rattle.shop_book.specs.Kept.{OnContent}
-use Rattle.shop_desk.specs.Faults.{TellOfFailures}
-use Rattle.shop_desk.specs.Handled.{HasAccount, Leads}
+use Rattle.shop_desk.specs.Faults.{CountsUp, TellOfFailures}
+use Rattle.shop_desk.specs.Handled.{HasAccount, Leads, OneByOne}
 use Rattle.shop_wire.specs.Lines.{longest_line}
 use Rattle.shop_wire.specs.AnswerBytes.{Telling, replied, printed}
 
@@ -89,10 +89,7 @@ ExchangesLead book before after old es next = Leads json_texts book.stands (book
 module _ {X : Type 0} (step : Content → X → Telling → Content → Type 0) (message_in : X → Option Message) where
   -- one after another
   abbrev pub InTurn : Content → List X → List Telling → Content → Type 0
-  InTurn old [] [] new = new ≡ old
-  InTurn old (x ∷ xs) (telling ∷ tellings) new = (mid : Content) × step old x telling mid × InTurn mid xs tellings new
-  InTurn old [] (telling ∷ tellings) new = ⊥
-  InTurn old (x ∷ xs) [] new = ⊥
+  InTurn old asked tellings new = OneByOne (λ from to x telling. step from x telling to) old asked tellings new
 
   -- the messages among what was asked, each with its reply
   abbrev pub exchanges : List X → List Telling → List (Message × Reply)
@@ -109,6 +106,18 @@ module _ {X : Type 0} (step : Content → X → Telling → Content → Type 0) 
     pub crash : ExchangesLead book before after old (exchanges asked tellings) next
     pub blame : TellOfFailures (replies_in tellings) (book.failed before) (book.failed after)
     pub account : HasAccount json_texts old (map (λ e. e.0) (exchanges asked tellings)) (map (λ e. e.1) (exchanges asked tellings)) next
+
+  -- All that is said of one that was asked and of what it was told, from the book before it to the book after it: so a failed
+  -- store is told of only where it failed at this very one.
+  pub record AnswersOne {B : Type 0} (book : Ghosts B) (before after : B) (x : X) (telling : Telling) : Type 0 where
+    pub answered : OnContent book before after (λ m. IsSound json_texts m → HasAnswered book before after m (x ∷ []) (telling ∷ []))
+    pub honest : book.is_honest after → book.is_honest before
+    pub failures : CountsUp (book.failed before) (book.failed after)
+
+  -- All was answered one by one, and so in turn: each sound content that an honest book held before led to one that it holds now.
+  pub record AnswersAll {B : Type 0} (book : Ghosts B) (before after : B) (asked : List X) (tellings : List Telling) : Type 0 where
+    pub one_by_one : OneByOne (AnswersOne book) before asked tellings after
+    pub in_turn : OnContent book before after (λ m. IsSound json_texts m → HasAnswered book before after m asked tellings)
 
   -- A shop in which nothing was done yet, and under which no store can fail, was asked this, and answered so: no reply tells
   -- of a failed store, and the account is that of the messages that were accepted, each once.
@@ -142,11 +151,10 @@ pub record AreAnswered (says : List Telling → Type 0) (held_old held_new : Opt
   pub written : Appends held_old held_new bytes
   pub run : says tellings
 
--- The lines were answered in turn: each sound content that an honest book held before led to one that it holds now.
+-- The lines were answered in turn, each over the book that the one before it left.
 abbrev pub IsReplayed : {B : Type 0} → Ghosts B → B → B → Option (List ℕ) → Option (List ℕ) → List (List ℕ) → List ℕ → Type 0
 IsReplayed book before after held_old held_new lines unwritten =
-    AreAnswered (λ tellings. OnContent book before after (λ m. IsSound json_texts m → HasAnswered LineStep line_message book before after m lines tellings))
-    held_old held_new lines unwritten
+    AreAnswered (AnswersAll LineStep line_message book before after lines) held_old held_new lines unwritten
 
 -- The lines were answered in turn by a shop in which nothing was done yet, and under which no store can fail.
 abbrev pub IsReplayedFresh : Option (List ℕ) → Option (List ℕ) → List (List ℕ) → List ℕ → Type 0

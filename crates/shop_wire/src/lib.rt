@@ -5,6 +5,7 @@
 mod answers;
 mod asking;
 mod faults;
+mod laws;
 mod limits;
 mod paths;
 mod plans;
@@ -15,6 +16,7 @@ mod telling;
 mod told;
 
 pub use faults::{ReplayFault, WireFault};
+pub use laws::read_limits;
 pub use replays::replay;
 pub use serving::{begin_inbound, begin_request, serve_one, serve_request};
 pub use telling::{backup_answer, plans_answer, plans_refused};

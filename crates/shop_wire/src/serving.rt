@@ -105,15 +105,19 @@ fn answer_inbound<W: Sink, B: Book>(
         × HasFailed (W.failed sink.old) (W.failed sink.new)) }
     ensures worked { OnOk result (W.failed sink.new ≡ W.failed sink.old) }
 {
-    match inbound {
+    match *inbound {
         Inbound::Silence => Ok(()),
-        Inbound::Faulty(fault) => answer_fault(alloc, *fault, sink),
-        Inbound::Asks(route, text) => answer_request(alloc, *route, text, sink, book),
+        Inbound::Faulty(fault) => answer_fault(alloc, fault, sink),
+        Inbound::Asks(route, text) => answer_request(alloc, route, text, sink, book),
     }
 }
 
 // Reads a request.
-fn read_one<S: Source>(alloc: Global, routes: &Routes, source: &mut S) -> Result<Inbound, WireFault>
+fn read_one<'b, S: Source>(
+    routes: &Routes,
+    source: &mut S,
+    came: &'b mut Vec<u8>,
+) -> Result<Inbound<'b>, WireFault>
     ensures sense { IfOk result
         (λ inbound. IfSome (S.left source.old) (λ input. HasSense input (sense_of inbound))) }
     ensures fault { IfErr result
@@ -121,7 +125,7 @@ fn read_one<S: Source>(alloc: Global, routes: &Routes, source: &mut S) -> Result
         × HasFailed (S.failed source.old) (S.failed source.new)) }
     ensures reads { S.reads source.new ≤ S.reads source.old + most_request_reads }
 {
-    match read_request(alloc, routes, source) {
+    match read_request(routes, source, came) {
         Ok(inbound) => Ok(inbound),
         Err(StreamFault::Read) => Err(WireFault::Read),
         Err(StreamFault::NoMemory) => Err(WireFault::NoMemory),
@@ -154,7 +158,8 @@ pub fn serve_request<S: Source, W: Sink, B: Book>(
     ensures write { result ≡ Err Write → HasFailed (W.failed sink.old) (W.failed sink.new) }
     ensures worked { OnOk result (W.failed sink.new ≡ W.failed sink.old) }
 {
-    let inbound = match read_one(alloc, routes, source) {
+    let mut came = Vec::new(alloc);
+    let inbound = match read_one(routes, source, &mut came) {
         Ok(inbound) => inbound,
         Err(fault) => return Err(fault),
     };
@@ -200,12 +205,12 @@ fn begin_plans<W: Sink, B: Book>(
 }
 
 // The body of a request at `/plans`.
-fn plans_body(inbound: &Inbound) -> Option<&[u8]>
+fn plans_body<'b>(inbound: &Inbound<'b>) -> Option<&'b [u8]>
     ensures { IfSome result (λ body. sense_of inbound.now ≡ asking AtPlans body.now) }
 {
-    match inbound {
+    match *inbound {
         Inbound::Asks(route, body) => match route {
-            Route::Plans => Some(body.as_slice()),
+            Route::Plans => Some(body),
             _ => None,
         },
         _ => None,
@@ -276,7 +281,8 @@ pub fn begin_request<S: Source, W: Sink, B: Book>(
     ensures write { result ≡ Err Write → HasFailed (W.failed sink.old) (W.failed sink.new) }
     ensures worked { OnOk result (W.failed sink.new ≡ W.failed sink.old) }
 {
-    let inbound = match read_one(alloc, routes, source) {
+    let mut came = Vec::new(alloc);
+    let inbound = match read_one(routes, source, &mut came) {
         Ok(inbound) => inbound,
         Err(fault) => return Err(fault),
     };
@@ -286,7 +292,7 @@ pub fn begin_request<S: Source, W: Sink, B: Book>(
     }
 }
 
-/// As `serve_request`, with routes of its own. A server makes them once and calls `serve_request`.
+/// As `serve_request`, with routes of its own. A server makes them once, and calls `begin_inbound`.
 pub fn serve_one<S: Source, W: Sink, B: Book>(
     alloc: Global,
     source: &mut S,

@@ -2,6 +2,7 @@ use Rattle.std.proofs.Common.{◌≡◌, ℕ, List, sym, subst}
 use Rattle.std.specs.Io.KnownBytes.{IsAtEnd}
 use Rattle.std.specs.Prelude.{◌⊎◌, None, IfSome, IsSome}
 use Rattle.shop_planning.specs.Thoughts.{posed_in}
+use Rattle.shop_request.specs.Reading.{IsHeadIn}
 use Rattle.shop_request.specs.Senses.{IsSettled}
 use Rattle.shop_serve.specs.declared.lines.Line.{Line}
 use Rattle.shop_serve.specs.Making.{IsAsked, IsMadeMeanwhile}
@@ -10,6 +11,10 @@ use Rattle.shop_serve.specs.Times.{Tells}
 use Rattle.shop_serve.proofs.Attending.{made-asked, made-own, made-timed, made-whole}
 use Rattle.shop_serve.proofs.Turns.{none_served}
 use Rattle.shop_serve.proofs.lines.ask.Goals as goal
+
+pub made_of-requires-clause-head : goal.made_of-requires-clause-head
+made_of-requires-clause-head g c =
+    subst (λ (came : List ℕ). IsHeadIn came c.take_bytes.new.head) (sym c.deref.ensures.value) (c.take_bytes.ensures.head c.in-Whole.is)
 
 pub returns-in-NoMemory-clause-one : goal.returns-in-NoMemory-clause-one
 returns-in-NoMemory-clause-one g c = none_served c.args.site.now g.B.Book c.args.book.now 1

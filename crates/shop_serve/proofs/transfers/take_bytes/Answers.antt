@@ -1,12 +1,38 @@
-use Rattle.std.proofs.Common.{◌∙◌, ◌<◌, ◌++◌, inl, subst, sym, ap, length, arith}
-use Rattle.shop_request.proofs.Behind.{read_more}
+use Rattle.std.proofs.Common.{◌∙◌, ◌<◌, ◌++◌, inl, inr, subst, sym, ap, length, arith}
+use Rattle.shop_request.proofs.Behind.{read_more, read_none}
+use Rattle.shop_request.specs.Reading.{IsHeadIn}
 use Rattle.shop_request.specs.Senses.{IsSettled, IsUnfinished}
 use Rattle.shop_serve.specs.Lines.{AwaitsMore}
 use Rattle.shop_serve.proofs.Awaiting.{awaits-on}
 use Rattle.shop_serve.proofs.transfers.take_bytes.Goals as goal
 
+pub returns-in-End-clause-head : goal.returns-in-End-clause-head
+returns-in-End-clause-head g c whole = subst (λ came. IsHeadIn came c.read.result) c.deref.ensures.value c.read.ensures
+
+pub returns-in-End-clause-over : goal.returns-in-End-clause-over
+returns-in-End-clause-over g c over =
+    let end = c.take_piece.ensures.end c.in-End.is in
+    inr (
+      read_none (g.C.Connection.remaining c.args.stream.now) (g.C.Connection.remaining c.loop-stream.stream) (g.C.Connection.remaining c.take_piece.new.stream)
+          c.args.came.now.items c.loop-stream.came.items c.take_piece.new.came.items c.loop-stream.invariant.read end.0 end.2,
+      inl (sym c.deref-in-End.ensures.value ∙ c.at_end.ensures.none over, end.1),
+    )
+
+pub is_whole-requires : goal.is_whole-requires
+is_whole-requires g c =
+    subst (λ came. IsHeadIn came c.read-in-loop-stream.result) (sym c.deref-in-loop-stream-2.ensures.value)
+    (subst (λ came. IsHeadIn came c.read-in-loop-stream.result) c.deref-in-loop-stream.ensures.value c.read-in-loop-stream.ensures)
+
+pub least_bytes-requires : goal.least_bytes-requires
+least_bytes-requires g c =
+    subst (λ came. IsHeadIn came c.read-in-loop-stream.result) (sym c.deref-in-loop-stream-3.ensures.value)
+    (subst (λ came. IsHeadIn came c.read-in-loop-stream.result) c.deref-in-loop-stream.ensures.value c.read-in-loop-stream.ensures)
+
+pub returns-then-is_whole-clause-head : goal.returns-then-is_whole-clause-head
+returns-then-is_whole-clause-head g c whole = subst (λ came. IsHeadIn came c.read-in-loop-stream.result) c.deref-in-loop-stream.ensures.value c.read-in-loop-stream.ensures
+
 pub returns-then-is_whole-clause-whole : goal.returns-then-is_whole-clause-whole
-returns-then-is_whole-clause-whole g c whole = inl (subst IsSettled c.deref-in-loop-stream.ensures.value (c.is_whole.ensures.settled c.if-is_whole.true))
+returns-then-is_whole-clause-whole g c whole = inl (subst IsSettled c.deref-in-loop-stream-2.ensures.value (c.is_whole.ensures.settled c.if-is_whole.true))
 
 pub returns-then-is_whole-clause-bytes : goal.returns-then-is_whole-clause-bytes
 returns-then-is_whole-clause-bytes g c over known =
@@ -34,9 +60,9 @@ loop-stream-preserved g c =
       read = read_more (g.C.Connection.remaining c.args.stream.now) (g.C.Connection.remaining c.loop-stream.stream) (g.C.Connection.remaining c.take_piece.new.stream)
           c.args.came.now.items c.loop-stream.came.items c.take_piece.new.came.items p.0 so_far.read p.2 p.3;
       waits = λ waits. record {
-        here = subst IsUnfinished c.deref-in-loop-stream.ensures.value (c.is_whole.ensures.waits c.if-is_whole.false);
-        later = λ more few. subst (λ came. IsUnfinished (came ++ more)) c.deref-in-loop-stream-2.ensures.value
-            (c.least_bytes.ensures.waits more (subst (λ came. length (came ++ more) < c.least_bytes.result) (sym c.deref-in-loop-stream-2.ensures.value) few));
+        here = subst IsUnfinished c.deref-in-loop-stream-2.ensures.value (c.is_whole.ensures.waits c.if-is_whole.false);
+        later = λ more few. subst (λ came. IsUnfinished (came ++ more)) c.deref-in-loop-stream-3.ensures.value
+            (c.least_bytes.ensures.waits more (subst (λ came. length (came ++ more) < c.least_bytes.result) (sym c.deref-in-loop-stream-3.ensures.value) few));
       };
       kept = c.take_piece.ensures.kept ∙ so_far.kept;
     }

@@ -8,7 +8,8 @@ pub returns-in-Ok-clause-ok : goal.returns-in-Ok-clause-ok
 returns-in-Ok-clause-ok g c =
     let telling = telling_of c.answer-told.result in
     one_replayed g.B.Book c.args.book.now c.answer-told.new.book (Some c.args.held.now.items) (Some c.hold_told.new.held.items)
-    c.args.line.now telling (telling_line telling) [] (append-nil (telling_line telling)) c.in-Ok.ensures.ok c.answer-told.ensures.step
+    c.args.line.now telling (telling_line telling) [] (append-nil (telling_line telling)) c.in-Ok.ensures.ok
+    (record { answered = c.answer-told.ensures.step; honest = c.answer-told.ensures.honest; failures = c.answer-told.ensures.failures })
 
 pub returns-in-Err-clause-err : goal.returns-in-Err-clause-err
 returns-in-Err-clause-err g c =
@@ -18,5 +19,6 @@ returns-in-Err-clause-err g c =
       refl,
       part.1,
       one_replayed g.B.Book c.args.book.now c.answer-told.new.book (Some c.args.held.now.items) (Some c.hold_told.new.held.items)
-          c.args.line.now (telling_of c.answer-told.result) part.0 part.1 part.2 part.3 c.answer-told.ensures.step,
+          c.args.line.now (telling_of c.answer-told.result) part.0 part.1 part.2 part.3
+          (record { answered = c.answer-told.ensures.step; honest = c.answer-told.ensures.honest; failures = c.answer-told.ensures.failures }),
     )

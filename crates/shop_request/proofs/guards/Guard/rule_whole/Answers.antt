@@ -1,0 +1,21 @@
+use Rattle.std.proofs.Common.{◌∙◌, ap, map, take, sym, subst}
+use Rattle.httparse.specs.Spans.{header_bytes, span_bytes}
+use Rattle.shop_request.specs.Guards.{HasRuling, ruled_parts}
+use Rattle.shop_request.proofs.Guarding.{whole_ruling}
+use Rattle.shop_request.proofs.guards.Guard.rule_whole.Goals as goal
+
+pub returns : goal.returns
+returns c =
+    let port = c.args.self.now.port in
+    let has_page = c.args.self.now.has_page in
+    let has_backups = c.args.self.now.has_backups in
+    let headers = c.args.headers.now in
+    let spans = c.args.spans.now in
+    let of = c.requires.head in
+    subst (HasRuling port has_page has_backups c.args.came.now) (sym c.rule_parts.ensures)
+    (subst
+    (λ b. HasRuling port has_page has_backups c.args.came.now (ruled_parts port has_page has_backups c.of.result.now c.target_text.result.now spans.version (map (header_bytes b) (take spans.headers headers))))
+    (sym c.front_of-front.ensures)
+    (whole_ruling port has_page has_backups c.args.came.now headers spans of.0 c.requires.room of.1 c.of.result.now c.target_text.result.now
+    (c.of.ensures ∙ ap (λ b. span_bytes b spans.method) c.front_of-front.ensures)
+    (c.target_text.ensures ∙ c.of-2.ensures ∙ ap (λ b. span_bytes b spans.path) c.front_of-front.ensures)))
