@@ -1,5 +1,5 @@
 -- The number of each limit, said once: definitions cite the constants of the code, and these are their numbers.
-use Rattle.std.specs.Prelude.{◌≡◌}
+use Rattle.std.specs.Prelude.{◌≡◌, codes}
 use Rattle.cut_measure.specs.declared.ranges.TheConstants.{MOST_WIDTH, MOST_HEIGHT, MOST_KERF, MOST_NUMBERS, MOST_COUNT, MOST_WORTH, LONGEST_CODE}
 use Rattle.cut_tree.specs.declared.token.TheConstants.{MOST_CUTS}
 use Rattle.cut_bars.specs.declared.bar.TheConstants.{LONGEST_BAR}
@@ -17,7 +17,7 @@ use Rattle.shop_wire.specs.Lines.{longest_line}
 use Rattle.shop_wire.specs.Streams.{most_reads}
 use Rattle.shop_serve.specs.declared.lines.TheConstants as connections
 use Rattle.shop_serve.specs.declared.serving.TheConstants.{MOST_SERVED}
-use Rattle.shop_words.specs.declared.words.TheConstants.{LONGEST_STEP, MOST_CALLS, LAST_PORT, MOST_CONNECTIONS, MOST_PAIR}
+use Rattle.shop_words.specs.declared.words.TheConstants.{LONGEST_STEP, MOST_CALLS, LAST_PORT, MOST_CONNECTIONS, MOST_PAIR, VERSION}
 use Rattle.shop_commands.specs.declared.files.TheConstants.{LONGEST_PAGE}
 
 -- sides of a unit or a piece, a kerf, in tenths of a millimetre, and a code's characters
@@ -71,10 +71,11 @@ pub record AreConnections : Type 0 where
   pub grace : connections.GRACE ≡ 200
   pub served : MOST_SERVED ≡ 18446744073709551615
 
--- of the command line: a step, steps of a search, a port, connections, and the terminal and the number of a message
+-- of the command line: a step, steps of a search, a port, connections, the terminal and the number of a message, and the version
 pub record AreWords : Type 0 where
   pub step : LONGEST_STEP ≡ 200000
   pub calls : MOST_CALLS ≡ 5000
   pub port : LAST_PORT ≡ 65535
   pub connections : MOST_CONNECTIONS ≡ 1000000
   pub pair : MOST_PAIR ≡ 4294967295
+  pub version : VERSION.now ≡ codes "1.0.0"

@@ -8,7 +8,7 @@ use shop_records::{
     Change, CodeList, Demand, DemandList, ImportRow, Job, Kept, Material, MaterialList, NumberList,
     Part, PartList, PartVisitor, Totals,
 };
-use shop_store::{Book, BookFault, MemBook};
+use shop_store::{Book, BookFault, FoundJob, JobHead, MemBook};
 use std::alloc::Global;
 
 /// A book in memory, under which there is no store that could fail. Where a number or a sum is out of range, or two lines of
@@ -58,6 +58,14 @@ impl Book for StorelessBook {
 
     fn job(&mut self, alloc: Global, number: u32) -> Result<Option<Job>, BookFault> {
         self.book.job(alloc, number)
+    }
+
+    fn found_job(&mut self, alloc: Global, number: u32) -> Result<FoundJob, BookFault> {
+        self.book.found_job(alloc, number)
+    }
+
+    fn job_head(&mut self, number: u32) -> Result<Option<JobHead>, BookFault> {
+        self.book.job_head(number)
     }
 
     fn order(&mut self, code: Code) -> Result<bool, BookFault> {

@@ -6,11 +6,13 @@ use crate::lines::push_reply;
 use anyhow::{Error, Result};
 use serde_json::Value;
 use shop_desk::run;
-use shop_machine::{decide_problem, decide_receive};
+use shop_machine::importing::decide_problem;
+use shop_machine::ordering::FoundLine;
+use shop_machine::receiving::decide_receive;
 use shop_records::no_totals;
 use shop_rules::{
-    Change, Code, FoundLine, Kind, Limits, Material, Message, OrderLine, Refusal, Reply, Size,
-    Text, Totals, read_message,
+    Change, Code, Kind, Limits, Material, Message, OrderLine, Refusal, Reply, Size, Text, Totals,
+    read_message,
 };
 use shop_store::{Book, MemBook, SqlBook};
 use std::alloc::Global;
