@@ -53,12 +53,9 @@ def versions(trial):
     "A shop is made beside a table, an index and a view of others, which stay; and they may be made beside a shop.",
 )
 def beside(trial):
-    others = (
-        "CREATE TABLE other (x INTEGER NOT NULL) STRICT; CREATE INDEX at ON other (x); CREATE VIEW shown AS SELECT x FROM other"
-    )
     for store, exchanges in (("first.db", None), ("later.db", DAY)):
         path = filled(trial, store, exchanges) if exchanges else trial.path(store)
-        tables.change(path, others + "; INSERT INTO other VALUES (7)")
+        tables.change(path, tables.OTHERS)
         shop = trial.shop(store)
         sent(trial, shop)
         shop.kill()

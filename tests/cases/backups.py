@@ -9,13 +9,14 @@ import stat
 import time
 from concurrent.futures import ThreadPoolExecutor
 from contextlib import ExitStack, contextmanager
+from functools import partial
 
 from cases.command_line import STEEL
 from cases.sockets import soon
 from cases.terminals import Terminal, judged_by_modes
 from kit import crowds, tables
 from kit.case import case, fault_in
-from kit.faults import Faults
+from kit.faults import Faults, sweep
 from kit.shop import answer, begin_line
 
 FAULT = b'{"name":"StoreFault","refused":99}'
@@ -461,14 +462,9 @@ def day_of(trial):
     return day
 
 
-def sweep(trial, stride, *faults, of="files"):
-    """Disturbs the backups by each of these faults at each call in the folder, or at each of a stride, two at a time."""
-    day = day_of(trial)
-    count = disturbed(trial, day, 0, of)
-    trial.holds(count > 20, f"{count} calls were seen")
-    runs = [(at + 1, named) for named in faults for at in trial.places(count, stride)]
-    with ThreadPoolExecutor(2) as pool:
-        list(pool.map(lambda it: disturbed(trial, day, it[0], of, **it[1]), runs))
+def sweep_backups(trial, *faults):
+    """Disturbs the backups by each of these faults at each call that changes their folder, or at each third."""
+    sweep(trial, 3, partial(disturbed, trial, day_of(trial), of="files"), *faults, more_than=20)
 
 
 @case(
@@ -477,7 +473,7 @@ def sweep(trial, stride, *faults, of="files"):
     "on, each backup that was told is whole, and nothing else has the name of one.",
 )
 def fails(trial):
-    sweep(trial, 3, {"error": errno.EIO}, {"error": errno.ENOSPC, "on": True})
+    sweep_backups(trial, {"error": errno.EIO}, {"error": errno.ENOSPC, "on": True})
 
 
 @case(
@@ -498,7 +494,7 @@ def stopped(how, says, seeds=(0,)):
         "was told is there, and the next start makes more.",
     )
     def body(trial):
-        sweep(trial, 3, *[{"stop": how, "seed": it} for it in (seeds if trial.whole else seeds[:2])])
+        sweep_backups(trial, *[{"stop": how, "seed": it} for it in (seeds if trial.whole else seeds[:2])])
 
 
 stopped("kept", "and all that was written stays")

@@ -61,6 +61,27 @@ def version_1(trial):
 
 
 @case(
+    "version 1 beside tables of others",
+    "A file of version 1 with a table, an index and a view of others, in front of its own or behind them, is served as one "
+    "of version 2; those of others stay, with their rows.",
+)
+def beside(trial):
+    theirs = "SELECT type, name, sql FROM sqlite_schema WHERE tbl_name IN ('other', 'shown') ORDER BY name"
+    for name, before, behind in (("front.db", tables.OTHERS, ""), ("behind.db", "", tables.OTHERS)):
+        path = trial.path(name)
+        tables.change(path, before)
+        tables.make(path, EARLIER, 1)
+        tables.change(path, behind)
+        others = tables.select(path, theirs)
+        shop = trial.shop(name)
+        sent(trial, shop)
+        shop.kill()
+        trial.equal(tables.rows(path), ROWS, name)
+        trial.equal(tables.select(path, "SELECT x FROM shown"), [(7,)], name)
+        trial.equal(tables.select(path, theirs), others, name)
+
+
+@case(
     "version 2 by plain SQL",
     "A file of version 2 that plain SQL made is served as one that the program made, and its rows stay.",
 )

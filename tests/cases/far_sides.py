@@ -51,15 +51,14 @@ def gone(trial):
 
 @case(
     "rows of no book in lists",
-    "Lists that come to a turn of 5, a kind of 3, a plan that is none or a number over 32 bits, and a job of state "
-    "9, are told as 99; one that begins behind such a row is told.",
+    "Lists that come to a turn of 5, a kind of 3 or a number over 32 bits, and a job of state 9 or of a plan that is "
+    "none, are told as 99; one that begins behind such a row is told.",
 )
 def spoiled_lists(trial):
     spoils = [
         ("UPDATE demands SET turn = 5 WHERE number = 1", '{"after":0,"ask":"demands"}'),
         ("UPDATE demands SET turn = 5 WHERE number = 1", '{"after":0,"ask":"demands","material":"GLASS"}'),
         ("UPDATE materials SET kind = 3", '{"ask":"materials"}'),
-        ("UPDATE jobs SET tree = 'x4 y3 p1'", '{"after":0,"ask":"jobs"}'),
         ("UPDATE jobs SET tree = 'x4 y3 p1'", '{"ask":"job","job":2}'),
         ("UPDATE jobs SET state = 9", '{"ask":"job","job":2}'),
         ("UPDATE kept SET number = 4294967296 WHERE number = 4", '{"ask":"terminal","terminal":1}'),

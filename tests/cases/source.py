@@ -205,14 +205,6 @@ def takers(trial):
     trial.equal(len(re.findall(r"\bNone\b(?!\))", code)), len(re.findall(r"Err\(_\) => None,", code)), "answers that aren't made")
 
 
-# Constants that definitions cite and whose number no law has, and why.
-NUMBERLESS = {
-    "shop_store open_work TOO_MANY": "how many rows of open work are looked for: of more none are told, and each look searches",
-    "shop_wire limits ROOM": "how much a read brings at most, in a measure of what reading can still do",
-    "shop_words words VERSION": "the text of the version, which the program prints",
-}
-
-
 def read(path):
     with open(path, encoding="utf-8") as file:
         return re.sub(r"--.*", "", file.read())
@@ -233,7 +225,8 @@ def cited(text):
     return found
 
 
-NUMBER = r"[0-9]+(?: \^ [0-9]+)?"
+# a number, or a text
+NUMBER = r'(?:[0-9]+(?: \^ [0-9]+)?|codes "[^"]*")'
 
 
 def texts(kind):
@@ -243,8 +236,8 @@ def texts(kind):
 
 
 def equations(text):
-    """The names that a text says to be a number."""
-    return re.findall(rf"[:{{]\s*([\w.]+)\s*≡\s*{NUMBER}\s*(?:\}}|$)", text, re.MULTILINE)
+    """The names that a text says to be a number, or to be a text."""
+    return re.findall(rf"[:{{]\s*([\w.]+?)(?:\.now)?\s*≡\s*{NUMBER}\s*(?:\}}|$)", text, re.MULTILINE)
 
 
 def lawful(text, laws):
@@ -274,13 +267,13 @@ def numbered():
 
 @case(
     "constants have their numbers in a law",
-    "Each constant of the code that a definition or a contract cites has its number in a law, as in `limits_have_numbers`, by its "
-    "own name or by that of the definition that is it; others are those of a list, with their reasons, and each of these is one.",
+    "Each constant of the code that a definition or a contract cites has its number, or its text, in a law, as in "
+    "`limits_have_numbers`, by its own name or by that of the definition that is it.",
 )
 def numbers(trial):
     every, known = numbered()
     trial.holds(len(every) > 20, f"{len(every)} constants")
-    trial.equal(sorted(every - known), sorted(NUMBERLESS))
+    trial.equal(sorted(every - known), [])
 
 
 # Crates whose answers are hints, and programs of the gate: what limits them is promised to nobody.
@@ -299,7 +292,6 @@ LAWLESS = {
     "shop_request heads LONGEST_HEAD": ("8192", "the definition `most_head` has the number"),
     "shop_request heads MOST_FIELDS": ("64", "the definition `most_fields` has the number"),
     "shop_request pieces ROOM": ("8192", "how much a read of a request brings at most"),
-    "shop_rows part_rows MOST_ORIGINS": ("4294967296", "more are told as want of memory: no more begin, as acts end at 2147483647"),
     "shop_rows sums TOO_LARGE": ("18446744073709551616", "sums that 64 bits don't hold are no totals"),
     "shop_serve connections MOST_TRIES": ("1000", "how often an interrupted call is made again"),
     "shop_serve ports MOST_EVENTS": ("256", "how many connections are reported at once; others are in the next report"),
@@ -311,10 +303,7 @@ LAWLESS = {
     "shop_serve transfers MOST_DROPS": ("1024", "reads at once of what is dropped: more than a socket keeps"),
     "shop_serve transfers ROOM": ("8192", "how much a read of a connection brings at most"),
     "shop_store names ROWS_A_LOOK": ("32", "where more than one part in so many stands all rows are gone through"),
-    "shop_store open_work TOO_MANY": ("4294967295", "of so much open work none is listed, and each look searches"),
     "shop_streams counted MOST_TRIES": ("1000", "how often an interrupted call is made again"),
-    "shop_tables lending MOST_ROWS": ("18446744073709551615", "of more rows than are there the rest is told as a fault of the store"),
-    "shop_wire limits ROOM": ("65536", "how much a read of lines brings at most"),
 }
 
 

@@ -3,13 +3,13 @@
 import errno
 import os
 import shutil
-from concurrent.futures import ThreadPoolExecutor
 from dataclasses import dataclass
+from functools import partial
 
 from kit import tables
 from kit.case import case, fault_in
 from kit.days import AMENDED, Day, day_of, questions_of
-from kit.faults import Faults
+from kit.faults import Faults, sweep
 
 # The day whose calls are disturbed.
 NAME = "remnant cut again"
@@ -127,14 +127,10 @@ def disturbed(trial, course, at, of, stop="", on=False, **named):
     return calls
 
 
-def sweep(trial, stride, *faults, of="files"):
-    """Disturbs each course by each of these faults at each call, or at each of a stride, two at a time."""
+def sweep_courses(trial, stride, *faults, of="files"):
+    """Disturbs each course by each of these faults."""
     for course in courses(trial):
-        count = disturbed(trial, course, 0, of)
-        trial.holds(count, "no call was seen")
-        runs = [(at + 1, named) for named in faults for at in trial.places(count, stride)]
-        with ThreadPoolExecutor(2) as pool:
-            list(pool.map(lambda it: disturbed(trial, course, it[0], of, **it[1]), runs))
+        sweep(trial, stride, partial(disturbed, trial, course, of=of), *faults)
 
 
 @case(
@@ -143,7 +139,7 @@ def sweep(trial, stride, *faults, of="files"):
     "from version 1 fails in turn: refused 99, and sent again its reply, or `fault store` at a start; nothing is lost.",
 )
 def fails_once(trial):
-    sweep(trial, 3, {"error": errno.EIO})
+    sweep_courses(trial, 3, {"error": errno.EIO})
 
 
 @case(
@@ -152,7 +148,7 @@ def fails_once(trial):
     "is lost, and all sent again with room come to the same tables.",
 )
 def fails_on(trial):
-    sweep(trial, 3, {"error": errno.ENOSPC, "on": True})
+    sweep_courses(trial, 3, {"error": errno.ENOSPC, "on": True})
 
 
 @case(
@@ -161,7 +157,7 @@ def fails_on(trial):
     "99 or `fault store`, and nothing is lost.",
 )
 def looks_fail(trial):
-    sweep(trial, 11, {"error": errno.EIO}, {"error": errno.EIO, "on": True}, of="looks")
+    sweep_courses(trial, 11, {"error": errno.EIO}, {"error": errno.EIO, "on": True}, of="looks")
 
 
 def stopped(how, says, seeds=(0,)):
@@ -171,7 +167,7 @@ def stopped(how, says, seeds=(0,)):
         f"1), {says}: what was acknowledged is there, and all sent again come to the same tables.",
     )
     def body(trial):
-        sweep(trial, 2, *[{"stop": how, "seed": it} for it in (seeds if trial.whole else seeds[:2])])
+        sweep_courses(trial, 2, *[{"stop": how, "seed": it} for it in (seeds if trial.whole else seeds[:2])])
 
 
 stopped("kept", "and all that was written stays")

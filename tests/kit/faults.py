@@ -6,6 +6,7 @@ import shutil
 import subprocess
 import tempfile
 import threading
+from concurrent.futures import ThreadPoolExecutor
 from contextlib import suppress
 
 from kit.case import Failed
@@ -74,3 +75,13 @@ class Faults:
         """Takes its count away."""
         with suppress(FileNotFoundError):
             os.remove(self.count_path)
+
+
+def sweep(trial, stride, disturbed, *faults, more_than=0):
+    """Has `disturbed` run with each of these faults at each call, or at each of a stride, two at a time. It gets the number of
+    the call, 0 for none, and the fault by name, and tells how many calls there were."""
+    count = disturbed(0)
+    trial.holds(count > more_than, f"{count} calls were seen")
+    runs = [(at + 1, named) for named in faults for at in trial.places(count, stride)]
+    with ThreadPoolExecutor(2) as pool:
+        list(pool.map(lambda it: disturbed(it[0], **it[1]), runs))

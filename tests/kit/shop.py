@@ -3,6 +3,7 @@
 import itertools
 import json
 import os
+import re
 import select
 import signal
 import socket
@@ -58,29 +59,31 @@ def value_of(line):
     return value if isinstance(value, dict) else None
 
 
+# The path of the GET of each query that has one; the others are posted.
+PATHS = (
+    ("totals", "/totals/{material}"),
+    ("rack", "/rack/{material}"),
+    ("trace", "/trace/{part}"),
+    ("demand", "/demand/{demand}"),
+    ("materials", "/materials"),
+    ("parts", "/parts/{material}/{after}"),
+    ("demands", "/demands/{after}"),
+    ("demands", "/demands/{after}/{material}"),
+    ("jobs", "/jobs/{after}"),
+    ("job", "/job/{job}"),
+    ("terminal", "/terminal/{terminal}"),
+    ("orders", "/orders/{after}"),
+    ("lines", "/order/{order}"),
+)
+
+
 def path_of(line):
     """The path of the GET that asks what a line asks, or None where it is posted."""
     value = value_of(line) or {}
-    word = value.get("ask")
-    rows = {
-        "totals": ("material",),
-        "rack": ("material",),
-        "trace": ("part",),
-        "demand": ("demand",),
-        "materials": (),
-        "parts": ("material", "after"),
-        "demands": ("after", "material") if "material" in value else ("after",),
-        "jobs": ("after",),
-        "job": ("job",),
-        "terminal": ("terminal",),
-        "orders": ("after",),
-        "lines": ("order",),
-    }
-    keys = rows.get(word)
-    if keys is None or sorted(value) != sorted(("ask", *keys)):
-        return None
-    route = "order" if word == "lines" else word
-    return "/".join(["", route, *(str(value[key]) for key in keys if value[key] != "")])
+    for word, path in PATHS:
+        if value.get("ask") == word and sorted(value) == sorted(("ask", *re.findall(r"{(\w+)}", path))):
+            return path.format(**value).replace("//", "/").rstrip("/")
+    return None
 
 
 def request_of(line, reply=None):

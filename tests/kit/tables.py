@@ -97,6 +97,12 @@ CREATE TABLE totals2 (
     returned INTEGER NOT NULL) STRICT;
 """
 
+# A table, an index and a view of others.
+OTHERS = """
+CREATE TABLE other (x INTEGER NOT NULL) STRICT; CREATE INDEX at ON other (x); CREATE VIEW shown AS SELECT x FROM other;
+INSERT INTO other VALUES (7);
+"""
+
 
 def make(path, found, version=2):
     """Makes a file with the tables of a version by plain SQL, and these rows in them."""
